@@ -1,0 +1,48 @@
+//! A text that contracts see as its bytes.
+
+ghost use Rattle.std.specs.Prelude.{◌≡◌, ℕ, List, IfOk};
+ghost use Rattle.std.specs.Result.{IsOkUnless};
+ghost use Rattle.std.specs.String.{string_bytes};
+
+use std::alloc::Global;
+use std::marker::Model;
+
+use crate::cause::Cause;
+use crate::items::Copied;
+
+/// A text in a record.
+#[derive(Debug, Drop)]
+pub struct Text {
+    text: String,
+}
+
+impl Model for Text {
+    ghost Value = { List ℕ };
+
+    ghost view = { λ t. string_bytes t.text };
+}
+
+impl Text {
+    /// A text of the same bytes.
+    pub fn of(alloc: Global, text: &str) -> Result<Self, Cause>
+        ensures equal { IfOk result (λ t. t ≡ text.now) }
+        ensures memory { IsOkUnless result Cause.OutOfMemory }
+    {
+        let text = String::from_str(alloc, text)?;
+        Ok(Text { text })
+    }
+
+    /// The text.
+    pub fn as_str(&self) -> &str
+        ensures { result.now ≡ self.now }
+    {
+        self.text.as_str()
+    }
+}
+
+impl Copied for Text {
+    fn copy(&self) -> Result<Self, Cause> {
+        let text = self.text.clone()?;
+        Ok(Text { text })
+    }
+}
