@@ -1,0 +1,4 @@
+pub mod ValueLemmas
+pub mod PrintedLemmas
+pub mod RoundTrip
+pub mod ClassLemmas

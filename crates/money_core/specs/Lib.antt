@@ -1,1 +1,11 @@
 pub mod Cause
+pub mod Class
+pub mod Mark
+pub mod Number
+pub mod Symbol
+pub mod Amount
+pub mod Cutting
+pub mod Reading
+pub mod AmountViews
+pub mod Style
+pub mod Printed

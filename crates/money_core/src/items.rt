@@ -3,10 +3,9 @@
 ghost use Rattle.std.specs.Prelude.{◌≡◌, List, [], ◌∷◌, ◌++◌, OnOk, OnErr, IfOk};
 ghost use Rattle.std.specs.Result.{IsOkUnless};
 
+use crate::cause::Cause;
 use std::alloc::Global;
 use std::marker::Model;
-
-use crate::cause::Cause;
 
 /// A list of items, in order.
 #[derive(Debug, Drop)]

@@ -1,14 +1,27 @@
 //! Commodities and amounts of money, read and printed exactly, and the types that every crate shares.
 #![tactic(auto)]
 
+mod amount;
 mod cause;
+mod class;
 mod day;
 mod items;
+mod mark;
+mod number;
+mod printing;
+mod reading;
+mod style;
+mod styles;
+mod symbol;
 mod text;
 mod unit;
 
 pub use cause::{Cause, Fault};
 pub use day::Day;
 pub use items::{Copied, Items};
+pub use mark::Mark;
+pub use reading::read_amount;
+pub use style::{Style, is_style};
+pub use styles::Styles;
 pub use text::Text;
-pub use unit::Unit;
+pub use unit::{Declared, Unit};

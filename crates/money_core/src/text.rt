@@ -4,11 +4,10 @@ ghost use Rattle.std.specs.Prelude.{◌≡◌, ℕ, List, IfOk};
 ghost use Rattle.std.specs.Result.{IsOkUnless};
 ghost use Rattle.std.specs.String.{string_bytes};
 
-use std::alloc::Global;
-use std::marker::Model;
-
 use crate::cause::Cause;
 use crate::items::Copied;
+use std::alloc::Global;
+use std::marker::Model;
 
 /// A text in a record.
 #[derive(Debug, Drop)]

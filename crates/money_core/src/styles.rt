@@ -1,0 +1,115 @@
+//! The declared commodities of a federation, with their styles.
+
+ghost use Rattle.std.specs.Prelude.{◌≡◌, ℕ, List, [], ◌∷◌, ◌++◌, ◌<◌, ◌≤◌, ◌⊎◌, true, position, slice_get, length};
+ghost use Rattle.std.specs.Option.{option_copied, option_map};
+ghost use Rattle.std.specs.Str.{bytes_eq};
+ghost use Rattle.money_core.specs.Amount.{place_of};
+ghost use Rattle.money_core.specs.Style.{is_style, style_eq, declared, after, AreStyles, unit_of};
+
+use crate::cause::Cause;
+use crate::style::Style;
+use crate::unit::{Declared, Unit};
+use std::alloc::Global;
+use std::marker::Model;
+
+/// The greatest number of commodities.
+pub const MAX_COMMODITIES: usize = 16;
+
+/// The styles of the declared commodities, in order of declaration.
+#[derive(Debug, Drop)]
+pub struct Styles {
+    list: Vec<Style>,
+}
+
+impl Model for Styles {
+    ghost use Rattle.std.specs.Prelude.{List};
+    ghost use Rattle.money_core.specs.declared.style.Style.{Style};
+    ghost use Rattle.money_core.specs.Style.{AreStyles};
+
+    ghost Value = { List Style };
+
+    ghost view = { λ s. s.list.items };
+
+    ghost invariant = { λ s. AreStyles s.list.items };
+}
+
+/// Where the style of that symbol stands.
+fn place_of(styles: &[Style], symbol: &[u8]) -> Option<usize>
+    ensures { result ≡ place_of styles.now symbol.now }
+{
+    styles
+        .iter()
+        .position(|style| style.symbol.as_str().as_bytes() == symbol)
+}
+
+/// Whether two styles are the same.
+fn is_same(held: &Style, style: &Style) -> bool
+    ensures { result ≡ style_eq held.now style.now }
+{
+    held.symbol.as_str().as_bytes() == style.symbol.as_str().as_bytes()
+        && held.mark == style.mark
+        && held.decimals == style.decimals
+        && held.left == style.left
+        && held.spaced == style.spaced
+        && held.grouped == style.grouped
+}
+
+impl Styles {
+    /// No commodity.
+    pub fn empty(alloc: Global) -> Self
+        ensures { result ≡ [] }
+    {
+        Styles {
+            list: Vec::new(alloc),
+        }
+    }
+
+    /// The commodity of a symbol, which is given without quotes.
+    pub fn find(&self, symbol: &str) -> Option<Unit>
+        ensures { result ≡ unit_of self.now symbol.now }
+    {
+        self.find_bytes(symbol.as_bytes())
+    }
+
+    /// The same, of bytes.
+    pub(crate) fn find_bytes(&self, symbol: &[u8]) -> Option<Unit>
+        ensures { result ≡ unit_of self.now symbol.now }
+    {
+        match place_of(self.list.as_slice(), symbol) {
+            Some(place) => Some(Unit(place as u16)),
+            None => None,
+        }
+    }
+
+    /// The style of a commodity.
+    pub fn style(&self, unit: Unit) -> Option<&Style>
+        ensures { option_copied result ≡ slice_get self.now unit.0 }
+    {
+        self.list.get(unit.0 as usize)
+    }
+
+    /// Declares a commodity by its style, which has to be one that a sample has.
+    ///
+    /// It answers `Same` where an equal style is held, 22 where another style of the symbol is held, and 23 at sixteen
+    /// commodities; else the commodity gets the next number.
+    pub fn declare(&mut self, style: Style) -> Result<Declared, Cause>
+        requires { is_style style ≡ true }
+        ensures answer { (result ≡ declared self.old style) ⊎ (result ≡ Err Cause.OutOfMemory) }
+        ensures kept { self.new ≡ after self.old style result }
+    {
+        if let Some(place) = place_of(self.list.as_slice(), style.symbol.as_str().as_bytes()) {
+            let unit = Unit(place as u16);
+            return if is_same(&self.list[place], &style) {
+                Ok(Declared::Same(unit))
+            } else {
+                Err(Cause::CommodityExists)
+            };
+        }
+        let count = self.list.len();
+        if count >= MAX_COMMODITIES {
+            return Err(Cause::Full);
+        }
+        self.list.push(style)?;
+        Ok(Declared::New(Unit(count as u16)))
+    }
+}

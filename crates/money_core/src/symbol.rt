@@ -1,0 +1,179 @@
+//! The symbols of commodities, bare and in quotes.
+
+ghost use Rattle.std.specs.Prelude.{◌≡◌, ◌==◌, ◌-◌, ◌<◌, ◌&&◌, not, true, drop, take, length, position, slice_index};
+ghost use Rattle.std.specs.List.{list_all, list_any};
+ghost use Rattle.std.specs.Char.{is_whitespace};
+ghost use Rattle.std.specs.Str.{chars, is_utf8};
+ghost use Rattle.std.specs.Option.{option_map};
+ghost use Rattle.money_core.specs.declared.class.Class.TheVariants.{Symbol as OfSymbol};
+ghost use Rattle.money_core.specs.Class.{has};
+ghost use Rattle.money_core.specs.Symbol.{is_short, is_dense, is_bare, is_quoted_byte, no_double, has_no_outer_space, is_symbol};
+ghost use Rattle.money_core.specs.Cutting.{cut_quoted, cut_bare, cut_symbol};
+ghost use Rattle.money_core.specs.AmountViews.{cut_view};
+
+use crate::class::{Class, behind, end_of, first_byte};
+
+/// Whether it has 1 to 24 bytes.
+fn is_short(symbol: &[u8]) -> bool
+    ensures { result ≡ is_short symbol.now }
+{
+    0 < symbol.len() && symbol.len() < 25
+}
+
+/// Whether a character of the text is white space.
+fn has_white_space(text: &str) -> bool
+    ensures { result ≡ list_any is_whitespace (chars text.now) }
+{
+    text.chars().any(|c| c.is_whitespace())
+}
+
+/// Whether the bytes are a text.
+fn is_text(bytes: &[u8]) -> bool
+    ensures { result ≡ is_utf8 bytes.now }
+{
+    match std::str::from_utf8(bytes) {
+        Ok(_) => true,
+        Err(_) => false,
+    }
+}
+
+/// Whether the bytes are a text without white space.
+fn is_dense(bytes: &[u8]) -> bool
+    ensures { result ≡ is_dense bytes.now }
+{
+    match std::str::from_utf8(bytes) {
+        Ok(text) => !has_white_space(text),
+        Err(_) => false,
+    }
+}
+
+/// Whether each byte may stand in a symbol without quotes.
+fn has_symbol_bytes(symbol: &[u8]) -> bool
+    ensures { result ≡ list_all (has OfSymbol) symbol.now }
+{
+    symbol.iter().all(|b| Class::Symbol.has(*b))
+}
+
+/// Whether the symbol can stand without quotes.
+pub fn is_bare(symbol: &[u8]) -> bool
+    ensures { result ≡ is_bare symbol.now }
+{
+    is_short(symbol) && has_symbol_bytes(symbol) && is_dense(symbol)
+}
+
+/// Whether the byte may stand in quotes.
+fn is_quoted_byte(byte: u8) -> bool
+    ensures { result ≡ is_quoted_byte byte }
+{
+    32 <= byte && byte != 127 && byte != b'"' && byte != b':' && byte != b';'
+}
+
+/// Whether each byte may stand in quotes.
+fn has_quoted_bytes(symbol: &[u8]) -> bool
+    ensures { result ≡ list_all is_quoted_byte symbol.now }
+{
+    symbol.iter().all(|b| is_quoted_byte(*b))
+}
+
+/// Whether no two spaces stand together.
+fn no_double(text: &[u8]) -> bool
+    ensures { result ≡ no_double text.now }
+{
+    let mut after_space = false;
+    for byte in text {
+        if after_space && *byte == b' ' {
+            return false;
+        }
+        after_space = *byte == b' ';
+    }
+    true
+}
+
+/// The last byte, or zero.
+fn last_byte(text: &[u8]) -> u8
+    ensures { result ≡ slice_index text.now (length text.now - 1) }
+{
+    if text.is_empty() {
+        0
+    } else {
+        text[text.len() - 1]
+    }
+}
+
+/// Whether no space stands at an end.
+fn has_no_outer_space(symbol: &[u8]) -> bool
+    ensures { result ≡ has_no_outer_space symbol.now }
+{
+    first_byte(symbol) != b' ' && last_byte(symbol) != b' '
+}
+
+/// Whether the bytes are a symbol: whether they can stand in quotes.
+pub fn is_symbol(symbol: &[u8]) -> bool
+    ensures { result ≡ is_symbol symbol.now }
+{
+    is_short(symbol)
+        && is_text(symbol)
+        && has_quoted_bytes(symbol)
+        && no_double(symbol)
+        && has_no_outer_space(symbol)
+}
+
+/// A symbol without its quotes, and what follows it.
+#[derive(Clone, Copy)]
+pub struct Cut<'a> {
+    pub symbol: &'a [u8],
+    pub rest: &'a [u8],
+}
+
+fn cut_bare(text: &[u8]) -> Option<Cut<'_>>
+    ensures { option_map cut_view result ≡ cut_bare text.now }
+{
+    let end = end_of(text, Class::Symbol);
+    let symbol = &text[..end];
+    if is_bare(symbol) {
+        Some(Cut {
+            symbol,
+            rest: behind(text, end),
+        })
+    } else {
+        None
+    }
+}
+
+/// Where the closing quote stands.
+fn find_quote(text: &[u8]) -> Option<usize>
+    ensures { result ≡ position (λ b. b == 34) text.now }
+{
+    text.iter().position(|b| *b == b'"')
+}
+
+fn cut_quoted(text: &[u8]) -> Option<Cut<'_>>
+    ensures { option_map cut_view result ≡ cut_quoted text.now }
+{
+    match find_quote(text) {
+        None => None,
+        Some(end) => {
+            let symbol = &text[..end];
+            if is_symbol(symbol) {
+                Some(Cut {
+                    symbol,
+                    rest: behind(text, end + 1),
+                })
+            } else {
+                None
+            }
+        }
+    }
+}
+
+/// The symbol at the front of the text, with its quotes or without.
+#[tactic(auto, unfolding(crate::specs::Cutting::cut_symbol))]
+pub fn cut_symbol(text: &[u8]) -> Option<Cut<'_>>
+    ensures { option_map cut_view result ≡ cut_symbol text.now }
+{
+    if first_byte(text) == b'"' {
+        cut_quoted(behind(text, 1))
+    } else {
+        cut_bare(text)
+    }
+}
