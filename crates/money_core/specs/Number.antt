@@ -1,6 +1,6 @@
 -- What a number is as a text, and which quantity it writes.
-use Rattle.std.specs.Prelude.{◌≡◌, ℕ, ◌+◌, ◌-◌, ◌*◌, ◌/◌, ◌%◌, ◌^◌, ◌==◌, nat_lt, nat_le, max, List, [], ◌∷◌, ◌++◌, length, take, drop, filter, replicate, Bool, true, false, ◌&&◌, ◌||◌, not, if◌then◌else◌, Option, Some, None, Result, Ok, Err}
-use Rattle.std.specs.List.{slice_split, before_first, after_first, list_all, list_any}
+use Rattle.std.specs.Prelude.{◌≡◌, ℕ, ◌+◌, ◌==◌, List, ◌++◌, length, take, drop, filter, replicate, Bool, true, false, ◌&&◌, if◌then◌else◌}
+use Rattle.std.specs.List.{slice_split, before_first, after_first, list_all}
 use Rattle.std.specs.Char.{is_ascii_digit}
 use Rattle.std.specs.Str.Parse.{digits_value}
 use Rattle.money_core.specs.declared.mark.Mark.{Mark}

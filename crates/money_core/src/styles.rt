@@ -4,7 +4,7 @@ ghost use Rattle.std.specs.Prelude.{◌≡◌, ℕ, List, [], ◌∷◌, ◌++�
 ghost use Rattle.std.specs.Option.{option_copied, option_map};
 ghost use Rattle.std.specs.Str.{bytes_eq};
 ghost use Rattle.money_core.specs.Amount.{place_of};
-ghost use Rattle.money_core.specs.Style.{is_style, style_eq, declared, after, AreStyles, unit_of};
+ghost use Rattle.money_core.specs.Style.{is_style, style_eq, declared_with, declared, after, AreStyles, unit_of};
 
 use crate::cause::Cause;
 use crate::style::Style;
@@ -54,6 +54,17 @@ fn is_same(held: &Style, style: &Style) -> bool
         && held.grouped == style.grouped
 }
 
+/// The answer where the symbol is declared with the style that is held.
+fn declared_with(held: &Style, style: &Style, unit: Unit) -> Result<Declared, Cause>
+    ensures { result ≡ declared_with style.now unit.0 (Some held.now) }
+{
+    if is_same(held, style) {
+        Ok(Declared::Same(unit))
+    } else {
+        Err(Cause::CommodityExists)
+    }
+}
+
 impl Styles {
     /// No commodity.
     pub fn empty(alloc: Global) -> Self
@@ -97,19 +108,16 @@ impl Styles {
         ensures answer { (result ≡ declared self.old style) ⊎ (result ≡ Err Cause.OutOfMemory) }
         ensures kept { self.new ≡ after self.old style result }
     {
-        if let Some(place) = place_of(self.list.as_slice(), style.symbol.as_str().as_bytes()) {
-            let unit = Unit(place as u16);
-            return if is_same(&self.list[place], &style) {
-                Ok(Declared::Same(unit))
-            } else {
-                Err(Cause::CommodityExists)
-            };
+        match place_of(self.list.as_slice(), style.symbol.as_str().as_bytes()) {
+            Some(place) => declared_with(&self.list[place], &style, Unit(place as u16)),
+            None => {
+                let count = self.list.len();
+                if count >= MAX_COMMODITIES {
+                    return Err(Cause::Full);
+                }
+                self.list.push(style)?;
+                Ok(Declared::New(Unit(count as u16)))
+            }
         }
-        let count = self.list.len();
-        if count >= MAX_COMMODITIES {
-            return Err(Cause::Full);
-        }
-        self.list.push(style)?;
-        Ok(Declared::New(Unit(count as u16)))
     }
 }
