@@ -90,3 +90,6 @@ impl<T: Copied> Copied for Items<T> {
         copies_of(*self.list.allocator(), self.list.as_slice())
     }
 }
+
+#[cfg(test)]
+mod tests;

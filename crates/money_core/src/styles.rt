@@ -121,3 +121,6 @@ impl Styles {
         }
     }
 }
+
+#[cfg(test)]
+mod tests;
