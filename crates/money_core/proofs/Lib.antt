@@ -3,3 +3,8 @@ pub mod PrintedLemmas
 pub mod RoundTrip
 pub mod ClassLemmas
 pub mod StyleLemmas
+pub mod NumberText
+pub mod SymbolText
+pub mod AmountParts
+pub mod AmountPrint
+pub mod Appends

@@ -9,3 +9,4 @@ pub mod Reading
 pub mod AmountViews
 pub mod Style
 pub mod Printed
+pub mod AmountText

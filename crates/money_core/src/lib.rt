@@ -2,6 +2,7 @@
 #![tactic(auto)]
 
 mod amount;
+mod amount_text;
 mod cause;
 mod class;
 mod day;
@@ -16,6 +17,7 @@ mod symbol;
 mod text;
 mod unit;
 
+pub use amount_text::{amounts_bound, amounts_print, print_amount};
 pub use cause::{Cause, Fault};
 pub use day::Day;
 pub use items::{Copied, Items};

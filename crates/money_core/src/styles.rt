@@ -120,6 +120,13 @@ impl Styles {
             }
         }
     }
+
+    /// The styles are ones that samples have, and each is found by its symbol.
+    pub fn are_styles(&self)
+        ensures { AreStyles self.now }
+    {
+        let _ = &self.list;
+    }
 }
 
 #[cfg(test)]

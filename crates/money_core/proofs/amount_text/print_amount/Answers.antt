@@ -1,0 +1,27 @@
+use Rattle.std.proofs.Common.{rules, ◌≡◌, ◌≤◌, ◌<◌, arith, sym, ◌∙◌, ap, Option, Some, w64}
+use Rattle.std.proofs.lemmas.Int.{to_z-of_z}
+use Rattle.std.proofs.lemmas.Bool.{and_parts, leb-true}
+use Rattle.std.specs.List.{slice_get}
+use Rattle.money_core.specs.Symbol.{is_symbol}
+use Rattle.money_core.specs.AmountText.{printed_in}
+use Rattle.money_core.proofs.AmountPrint.{amounts_print}
+use Rattle.money_core.proofs.amount_text.print_amount.Goals as goal
+
+pub push_amount-requires : goal.push_amount-requires
+push_amount-requires c =
+    let at = sym (rw c.unwrap-style.ensures at c.style.ensures) in
+    let few = leb-true c.unwrap-style.result.now.decimals 6 (and_parts (is_symbol c.unwrap-style.result.now.symbol) _ (c.are_styles.ensures.each c.args.unit.0 c.unwrap-style.result.now at)).1 in
+    omega (arith, few)
+
+pub returns-in-Ok-clause-ok : goal.returns-in-Ok-clause-ok
+unfolding printed_in
+returns-in-Ok-clause-ok c =
+    let at = sym (rw c.unwrap-style.ensures at c.style.ensures) in
+    let back = to_z-of_z w64 c.args.qty (search rules) in
+    rw at (rw back at c.in-Ok.ensures.ok)
+
+pub returns-in-Ok-clause-again : goal.returns-in-Ok-clause-again
+returns-in-Ok-clause-again c = amounts_print c.args.styles.now c.are_styles.ensures c.args.unit c.args.qty c.requires
+
+pub returns-in-Err-clause-again : goal.returns-in-Err-clause-again
+returns-in-Err-clause-again c = amounts_print c.args.styles.now c.are_styles.ensures c.args.unit c.args.qty c.requires
