@@ -187,15 +187,17 @@ amount_ends style decimals q ok l =
             some = omega (arith, s.some, length-append symbol (g ++ (minus q ++ number)));
             first = (symbol_begins style.symbol (g ++ (minus q ++ number)) is.short).no_blank;
             last = ap (has Blank) (last_of symbol (g ++ (minus q ++ number)) (omega (arith, t.some, length-append g (minus q ++ number), length-append (minus q) number)) ∙ (last_of g (minus q ++ number) (omega (arith, t.some, length-append (minus q) number)) ∙ last_of (minus q) number t.some))
-              ∙ number_no_blank (slice_index number (length number - 1)) (last_passes (has Number) number t.bytes t.some);
-            short = omega (arith, s.few, size, minus_length q, gap_length style.spaced, length-append symbol (g ++ (minus q ++ number)), length-append g (minus q ++ number), length-append (minus q) number) }))
+                ∙ number_no_blank (slice_index number (length number - 1)) (last_passes (has Number) number t.bytes t.some);
+            short = omega (arith, s.few, size, minus_length q, gap_length style.spaced, length-append symbol (g ++ (minus q ++ number)), length-append g (minus q ++ number), length-append (minus q) number);
+          }))
       | inr right ↦ (let e : printed_with style decimals q ≡ (minus q ++ number) ++ (g ++ symbol) = cond-false style.left _ _ right in
           subst (AmountEnds decimals) (sym e) (record {
             form = text_joined false (minus q ++ number) _ (signed_text q number t) (text_joined false g _ (gap_text style.spaced) (symbol_text style.symbol is.plain));
             some = omega (arith, s.some, length-append (minus q ++ number) (g ++ symbol), length-append g symbol);
             first = signed_first q number (g ++ symbol) t;
             last = ap (has Blank) (last_of (minus q ++ number) (g ++ symbol) (omega (arith, s.some, length-append g symbol)) ∙ last_of g symbol s.some) ∙ s.last;
-            short = omega (arith, s.few, size, minus_length q, gap_length style.spaced, length-append (minus q ++ number) (g ++ symbol), length-append g symbol, length-append (minus q) number) }))
+            short = omega (arith, s.few, size, minus_length q, gap_length style.spaced, length-append (minus q ++ number) (g ++ symbol), length-append g symbol, length-append (minus q) number);
+          }))
     ]
 
 pub found_within : (styles : List Style) (i : ℕ) → i < length styles → (style : Style) × (slice_get styles i ≡ Some style)
@@ -213,8 +215,12 @@ amounts_print styles ok unit q d =
     let ends = amount_ends style style.decimals q parts.0 d.size in
     rw found.1 (record {
       reads = amount_reads styles unit.0 style q ok found.1 d.size;
-      form = ends.form; some = ends.some; first = ends.first; last = ends.last;
-      short = omega (arith, ends.short, leb-true style.decimals 6 parts.1) })
+      form = ends.form;
+      some = ends.some;
+      first = ends.first;
+      last = ends.last;
+      short = omega (arith, ends.short, leb-true style.decimals 6 parts.1);
+    })
 
 pub past : {A E : Type 0} (b : Bool) (e : E) (r : Result A E) (x : A) → cond b (Err e) r ≡ Ok x → (b ≡ false) × (r ≡ Ok x)
 past true e r x h = absurd cc
@@ -257,12 +263,15 @@ amounts_bound styles text unit q h = of_some (amount_parts text) h
         let s : n ≡ q = ap (λ (p : Commodity × ℤ). p.1) both in
         record { known = subst (λ (x : ℕ). x < length styles) u (place_inside styles i style at); size = subst (λ (z : ℤ). unsigned_abs z ≤ limit) s (quantity_size style sign number n e) }
     of_number i style sign number (Err c) at e k = absurd cc
+
     of_style : (parts : Parts) (i : ℕ) (o : Option Style) → slice_get styles i ≡ o → amount_in parts i o ≡ Ok (unit, q) → IsDeclared styles unit q
     of_style parts i None e k = absurd cc
     of_style parts i (Some style) e k = of_number i style parts.sign parts.number (quantity_in style parts.sign parts.number) e refl k
+
     of_found : (parts : Parts) (o : Option ℕ) → amount_at styles parts o ≡ Ok (unit, q) → IsDeclared styles unit q
     of_found parts None k = absurd cc
     of_found parts (Some i) k = of_style parts i (slice_get styles i) refl k
+
     of_some : (o : Option Parts) → amount_of_parts styles o ≡ Ok (unit, q) → IsDeclared styles unit q
     of_some None k = absurd cc
     of_some (Some parts) k = of_found parts (place_of styles parts.symbol) k

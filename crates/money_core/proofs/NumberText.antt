@@ -89,8 +89,12 @@ fraction_length mark groups (suc d) q = rw (ne_eqb (suc d) 0 (omega arith)) (ome
 
 pub number_length : (mark : Mark) (groups : Bool) (decimals q : ℕ) → q ≤ 10_000_000_000_000_000 → length (printed_number mark groups decimals q) ≤ decimals + 25
 number_length mark groups decimals q l =
-    omega (arith, length-append (printed_whole mark groups (q / 10 ^ decimals)) (printed_fraction mark groups decimals q),
-      whole_length mark groups (q / 10 ^ decimals) (omega (arith, quotient_le q (10 ^ decimals))), fraction_length mark groups decimals q)
+    omega (
+      arith,
+      length-append (printed_whole mark groups (q / 10 ^ decimals)) (printed_fraction mark groups decimals q),
+      whole_length mark groups (q / 10 ^ decimals) (omega (arith, quotient_le q (10 ^ decimals))),
+      fraction_length mark groups decimals q,
+    )
 
 -- the facts of a printed number that reading needs
 pub record NumberText (number : List ℕ) : Type 0 where

@@ -82,7 +82,8 @@ begins_bare b h = record {
   symbolic = rw h refl;
   unsigned = rw (symbol_no_minus b h, symbol_no_plus b h) refl;
   no_blank = symbol_no_blank b h;
-  no_number = symbol_no_number b h }
+  no_number = symbol_no_number b h;
+}
 
 pub symbol_begins : (symbol rest : List ℕ) → is_short symbol ≡ true → SymbolBegins (slice_index (printed_symbol symbol ++ rest) 0)
 unfolding printed_symbol

@@ -1,7 +1,6 @@
-use Rattle.std.proofs.Common.{rules, ◌≡◌, ◌≤◌, ◌<◌, arith, sym, ◌∙◌, ap, Option, Some, w64}
+use Rattle.std.proofs.Common.{rules, arith, sym, w64}
 use Rattle.std.proofs.lemmas.Int.{to_z-of_z}
 use Rattle.std.proofs.lemmas.Bool.{and_parts, leb-true}
-use Rattle.std.specs.List.{slice_get}
 use Rattle.money_core.specs.Symbol.{is_symbol}
 use Rattle.money_core.specs.AmountText.{printed_in}
 use Rattle.money_core.proofs.AmountPrint.{amounts_print}

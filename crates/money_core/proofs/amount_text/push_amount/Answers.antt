@@ -1,7 +1,6 @@
 -- The three parts are appended one after the other, and a part that fails leaves what stood before the first.
-use Rattle.std.proofs.Common.{rules, ◌≡◌, ◌++◌, ◌∙◌, sym, ap, true, false, List, ℕ, w64}
+use Rattle.std.proofs.Common.{rules, w64}
 use Rattle.std.proofs.lemmas.Int.{to_z-of_z}
-use Rattle.std.proofs.lemmas.Bool.{cond-true, cond-false}
 use Rattle.money_core.specs.AmountText.{gap, printed_symbol, printed_signed, printed_with}
 use Rattle.money_core.proofs.Appends.{appended_thrice, kept_behind_two}
 use Rattle.money_core.proofs.PrintedLemmas.{on_err}
@@ -22,7 +21,7 @@ returns-in_ok-push_signed-clause-ok c =
     let symbolic = rw (c.as_bytes-symbol.ensures.value, c.as_str.ensures) at c.in_ok-push_symbol.ensures.ok in
     rw c.if-style.true
     (appended_thrice c.args.out.now.items c.push_symbol.new.out.items c.push_gap.new.out.items c.push_signed.new.out.items (printed_symbol c.args.style.now.symbol) (gap c.args.style.now.spaced) (printed_signed c.args.style.now c.args.decimals c.args.quantity)
-      symbolic c.in_ok-push_gap.ensures.ok (rw back at c.in_ok-push_signed.ensures.ok))
+    symbolic c.in_ok-push_gap.ensures.ok (rw back at c.in_ok-push_signed.ensures.ok))
 
 pub returns-in_ok-push_symbol-2-clause-ok : goal.returns-in_ok-push_symbol-2-clause-ok
 unfolding printed_with
@@ -31,4 +30,4 @@ returns-in_ok-push_symbol-2-clause-ok c =
     let symbolic = rw (c.as_bytes-symbol.ensures.value, c.as_str.ensures) at c.in_ok-push_symbol-2.ensures.ok in
     rw c.if-style.false
     (appended_thrice c.args.out.now.items c.push_signed-else-style.new.out.items c.push_gap-else-style.new.out.items c.push_symbol-else-style.new.out.items (printed_signed c.args.style.now c.args.decimals c.args.quantity) (gap c.args.style.now.spaced) (printed_symbol c.args.style.now.symbol)
-      (rw back at c.in_ok-push_signed-2.ensures.ok) c.in_ok-push_gap-2.ensures.ok symbolic)
+    (rw back at c.in_ok-push_signed-2.ensures.ok) c.in_ok-push_gap-2.ensures.ok symbolic)
