@@ -8,3 +8,4 @@ pub mod SymbolText
 pub mod AmountParts
 pub mod AmountPrint
 pub mod Appends
+pub mod GrammarLemmas

@@ -8,5 +8,6 @@ pub mod Cutting
 pub mod Reading
 pub mod AmountViews
 pub mod Style
+pub mod Sampling
 pub mod Printed
 pub mod AmountText

@@ -43,7 +43,7 @@ impl Sign {
     }
 
     /// Whether there is one.
-    fn is_signed(self) -> bool
+    pub fn is_signed(self) -> bool
         ensures { result ≡ is_signed self }
     {
         match self {
