@@ -1,8 +1,8 @@
 -- An amount is cut into its parts, and so only; and what is cut is an amount.
-use Rattle.std.proofs.Common.{◌≡◌, ◌<◌, ◌≤◌, ◌+◌, ◌++◌, ◌==◌, ℕ, List, [], ◌∷◌, Bool, true, false, cond, not, ◌&&◌, ◌||◌, length, take, drop, slice_index, get_or, arith, refl, ap, ◌∙◌, sym, subst, append-nil, append_assoc, one-add, Option, Some, None, inl, inr, nat_lt, lit<, length-append}
+use Rattle.std.proofs.Common.{◌≡◌, ◌<◌, ◌≤◌, ◌+◌, ◌++◌, ◌==◌, ℕ, List, [], ◌∷◌, Bool, true, false, cond, not, ◌&&◌, ◌||◌, length, take, drop, slice_index, get_or, arith, refl, ap, ◌∙◌, sym, subst, append-nil, append_assoc, one-add, Option, Some, None, option_and_then, inl, inr, nat_lt, lit<, length-append}
 use Rattle.std.proofs.lemmas.Grind.{common_steps}
-use Rattle.std.proofs.lemmas.Bool.{cases_Bool, and_parts, and_from, ltb-true, lt-ltb, eqb-true, eq-eqb, not_from_false, or_left, or_right, cond-true, cond-false, cases_lt, ne_eqb}
-use Rattle.std.proofs.lemmas.List.{take-append-drop, drop_at}
+use Rattle.std.proofs.lemmas.Bool.{cases_Bool, and_parts, and_from, ltb-true, lt-ltb, eqb-true, eq-eqb, not_from_false, or_left, or_right, or_cases, cond-true, cond-false, cases_lt, ne_eqb}
+use Rattle.std.proofs.lemmas.List.{take-append-drop, take_all, drop_at}
 use Rattle.std.proofs.lemmas.List.Folds.{length-prefix_len, list_all-append}
 use Rattle.std.proofs.lemmas.List.Sums.{split_at_first, passes_at_first, prefix_len-le-length}
 use Rattle.std.proofs.Math.Seq.{take-append_seam, drop-append-add, take-length}
@@ -199,9 +199,6 @@ sign_cut Minus written rest h s k = rw h.1.1 (record { sign_is = refl; rest_is =
 digits_of_parts : (p : ℕ → Bool) (xs : List ℕ) → list_all is_group (slice_split p xs) ≡ true → list_all (λ b. is_ascii_digit b || p b) xs ≡ true
 digits_of_parts p xs h = weak xs (all_lists_weaker (slice_split p xs) h)
   where
-    all_digits : List ℕ → Bool
-    all_digits part = list_all is_ascii_digit part
-
     group_digits : (part : List ℕ) → is_group part ≡ true → list_all is_ascii_digit part ≡ true
     group_digits [] h = refl
     group_digits (b ∷ part) h = rw (ne_eqb (length (b ∷ part)) 0 (omega arith)) at h
@@ -232,10 +229,51 @@ mark_number : (mark : Mark) → (has Number (group_byte mark) ≡ true) × (has 
 mark_number Point = (refl, refl)
 mark_number Comma = (refl, refl)
 
+-- the parts of the test on numbers
+pub number_parts : (mark : Mark) (number : List ℕ) → is_number mark number ≡ true → (is_whole (group_byte mark) (whole_part mark number) ≡ true) × (list_all is_ascii_digit (fraction_part mark number) ≡ true)
+number_parts mark number h =
+    elim (cases_Bool (length (whole_part mark number) + length (fraction_part mark number) == 0)) [
+      | inl none ↦ absurd (let k = rw none at h in cc)
+      | inr some ↦ and_parts (is_whole (group_byte mark) (whole_part mark number)) _ (rw some at h)
+    ]
+
 -- A number is made of digits and marks, and is not empty.
 pub record NumberText (number : List ℕ) : Type 0 where
   pub bytes : list_all (has Number) number ≡ true
   pub some : 0 < length number
+
+whole_bytes : (mark : Mark) (whole : List ℕ) → is_whole (group_byte mark) whole ≡ true → list_all (has Number) whole ≡ true
+whole_bytes mark [] h = refl
+whole_bytes mark (b ∷ whole) h =
+    let k : list_all is_group (slice_split (λ b. b == group_byte mark) (b ∷ whole)) ≡ true = rw (ne_eqb (length (b ∷ whole)) 0 (omega arith)) at h in
+    all_weaker (λ b. is_ascii_digit b || (b == group_byte mark)) (has Number) (b ∷ whole) passes (digits_of_parts (λ b. b == group_byte mark) (b ∷ whole) k)
+  where
+    passes : (c : ℕ) → (is_ascii_digit c || (c == group_byte mark)) ≡ true → has Number c ≡ true
+    passes c t =
+        elim (or_cases (is_ascii_digit c) (c == group_byte mark) t) [
+          | inl digit ↦ digit_number c digit
+          | inr same ↦ ap (has Number) (eqb-true c (group_byte mark) same) ∙ (mark_number mark).0
+        ]
+
+number_bytes : (mark : Mark) (number : List ℕ) → is_whole (group_byte mark) (whole_part mark number) ≡ true → list_all is_ascii_digit (fraction_part mark number) ≡ true → list_all (has Number) number ≡ true
+number_bytes mark number w f =
+    let p : ℕ → Bool = λ b. b == decimal_byte mark in
+    let whole = whole_bytes mark (whole_part mark number) w in
+    elim (cases_lt (position_or_len p number) (length number)) [
+      | inl inside ↦
+          let byte : get_or number (position_or_len p number) 0 ≡ decimal_byte mark = eqb-true (get_or number (position_or_len p number) 0) (decimal_byte mark) (passes_at_first p number 0 inside) in
+          let parts : number ≡ whole_part mark number ++ decimal_byte mark ∷ fraction_part mark number = rw byte at (split_at_first p number 0 inside) in
+          let all = all_joined (has Number) (whole_part mark number) (decimal_byte mark ∷ fraction_part mark number) whole
+            (and_from _ _ (mark_number mark).1 (all_weaker is_ascii_digit (has Number) (fraction_part mark number) digit_number f)) in
+          subst (λ (xs : List ℕ). list_all (has Number) xs ≡ true) (sym parts) all
+      | inr past ↦ subst (λ (xs : List ℕ). list_all (has Number) xs ≡ true) (take_all (position_or_len p number) number past) whole
+    ]
+
+pub number_text : (mark : Mark) (number : List ℕ) → is_number mark number ≡ true → NumberText number
+number_text mark [] h = absurd cc
+number_text mark (b ∷ number) h =
+    let k = number_parts mark (b ∷ number) h in
+    record { bytes = number_bytes mark (b ∷ number) k.0 k.1; some = omega arith }
 
 -- a number at the front
 pub first_number : (number rest : List ℕ) → NumberText number → has Number (slice_index (number ++ rest) 0) ≡ true
@@ -275,3 +313,199 @@ left_before_sign sign symbol blanks inner number t h s =
     let no_blank = (signed_first sign inner number t s).0 in
     let u = sign_cut sign inner number s (no_sign_of b (number_no_minus b first) (number_no_plus b first)) (number_no_blank b first) in
     rw (blanks_skipped blanks (inner ++ number) h no_blank, blanks_end blanks (inner ++ number) h no_blank, u.rest_is, u.sign_is) refl
+
+-- the parts are those of the side on which the symbol stands
+parts_on_left : (text body : List ℕ) (sign : Sign) → Unsigns sign text body → BeginsSymbol body → amount_parts text ≡ left_parts sign body
+unfolding amount_parts
+parts_on_left text body sign u b = rw (u.rest_is, u.sign_is, b.first) refl
+
+parts_on_right : (text body : List ℕ) (sign : Sign) → Unsigns sign text body → has Number (slice_index body 0) ≡ true → amount_parts text ≡ right_parts sign body
+unfolding amount_parts
+parts_on_right text body sign u h =
+    let b = slice_index body 0 in
+    rw (u.rest_is, u.sign_is, number_no_symbol b h, number_no_quote b h) refl
+
+left_parts_is : (sign : Sign) (symbol written rest : List ℕ) (parts : Parts) → WritesSymbol symbol written → EndsClass Symbol rest → left_number sign symbol rest ≡ parts → left_parts sign (written ++ rest) ≡ Some parts
+unfolding left_parts
+left_parts_is sign symbol written rest parts w ends e = rw (symbol_cut symbol written rest w ends) (ap (λ (p : Parts). Some p) e)
+
+-- parts are what they are made of
+left_of : (parts : Parts) (spaced : Bool) → parts.left ≡ true → parts.spaced ≡ spaced → record { sign = parts.sign; left = true; spaced = spaced; symbol = parts.symbol; number = parts.number } ≡ parts
+left_of parts spaced l s = rw (← l, ← s) refl
+
+right_of : (parts : Parts) (spaced : Bool) → parts.left ≡ false → parts.spaced ≡ spaced → record { sign = parts.sign; left = false; spaced = spaced; symbol = parts.symbol; number = parts.number } ≡ parts
+right_of parts spaced l s = rw (← l, ← s) refl
+
+left_cut : (text : List ℕ) (parts : Parts) → NumberText parts.number → IsLeftAmount text parts → amount_parts text ≡ Some parts
+left_cut text parts t a =
+    let first = alone_first parts.number t in
+    let byte = slice_index parts.number 0 in
+    elim a.signed [
+      | inl before ↦
+          let rest = a.blanks ++ parts.number in
+          let b = symbol_begins parts.symbol a.symbol rest a.symbolic in
+          let u = sign_cut parts.sign a.outer (a.symbol ++ rest) before.0 b.no_sign b.no_blank in
+          let ends = ends_at_blanks Symbol a.blanks parts.number blank_no_symbol a.between (number_no_symbol byte first) in
+          let whole : text ≡ a.outer ++ (a.symbol ++ rest) = rw before.1 at a.whole in
+          let number = left_after_sign parts.sign parts.symbol a.blanks parts.number t a.between ∙ left_of parts (not (length a.blanks == 0)) a.left a.spaced in
+          rw whole (parts_on_left (a.outer ++ (a.symbol ++ rest)) (a.symbol ++ rest) parts.sign u b ∙ left_parts_is parts.sign parts.symbol a.symbol rest parts a.symbolic ends number)
+      | inr behind ↦
+          let signed = a.inner ++ parts.number in
+          let rest = a.blanks ++ signed in
+          let b = symbol_begins parts.symbol a.symbol rest a.symbolic in
+          let u = sign_cut Absent [] (a.symbol ++ rest) refl b.no_sign b.no_blank in
+          let ends = ends_at_blanks Symbol a.blanks signed blank_no_symbol a.between (signed_first parts.sign a.inner parts.number t behind.1).1 in
+          let whole : text ≡ a.symbol ++ rest = rw behind.0 at a.whole in
+          let number = left_before_sign parts.sign parts.symbol a.blanks a.inner parts.number t a.between behind.1 ∙ left_of parts (not (length a.blanks == 0)) a.left a.spaced in
+          rw whole (parts_on_left (a.symbol ++ rest) (a.symbol ++ rest) Absent u b ∙ left_parts_is Absent parts.symbol a.symbol rest parts a.symbolic ends number)
+    ]
+
+-- a symbol that ends the text
+symbol_alone : (symbol written : List ℕ) → WritesSymbol symbol written → cut_symbol written ≡ Some (record { symbol = symbol; rest = [] })
+symbol_alone symbol written w = ap cut_symbol (sym (append-nil written)) ∙ symbol_cut symbol written [] w tt
+
+begins_alone : (symbol written : List ℕ) → WritesSymbol symbol written → BeginsSymbol written
+begins_alone symbol written w = subst BeginsSymbol (append-nil written) (symbol_begins symbol written [] w)
+
+right_symbol_is : (sign : Sign) (number symbol blanks written : List ℕ) → WritesSymbol symbol written → IsBlanks blanks
+    → right_symbol sign number (blanks ++ written) ≡ Some (record { sign = sign; left = false; spaced = not (length blanks == 0); symbol = symbol; number = number })
+unfolding right_symbol
+right_symbol_is sign number symbol blanks written w h =
+    let no_blank = (begins_alone symbol written w).no_blank in
+    rw (blanks_skipped blanks written h no_blank, blanks_end blanks written h no_blank, symbol_alone symbol written w) refl
+
+right_parts_is : (sign : Sign) (number rest : List ℕ) → NumberText number → EndsClass Number rest → right_parts sign (number ++ rest) ≡ right_symbol sign number rest
+right_parts_is sign number rest t ends =
+    rw (class_end Number number rest t.bytes ends, take-append_seam number rest, drop_at number rest (length number) refl) refl
+
+right_cut : (text : List ℕ) (parts : Parts) → NumberText parts.number → IsRightAmount text parts → amount_parts text ≡ Some parts
+right_cut text parts t a =
+    let rest = a.blanks ++ a.symbol in
+    let body = parts.number ++ rest in
+    let first = first_number parts.number rest t in
+    let byte = slice_index body 0 in
+    let u = sign_cut parts.sign a.outer body a.signed (no_sign_of byte (number_no_minus byte first) (number_no_plus byte first)) (number_no_blank byte first) in
+    let ends = ends_at_blanks Number a.blanks a.symbol blank_no_number a.between (begins_alone parts.symbol a.symbol a.symbolic).no_number in
+    let made = ap (λ (p : Parts). Some p) (right_of parts (not (length a.blanks == 0)) a.left a.spaced) in
+    rw a.whole (parts_on_right (a.outer ++ body) body parts.sign u first ∙ (right_parts_is parts.sign parts.number rest t ends
+        ∙ (right_symbol_is parts.sign parts.number parts.symbol a.blanks a.symbol a.symbolic a.between ∙ made)))
+
+-- An amount is cut so, and only so.
+pub amount_cut : (mark : Mark) (text : List ℕ) (parts : Parts) → IsAmount mark text parts → amount_parts text ≡ Some parts
+amount_cut mark text parts a =
+    let t = number_text mark parts.number a.number in
+    elim a.form [ | inl left ↦ left_cut text parts t left | inr right ↦ right_cut text parts t right ]
+
+-- behind the symbol on the left
+left_amount : (text outer written rest symbol : List ℕ) (sign : Sign) → text ≡ outer ++ (written ++ rest) → WritesSign sign outer → WritesSymbol symbol written → IsLeftAmount text (left_number sign symbol rest)
+left_amount text outer written rest symbol Absent whole signed w =
+    let front = sign_front (skip_blanks rest) in
+    let blanks = take (end_of Blank rest) rest in
+    let split : rest ≡ blanks ++ (front.written ++ unsigned (skip_blanks rest)) = blanks_front rest ∙ ap (λ (xs : List ℕ). blanks ++ xs) front.whole in
+    record {
+      outer = [];
+      symbol = written;
+      blanks = blanks;
+      inner = front.written;
+      whole = whole ∙ (ap (λ (xs : List ℕ). xs ++ (written ++ rest)) signed ∙ ap (λ (xs : List ℕ). written ++ xs) split);
+      signed = inr (refl, front.writes);
+      symbolic = w;
+      between = front_passes Blank rest;
+      spaced = ap (λ (n : ℕ). not (n == 0)) (sym (front_length Blank rest));
+      left = refl;
+    }
+left_amount text outer written rest symbol Plus whole signed w = record {
+    outer = outer;
+    symbol = written;
+    blanks = take (end_of Blank rest) rest;
+    inner = [];
+    whole = whole ∙ ap (λ (xs : List ℕ). outer ++ (written ++ xs)) (blanks_front rest);
+    signed = inl (signed, refl);
+    symbolic = w;
+    between = front_passes Blank rest;
+    spaced = ap (λ (n : ℕ). not (n == 0)) (sym (front_length Blank rest));
+    left = refl;
+  }
+left_amount text outer written rest symbol Minus whole signed w = record {
+    outer = outer;
+    symbol = written;
+    blanks = take (end_of Blank rest) rest;
+    inner = [];
+    whole = whole ∙ ap (λ (xs : List ℕ). outer ++ (written ++ xs)) (blanks_front rest);
+    signed = inl (signed, refl);
+    symbolic = w;
+    between = front_passes Blank rest;
+    spaced = ap (λ (n : ℕ). not (n == 0)) (sym (front_length Blank rest));
+    left = refl;
+  }
+
+left_back : (text : List ℕ) (parts : Parts) → left_parts (sign_of (slice_index text 0)) (unsigned text) ≡ Some parts → IsLeftAmount text parts
+unfolding left_parts
+left_back text parts h = go (cut_symbol (unsigned text)) refl h
+  where
+    sign : Sign
+    sign = sign_of (slice_index text 0)
+
+    go : (o : Option Cut) → cut_symbol (unsigned text) ≡ o → option_and_then (λ cut. Some (left_number sign cut.symbol cut.rest)) o ≡ Some parts → IsLeftAmount text parts
+    go None e k = absurd cc
+    go (Some cut) e k =
+        let front = symbol_front (unsigned text) cut e in
+        let before = sign_front text in
+        let whole : text ≡ before.written ++ (front.written ++ cut.rest) = before.whole ∙ ap (λ (xs : List ℕ). before.written ++ xs) front.whole in
+        subst (IsLeftAmount text) (some_same (left_number sign cut.symbol cut.rest) parts k) (left_amount text before.written front.written cut.rest cut.symbol sign whole before.writes front.writes)
+
+none_left : (xs : List ℕ) → (length xs == 0) ≡ true → xs ≡ []
+none_left [] h = refl
+none_left (x ∷ xs) h = absurd (omega (arith, eqb-true (length (x ∷ xs)) 0 h))
+
+right_back : (text : List ℕ) (parts : Parts) → right_parts (sign_of (slice_index text 0)) (unsigned text) ≡ Some parts → IsRightAmount text parts
+unfolding right_symbol
+right_back text parts h = go (cut_symbol (skip_blanks rest)) refl h
+  where
+    sign : Sign
+    sign = sign_of (slice_index text 0)
+
+    number : List ℕ
+    number = take (end_of Number (unsigned text)) (unsigned text)
+
+    rest : List ℕ
+    rest = drop (end_of Number (unsigned text)) (unsigned text)
+
+    of_cut : Cut → Parts
+    of_cut cut = record { sign = sign; left = false; spaced = not (end_of Blank rest == 0); symbol = cut.symbol; number = number }
+
+    go : (o : Option Cut) → cut_symbol (skip_blanks rest) ≡ o → option_and_then (λ cut. cond (length cut.rest == 0) (Some (of_cut cut)) None) o ≡ Some parts → IsRightAmount text parts
+    go None e k = absurd cc
+    go (Some cut) e k =
+        let t = tested (length cut.rest == 0) (of_cut cut) parts k in
+        let front = symbol_front (skip_blanks rest) cut e in
+        let before = sign_front text in
+        let blanks = take (end_of Blank rest) rest in
+        let symbol : skip_blanks rest ≡ front.written = front.whole ∙ (ap (λ (xs : List ℕ). front.written ++ xs) (none_left cut.rest t.0) ∙ append-nil front.written) in
+        let behind : rest ≡ blanks ++ front.written = blanks_front rest ∙ ap (λ (xs : List ℕ). blanks ++ xs) symbol in
+        let body : unsigned text ≡ number ++ (blanks ++ front.written) = front_whole Number (unsigned text) ∙ ap (λ (xs : List ℕ). number ++ xs) behind in
+        subst (IsRightAmount text) t.1 (record {
+          outer = before.written;
+          blanks = blanks;
+          symbol = front.written;
+          whole = before.whole ∙ ap (λ (xs : List ℕ). before.written ++ xs) body;
+          signed = before.writes;
+          symbolic = front.writes;
+          between = front_passes Blank rest;
+          spaced = ap (λ (n : ℕ). not (n == 0)) (sym (front_length Blank rest));
+          left = refl;
+        })
+
+-- What is cut is an amount, where its number is one.
+pub cut_amount : (mark : Mark) (text : List ℕ) (parts : Parts) → amount_parts text ≡ Some parts → is_number mark parts.number ≡ true → IsAmount mark text parts
+unfolding amount_parts
+cut_amount mark text parts h n =
+    let b = slice_index (unsigned text) 0 in
+    let sign = sign_of (slice_index text 0) in
+    record {
+      number = n;
+      form = elim (cases_Bool (has Symbol b || (b == 34))) [
+        | inl left ↦ inl (left_back text parts (sym (cond-true (has Symbol b || (b == 34)) (left_parts sign (unsigned text)) (right_parts sign (unsigned text)) left) ∙ h))
+        | inr right ↦ inr (right_back text parts (sym (cond-false (has Symbol b || (b == 34)) (left_parts sign (unsigned text)) (right_parts sign (unsigned text)) right) ∙ h))
+      ];
+    }
