@@ -9,3 +9,4 @@ pub mod AmountParts
 pub mod AmountPrint
 pub mod Appends
 pub mod GrammarLemmas
+pub mod ReadingLemmas

@@ -1,5 +1,5 @@
 -- What an amount is as a text (hledger manual, "Amounts"; that a symbol is needed, and that there is one sign, are own rules).
-use Rattle.std.specs.Prelude.{◌≡◌, ℕ, ℤ, pos, neg_ℤ, ◌≤◌, ◌==◌, List, [], ◌∷◌, ◌++◌, length, position, slice_get, Bool, true, false, not, ◌⊎◌, Option, Some}
+use Rattle.std.specs.Prelude.{◌≡◌, ℕ, ℤ, pos, neg_ℤ, ◌≤◌, ◌<◌, ◌==◌, List, [], ◌∷◌, ◌++◌, length, position, slice_get, Bool, true, false, not, ◌⊎◌, Option, Some, None}
 use Rattle.std.specs.Str.{bytes_eq}
 use Rattle.money_core.specs.declared.mark.Mark.{Mark}
 use Rattle.money_core.specs.declared.amount.Sign.{Sign}
@@ -77,3 +77,40 @@ pub record WritesAmount (styles : List Style) (text : List ℕ) (place : ℕ) (u
   pub exact : fits_decimals style.decimals (fraction_part style.mark parts.number) ≡ true
   pub small : quantity style.mark style.decimals parts.number ≤ limit
   pub value : units ≡ with_sign parts.sign (quantity style.mark style.decimals parts.number)
+
+-- The text has the form of an amount of these parts: with the decimal mark of its symbol's style, or with either mark where the symbol is not declared.
+pub record HasForm (styles : List Style) (text : List ℕ) (parts : Parts) : Type 0 where
+  pub mark : Mark
+  pub amount : IsAmount mark text parts
+  pub its_mark : (place : ℕ) (style : Style) → place_of styles parts.symbol ≡ Some place → slice_get styles place ≡ Some style → mark ≡ style.mark
+
+-- the text has not the form of an amount
+abbrev pub HasNoForm : List Style → List ℕ → Type 0
+HasNoForm styles text = (parts : Parts) → ¬ HasForm styles text parts
+
+-- the text has the form of an amount, of a symbol that is not declared
+pub record NamesUndeclared (styles : List Style) (text : List ℕ) : Type 0 where
+  pub parts : Parts
+  pub form : HasForm styles text parts
+  pub undeclared : place_of styles parts.symbol ≡ None
+
+-- the text is an amount of a declared commodity, with further decimals that are not all zeros
+pub record HasFurtherDecimals (styles : List Style) (text : List ℕ) : Type 0 where
+  pub parts : Parts
+  pub place : ℕ
+  pub style : Style
+  pub declared : place_of styles parts.symbol ≡ Some place
+  pub its_style : slice_get styles place ≡ Some style
+  pub amount : IsAmount style.mark text parts
+  pub further : fits_decimals style.decimals (fraction_part style.mark parts.number) ≡ false
+
+-- the text is an amount of a declared commodity, of a quantity that is too great
+pub record IsOverLimit (styles : List Style) (text : List ℕ) : Type 0 where
+  pub parts : Parts
+  pub place : ℕ
+  pub style : Style
+  pub declared : place_of styles parts.symbol ≡ Some place
+  pub its_style : slice_get styles place ≡ Some style
+  pub amount : IsAmount style.mark text parts
+  pub exact : fits_decimals style.decimals (fraction_part style.mark parts.number) ≡ true
+  pub great : limit < quantity style.mark style.decimals parts.number

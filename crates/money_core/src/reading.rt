@@ -1,10 +1,12 @@
 //! Amounts read under the declared commodities.
 
-ghost use Rattle.std.specs.Prelude.{◌≡◌, ℤ, pos, ◌≤◌, ◌<◌};
-ghost use Rattle.money_core.specs.Amount.{with_sign};
+ghost use Rattle.std.specs.Prelude.{◌≡◌, ◌↔◌, ◌⊎◌, ℕ, ℤ, pos, ◌≤◌, ◌<◌, IfErr};
+ghost use Rattle.std.specs.Option.{option_map};
+ghost use Rattle.money_core.specs.Amount.{with_sign, WritesAmount, HasNoForm, NamesUndeclared, HasFurtherDecimals, IsOverLimit};
+ghost use Rattle.money_core.specs.AmountViews.{parts_view};
 ghost use Rattle.money_core.specs.Reading.{quantity_in, amount, undeclared, amount_of_parts};
 
-use crate::amount::{Sign, amount_parts};
+use crate::amount::{Parts, Sign, amount_parts};
 use crate::cause::Cause;
 use crate::mark::Mark;
 use crate::number::{LIMIT, fits_decimals, fraction_part, is_number, quantity, whole_part};
@@ -57,15 +59,12 @@ fn undeclared(number: &[u8]) -> Cause
     }
 }
 
-/// The commodity and the quantity, in smallest units, of an amount (hledger manual, "Amounts").
-///
-/// The faults, in this order: 8 where the text has not the form of an amount, 9 where its symbol is not declared, 10
-/// for further decimals that are not zeros, 8 for a quantity over 10^16.
+/// The amount of these parts, or its first fault.
 #[tactic(auto, unfolding(crate::specs::Reading::amount_of_parts))]
-pub fn read_amount(text: &str, styles: &Styles) -> Result<(Unit, i64), Cause>
-    ensures { result ≡ amount styles.now text.now }
+fn amount_of_parts(parts: Option<Parts<'_>>, styles: &Styles) -> Result<(Unit, i64), Cause>
+    ensures { result ≡ amount_of_parts styles.now (option_map parts_view parts.entry) }
 {
-    let Some(parts) = amount_parts(text.as_bytes()) else {
+    let Some(parts) = parts else {
         return Err(Cause::Amount);
     };
     let Some(unit) = styles.find_bytes(parts.symbol) else {
@@ -78,4 +77,21 @@ pub fn read_amount(text: &str, styles: &Styles) -> Result<(Unit, i64), Cause>
         Ok(quantity) => Ok((unit, quantity)),
         Err(cause) => Err(cause),
     }
+}
+
+/// The commodity and the quantity, in smallest units, of an amount (hledger manual, "Amounts").
+///
+/// The faults, in this order: 8 where the text has not the form of an amount, 9 where its symbol is not declared, 10
+/// for further decimals that are not zeros, 8 for a quantity over 10^16.
+pub fn read_amount(text: &str, styles: &Styles) -> Result<(Unit, i64), Cause>
+    ensures reads { (place : ℕ) (units : ℤ) → (result ≡ Ok (record { 0 = place }, units)) ↔ WritesAmount styles.now text.now place units }
+    ensures amount { (result ≡ Err Cause.Amount) ↔ (HasNoForm styles.now text.now ⊎ IsOverLimit styles.now text.now) }
+    ensures unknown { (result ≡ Err Cause.UnknownCommodity) ↔ NamesUndeclared styles.now text.now }
+    ensures decimals { (result ≡ Err Cause.Decimals) ↔ HasFurtherDecimals styles.now text.now }
+    ensures causes { IfErr result (λ cause. (cause ≡ Cause.Amount) ⊎ (cause ≡ Cause.UnknownCommodity) ⊎ (cause ≡ Cause.Decimals)) }
+
+    // The same by a function, for the laws of printed amounts.
+    ensures answer { result ≡ amount styles.now text.now }
+{
+    amount_of_parts(amount_parts(text.as_bytes()), styles)
 }
