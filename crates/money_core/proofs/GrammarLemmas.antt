@@ -63,7 +63,7 @@ pub record BeginsSymbol (text : List ℕ) : Type 0 where
   pub no_blank : has Blank (slice_index text 0) ≡ false
   pub no_number : has Number (slice_index text 0) ≡ false
 
-short_some : (symbol : List ℕ) → is_short symbol ≡ true → 0 < length symbol
+pub short_some : (symbol : List ℕ) → is_short symbol ≡ true → 0 < length symbol
 short_some symbol h = ltb-true 0 (length symbol) (and_parts (nat_lt 0 (length symbol)) _ h).0
 
 -- the parts of the two tests on symbols
@@ -119,10 +119,10 @@ pub record SymbolFront (text : List ℕ) (cut : Cut) : Type 0 where
   pub whole : text ≡ written ++ cut.rest
   pub writes : WritesSymbol cut.symbol written
 
-some_same : {A : Type 0} (x y : A) → Some x ≡ Some y → x ≡ y
+pub some_same : {A : Type 0} (x y : A) → Some x ≡ Some y → x ≡ y
 some_same x y h = cc
 
-tested : {A : Type 0} (b : Bool) (x y : A) → cond b (Some x) None ≡ Some y → (b ≡ true) × (x ≡ y)
+pub tested : {A : Type 0} (b : Bool) (x y : A) → cond b (Some x) None ≡ Some y → (b ≡ true) × (x ≡ y)
 tested true x y h = (refl, some_same x y h)
 tested false x y h = absurd cc
 

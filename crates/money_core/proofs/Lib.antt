@@ -10,3 +10,4 @@ pub mod AmountPrint
 pub mod Appends
 pub mod GrammarLemmas
 pub mod ReadingLemmas
+pub mod SampleLemmas

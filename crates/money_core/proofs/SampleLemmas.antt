@@ -1,0 +1,211 @@
+-- The style that is found is the one that the sample spells, and a sample spells one style.
+use Rattle.std.proofs.Common.{◌≡◌, ◌↔◌, ◌⊎◌, ◌<◌, ◌≤◌, ◌+◌, ◌-◌, ◌++◌, ◌==◌, ℕ, List, [], ◌∷◌, Bool, true, false, cond, not, ◌&&◌, ◌||◌, length, take, drop, get_or, slice_index, arith, refl, ap, ◌∙◌, sym, subst, Option, Some, None, Result, Ok, Err, IfOk, inl, inr, nat_lt, get_or-drop, length-drop}
+use Rattle.std.proofs.lemmas.Bool.{cases_Bool, and_parts, and_from, le-ltb, eqb-true, both_ways, false_from_ne_true, not_from_false, ltb-false, cases_order}
+use Rattle.std.proofs.lemmas.Grind.{common_steps}
+use Rattle.std.proofs.lemmas.List.Sums.{passes_at_first, AllPass-from_list_all}
+use Rattle.std.specs.List.{list_all, list_any, position_or_len}
+use Rattle.std.specs.Char.{is_ascii_digit}
+use Rattle.std.specs.Str.{is_utf8}
+use Rattle.std.specs.Result.{IsOkUnless}
+use Rattle.money_core.specs.declared.mark.Mark.{Mark}
+use Rattle.money_core.specs.declared.mark.Mark.TheVariants.{Point, Comma}
+use Rattle.money_core.specs.declared.amount.Sign.{Sign}
+use Rattle.money_core.specs.declared.amount.Sign.TheVariants.{Absent, Plus, Minus}
+use Rattle.money_core.specs.declared.style.Style.{Style}
+use Rattle.money_core.specs.declared.cause.Cause.{Cause}
+use Rattle.money_core.specs.declared.cause.Cause.TheVariants.{Amount, OutOfMemory}
+use Rattle.money_core.specs.declared.class.Class.TheVariants.{Symbol}
+use Rattle.money_core.specs.Class.{has}
+use Rattle.money_core.specs.Mark.{decimal_byte, group_byte}
+use Rattle.money_core.specs.Number.{is_number, fraction_part, quantity}
+use Rattle.money_core.specs.Symbol.{is_short, is_dense, is_bare, is_quoted_byte, no_double, has_no_outer_space, is_symbol, WritesSymbol}
+use Rattle.money_core.specs.Amount.{Parts, IsAmount, limit}
+use Rattle.money_core.specs.Cutting.{is_signed, amount_parts}
+use Rattle.money_core.specs.Style.{IsSample}
+use Rattle.money_core.specs.Sampling.{shows, shown_mark, style_with, style_in, style_of_parts, style_of}
+use Rattle.money_core.proofs.GrammarLemmas.{amount_cut, cut_amount, number_parts, some_same, bare_short, bare_bytes, short_some}
+use Rattle.money_core.proofs.ClassLemmas.{all_weaker, symbol_no_space}
+
+-- a byte that stands in a list has a first place
+any_place : (p : ℕ → Bool) (xs : List ℕ) → list_any p xs ≡ true → position_or_len p xs < length xs
+any_place p [] h = absurd cc
+any_place p (x ∷ xs) h =
+    elim (cases_Bool (p x)) [
+      | inl here ↦ rw here (omega arith)
+      | inr other ↦ let k = rw other at h in let l = any_place p xs k in rw other (omega arith)
+    ]
+
+-- what stands behind the decimal mark is a digit
+behind_mark : (mark : Mark) (number : List ℕ) (k : ℕ) → shows mark number ≡ true → position_or_len (λ b. b == decimal_byte mark) number < k → k < length number → is_ascii_digit (get_or number k 0) ≡ true
+behind_mark mark number k h l inside =
+    let n = position_or_len (λ b. b == decimal_byte mark) number + 1 in
+    let digits = (number_parts mark number (and_parts (is_number mark number) _ h).0).1 in
+    let at : n + (k - n) ≡ k = omega arith in
+    let within : k - n < length (drop n number) = rw (length-drop n number) (omega arith) in
+    let passes : is_ascii_digit (get_or (drop n number) (k - n) 0) ≡ true = AllPass-from_list_all is_ascii_digit (drop n number) digits (k - n) 0 within in
+    ap (λ (i : ℕ). is_ascii_digit (get_or number i 0)) (sym at) ∙ (ap is_ascii_digit (sym (get_or-drop n number (k - n) 0)) ∙ passes)
+
+-- A number shows one decimal mark.
+one_mark : (number : List ℕ) → shows Point number ≡ true → shows Comma number ≡ true → ⊥
+one_mark number h k =
+    let i = position_or_len (λ b. b == 46) number in
+    let j = position_or_len (λ b. b == 44) number in
+    let il = any_place (λ b. b == 46) number (and_parts (is_number Point number) _ h).1 in
+    let jl = any_place (λ b. b == 44) number (and_parts (is_number Comma number) _ k).1 in
+    let point : get_or number i 0 ≡ 46 = eqb-true (get_or number i 0) 46 (passes_at_first (λ b. b == 46) number 0 il) in
+    let comma : get_or number j 0 ≡ 44 = eqb-true (get_or number j 0) 44 (passes_at_first (λ b. b == 44) number 0 jl) in
+    elim (cases_order i j) [
+      | inl same ↦ omega (arith, sym point ∙ (ap (λ (n : ℕ). get_or number n 0) same ∙ comma))
+      | inr (inl before) ↦ let d = behind_mark Point number j h before jl in let e = rw comma at d in cc
+      | inr (inr behind) ↦ let d = behind_mark Comma number i k behind il in let e = rw point at d in cc
+    ]
+
+mark_shown : (mark : Mark) (number : List ℕ) → shows mark number ≡ true → shown_mark number ≡ Some mark
+unfolding shown_mark
+mark_shown Point number h = rw h refl
+mark_shown Comma number h = rw (false_from_ne_true (shows Point number) (λ k. one_mark number k h), h) refl
+
+shown_shows : (mark : Mark) (number : List ℕ) → shown_mark number ≡ Some mark → shows mark number ≡ true
+unfolding shown_mark
+shown_shows mark number h =
+    elim (cases_Bool (shows Point number)) [
+      | inl point ↦ let k = rw point at h in subst (λ (m : Mark). shows m number ≡ true) (some_same Point mark k) point
+      | inr none ↦ elim (cases_Bool (shows Comma number)) [
+          | inl comma ↦ let k = rw (none, comma) at h in subst (λ (m : Mark). shows m number ≡ true) (some_same Comma mark k) comma
+          | inr neither ↦ let k = rw (none, neither) at h in absurd cc
+        ]
+    ]
+
+-- a symbol that can stand bare can stand in quotes
+symbol_quoted : (b : ℕ) → has Symbol b ≡ true → is_quoted_byte b ≡ true
+symbol_quoted b h = grind (arith, common_steps)
+
+bare_no_double : (symbol : List ℕ) → list_all (has Symbol) symbol ≡ true → no_double symbol ≡ true
+bare_no_double [] h = refl
+bare_no_double (b ∷ symbol) h = let both = and_parts (has Symbol b) _ h in rw (symbol_no_space b both.0) (bare_no_double symbol both.1)
+
+bare_no_outer : (symbol : List ℕ) → 0 < length symbol → list_all (has Symbol) symbol ≡ true → has_no_outer_space symbol ≡ true
+bare_no_outer symbol some h =
+    let all = AllPass-from_list_all (has Symbol) symbol h in
+    and_from _ _ (not_from_false _ (symbol_no_space (slice_index symbol 0) (all 0 0 some)))
+      (not_from_false _ (symbol_no_space (slice_index symbol (length symbol - 1)) (all (length symbol - 1) 0 (omega arith))))
+
+bare_symbol : (symbol : List ℕ) → is_bare symbol ≡ true → is_symbol symbol ≡ true
+bare_symbol symbol h =
+    let short = bare_short symbol h in
+    let bytes = bare_bytes symbol h in
+    let utf8 = (and_parts (is_utf8 symbol) _ (and_parts (is_short symbol && list_all (has Symbol) symbol) _ h).1).0 in
+    and_from _ _ (and_from _ _ (and_from _ _ (and_from _ _ short utf8) (all_weaker (has Symbol) is_quoted_byte symbol symbol_quoted bytes)) (bare_no_double symbol bytes))
+      (bare_no_outer symbol (short_some symbol short) bytes)
+
+written_symbol : (symbol written : List ℕ) → WritesSymbol symbol written → is_symbol symbol ≡ true
+written_symbol symbol written (inl h) = bare_symbol symbol h.0
+written_symbol symbol written (inr h) = h.0
+
+pub amount_symbol : (mark : Mark) (text : List ℕ) (parts : Parts) → IsAmount mark text parts → is_symbol parts.symbol ≡ true
+amount_symbol mark text parts a =
+    elim a.form [
+      | inl left ↦ written_symbol parts.symbol left.symbol left.symbolic
+      | inr right ↦ written_symbol parts.symbol right.symbol right.symbolic
+    ]
+
+pub symbol_utf8 : (symbol : List ℕ) → is_symbol symbol ≡ true → is_utf8 symbol ≡ true
+symbol_utf8 symbol h =
+    let four = (and_parts (is_short symbol && is_utf8 symbol && list_all is_quoted_byte symbol && no_double symbol) _ h).0 in
+    let three = (and_parts (is_short symbol && is_utf8 symbol && list_all is_quoted_byte symbol) _ four).0 in
+    (and_parts (is_short symbol) _ (and_parts (is_short symbol && is_utf8 symbol) _ three).0).1
+
+-- Two tests that were passed.
+passed : {A : Type 0} (b c : Bool) (x y : A) → cond b None (cond c None (Some x)) ≡ Some y → (b ≡ false) × (c ≡ false) × (x ≡ y)
+passed true c x y h = absurd cc
+passed false true x y h = absurd cc
+passed false false x y h = (refl, refl, some_same x y h)
+
+unsigned_is : (sign : Sign) → is_signed sign ≡ false → sign ≡ Absent
+unsigned_is Absent h = refl
+unsigned_is Plus h = absurd cc
+unsigned_is Minus h = absurd cc
+
+-- What is found is spelled by the sample.
+pub style_spelled : (text : List ℕ) (style : Style) → style_of text ≡ Some style → IsSample text style
+unfolding style_of_parts
+style_spelled text style h = go (amount_parts text) refl h
+  where
+    with_mark : (parts : Parts) (o : Option Mark) → amount_parts text ≡ Some parts → parts.sign ≡ Absent → shown_mark parts.number ≡ o → style_in parts o ≡ Some style → IsSample text style
+    with_mark parts None e s m k = absurd cc
+    with_mark parts (Some mark) e s m k =
+        let decimals = length (fraction_part mark parts.number) in
+        let t = passed (nat_lt 6 decimals) (nat_lt limit (quantity mark decimals parts.number)) (style_with parts mark) style k in
+        let shown = and_parts (is_number mark parts.number) _ (shown_shows mark parts.number m) in
+        subst (IsSample text) t.2 (record {
+          parts = parts;
+          amount = cut_amount mark text parts e shown.0;
+          unsigned = s;
+          shows = shown.1;
+          symbol = refl;
+          left = refl;
+          spaced = refl;
+          decimals = refl;
+          grouped = refl;
+          few = ltb-false 6 decimals t.0;
+          small = ltb-false limit (quantity mark decimals parts.number) t.1;
+        })
+
+    go : (o : Option Parts) → amount_parts text ≡ o → style_of_parts o ≡ Some style → IsSample text style
+    go None e k = absurd cc
+    go (Some parts) e k =
+        elim (cases_Bool (is_signed parts.sign)) [
+          | inl signed ↦ absurd (let l = rw signed at k in cc)
+          | inr unsigned ↦ with_mark parts (shown_mark parts.number) e (unsigned_is parts.sign unsigned) refl (rw unsigned at k)
+        ]
+
+-- A sample spells the style that is found.
+same_style : (parts : Parts) (style : Style) → style.symbol ≡ parts.symbol → style.left ≡ parts.left → style.spaced ≡ parts.spaced → style.decimals ≡ length (fraction_part style.mark parts.number)
+    → style.grouped ≡ list_any (λ b. b == group_byte style.mark) parts.number → style_with parts style.mark ≡ style
+same_style parts style a b c d e = rw (← a, ← b, ← c, ← d, ← e) refl
+
+pub spelled_style : (text : List ℕ) (style : Style) → IsSample text style → style_of text ≡ Some style
+unfolding style_of_parts
+spelled_style text style h =
+    let number = h.parts.number in
+    let decimals = length (fraction_part style.mark number) in
+    let few : decimals ≤ 6 = rw h.decimals at h.few in
+    let small : quantity style.mark decimals number ≤ limit = rw h.decimals at h.small in
+    let shown = mark_shown style.mark number (and_from _ _ h.amount.number h.shows) in
+    rw (amount_cut style.mark text h.parts h.amount, h.unsigned, shown, le-ltb 6 decimals few, le-ltb limit (quantity style.mark decimals number) small)
+      (ap (λ (s : Style). Some s) (same_style h.parts style h.symbol h.left h.spaced h.decimals h.grouped))
+
+-- A sample has one style.
+pub one_style : (text : List ℕ) (s t : Style) → IsSample text s → IsSample text t → s ≡ t
+one_style text s t h k = some_same s t (sym (spelled_style text s h) ∙ spelled_style text t k)
+
+pub sample_symbol : (text : List ℕ) (style : Style) → IsSample text style → is_symbol style.symbol ≡ true
+sample_symbol text style h = ap is_symbol h.symbol ∙ amount_symbol style.mark text h.parts h.amount
+
+only_memory : (r : Result Style Cause) → IsOkUnless r OutOfMemory → r ≡ Err Amount → ⊥
+only_memory (Ok s) m e = cc
+only_memory (Err cause) m e = cc
+
+-- what is answered where a style was found
+module _ (text : List ℕ) (style : Style) (found : style_of text ≡ Some style) where
+  pub found_utf8 : is_utf8 style.symbol ≡ true
+  found_utf8 = symbol_utf8 style.symbol (sample_symbol text style (style_spelled text style found))
+
+  pub found_ok : (r : Result Style Cause) → IfOk r (λ s. s ≡ style) → IfOk r (λ s. IsSample text s)
+  found_ok (Ok s) e = subst (IsSample text) (sym e) (style_spelled text style found)
+  found_ok (Err cause) e = tt
+
+  pub found_only : (r : Result Style Cause) → IfOk r (λ s. s ≡ style) → IsOkUnless r OutOfMemory → (other : Style) → IsSample text other → (r ≡ Ok other) ⊎ (r ≡ Err OutOfMemory)
+  found_only (Ok s) e m other h = inl (ap (λ (x : Style). Ok x) (e ∙ some_same style other (sym found ∙ spelled_style text other h)))
+  found_only (Err cause) e m other h = inr (ap (λ (x : Cause). Err x) m)
+
+  pub found_none : (r : Result Style Cause) → IsOkUnless r OutOfMemory → (r ≡ Err Amount) ↔ ((other : Style) → ¬ IsSample text other)
+  found_none r m = (λ e. absurd (only_memory r m e), λ none. absurd (none style (style_spelled text style found)))
+
+-- what is answered where none was
+module _ (text : List ℕ) (lacks : style_of text ≡ None) where
+  pub lacks_all : (other : Style) → ¬ IsSample text other
+  lacks_all other h = let k = spelled_style text other h in cc
+
+  pub lacks_none : (r : Result Style Cause) → r ≡ Err Amount → (r ≡ Err Amount) ↔ ((other : Style) → ¬ IsSample text other)
+  lacks_none r e = (λ _. lacks_all, λ _. e)

@@ -1,0 +1,31 @@
+use Rattle.std.proofs.Common.{◌≡◌, sym, refl, Some, None, Err}
+use Rattle.money_core.specs.declared.cause.Cause.TheVariants.{Amount}
+use Rattle.money_core.specs.Sampling.{style_of, spelled_view}
+use Rattle.money_core.proofs.SampleLemmas.{found_utf8, found_ok, found_only, found_none, lacks_all, lacks_none}
+use Rattle.money_core.proofs.sample.read_style.Goals as goal
+use Rattle.money_core.proofs.sample.read_style.Goals.{In-Some, In-None}
+
+-- what was found in the text
+found : (c : In-Some) → style_of c.args.text.now ≡ Some (spelled_view c.in-Some.spelled)
+found c = sym (rw (c.in-Some.is, c.amount_parts.ensures, c.as_bytes.ensures.value) at c.cut_style.ensures)
+
+lacks : (c : In-None) → style_of c.args.text.now ≡ None
+lacks c = sym (rw (c.in-None.is, c.amount_parts.ensures, c.as_bytes.ensures.value) at c.cut_style.ensures)
+
+pub copied-requires : goal.copied-requires
+copied-requires c = found_utf8 c.args.text.now (spelled_view c.in-Some.spelled) (found c)
+
+pub returns-in-Some-clause-ok : goal.returns-in-Some-clause-ok
+returns-in-Some-clause-ok c = found_ok c.args.text.now (spelled_view c.in-Some.spelled) (found (goal.at.returns-in-Some-clause-ok c).In-Some) c.copied.result c.copied.ensures.equal
+
+pub returns-in-Some-clause-only : goal.returns-in-Some-clause-only
+returns-in-Some-clause-only c = found_only c.args.text.now (spelled_view c.in-Some.spelled) (found (goal.at.returns-in-Some-clause-only c).In-Some) c.copied.result c.copied.ensures.equal c.copied.ensures.memory
+
+pub returns-in-Some-clause-none : goal.returns-in-Some-clause-none
+returns-in-Some-clause-none c = found_none c.args.text.now (spelled_view c.in-Some.spelled) (found (goal.at.returns-in-Some-clause-none c).In-Some) c.copied.result c.copied.ensures.memory
+
+pub returns-in-None-clause-only : goal.returns-in-None-clause-only
+returns-in-None-clause-only c = λ style h. absurd (lacks_all c.args.text.now (lacks c) style h)
+
+pub returns-in-None-clause-none : goal.returns-in-None-clause-none
+returns-in-None-clause-none c = lacks_none c.args.text.now (lacks c) (Err Amount) refl
