@@ -11,3 +11,4 @@ pub mod Appends
 pub mod GrammarLemmas
 pub mod ReadingLemmas
 pub mod SampleLemmas
+pub mod StyleSamples

@@ -1,7 +1,7 @@
 //! How amounts of a commodity are written.
 
-ghost use Rattle.std.specs.Prelude.{◌≡◌};
-ghost use Rattle.money_core.specs.Style.{is_style};
+ghost use Rattle.std.specs.Prelude.{◌≡◌, ◌↔◌, ℕ, List, IsTrue};
+ghost use Rattle.money_core.specs.Style.{is_style, IsSample};
 
 use crate::cause::Cause;
 use crate::items::Copied;
@@ -45,7 +45,8 @@ impl Copied for Style {
 
 /// Whether some sample has the style: a symbol that can stand in quotes, and at most six decimals.
 pub fn is_style(style: &Style) -> bool
-    ensures { result ≡ is_style style.now }
+    ensures test { result ≡ is_style style.now }
+    ensures sample { IsTrue result ↔ ((text : List ℕ) × IsSample text style.now) }
 {
     symbol::is_symbol(style.symbol.as_str().as_bytes()) && style.decimals <= MAX_DECIMALS
 }
