@@ -1,11 +1,11 @@
 -- An amount is cut into its parts, and so only; and what is cut is an amount.
-use Rattle.std.proofs.Common.{◌≡◌, ◌<◌, ◌≤◌, ◌+◌, ◌++◌, ◌==◌, ℕ, List, [], ◌∷◌, Bool, true, false, cond, not, ◌&&◌, ◌||◌, length, take, drop, slice_index, get_or, arith, refl, ap, ◌∙◌, sym, subst, append-nil, append_assoc, one-add, Option, Some, None, option_and_then, inl, inr, nat_lt, lit<, length-append}
+use Rattle.std.proofs.Common.{◌≡◌, ◌<◌, ◌+◌, ◌++◌, ◌==◌, ℕ, List, [], ◌∷◌, Bool, true, false, cond, not, ◌&&◌, ◌||◌, length, take, drop, slice_index, get_or, arith, refl, ap, ◌∙◌, sym, subst, append-nil, append_assoc, one-add, Option, Some, None, option_and_then, inl, inr, nat_lt, length-append}
 use Rattle.std.proofs.lemmas.Grind.{common_steps}
-use Rattle.std.proofs.lemmas.Bool.{cases_Bool, and_parts, and_from, ltb-true, lt-ltb, eqb-true, eq-eqb, not_from_false, or_left, or_right, or_cases, cond-true, cond-false, cases_lt, ne_eqb}
+use Rattle.std.proofs.lemmas.Bool.{cases_Bool, and_parts, and_from, ltb-true, lt-ltb, eqb-true, or_left, or_right, or_cases, cond-true, cond-false, cases_lt, ne_eqb}
 use Rattle.std.proofs.lemmas.List.{take-append-drop, take_all, drop_at}
-use Rattle.std.proofs.lemmas.List.Folds.{length-prefix_len, list_all-append}
-use Rattle.std.proofs.lemmas.List.Sums.{split_at_first, passes_at_first, prefix_len-le-length}
-use Rattle.std.proofs.Math.Seq.{take-append_seam, drop-append-add, take-length}
+use Rattle.std.proofs.lemmas.List.Folds.{length-prefix_len}
+use Rattle.std.proofs.lemmas.List.Sums.{split_at_first, passes_at_first}
+use Rattle.std.proofs.Math.Seq.{take-append_seam, drop-append-add}
 use Rattle.std.specs.List.{list_all, slice_split, onto_first, position_or_len, before_first, after_first}
 use Rattle.std.specs.Char.{is_ascii_digit}
 use Rattle.std.specs.Str.{is_utf8}
@@ -18,11 +18,11 @@ use Rattle.money_core.specs.declared.amount.Sign.TheVariants.{Absent, Plus, Minu
 use Rattle.money_core.specs.Class.{has, end_of, skip_blanks, IsBlanks}
 use Rattle.money_core.specs.Mark.{decimal_byte, group_byte}
 use Rattle.money_core.specs.Number.{is_group, is_whole, is_number, whole_part, fraction_part}
-use Rattle.money_core.specs.Symbol.{is_short, is_dense, is_bare, is_symbol, is_quoted_byte, no_double, in_quotes, WritesSymbol}
+use Rattle.money_core.specs.Symbol.{is_short, is_bare, is_symbol, is_quoted_byte, no_double, in_quotes, WritesSymbol}
 use Rattle.money_core.specs.Amount.{Parts, WritesSign, IsLeftAmount, IsRightAmount, IsAmount}
-use Rattle.money_core.specs.Cutting.{Cut, cut_quoted, cut_bare, cut_symbol, sign_of, is_signed, unsigned, left_number, left_parts, right_symbol, right_parts, amount_parts}
-use Rattle.money_core.proofs.RoundTrip.{before_mark, no_mark, split_some}
-use Rattle.money_core.proofs.ClassLemmas.{all_weaker, all_joined, first_passes, EndsClass, class_end, skip_none, digit_number, symbol_no_quote, symbol_no_minus, symbol_no_plus, symbol_no_number, symbol_no_blank, number_no_symbol, number_no_quote, number_no_minus, number_no_plus, number_no_blank, blank_no_symbol, blank_no_number}
+use Rattle.money_core.specs.Cutting.{Cut, cut_quoted, cut_bare, cut_symbol, sign_of, unsigned, left_number, left_parts, right_symbol, right_parts, amount_parts}
+use Rattle.money_core.proofs.RoundTrip.{before_mark, split_some}
+use Rattle.money_core.proofs.ClassLemmas.{all_weaker, all_joined, first_passes, EndsClass, class_end, digit_number, symbol_no_quote, symbol_no_minus, symbol_no_plus, symbol_no_number, symbol_no_blank, number_no_symbol, number_no_quote, number_no_minus, number_no_plus, number_no_blank, blank_no_symbol, blank_no_number}
 
 -- the longest front of a class, and what follows it
 pub front_whole : (class : Class) (text : List ℕ) → text ≡ take (end_of class text) text ++ drop (end_of class text) text
@@ -171,18 +171,18 @@ sign_front (b ∷ text) =
     let blanks = take (end_of Blank text) text in
     elim (cases_Bool (b == 45)) [
       | inl minus ↦ record {
-          written = b ∷ blanks;
-          whole = rw minus (ap (λ (xs : List ℕ). b ∷ xs) (blanks_front text));
-          writes = rw minus (blanks, (front_passes Blank text, ap (λ (c : ℕ). c ∷ blanks) (eqb-true b 45 minus)));
-        }
+        written = b ∷ blanks;
+        whole = rw minus (ap (λ (xs : List ℕ). b ∷ xs) (blanks_front text));
+        writes = rw minus (blanks, (front_passes Blank text, ap (λ (c : ℕ). c ∷ blanks) (eqb-true b 45 minus)));
+      }
       | inr no_minus ↦ elim (cases_Bool (b == 43)) [
-          | inl plus ↦ record {
-              written = b ∷ blanks;
-              whole = rw (no_minus, plus) (ap (λ (xs : List ℕ). b ∷ xs) (blanks_front text));
-              writes = rw (no_minus, plus) (blanks, (front_passes Blank text, ap (λ (c : ℕ). c ∷ blanks) (eqb-true b 43 plus)));
-            }
-          | inr no_plus ↦ record { written = []; whole = rw (no_minus, no_plus) refl; writes = rw (no_minus, no_plus) refl }
-        ]
+        | inl plus ↦ record {
+          written = b ∷ blanks;
+          whole = rw (no_minus, plus) (ap (λ (xs : List ℕ). b ∷ xs) (blanks_front text));
+          writes = rw (no_minus, plus) (blanks, (front_passes Blank text, ap (λ (c : ℕ). c ∷ blanks) (eqb-true b 43 plus)));
+        }
+        | inr no_plus ↦ record { written = []; whole = rw (no_minus, no_plus) refl; writes = rw (no_minus, no_plus) refl }
+      ]
     ]
 
 -- a sign before what begins with none
@@ -264,7 +264,7 @@ number_bytes mark number w f =
           let byte : get_or number (position_or_len p number) 0 ≡ decimal_byte mark = eqb-true (get_or number (position_or_len p number) 0) (decimal_byte mark) (passes_at_first p number 0 inside) in
           let parts : number ≡ whole_part mark number ++ decimal_byte mark ∷ fraction_part mark number = rw byte at (split_at_first p number 0 inside) in
           let all = all_joined (has Number) (whole_part mark number) (decimal_byte mark ∷ fraction_part mark number) whole
-            (and_from _ _ (mark_number mark).1 (all_weaker is_ascii_digit (has Number) (fraction_part mark number) digit_number f)) in
+          (and_from _ _ (mark_number mark).1 (all_weaker is_ascii_digit (has Number) (fraction_part mark number) digit_number f)) in
           subst (λ (xs : List ℕ). list_all (has Number) xs ≡ true) (sym parts) all
       | inr past ↦ subst (λ (xs : List ℕ). list_all (has Number) xs ≡ true) (take_all (position_or_len p number) number past) whole
     ]
@@ -388,13 +388,29 @@ right_cut text parts t a =
     let ends = ends_at_blanks Number a.blanks a.symbol blank_no_number a.between (begins_alone parts.symbol a.symbol a.symbolic).no_number in
     let made = ap (λ (p : Parts). Some p) (right_of parts (not (length a.blanks == 0)) a.left a.spaced) in
     rw a.whole (parts_on_right (a.outer ++ body) body parts.sign u first ∙ (right_parts_is parts.sign parts.number rest t ends
-        ∙ (right_symbol_is parts.sign parts.number parts.symbol a.blanks a.symbol a.symbolic a.between ∙ made)))
+    ∙ (right_symbol_is parts.sign parts.number parts.symbol a.blanks a.symbol a.symbolic a.between ∙ made)))
 
 -- An amount is cut so, and only so.
 pub amount_cut : (mark : Mark) (text : List ℕ) (parts : Parts) → IsAmount mark text parts → amount_parts text ≡ Some parts
 amount_cut mark text parts a =
     let t = number_text mark parts.number a.number in
-    elim a.form [ | inl left ↦ left_cut text parts t left | inr right ↦ right_cut text parts t right ]
+    elim a.form [ inl left ↦ left_cut text parts t left | inr right ↦ right_cut text parts t right ]
+
+-- behind a symbol on the left that has a sign before it
+left_unsigned : (text outer written rest symbol : List ℕ) (sign : Sign) → text ≡ outer ++ (written ++ rest) → WritesSign sign outer → WritesSymbol symbol written
+    → IsLeftAmount text (record { sign = sign; left = true; spaced = not (end_of Blank rest == 0); symbol = symbol; number = skip_blanks rest })
+left_unsigned text outer written rest symbol sign whole signed w = record {
+  outer = outer;
+  symbol = written;
+  blanks = take (end_of Blank rest) rest;
+  inner = [];
+  whole = whole ∙ ap (λ (xs : List ℕ). outer ++ (written ++ xs)) (blanks_front rest);
+  signed = inl (signed, refl);
+  symbolic = w;
+  between = front_passes Blank rest;
+  spaced = ap (λ (n : ℕ). not (n == 0)) (sym (front_length Blank rest));
+  left = refl;
+}
 
 -- behind the symbol on the left
 left_amount : (text outer written rest symbol : List ℕ) (sign : Sign) → text ≡ outer ++ (written ++ rest) → WritesSign sign outer → WritesSymbol symbol written → IsLeftAmount text (left_number sign symbol rest)
@@ -414,30 +430,8 @@ left_amount text outer written rest symbol Absent whole signed w =
       spaced = ap (λ (n : ℕ). not (n == 0)) (sym (front_length Blank rest));
       left = refl;
     }
-left_amount text outer written rest symbol Plus whole signed w = record {
-    outer = outer;
-    symbol = written;
-    blanks = take (end_of Blank rest) rest;
-    inner = [];
-    whole = whole ∙ ap (λ (xs : List ℕ). outer ++ (written ++ xs)) (blanks_front rest);
-    signed = inl (signed, refl);
-    symbolic = w;
-    between = front_passes Blank rest;
-    spaced = ap (λ (n : ℕ). not (n == 0)) (sym (front_length Blank rest));
-    left = refl;
-  }
-left_amount text outer written rest symbol Minus whole signed w = record {
-    outer = outer;
-    symbol = written;
-    blanks = take (end_of Blank rest) rest;
-    inner = [];
-    whole = whole ∙ ap (λ (xs : List ℕ). outer ++ (written ++ xs)) (blanks_front rest);
-    signed = inl (signed, refl);
-    symbolic = w;
-    between = front_passes Blank rest;
-    spaced = ap (λ (n : ℕ). not (n == 0)) (sym (front_length Blank rest));
-    left = refl;
-  }
+left_amount text outer written rest symbol Plus whole signed w = left_unsigned text outer written rest symbol Plus whole signed w
+left_amount text outer written rest symbol Minus whole signed w = left_unsigned text outer written rest symbol Minus whole signed w
 
 left_back : (text : List ℕ) (parts : Parts) → left_parts (sign_of (slice_index text 0)) (unsigned text) ≡ Some parts → IsLeftAmount text parts
 unfolding left_parts

@@ -52,9 +52,9 @@ says_of_style styles text parts place style e at its =
           elim (cases_Bool (fits_decimals style.decimals (fraction_part style.mark parts.number))) [
             | inr more ↦ rw (form, more) (further refl (record { parts = parts; place = place; style = style; declared = at; its_style = its; amount = amount; further = more }))
             | inl exact ↦ elim (cases_Bool (nat_lt limit n)) [
-                | inl large ↦ rw (form, exact, large) (great refl (record { parts = parts; place = place; style = style; declared = at; its_style = its; amount = amount; exact = exact; great = ltb-true limit n large }))
-                | inr small ↦ rw (form, exact, small) (writes place (with_sign parts.sign n) refl (record { parts = parts; style = style; declared = at; its_style = its; amount = amount; exact = exact; small = ltb-false limit n small; value = refl }))
-              ]
+              | inl large ↦ rw (form, exact, large) (great refl (record { parts = parts; place = place; style = style; declared = at; its_style = its; amount = amount; exact = exact; great = ltb-true limit n large }))
+              | inr small ↦ rw (form, exact, small) (writes place (with_sign parts.sign n) refl (record { parts = parts; style = style; declared = at; its_style = its; amount = amount; exact = exact; small = ltb-false limit n small; value = refl }))
+            ]
           ]
     ]
   where
@@ -76,9 +76,9 @@ says_undeclared : (styles : List Style) (text : List ℕ) (parts : Parts) → am
 says_undeclared styles text parts e at =
     elim (cases_Bool (is_number Point parts.number || is_number Comma parts.number)) [
       | inl right ↦ rw right (unknown refl (elim (or_cases (is_number Point parts.number) (is_number Comma parts.number) right) [
-          | inl point ↦ named Point point
-          | inr comma ↦ named Comma comma
-        ]))
+        | inl point ↦ named Point point
+        | inr comma ↦ named Comma comma
+      ]))
       | inr wrong ↦ rw wrong (malformed refl (λ other f. neither f.mark (or_parts (is_number Point parts.number) (is_number Comma parts.number) wrong) (one_form f.mark text parts other e f.amount)))
     ]
   where
@@ -135,10 +135,10 @@ declared_form styles text parts place style at its a = record {
   mark = style.mark;
   amount = a;
   its_mark = λ i s k l.
-    let same : place ≡ i = let j : Some place ≡ Some i = sym at ∙ k in cc in
-    let there : Some style ≡ Some s = sym its ∙ (ap (slice_get styles) same ∙ l) in
-    let e : style ≡ s = cc in
-    ap (λ (t : Style). t.mark) e;
+      let same : place ≡ i = let j : Some place ≡ Some i = sym at ∙ k in cc in
+      let there : Some style ≡ Some s = sym its ∙ (ap (slice_get styles) same ∙ l) in
+      let e : style ≡ s = cc in
+      ap (λ (t : Style). t.mark) e;
 }
 
 malformed_back : (styles : List Style) (text : List ℕ) → HasNoForm styles text → amount styles text ≡ Err Amount

@@ -1,6 +1,6 @@
 -- The style that is found is the one that the sample spells, and a sample spells one style.
-use Rattle.std.proofs.Common.{◌≡◌, ◌↔◌, ◌⊎◌, ◌<◌, ◌≤◌, ◌+◌, ◌-◌, ◌++◌, ◌==◌, ℕ, List, [], ◌∷◌, Bool, true, false, cond, not, ◌&&◌, ◌||◌, length, take, drop, get_or, slice_index, arith, refl, ap, ◌∙◌, sym, subst, Option, Some, None, Result, Ok, Err, IfOk, inl, inr, nat_lt, get_or-drop, length-drop}
-use Rattle.std.proofs.lemmas.Bool.{cases_Bool, and_parts, and_from, le-ltb, eqb-true, both_ways, false_from_ne_true, not_from_false, ltb-false, cases_order}
+use Rattle.std.proofs.Common.{◌≡◌, ◌↔◌, ◌⊎◌, ◌<◌, ◌≤◌, ◌+◌, ◌-◌, ◌==◌, ℕ, List, [], ◌∷◌, Bool, true, false, cond, ◌&&◌, length, drop, get_or, slice_index, arith, refl, ap, ◌∙◌, sym, subst, Option, Some, None, Result, Ok, Err, IfOk, inl, inr, nat_lt, get_or-drop, length-drop}
+use Rattle.std.proofs.lemmas.Bool.{cases_Bool, and_parts, and_from, le-ltb, eqb-true, false_from_ne_true, not_from_false, ltb-false, cases_order}
 use Rattle.std.proofs.lemmas.Grind.{common_steps}
 use Rattle.std.proofs.lemmas.List.Sums.{passes_at_first, AllPass-from_list_all}
 use Rattle.std.specs.List.{list_all, list_any, position_or_len}
@@ -18,7 +18,7 @@ use Rattle.money_core.specs.declared.class.Class.TheVariants.{Symbol}
 use Rattle.money_core.specs.Class.{has}
 use Rattle.money_core.specs.Mark.{decimal_byte, group_byte}
 use Rattle.money_core.specs.Number.{is_number, fraction_part, quantity}
-use Rattle.money_core.specs.Symbol.{is_short, is_dense, is_bare, is_quoted_byte, no_double, has_no_outer_space, is_symbol, WritesSymbol}
+use Rattle.money_core.specs.Symbol.{is_short, is_bare, is_quoted_byte, no_double, has_no_outer_space, is_symbol, WritesSymbol}
 use Rattle.money_core.specs.Amount.{Parts, IsAmount, limit}
 use Rattle.money_core.specs.Cutting.{is_signed, amount_parts}
 use Rattle.money_core.specs.Style.{IsSample}
@@ -71,9 +71,9 @@ shown_shows mark number h =
     elim (cases_Bool (shows Point number)) [
       | inl point ↦ let k = rw point at h in subst (λ (m : Mark). shows m number ≡ true) (some_same Point mark k) point
       | inr none ↦ elim (cases_Bool (shows Comma number)) [
-          | inl comma ↦ let k = rw (none, comma) at h in subst (λ (m : Mark). shows m number ≡ true) (some_same Comma mark k) comma
-          | inr neither ↦ let k = rw (none, neither) at h in absurd cc
-        ]
+        | inl comma ↦ let k = rw (none, comma) at h in subst (λ (m : Mark). shows m number ≡ true) (some_same Comma mark k) comma
+        | inr neither ↦ let k = rw (none, neither) at h in absurd cc
+      ]
     ]
 
 -- a symbol that can stand bare can stand in quotes
@@ -88,7 +88,7 @@ bare_no_outer : (symbol : List ℕ) → 0 < length symbol → list_all (has Symb
 bare_no_outer symbol some h =
     let all = AllPass-from_list_all (has Symbol) symbol h in
     and_from _ _ (not_from_false _ (symbol_no_space (slice_index symbol 0) (all 0 0 some)))
-      (not_from_false _ (symbol_no_space (slice_index symbol (length symbol - 1)) (all (length symbol - 1) 0 (omega arith))))
+    (not_from_false _ (symbol_no_space (slice_index symbol (length symbol - 1)) (all (length symbol - 1) 0 (omega arith))))
 
 bare_symbol : (symbol : List ℕ) → is_bare symbol ≡ true → is_symbol symbol ≡ true
 bare_symbol symbol h =
@@ -96,7 +96,7 @@ bare_symbol symbol h =
     let bytes = bare_bytes symbol h in
     let utf8 = (and_parts (is_utf8 symbol) _ (and_parts (is_short symbol && list_all (has Symbol) symbol) _ h).1).0 in
     and_from _ _ (and_from _ _ (and_from _ _ (and_from _ _ short utf8) (all_weaker (has Symbol) is_quoted_byte symbol symbol_quoted bytes)) (bare_no_double symbol bytes))
-      (bare_no_outer symbol (short_some symbol short) bytes)
+    (bare_no_outer symbol (short_some symbol short) bytes)
 
 written_symbol : (symbol written : List ℕ) → WritesSymbol symbol written → is_symbol symbol ≡ true
 written_symbol symbol written (inl h) = bare_symbol symbol h.0
@@ -173,7 +173,7 @@ spelled_style text style h =
     let small : quantity style.mark decimals number ≤ limit = rw h.decimals at h.small in
     let shown = mark_shown style.mark number (and_from _ _ h.amount.number h.shows) in
     rw (amount_cut style.mark text h.parts h.amount, h.unsigned, shown, le-ltb 6 decimals few, le-ltb limit (quantity style.mark decimals number) small)
-      (ap (λ (s : Style). Some s) (same_style h.parts style h.symbol h.left h.spaced h.decimals h.grouped))
+    (ap (λ (s : Style). Some s) (same_style h.parts style h.symbol h.left h.spaced h.decimals h.grouped))
 
 -- A sample has one style.
 pub one_style : (text : List ℕ) (s t : Style) → IsSample text s → IsSample text t → s ≡ t

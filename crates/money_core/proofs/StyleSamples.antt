@@ -97,35 +97,35 @@ zero_parts style = record { sign = Absent; left = style.left; spaced = style.spa
 zero_text : Style → List ℕ
 zero_text style =
     cond style.left (in_quotes style.symbol ++ (gap style.spaced ++ zero_number style.mark style.grouped style.decimals))
-      (zero_number style.mark style.grouped style.decimals ++ (gap style.spaced ++ in_quotes style.symbol))
+    (zero_number style.mark style.grouped style.decimals ++ (gap style.spaced ++ in_quotes style.symbol))
 
 zero_form : (style : Style) → is_symbol style.symbol ≡ true → IsLeftAmount (zero_text style) (zero_parts style) ⊎ IsRightAmount (zero_text style) (zero_parts style)
 unfolding zero_text zero_parts
 zero_form style h =
     elim (cases_Bool style.left) [
       | inl left ↦ inl (record {
-          outer = [];
-          symbol = in_quotes style.symbol;
-          blanks = gap style.spaced;
-          inner = [];
-          whole = rw left refl;
-          signed = inl (refl, refl);
-          symbolic = inr (h, refl);
-          between = gap_blanks style.spaced;
-          spaced = gap_spaced style.spaced;
-          left = left;
-        })
+        outer = [];
+        symbol = in_quotes style.symbol;
+        blanks = gap style.spaced;
+        inner = [];
+        whole = rw left refl;
+        signed = inl (refl, refl);
+        symbolic = inr (h, refl);
+        between = gap_blanks style.spaced;
+        spaced = gap_spaced style.spaced;
+        left = left;
+      })
       | inr right ↦ inr (record {
-          outer = [];
-          blanks = gap style.spaced;
-          symbol = in_quotes style.symbol;
-          whole = rw right refl;
-          signed = refl;
-          symbolic = inr (h, refl);
-          between = gap_blanks style.spaced;
-          spaced = gap_spaced style.spaced;
-          left = right;
-        })
+        outer = [];
+        blanks = gap style.spaced;
+        symbol = in_quotes style.symbol;
+        whole = rw right refl;
+        signed = refl;
+        symbolic = inr (h, refl);
+        between = gap_blanks style.spaced;
+        spaced = gap_spaced style.spaced;
+        left = right;
+      })
     ]
 
 zero_sample : (style : Style) → is_style style ≡ true → IsSample (zero_text style) style

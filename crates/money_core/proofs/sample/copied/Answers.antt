@@ -1,6 +1,4 @@
-use Rattle.std.proofs.Common.{◌≡◌}
 use Rattle.std.proofs.lemmas.Str.{IsUtf8-from_is_utf8}
-use Rattle.money_core.proofs.SampleLemmas.{one_style}
 use Rattle.money_core.proofs.sample.copied.Goals as goal
 
 pub unreachable-requires : goal.unreachable-requires
