@@ -1,6 +1,6 @@
 -- The style that is found is the one that the sample spells, and a sample spells one style.
 use Rattle.std.proofs.Common.{◌≡◌, ◌↔◌, ◌⊎◌, ◌<◌, ◌≤◌, ◌+◌, ◌-◌, ◌==◌, ℕ, List, [], ◌∷◌, Bool, true, false, cond, ◌&&◌, length, drop, get_or, slice_index, arith, refl, ap, ◌∙◌, sym, subst, Option, Some, None, Result, Ok, Err, IfOk, inl, inr, nat_lt, get_or-drop, length-drop}
-use Rattle.std.proofs.lemmas.Bool.{cases_Bool, and_parts, and_from, le-ltb, eqb-true, false_from_ne_true, not_from_false, ltb-false, cases_order}
+use Rattle.std.proofs.lemmas.Bool.{cases_Bool, and_parts, and_from, le-ltb, le-leb, eqb-true, false_from_ne_true, not_from_false, ltb-false, cases_order}
 use Rattle.std.proofs.lemmas.Grind.{common_steps}
 use Rattle.std.proofs.lemmas.List.Sums.{passes_at_first, AllPass-from_list_all}
 use Rattle.std.specs.List.{list_all, list_any, position_or_len}
@@ -21,7 +21,7 @@ use Rattle.money_core.specs.Number.{is_number, fraction_part, quantity}
 use Rattle.money_core.specs.Symbol.{is_short, is_bare, is_quoted_byte, no_double, has_no_outer_space, is_symbol, WritesSymbol}
 use Rattle.money_core.specs.Amount.{Parts, IsAmount, limit}
 use Rattle.money_core.specs.Cutting.{is_signed, amount_parts}
-use Rattle.money_core.specs.Style.{IsSample}
+use Rattle.money_core.specs.Style.{is_style, IsSample}
 use Rattle.money_core.specs.Sampling.{shows, shown_mark, style_with, style_in, style_of_parts, style_of}
 use Rattle.money_core.proofs.GrammarLemmas.{amount_cut, cut_amount, number_parts, some_same, bare_short, bare_bytes, short_some}
 use Rattle.money_core.proofs.ClassLemmas.{all_weaker, symbol_no_space}
@@ -186,6 +186,10 @@ only_memory : (r : Result Style Cause) → IsOkUnless r OutOfMemory → r ≡ Er
 only_memory (Ok s) m e = cc
 only_memory (Err cause) m e = cc
 
+-- a style that a sample has
+pub sample_style : (text : List ℕ) (style : Style) → IsSample text style → is_style style ≡ true
+sample_style text style h = and_from _ _ (sample_symbol text style h) (le-leb style.decimals 6 h.few)
+
 -- what is answered where a style was found
 module _ (text : List ℕ) (style : Style) (found : style_of text ≡ Some style) where
   pub found_utf8 : is_utf8 style.symbol ≡ true
@@ -194,6 +198,10 @@ module _ (text : List ℕ) (style : Style) (found : style_of text ≡ Some style
   pub found_ok : (r : Result Style Cause) → IfOk r (λ s. s ≡ style) → IfOk r (λ s. IsSample text s)
   found_ok (Ok s) e = subst (IsSample text) (sym e) (style_spelled text style found)
   found_ok (Err cause) e = tt
+
+  pub found_declarable : (r : Result Style Cause) → IfOk r (λ s. s ≡ style) → IfOk r (λ s. is_style s ≡ true)
+  found_declarable (Ok s) e = ap is_style e ∙ sample_style text style (style_spelled text style found)
+  found_declarable (Err cause) e = tt
 
   pub found_only : (r : Result Style Cause) → IfOk r (λ s. s ≡ style) → IsOkUnless r OutOfMemory → (other : Style) → IsSample text other → (r ≡ Ok other) ⊎ (r ≡ Err OutOfMemory)
   found_only (Ok s) e m other h = inl (ap (λ (x : Style). Ok x) (e ∙ some_same style other (sym found ∙ spelled_style text other h)))

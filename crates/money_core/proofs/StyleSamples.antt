@@ -1,6 +1,6 @@
 -- Each style has a sample: a zero in it, with the symbol in quotes.
 use Rattle.std.proofs.Common.{◌≡◌, ◌↔◌, ◌⊎◌, ◌<◌, ◌≤◌, ◌+◌, ◌++◌, ◌==◌, ℕ, zero, suc, List, [], ◌∷◌, Bool, true, false, cond, not, ◌&&◌, ◌||◌, length, drop, replicate, arith, refl, ap, ◌∙◌, sym, subst, inl, inr, nat_le, lit<, IsTrue}
-use Rattle.std.proofs.lemmas.Bool.{cases_Bool, and_parts, and_from, or_right, eq-eqb, leb-true, le-leb}
+use Rattle.std.proofs.lemmas.Bool.{cases_Bool, and_parts, or_right, eq-eqb, leb-true}
 use Rattle.std.proofs.lemmas.List.Folds.{list_any-append}
 use Rattle.std.proofs.Math.Seq.{drop-append-add}
 use Rattle.std.specs.List.{list_all, list_any}
@@ -17,7 +17,7 @@ use Rattle.money_core.specs.Symbol.{is_symbol, in_quotes}
 use Rattle.money_core.specs.Amount.{Parts, IsLeftAmount, IsRightAmount, limit}
 use Rattle.money_core.specs.Style.{is_style, IsSample}
 use Rattle.money_core.proofs.RoundTrip.{before_mark, ReadsAs, reads_with_mark}
-use Rattle.money_core.proofs.SampleLemmas.{sample_symbol}
+use Rattle.money_core.proofs.SampleLemmas.{sample_style}
 
 -- a zero, in groups or not
 zero_whole : Mark → Bool → List ℕ
@@ -149,4 +149,4 @@ zero_sample style h =
 
 -- A style is one that a sample has.
 pub is_style_iff : (style : Style) (r : Bool) → r ≡ is_style style → IsTrue r ↔ ((text : List ℕ) × IsSample text style)
-is_style_iff style r e = (λ t. (zero_text style, zero_sample style (sym e ∙ t)), λ s. e ∙ and_from _ _ (sample_symbol s.0 style s.1) (le-leb style.decimals 6 s.1.few))
+is_style_iff style r e = (λ t. (zero_text style, zero_sample style (sym e ∙ t)), λ s. e ∙ sample_style s.0 style s.1)

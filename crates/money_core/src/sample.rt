@@ -9,7 +9,7 @@ ghost use Rattle.money_core.specs.declared.style.Style.{Style};
 ghost use Rattle.money_core.specs.AmountViews.{parts_view};
 ghost use Rattle.money_core.specs.Sampling.{shows, shown_mark, style_of_parts, spelled_view};
 ghost use Rattle.money_core.specs.Number.{is_number};
-ghost use Rattle.money_core.specs.Style.{IsSample};
+ghost use Rattle.money_core.specs.Style.{is_style, IsSample};
 
 use crate::amount::{Parts, amount_parts};
 use crate::cause::Cause;
@@ -112,6 +112,7 @@ fn copied(alloc: Global, spelled: Spelled<'_>) -> Result<Style, Cause>
 /// It answers 8 where the text is no sample; memory is asked for last.
 pub fn read_style(alloc: Global, text: &str) -> Result<Style, Cause>
     ensures ok { IfOk result (λ style. IsSample text.now style) }
+    ensures declarable { IfOk result (λ style. is_style style ≡ true) }
     // A text that is a sample has one style, and is answered with it, but for memory.
     ensures only { (style : Style) → IsSample text.now style → (result ≡ Ok style) ⊎ (result ≡ Err Cause.OutOfMemory) }
     ensures none { (result ≡ Err Cause.Amount) ↔ ((style : Style) → ¬ IsSample text.now style) }
@@ -122,3 +123,6 @@ pub fn read_style(alloc: Global, text: &str) -> Result<Style, Cause>
         None => Err(Cause::Amount),
     }
 }
+
+#[cfg(test)]
+mod tests;

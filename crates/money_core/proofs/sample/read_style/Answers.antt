@@ -1,7 +1,7 @@
 use Rattle.std.proofs.Common.{◌≡◌, sym, refl, Some, None, Err}
 use Rattle.money_core.specs.declared.cause.Cause.TheVariants.{Amount}
 use Rattle.money_core.specs.Sampling.{style_of, spelled_view}
-use Rattle.money_core.proofs.SampleLemmas.{found_utf8, found_ok, found_only, found_none, lacks_all, lacks_none}
+use Rattle.money_core.proofs.SampleLemmas.{found_utf8, found_ok, found_declarable, found_only, found_none, lacks_all, lacks_none}
 use Rattle.money_core.proofs.sample.read_style.Goals as goal
 use Rattle.money_core.proofs.sample.read_style.Goals.{In-Some, In-None}
 
@@ -17,6 +17,9 @@ copied-requires c = found_utf8 c.args.text.now (spelled_view c.in-Some.spelled) 
 
 pub returns-in-Some-clause-ok : goal.returns-in-Some-clause-ok
 returns-in-Some-clause-ok c = found_ok c.args.text.now (spelled_view c.in-Some.spelled) (found (goal.at.returns-in-Some-clause-ok c).In-Some) c.copied.result c.copied.ensures.equal
+
+pub returns-in-Some-clause-declarable : goal.returns-in-Some-clause-declarable
+returns-in-Some-clause-declarable c = found_declarable c.args.text.now (spelled_view c.in-Some.spelled) (found (goal.at.returns-in-Some-clause-declarable c).In-Some) c.copied.result c.copied.ensures.equal
 
 pub returns-in-Some-clause-only : goal.returns-in-Some-clause-only
 returns-in-Some-clause-only c = found_only c.args.text.now (spelled_view c.in-Some.spelled) (found (goal.at.returns-in-Some-clause-only c).In-Some) c.copied.result c.copied.ensures.equal c.copied.ensures.memory
