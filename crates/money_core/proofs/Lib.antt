@@ -12,3 +12,4 @@ pub mod GrammarLemmas
 pub mod ReadingLemmas
 pub mod SampleLemmas
 pub mod StyleSamples
+pub mod WorkedValues

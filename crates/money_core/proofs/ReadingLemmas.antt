@@ -1,8 +1,8 @@
 -- What is answered to a text, in the words of the grammar.
-use Rattle.std.proofs.Common.{◌≡◌, ◌↔◌, ◌⊎◌, ◌<◌, ◌≤◌, ◌++◌, ℕ, zero, suc, ℤ, List, [], ◌∷◌, Bool, true, false, cond, not, ◌&&◌, ◌||◌, length, arith, refl, ap, ◌∙◌, sym, subst, Option, Some, None, Result, Ok, Err, IfErr, inl, inr, nat_lt}
-use Rattle.std.proofs.lemmas.Bool.{cases_Bool, lt-ltb, le-ltb, ltb-true, ltb-false, or_left, or_right, or_cases, or_parts, false_from_ne_true, both_ways}
+use Rattle.std.proofs.Common.{◌≡◌, ◌↔◌, ◌⊎◌, ◌<◌, ℕ, zero, suc, ℤ, List, [], ◌∷◌, true, false, ◌||◌, length, arith, refl, ap, ◌∙◌, sym, subst, Option, Some, None, Result, Ok, Err, IfErr, inl, inr, nat_lt}
+use Rattle.std.proofs.lemmas.Bool.{cases_Bool, lt-ltb, le-ltb, ltb-true, ltb-false, or_left, or_right, or_cases, or_parts, both_ways}
 use Rattle.std.proofs.lemmas.List.Quantifiers.{position-Some}
-use Rattle.std.specs.Prelude.{slice_get, position}
+use Rattle.std.specs.Prelude.{slice_get}
 use Rattle.std.specs.Str.{bytes_eq}
 use Rattle.money_core.specs.declared.mark.Mark.{Mark}
 use Rattle.money_core.specs.declared.mark.Mark.TheVariants.{Point, Comma}
@@ -223,3 +223,13 @@ one_of_causes styles text r e = go (says styles text r e)
     go (unknown k w) = rw k (inr (inl refl))
     go (further k w) = rw k (inr (inr refl))
     go (great k w) = rw k (inl refl)
+
+-- from an answer that was worked out
+pub writes_if : (styles : List Style) (text : List ℕ) (place : ℕ) (units : ℤ) → amount styles text ≡ Ok (record { 0 = place }, units) → WritesAmount styles text place units
+writes_if styles text place units h = (reads_iff styles text (amount styles text) refl place units).0 h
+
+pub unknown_if : (styles : List Style) (text : List ℕ) → amount styles text ≡ Err UnknownCommodity → NamesUndeclared styles text
+unknown_if styles text h = (unknown_iff styles text (amount styles text) refl).0 h
+
+pub further_if : (styles : List Style) (text : List ℕ) → amount styles text ≡ Err Decimals → HasFurtherDecimals styles text
+further_if styles text h = (decimals_iff styles text (amount styles text) refl).0 h

@@ -1,5 +1,5 @@
 -- Each style has a sample: a zero in it, with the symbol in quotes.
-use Rattle.std.proofs.Common.{◌≡◌, ◌↔◌, ◌⊎◌, ◌<◌, ◌≤◌, ◌+◌, ◌++◌, ◌==◌, ℕ, zero, suc, List, [], ◌∷◌, Bool, true, false, cond, not, ◌&&◌, ◌||◌, length, drop, replicate, arith, refl, ap, ◌∙◌, sym, subst, inl, inr, nat_le, lit<, IsTrue}
+use Rattle.std.proofs.Common.{◌≡◌, ◌↔◌, ◌⊎◌, ◌++◌, ◌==◌, ℕ, zero, suc, List, [], ◌∷◌, Bool, true, false, cond, not, length, replicate, arith, refl, ap, ◌∙◌, sym, inl, inr, lit<, IsTrue}
 use Rattle.std.proofs.lemmas.Bool.{cases_Bool, and_parts, or_right, eq-eqb, leb-true}
 use Rattle.std.proofs.lemmas.List.Folds.{list_any-append}
 use Rattle.std.proofs.Math.Seq.{drop-append-add}
@@ -12,9 +12,9 @@ use Rattle.money_core.specs.declared.amount.Sign.TheVariants.{Absent}
 use Rattle.money_core.specs.declared.style.Style.{Style}
 use Rattle.money_core.specs.Class.{IsBlanks}
 use Rattle.money_core.specs.Mark.{decimal_byte, group_byte}
-use Rattle.money_core.specs.Number.{fraction_part, quantity, WritesQuantity}
+use Rattle.money_core.specs.Number.{fraction_part, WritesQuantity}
 use Rattle.money_core.specs.Symbol.{is_symbol, in_quotes}
-use Rattle.money_core.specs.Amount.{Parts, IsLeftAmount, IsRightAmount, limit}
+use Rattle.money_core.specs.Amount.{Parts, IsLeftAmount, IsRightAmount}
 use Rattle.money_core.specs.Style.{is_style, IsSample}
 use Rattle.money_core.proofs.RoundTrip.{before_mark, ReadsAs, reads_with_mark}
 use Rattle.money_core.proofs.SampleLemmas.{sample_style}

@@ -1,5 +1,5 @@
 -- How an amount is cut into its parts from the left; that these are the parts of `Amount`, and the only ones, is the law of `amount_grammar`.
-use Rattle.std.specs.Prelude.{ℕ, ◌==◌, List, [], ◌∷◌, length, take, drop, slice_index, nat_lt, Bool, true, false, ◌&&◌, ◌||◌, not, if◌then◌else◌, Option, Some, None, option_and_then}
+use Rattle.std.specs.Prelude.{ℕ, ◌==◌, List, length, take, drop, slice_index, nat_lt, Bool, true, false, ◌&&◌, ◌||◌, not, if◌then◌else◌, Option, Some, None, option_and_then}
 use Rattle.std.specs.List.{position_or_len, before_first, after_first}
 use Rattle.money_core.specs.declared.class.Class.TheVariants.{Blank, Symbol, Number}
 use Rattle.money_core.specs.declared.amount.Sign.{Sign}

@@ -8,7 +8,9 @@ use crate::unit::Unit;
 use std::alloc::Global;
 
 const EUR: Unit = Unit(0);
+
 const DOLLAR: Unit = Unit(1);
+
 const KRONA: Unit = Unit(2);
 
 /// The commodities of these samples, in their order.
@@ -99,7 +101,10 @@ fn an_undeclared_symbol_is_named_where_the_form_is_right(rt: HostRuntime) {
     let nines = std::str::from_utf8(&nines).expect(&rt, "digits");
     assert_eq!(rt; read_amount(nines, &styles), Err(Cause::Amount));
     let nines = format!(in rt.alloc(); "{nines} EUR").expect(&rt, "memory");
-    assert_eq!(rt; read_amount(nines.as_str(), &styles), Err(Cause::UnknownCommodity));
+    assert_eq!(rt;
+        read_amount(nines.as_str(), &styles),
+        Err(Cause::UnknownCommodity)
+    );
     let styles = declared(rt.alloc(), &["1.00 EUR"]).expect(&rt, "a sample");
     assert_eq!(rt; read_amount(nines.as_str(), &styles), Err(Cause::Amount));
 }

@@ -11,7 +11,10 @@ fn a_sample_spells_one_style(rt: HostRuntime) {
     let (close, spaced) = (false, true);
     let (plain, grouped) = (false, true);
     let rows = [
-        ("1,000,000.00 EUR", ("EUR", right, spaced, Mark::Point, 2, grouped)),
+        (
+            "1,000,000.00 EUR",
+            ("EUR", right, spaced, Mark::Point, 2, grouped),
+        ),
         ("1000. JPY", ("JPY", right, spaced, Mark::Point, 0, plain)),
         ("1,000 EUR", ("EUR", right, spaced, Mark::Comma, 3, plain)),
         ("1,0.00 X", ("X", right, spaced, Mark::Point, 2, grouped)),
@@ -20,20 +23,40 @@ fn a_sample_spells_one_style(rt: HostRuntime) {
         ("0.000000X", ("X", right, close, Mark::Point, 6, plain)),
         ("$ \t1,000.00", ("$", left, spaced, Mark::Point, 2, grouped)),
         ("€1.000,00", ("€", left, close, Mark::Comma, 2, grouped)),
-        ("\"kg 2\" 1.0", ("kg 2", left, spaced, Mark::Point, 1, plain)),
+        (
+            "\"kg 2\" 1.0",
+            ("kg 2", left, spaced, Mark::Point, 1, plain),
+        ),
         ("1.0\"EUR\"", ("EUR", right, close, Mark::Point, 1, plain)),
-        ("1.0 \"a\u{a0}b\"", ("a\u{a0}b", right, spaced, Mark::Point, 1, plain)),
+        (
+            "1.0 \"a\u{a0}b\"",
+            ("a\u{a0}b", right, spaced, Mark::Point, 1, plain),
+        ),
         (
             "ABCDEFGHIJKLMNOPQRSTUVWX1.0",
-            ("ABCDEFGHIJKLMNOPQRSTUVWX", left, close, Mark::Point, 1, plain),
+            (
+                "ABCDEFGHIJKLMNOPQRSTUVWX",
+                left,
+                close,
+                Mark::Point,
+                1,
+                plain,
+            ),
         ),
-        ("100000000000000.00 EUR", ("EUR", right, spaced, Mark::Point, 2, plain)),
+        (
+            "100000000000000.00 EUR",
+            ("EUR", right, spaced, Mark::Point, 2, plain),
+        ),
     ];
     for (text, wanted) in rows {
         let style = read_style(rt.alloc(), text).expect(&rt, text);
         assert_eq!(rt; style.symbol.as_str(), wanted.0, "{text}");
         assert_eq!(rt; (style.left, style.spaced), (wanted.1, wanted.2), "{text}");
-        assert_eq!(rt; (style.mark, style.decimals), (wanted.3, wanted.4), "{text}");
+        assert_eq!(rt;
+            (style.mark, style.decimals),
+            (wanted.3, wanted.4),
+            "{text}"
+        );
         assert_eq!(rt; style.grouped, wanted.5, "{text}");
     }
 }

@@ -1,6 +1,3 @@
-use Rattle.std.proofs.Common.{◌≡◌, Result}
-use Rattle.money_core.specs.declared.cause.Cause.{Cause}
-use Rattle.money_core.specs.Reading.{amount, amount_of_parts}
 use Rattle.money_core.proofs.ReadingLemmas.{reads_iff, malformed_iff, unknown_iff, decimals_iff, one_of_causes}
 use Rattle.money_core.proofs.reading.read_amount.Goals as goal
 
