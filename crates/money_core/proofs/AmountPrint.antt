@@ -1,10 +1,11 @@
 -- Printed amounts read as themselves, wherever they stand, and what is read can be printed. Proofs of crates above may cite `amounts_print`, `amounts_bound` and `amount_bytes`.
-use Rattle.std.proofs.Common.{◌≡◌, ◌≤◌, ◌<◌, ◌+◌, ◌-◌, ◌*◌, ◌^◌, ◌++◌, ◌==◌, ℕ, ℤ, pos, negsuc, zero, suc, List, [], ◌∷◌, Bool, true, false, cond, not, ◌&&◌, ◌||◌, length, slice_index, arith, refl, ap, ◌∙◌, append-nil, append_assoc, sym, subst, Option, Some, None, Result, Ok, Err, lit<, inl, inr, length-append, nat_lt, nat_le}
+use Rattle.std.proofs.Common.{◌≡◌, ◌≤◌, ◌<◌, ◌+◌, ◌-◌, ◌^◌, ◌++◌, ◌==◌, ℕ, ℤ, pos, negsuc, zero, suc, List, [], ◌∷◌, Bool, true, false, cond, not, ◌&&◌, length, slice_index, arith, refl, ap, ◌∙◌, sym, subst, Option, Some, None, Result, Ok, Err, lit<, inl, inr, length-append, nat_lt}
 use Rattle.std.proofs.lemmas.Grind.{common_steps}
-use Rattle.std.proofs.lemmas.Bool.{cases_Bool, and_parts, and_from, not-true, le-ltb, ltb-true, ltb-false, leb-true, eqb-true, cond-true, cond-false}
+use Rattle.std.proofs.lemmas.Bool.{cases_Bool, and_parts, and_from, le-ltb, ltb-true, ltb-false, leb-true, eqb-true, cond-true, cond-false}
 use Rattle.std.specs.List.{list_all, slice_get}
 use Rattle.std.specs.Prelude.{unsigned_abs}
 use Rattle.std.proofs.lemmas.List.{get_or-append-add}
+use Rattle.std.proofs.lemmas.List.Sums.{AllPass-from_list_all}
 use Rattle.money_core.specs.declared.class.Class.TheVariants.{Blank, Symbol, Number}
 use Rattle.money_core.specs.declared.amount.Sign.{Sign}
 use Rattle.money_core.specs.declared.amount.Sign.TheVariants.{Absent, Plus, Minus}
@@ -19,12 +20,13 @@ use Rattle.money_core.specs.Symbol.{is_short, is_bare, is_symbol, is_quoted_byte
 use Rattle.money_core.specs.Amount.{Parts, limit, with_sign, place_of}
 use Rattle.money_core.specs.Cutting.{amount_parts}
 use Rattle.money_core.specs.Reading.{quantity_in, with_unit, amount_in, amount_at, amount_of_parts, amount}
-use Rattle.money_core.specs.Style.{is_style, AreStyles}
-use Rattle.money_core.specs.AmountText.{printed_symbol, minus, gap, printed_signed, printed_with, printed_of, printed_in, is_amount_byte, is_amount_text, IsAmountText, IsDeclared, AmountsPrint, AmountsBound}
+use Rattle.money_core.specs.Style.{AreStyles}
+use Rattle.money_core.specs.AmountText.{printed_symbol, minus, gap, printed_with, printed_in, is_amount_byte, is_amount_text, IsDeclared, AmountsPrint, AmountsBound}
 use Rattle.money_core.proofs.RoundTrip.{printed_reads}
 use Rattle.money_core.proofs.ClassLemmas.{all_weaker, symbol_no_blank, number_no_blank}
-use Rattle.money_core.proofs.NumberText.{NumberText, number_text, number_length, first_number}
-use Rattle.money_core.proofs.SymbolText.{symbol_facts, bare_facts, short_some, last_passes, symbol_begins}
+use Rattle.money_core.proofs.NumberLength.{number_length}
+use Rattle.money_core.proofs.GrammarLemmas.{NumberText, number_text, first_number, short_some, bare_bytes, symbol_bytes, symbol_begins}
+use Rattle.money_core.proofs.SymbolText.{symbol_short, printed_symbol_writes}
 use Rattle.money_core.proofs.AmountParts.{sign_printed, printed_parts}
 
 -- the quantity that is read
@@ -115,7 +117,7 @@ symbol_text : (symbol : List ℕ) → list_all is_quoted_byte symbol ≡ true �
 unfolding printed_symbol
 symbol_text symbol plain =
     elim (cases_Bool (is_bare symbol)) [
-      | inl bare ↦ rw bare (bare_text symbol (all_weaker (has Symbol) is_amount_byte symbol symbol_amount (bare_facts symbol bare).bytes))
+      | inl bare ↦ rw bare (bare_text symbol (all_weaker (has Symbol) is_amount_byte symbol symbol_amount (bare_bytes symbol bare)))
       | inr quoted ↦ rw quoted (quoted_text symbol plain)
     ]
 
@@ -127,10 +129,14 @@ gap_text : (spaced : Bool) → is_amount_text false (gap spaced) ≡ true
 gap_text true = refl
 gap_text false = refl
 
-last_of : (xs ys : List ℕ) → 0 < length ys → slice_index (xs ++ ys) (length (xs ++ ys) - 1) ≡ slice_index ys (length ys - 1)
+pub last_of : (xs ys : List ℕ) → 0 < length ys → slice_index (xs ++ ys) (length (xs ++ ys) - 1) ≡ slice_index ys (length ys - 1)
 last_of xs ys some =
     let n : length (xs ++ ys) - 1 ≡ length xs + (length ys - 1) = omega (arith, length-append xs ys) in
     ap (λ (k : ℕ). slice_index (xs ++ ys) k) n ∙ get_or-append-add xs ys (length ys - 1) 0
+
+-- the last byte of a list that passes and is not empty
+last_passes : (p : ℕ → Bool) (xs : List ℕ) → list_all p xs ≡ true → 0 < length xs → p (slice_index xs (length xs - 1)) ≡ true
+last_passes p xs h l = AllPass-from_list_all p xs h (length xs - 1) 0 (omega (arith, l))
 
 -- what is known of a printed symbol as a text
 record SymbolEnds (text : List ℕ) : Type 0 where
@@ -144,7 +150,7 @@ symbol_ends symbol h =
     let some = short_some symbol h in
     let few = ltb-true (length symbol) 25 (and_parts (nat_lt 0 (length symbol)) _ h).1 in
     elim (cases_Bool (is_bare symbol)) [
-      | inl bare ↦ rw bare (record { some = some; few = omega (arith, few); last = symbol_no_blank (slice_index symbol (length symbol - 1)) (last_passes (has Symbol) symbol (bare_facts symbol bare).bytes some) })
+      | inl bare ↦ rw bare (record { some = some; few = omega (arith, few); last = symbol_no_blank (slice_index symbol (length symbol - 1)) (last_passes (has Symbol) symbol (bare_bytes symbol bare) some) })
       | inr quoted ↦ rw quoted (record { some = omega arith; few = omega (arith, few, length-append symbol (34 ∷ [])); last = ap (has Blank) (last_of (34 ∷ symbol) (34 ∷ []) (lit< tt)) })
     ]
 
@@ -172,27 +178,28 @@ pub amount_ends : (style : Style) (decimals : ℕ) (q : ℤ) → is_symbol style
 unfolding printed_with
 amount_ends style decimals q ok l =
     let n = unsigned_abs q in
-    let is = symbol_facts style.symbol ok in
+    let plain = symbol_bytes style.symbol ok in
+    let brief = symbol_short style.symbol ok in
     let number = printed_number style.mark style.grouped decimals n in
     let symbol = printed_symbol style.symbol in
     let g = gap style.spaced in
     let small : n < 2 ^ 64 = omega arith in
-    let t = number_text style.mark style.grouped decimals n small in
-    let s = symbol_ends style.symbol is.short in
+    let t = number_text style.mark number (printed_reads style.mark style.grouped decimals n small).form in
+    let s = symbol_ends style.symbol brief in
     let size = number_length style.mark style.grouped decimals n l in
     elim (cases_Bool style.left) [
       | inl left ↦ (let e : printed_with style decimals q ≡ symbol ++ (g ++ (minus q ++ number)) = cond-true style.left _ _ left in
           subst (AmountEnds decimals) (sym e) (record {
-            form = text_joined false symbol _ (symbol_text style.symbol is.plain) (text_joined false g _ (gap_text style.spaced) (signed_text q number t));
+            form = text_joined false symbol _ (symbol_text style.symbol plain) (text_joined false g _ (gap_text style.spaced) (signed_text q number t));
             some = omega (arith, s.some, length-append symbol (g ++ (minus q ++ number)));
-            first = (symbol_begins style.symbol (g ++ (minus q ++ number)) is.short).no_blank;
+            first = (symbol_begins style.symbol symbol (g ++ (minus q ++ number)) (printed_symbol_writes style.symbol ok)).no_blank;
             last = ap (has Blank) (last_of symbol (g ++ (minus q ++ number)) (omega (arith, t.some, length-append g (minus q ++ number), length-append (minus q) number)) ∙ (last_of g (minus q ++ number) (omega (arith, t.some, length-append (minus q) number)) ∙ last_of (minus q) number t.some))
                 ∙ number_no_blank (slice_index number (length number - 1)) (last_passes (has Number) number t.bytes t.some);
             short = omega (arith, s.few, size, minus_length q, gap_length style.spaced, length-append symbol (g ++ (minus q ++ number)), length-append g (minus q ++ number), length-append (minus q) number);
           }))
       | inr right ↦ (let e : printed_with style decimals q ≡ (minus q ++ number) ++ (g ++ symbol) = cond-false style.left _ _ right in
           subst (AmountEnds decimals) (sym e) (record {
-            form = text_joined false (minus q ++ number) _ (signed_text q number t) (text_joined false g _ (gap_text style.spaced) (symbol_text style.symbol is.plain));
+            form = text_joined false (minus q ++ number) _ (signed_text q number t) (text_joined false g _ (gap_text style.spaced) (symbol_text style.symbol plain));
             some = omega (arith, s.some, length-append (minus q ++ number) (g ++ symbol), length-append g symbol);
             first = signed_first q number (g ++ symbol) t;
             last = ap (has Blank) (last_of (minus q ++ number) (g ++ symbol) (omega (arith, s.some, length-append g symbol)) ∙ last_of g symbol s.some) ∙ s.last;

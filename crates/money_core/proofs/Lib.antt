@@ -3,7 +3,7 @@ pub mod PrintedLemmas
 pub mod RoundTrip
 pub mod ClassLemmas
 pub mod StyleLemmas
-pub mod NumberText
+pub mod NumberLength
 pub mod SymbolText
 pub mod AmountParts
 pub mod AmountPrint

@@ -75,7 +75,7 @@ fn push_signed(
 
 /// Appends the amount of that quantity in units of so many decimals.
 #[tactic(auto, unfolding(crate::specs::AmountText::printed_with))]
-fn push_amount(
+pub(crate) fn push_amount(
     alloc: Global,
     out: &mut Vec<u8>,
     style: &Style,
@@ -99,8 +99,9 @@ fn push_amount(
     Ok(())
 }
 
-/// Appends the canonical text of the quantity, in smallest units of the commodity; where memory is refused, the vector
-/// is as it was.
+/// Appends the canonical text of the quantity, in smallest units of the commodity, at most 10^16 with either sign.
+///
+/// Where memory is refused (40), the vector is as it was.
 pub fn print_amount(
     alloc: Global,
     unit: Unit,
@@ -140,3 +141,6 @@ pub fn amounts_bound(styles: &Styles)
 {
     styles.are_styles();
 }
+
+#[cfg(test)]
+mod tests;

@@ -6,6 +6,8 @@ mod amount_text;
 mod cause;
 mod class;
 mod day;
+#[cfg(test)]
+mod fixture;
 mod items;
 mod mark;
 mod number;

@@ -1,0 +1,68 @@
+//! Amounts read and printed, row by row.
+
+use crate::amount_text::{amounts_bound, print_amount};
+use crate::cause::Cause;
+use crate::fixture::declared_styles;
+use crate::reading::read_amount;
+use crate::styles::Styles;
+use std::alloc::Global;
+
+/// A line of what the text is read as and printed as, behind what the vector holds.
+fn reprint(alloc: Global, text: &str, styles: &Styles, out: &mut Vec<u8>) -> Result<(), Cause> {
+    let (unit, quantity) = match read_amount(text, styles) {
+        Ok(amount) => amount,
+        Err(cause) => return Err(cause),
+    };
+    amounts_bound(styles);
+    print_amount(alloc, unit, quantity, styles, out)
+}
+
+// (as it is written, as it is printed)
+#[test]
+fn an_amount_is_printed_in_its_commoditys_style(rt: HostRuntime) {
+    let alloc = rt.alloc();
+    let styles = declared_styles(&rt, alloc);
+    let rows = [
+        ("1000 EUR", "1,000.00 EUR"),
+        ("-70.00 EUR", "-70.00 EUR"),
+        ("- 70 EUR", "-70.00 EUR"),
+        ("EUR +.5", "0.50 EUR"),
+        ("0 EUR", "0.00 EUR"),
+        ("-0 EUR", "0.00 EUR"),
+        ("999.99 EUR", "999.99 EUR"),
+        ("\"EUR\" 1", "1.00 EUR"),
+        ("100000000000000 EUR", "100,000,000,000,000.00 EUR"),
+        ("-99999999999999.99 EUR", "-99,999,999,999,999.99 EUR"),
+        ("$ 1234", "$1,234.00"),
+        ("-$7", "$-7.00"),
+        ("$-7", "$-7.00"),
+        ("100 €", "€100.00"),
+        ("999 JPY", "999 JPY"),
+        ("1000 JPY", "1,000. JPY"),
+        ("-1000000 JPY", "-1,000,000. JPY"),
+        ("5 \"kg2\"", "5 \"kg2\""),
+        ("\"kg2\"-12345", "-12345 \"kg2\""),
+        ("CHF 1.234,5", "CHF 1.234,500000"),
+        ("-0,000001CHF", "CHF -0,000001"),
+    ];
+    for (text, printed) in rows {
+        let mut out = Vec::new(alloc);
+        assert_eq!(rt; reprint(alloc, text, &styles, &mut out), Ok(()), "{text}");
+        assert_eq!(rt; out.as_slice(), printed.as_bytes(), "{text}");
+        assert!(rt;
+            read_amount(printed, &styles) == read_amount(text, &styles),
+            "{text}"
+        );
+    }
+}
+
+#[test]
+fn a_printed_amount_stands_behind_the_old_content(rt: HostRuntime) {
+    let alloc = rt.alloc();
+    let styles = declared_styles(&rt, alloc);
+    let mut out = Vec::new(alloc);
+    for text in ["1 EUR", "$2", "3"] {
+        let _ = reprint(alloc, text, &styles, &mut out);
+    }
+    assert_eq!(rt; out.as_slice(), b"1.00 EUR$2.00".as_slice());
+}
