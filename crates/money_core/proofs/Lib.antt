@@ -13,3 +13,9 @@ pub mod ReadingLemmas
 pub mod SampleLemmas
 pub mod StyleSamples
 pub mod WorkedValues
+pub mod CostDecimals
+pub mod CostLemmas
+pub mod PriceFacts
+pub mod PricePrint
+pub mod PriceGrammar
+pub mod WorkedPrices

@@ -113,7 +113,7 @@ writes_back styles text place units w =
     let n = quantity w.style.mark w.style.decimals w.parts.number in
     rw (amount_cut w.style.mark text w.parts w.amount, w.declared, w.its_style, w.amount.number, w.exact, le-ltb limit n w.small, w.value) refl
 
-unknown_back : (styles : List Style) (text : List ℕ) → NamesUndeclared styles text → amount styles text ≡ Err UnknownCommodity
+pub unknown_back : (styles : List Style) (text : List ℕ) → NamesUndeclared styles text → amount styles text ≡ Err UnknownCommodity
 unfolding amount_of_parts
 unknown_back styles text w = rw (amount_cut w.form.mark text w.parts w.form.amount, w.undeclared, right w.form.mark w.form.amount.number) refl
   where
@@ -130,7 +130,7 @@ unfolding amount_of_parts quantity_in
 great_back styles text w = rw (amount_cut w.style.mark text w.parts w.amount, w.declared, w.its_style, w.amount.number, w.exact, lt-ltb limit (quantity w.style.mark w.style.decimals w.parts.number) w.great) refl
 
 -- an amount of a declared commodity has the form
-declared_form : (styles : List Style) (text : List ℕ) (parts : Parts) (place : ℕ) (style : Style) → place_of styles parts.symbol ≡ Some place → slice_get styles place ≡ Some style → IsAmount style.mark text parts → HasForm styles text parts
+pub declared_form : (styles : List Style) (text : List ℕ) (parts : Parts) (place : ℕ) (style : Style) → place_of styles parts.symbol ≡ Some place → slice_get styles place ≡ Some style → IsAmount style.mark text parts → HasForm styles text parts
 declared_form styles text parts place style at its a = record {
   mark = style.mark;
   amount = a;

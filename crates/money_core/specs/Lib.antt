@@ -11,3 +11,7 @@ pub mod Style
 pub mod Sampling
 pub mod Printed
 pub mod AmountText
+pub mod Price
+pub mod PriceReading
+pub mod PriceText
+pub mod Cost

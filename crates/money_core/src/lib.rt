@@ -5,12 +5,15 @@ mod amount;
 mod amount_text;
 mod cause;
 mod class;
+mod cost;
 mod day;
 #[cfg(test)]
 mod fixture;
 mod items;
 mod mark;
 mod number;
+mod price;
+mod price_text;
 mod printing;
 mod reading;
 mod sample;
@@ -22,9 +25,12 @@ mod unit;
 
 pub use amount_text::{amounts_bound, amounts_print, print_amount};
 pub use cause::{Cause, Fault};
+pub use cost::cost_of;
 pub use day::Day;
 pub use items::{Copied, Items};
 pub use mark::Mark;
+pub use price::{Price, is_price};
+pub use price_text::{prices_bound, prices_print, print_price, read_price};
 pub use reading::read_amount;
 pub use sample::read_style;
 pub use style::{Style, is_style};

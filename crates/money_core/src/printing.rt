@@ -85,8 +85,8 @@ fn push_fraction(
 }
 
 /// The power of ten.
-fn power_of_ten(exponent: u8) -> u64
-    requires { exponent ≤ 12 }
+pub fn power_of_ten(exponent: u8) -> u64
+    requires { exponent ≤ 18 }
     ensures value { result ≡ 10 ^ exponent }
     ensures some { 0 < result }
 {

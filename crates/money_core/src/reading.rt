@@ -49,7 +49,7 @@ fn quantity_in(style: &Style, sign: Sign, number: &[u8]) -> Result<i64, Cause>
 }
 
 /// The fault of a number whose symbol is not declared.
-fn undeclared(number: &[u8]) -> Cause
+pub(crate) fn undeclared(number: &[u8]) -> Cause
     ensures { result ≡ undeclared number.now }
 {
     if is_number(number, Mark::Point) || is_number(number, Mark::Comma) {
