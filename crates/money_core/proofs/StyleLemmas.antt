@@ -2,16 +2,20 @@
 use Rattle.std.proofs.Common.{◌≡◌, ◌≤◌, ◌<◌, ◌++◌, ℕ, zero, suc, List, [], ◌∷◌, Bool, true, false, cond, not, Some, None, length, position, arith, refl, ap, ◌∙◌, sym, inl, inr, ◌⊎◌, length-append, nat_lt}
 use Rattle.std.specs.List.{slice_get, prefix_len, position_or_len}
 use Rattle.std.specs.Str.{bytes_eq}
-use Rattle.std.proofs.lemmas.Bool.{lt-ltb, ltb-true, ltb-false, ne_eqb, eq-eqb, lt-leb}
+use Rattle.std.proofs.lemmas.Bool.{lt-ltb, ltb-true, ltb-false, ne_eqb, eq-eqb, lt-leb, cases_lt}
 use Rattle.std.proofs.lemmas.List.Folds.{prefix_len-append}
 use Rattle.std.proofs.lemmas.List.Sums.{prefix_len-le-length}
 use Rattle.std.proofs.lemmas.Slice.Eq.{bytes_eq-Decides}
 use Rattle.money_core.specs.declared.style.Style.{Style}
 use Rattle.money_core.specs.Amount.{place_of}
 use Rattle.std.proofs.Common.{Ok, Err, le-leb}
-use Rattle.money_core.specs.declared.unit.Declared.TheVariants.{New}
-use Rattle.money_core.specs.declared.cause.Cause.TheVariants.{Full}
-use Rattle.money_core.specs.Style.{is_style, AreStyles, declared_with, declared}
+use Rattle.std.proofs.Common.{if◌then◌else◌, Option, Result}
+use Rattle.money_core.specs.declared.unit.Declared.{Declared}
+use Rattle.money_core.specs.declared.cause.Cause.{Cause}
+use Rattle.money_core.specs.declared.unit.Unit.{Unit as Commodity}
+use Rattle.money_core.specs.declared.unit.Declared.TheVariants.{New, Same}
+use Rattle.money_core.specs.declared.cause.Cause.TheVariants.{Full, CommodityExists}
+use Rattle.money_core.specs.Style.{is_style, AreStyles, declared_with, declared, style_eq}
 
 -- what a choice between a number and none was
 some_chosen : (b : Bool) (n i : ℕ) → cond b (Some n) None ≡ Some i → (b ≡ true) × (n ≡ i)
@@ -89,3 +93,32 @@ declared-full styles style at many = rw (at, le-leb 16 (length styles) many) ref
 pub declared-new : (styles : List Style) (style : Style) → place_of styles style.symbol ≡ None → length styles < 16 → declared styles style ≡ Ok (New (record { 0 = length styles }))
 unfolding declared
 declared-new styles style at few = rw (at, lt-leb 16 (length styles) few) refl
+
+option_cases : (o : Option ℕ) → (o ≡ None) ⊎ ((i : ℕ) × (o ≡ Some i))
+option_cases None = inl refl
+option_cases (Some i) = inr (i, refl)
+
+abbrev new_answer : Commodity → Result Declared Cause
+new_answer unit = Ok (New unit)
+
+abbrev full_answer : Result Declared Cause
+full_answer = Err Full
+
+held_chosen : (same : Bool) (place : ℕ) (unit : Commodity) → (if same then Ok (Same (record { 0 = place })) else Err CommodityExists) ≡ new_answer unit → ⊥
+held_chosen true place unit h = cc
+held_chosen false place unit h = cc
+
+held_not_new : (style : Style) (place : ℕ) (unit : Commodity) (held : Option Style) → declared_with style place held ≡ Ok (New unit) → ⊥
+held_not_new style place unit None h = cc
+held_not_new style place unit (Some s) h = held_chosen (style_eq s style) place unit h
+
+-- what was found where a new commodity is answered
+pub declared-was_new : (styles : List Style) (style : Style) (unit : Commodity) → declared styles style ≡ Ok (New unit) → (place_of styles style.symbol ≡ None) × (length styles < 16)
+unfolding declared
+declared-was_new styles style unit h = elim (option_cases (place_of styles style.symbol)) [
+  | inl none ↦ elim (cases_lt (length styles) 16) [
+    | inl few ↦ (none, few)
+    | inr many ↦ absurd (let e : full_answer ≡ new_answer unit = sym (declared-full styles style none many) ∙ h in cc)
+  ]
+  | inr some ↦ absurd (held_not_new style some.0 unit (slice_get styles some.0) (rw some.1 at h))
+]

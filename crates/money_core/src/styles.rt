@@ -99,25 +99,36 @@ impl Styles {
         self.list.get(unit.0 as usize)
     }
 
-    /// Declares a commodity by its style, which has to be one that a sample has.
-    ///
-    /// It answers `Same` where an equal style is held, 22 where another style of the symbol is held, and 23 at sixteen
-    /// commodities; else the commodity gets the next number.
-    pub fn declare(&mut self, style: Style) -> Result<Declared, Cause>
-        requires { is_style style ≡ true }
-        ensures answer { (result ≡ declared self.old style) ⊎ (result ≡ Err Cause.OutOfMemory) }
-        ensures kept { self.new ≡ after self.old style result }
+    /// What the declaration of a style is answered, memory aside: `Same` where an equal style is held, 22 where another
+    /// style of the symbol is held, 23 at sixteen commodities; else `New` with the next number.
+    pub fn judge(&self, style: &Style) -> Result<Declared, Cause>
+        ensures { result ≡ declared self.now style.now }
     {
         match place_of(self.list.as_slice(), style.symbol.as_str().as_bytes()) {
-            Some(place) => declared_with(&self.list[place], &style, Unit(place as u16)),
+            Some(place) => declared_with(&self.list[place], style, Unit(place as u16)),
             None => {
                 let count = self.list.len();
                 if count >= MAX_COMMODITIES {
                     return Err(Cause::Full);
                 }
-                self.list.push(style)?;
                 Ok(Declared::New(Unit(count as u16)))
             }
+        }
+    }
+
+    /// Declares a commodity by its style, which has to be one that a sample has, as `judge` answers.
+    pub fn declare(&mut self, style: Style) -> Result<Declared, Cause>
+        requires { is_style style ≡ true }
+        ensures answer { (result ≡ declared self.old style) ⊎ (result ≡ Err Cause.OutOfMemory) }
+        ensures kept { self.new ≡ after self.old style result }
+    {
+        match self.judge(&style) {
+            Ok(Declared::New(unit)) => {
+                self.list.push(style)?;
+                Ok(Declared::New(unit))
+            }
+            Ok(Declared::Same(unit)) => Ok(Declared::Same(unit)),
+            Err(cause) => Err(cause),
         }
     }
 
