@@ -19,3 +19,4 @@ pub mod PriceFacts
 pub mod PricePrint
 pub mod PriceGrammar
 pub mod WorkedPrices
+pub mod PositionLemmas

@@ -1,5 +1,5 @@
 -- What a number is printed as.
-use Rattle.std.specs.Prelude.{ℕ, zero, suc, ◌+◌, ◌*◌, ◌/◌, ◌%◌, ◌^◌, ◌==◌, nat_lt, List, [], ◌∷◌, ◌++◌, Bool, ◌&&◌, not, if◌then◌else◌, decimal}
+use Rattle.std.specs.Prelude.{ℕ, zero, suc, ◌+◌, ◌/◌, ◌%◌, ◌^◌, ◌==◌, nat_lt, List, [], ◌∷◌, ◌++◌, Bool, ◌&&◌, not, if◌then◌else◌, decimal}
 use Rattle.money_core.specs.declared.mark.Mark.{Mark}
 use Rattle.money_core.specs.Mark.{decimal_byte, group_byte}
 

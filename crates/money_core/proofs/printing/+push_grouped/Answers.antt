@@ -1,5 +1,4 @@
-use Rattle.std.proofs.Common.{rules, arith, ◌≡◌, ◌∙◌, sym, ◌<◌, ◌≤◌, ◌++◌, [], ◌∷◌, ◌/◌, ◌%◌, ◌+◌, ◌-◌, append-nil, take, length, vec_len, OnOk, refl}
-use Rattle.std.proofs.lemmas.Grind.{common_steps}
+use Rattle.std.proofs.Common.{arith, ◌≡◌, ◌≤◌, [], ◌∷◌, ◌/◌, ◌%◌, take, length, refl}
 use Rattle.money_core.specs.Printed.{places, grouped}
 use Rattle.money_core.proofs.PrintedLemmas.{grouped_small, grouped_step, appended_twice, kept_front, taken_with_more, on_err}
 use Rattle.money_core.proofs.printing.+push_grouped.Goals as goal

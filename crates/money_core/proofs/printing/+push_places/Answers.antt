@@ -1,4 +1,4 @@
-use Rattle.std.proofs.Common.{rules, arith, ◌≡◌, ◌∙◌, sym, ◌<◌, ◌++◌, [], ◌∷◌, ◌/◌, ◌%◌, ◌+◌, ◌-◌, append-nil, refl}
+use Rattle.std.proofs.Common.{arith, ◌<◌, [], ◌∷◌, ◌/◌, ◌%◌, ◌+◌, ◌-◌, append-nil, refl}
 use Rattle.money_core.specs.Printed.{places}
 use Rattle.money_core.proofs.PrintedLemmas.{places_step, places_zero, appended_twice}
 use Rattle.money_core.proofs.printing.+push_places.Goals as goal

@@ -1,4 +1,4 @@
-use Rattle.std.proofs.Common.{arith, ◌≡◌, ◌<◌, ◌^◌, lit<}
+use Rattle.std.proofs.Common.{lit<}
 use Rattle.std.proofs.Math.Nat.{one-le-pow}
 use Rattle.money_core.proofs.printing.power_of_ten.Goals as goal
 

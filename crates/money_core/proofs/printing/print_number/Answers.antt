@@ -1,4 +1,3 @@
-use Rattle.std.proofs.Common.{arith}
 use Rattle.money_core.proofs.RoundTrip.{printed_reads}
 use Rattle.money_core.proofs.printing.print_number.Goals as goal
 

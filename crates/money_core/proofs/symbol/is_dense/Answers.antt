@@ -1,8 +1,7 @@
-use Rattle.std.proofs.Common.{rules, arith, ◌≡◌, ◌∙◌, sym, refl, Bool, true, false, not, ◌&&◌, ap}
-use Rattle.std.specs.Str.{is_utf8, chars, IsUtf8}
+use Rattle.std.proofs.Common.{refl}
+use Rattle.std.specs.Str.{is_utf8}
 use Rattle.std.proofs.lemmas.Str.{is_utf8-from_IsUtf8, IsUtf8-from_is_utf8}
 use Rattle.std.proofs.lemmas.Bool.{false_from_ne_true}
-use Rattle.money_core.specs.Symbol.{is_dense}
 use Rattle.money_core.proofs.symbol.is_dense.Goals as goal
 
 pub returns-in-Ok : goal.returns-in-Ok

@@ -1,4 +1,4 @@
-use Rattle.std.proofs.Common.{◌≡◌, ◌+◌, ◌&&◌, ◌==◌, not, take, drop, slice_index}
+use Rattle.std.proofs.Common.{◌≡◌, ◌&&◌, ◌==◌, not, drop, slice_index}
 use Rattle.money_core.specs.Symbol.{no_double}
 use Rattle.money_core.proofs.symbol.no_double.Given as goal
 
