@@ -1,12 +1,8 @@
 -- Laws of printed numbers.
-use Rattle.std.proofs.Common.{◌≡◌, ◌≤◌, ◌<◌, ◌+◌, ◌*◌, ◌/◌, ◌%◌, ◌^◌, ◌++◌, ◌==◌, ℕ, zero, suc, List, [], ◌∷◌, Bool, true, false, cond, not, ◌&&◌, length, take, get_or, ◌-◌, arith, filter, refl, ap, ◌∙◌, append-nil, append_assoc, add-one, inl, inr, sym, decimal, nat_lt, Result, Ok, Err, OnErr}
-use Rattle.std.proofs.lemmas.Bool.{lt-ltb, le-ltb, ltb-false, ltb-true, cases_lt}
-use Rattle.std.specs.Char.{is_ascii_digit, digit_value}
-use Rattle.std.specs.List.{list_all}
+use Rattle.std.proofs.Common.{◌≡◌, ◌≤◌, ◌<◌, ◌+◌, ◌/◌, ◌%◌, ◌++◌, ℕ, zero, suc, List, [], ◌∷◌, length, take, ◌-◌, arith, refl, ap, ◌∙◌, append_assoc, add-one, inl, inr, decimal, Result, Ok, Err, OnErr}
+use Rattle.std.proofs.lemmas.Bool.{lt-ltb, le-ltb, cases_lt}
 use Rattle.std.proofs.lemmas.Grind.{common_steps}
 use Rattle.std.proofs.Math.Seq.{take-append_seam}
-use Rattle.std.specs.Str.Parse.{digits_value}
-use Rattle.std.proofs.lemmas.Int.Digits.{digits_value_push}
 use Rattle.money_core.specs.Printed.{places, grouped, grouped_within}
 
 -- enough turns are enough

@@ -1,22 +1,21 @@
 -- A printed number reads as the quantity that was printed.
-use Rattle.std.proofs.Common.{◌≡◌, ◌≢◌, ◌≤◌, ◌<◌, ◌+◌, ◌-◌, ◌*◌, ◌/◌, ◌%◌, ◌^◌, ◌++◌, ◌==◌, ℕ, zero, suc, List, [], ◌∷◌, Bool, true, false, cond, not, ◌&&◌, length, take, drop, get_or, arith, filter, replicate, refl, ap, ◌∙◌, append-nil, append_assoc, add-one, add-zero, inl, inr, sym, subst, decimal, nat_lt, length-append, lit<}
+use Rattle.std.proofs.Common.{◌≡◌, ◌≤◌, ◌<◌, ◌+◌, ◌*◌, ◌/◌, ◌%◌, ◌^◌, ◌++◌, ◌==◌, ℕ, zero, suc, List, [], ◌∷◌, Bool, true, false, not, ◌&&◌, length, take, drop, arith, filter, replicate, refl, ◌∙◌, append-nil, inl, inr, sym, decimal, nat_lt, length-append, lit<}
 use Rattle.std.proofs.lemmas.Grind.{common_steps}
 use Rattle.std.proofs.Math.Nat.{pow-suc, mul_assoc}
-use Rattle.std.proofs.lemmas.Bool.{lt-ltb, le-ltb, ltb-false, ltb-true, cases_lt, cases_Bool, and_from, and_parts, not-true, eq-eqb, ne_eqb}
+use Rattle.std.proofs.lemmas.Bool.{cases_lt, cases_Bool, and_parts, not-true, eq-eqb, ne_eqb}
 use Rattle.std.specs.Char.{is_ascii_digit, digit_value}
-use Rattle.std.specs.List.{list_all, slice_split, onto_first, position_or_len, before_first, after_first, prefix_len}
-use Rattle.std.specs.Str.Parse.{digits_value, digits_value_after}
-use Rattle.std.proofs.lemmas.Int.Digits.{digits_value_push}
+use Rattle.std.specs.List.{list_all, slice_split, onto_first, position_or_len}
+use Rattle.std.specs.Str.Parse.{digits_value_after}
 use Rattle.std.proofs.lemmas.Fmt.{decimal_by_steps, decimal_nonempty}
 use Rattle.std.proofs.lemmas.List.Folds.{list_all-append}
-use Rattle.money_core.specs.Number.{is_group, is_whole, is_number, whole_part, fraction_part, unit_digits, quantity, fits_decimals, WritesQuantity}
+use Rattle.money_core.specs.Number.{is_group, whole_part, fraction_part, WritesQuantity}
 use Rattle.money_core.specs.declared.mark.Mark.{Mark}
 use Rattle.money_core.specs.declared.mark.Mark.TheVariants.{Point, Comma}
 use Rattle.money_core.specs.Mark.{decimal_byte, group_byte}
 use Rattle.std.proofs.Math.Seq.{take-append_seam, drop-append-add, take-length}
 use Rattle.std.proofs.lemmas.Nat.{div-add-mod', mod_below}
 use Rattle.std.proofs.Math.Nat.{one-le-pow, div-le_self}
-use Rattle.money_core.specs.Printed.{places, grouped, printed_whole, printed_fraction, printed_number}
+use Rattle.money_core.specs.Printed.{places, grouped, printed_whole, printed_number}
 use Rattle.money_core.proofs.PrintedLemmas.{places_suc, places_zero, grouped_small, grouped_step}
 
 -- a digit of a number

@@ -1,5 +1,5 @@
 -- Symbols as they are printed.
-use Rattle.std.proofs.Common.{◌≡◌, List, ℕ, true, ◌&&◌, inl, inr}
+use Rattle.std.proofs.Common.{◌≡◌, List, ℕ, true, inl, inr}
 use Rattle.std.proofs.lemmas.Bool.{cases_Bool, and_parts, cond-true, cond-false}
 use Rattle.std.specs.List.{list_all}
 use Rattle.money_core.specs.Symbol.{is_short, is_bare, is_quoted_byte, no_double, has_no_outer_space, is_symbol, WritesSymbol}

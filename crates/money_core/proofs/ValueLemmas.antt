@@ -1,5 +1,5 @@
 -- The value of digits that are read one by one, cut off at a limit.
-use Rattle.std.proofs.Common.{◌≡◌, ◌≤◌, ◌<◌, ◌+◌, ◌*◌, ◌++◌, ℕ, List, [], ◌∷◌, Bool, true, false, cond, length, take, get_or, min, arith, filter, refl, ap, ◌∙◌, append-nil, append_assoc, sym, replicate}
+use Rattle.std.proofs.Common.{◌≡◌, ◌≤◌, ◌<◌, ◌+◌, ◌*◌, ◌++◌, ℕ, List, [], ◌∷◌, true, false, length, take, get_or, min, arith, filter, ap, ◌∙◌, append-nil, append_assoc, sym, replicate}
 use Rattle.std.proofs.lemmas.Grind.{take_at_read, common_steps}
 use Rattle.std.specs.Char.{is_ascii_digit, digit_value}
 use Rattle.std.specs.Str.Parse.{digits_value}

@@ -1,4 +1,4 @@
-use Rattle.std.proofs.Common.{rules, arith, ◌≡◌, ◌∙◌, sym, ◌<◌, ◌+◌, ◌++◌, length, replicate, filter, length-append, ℕ}
+use Rattle.std.proofs.Common.{arith, ◌∙◌, ◌<◌, ◌++◌, length, replicate, filter}
 use Rattle.std.specs.Char.{is_ascii_digit}
 use Rattle.std.proofs.lemmas.Grind.{common_steps}
 use Rattle.money_core.proofs.ValueLemmas.{value_more_decimal}

@@ -1,4 +1,4 @@
-use Rattle.std.proofs.Common.{rules, arith, ◌≡◌, ◌∙◌, sym, ◌<◌, length}
+use Rattle.std.proofs.Common.{arith, ◌∙◌, sym, ◌<◌, length}
 use Rattle.money_core.proofs.ValueLemmas.{value_more_digit, value_more_other}
 use Rattle.money_core.proofs.number.whole_value.Goals as goal
 use Rattle.money_core.proofs.number.whole_value.Goals.{then-is_ascii_digit, else-is_ascii_digit}
