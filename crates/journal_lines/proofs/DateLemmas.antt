@@ -1,0 +1,259 @@
+-- What a date names, and that a printed date reads back.
+use Rattle.std.proofs.Common.{◌≡◌, ◌≤◌, ◌<◌, ◌+◌, ◌-◌, ◌*◌, ◌/◌, ◌%◌, ◌++◌, ◌==◌, ℕ, zero, suc, ℤ, pos, negsuc, neg_ℤ, ◌-ℤ◌, ◌≤ℤ◌, ◌<ℤ◌, int_le, unsigned_abs, List, [], ◌∷◌, Bool, true, false, cond, not, ◌&&◌, ◌||◌, length, take, drop, slice_index, arith, refl, ap, ◌∙◌, sym, subst, Option, Some, None, nat_lt, nat_le, inl, inr, ◌⊎◌, ◌↔◌, IfSome}
+use Rattle.std.proofs.lemmas.Grind.{common_steps}
+use Rattle.std.proofs.lemmas.Int.{ints, by_lt_z}
+use Rattle.std.proofs.lemmas.Bool.{and_parts, and_from, ne_eqb, cases_lt, cases_Bool, cases_order, lt-ltb, le-ltb, ltb-true, ltb-false}
+use Rattle.std.specs.Option.{SomeIff}
+use Rattle.std.specs.List.{list_all, position_or_len, before_first, after_first}
+use Rattle.std.specs.Char.{is_ascii_digit, digit_value}
+use Rattle.std.specs.Str.Parse.{digits_value}
+use Rattle.jiff_core.specs.Calendar.{days_from_civil, day_count, days_in_month, days_in_year, IsCivilDate, IsYear}
+use Rattle.jiff_core.proofs.SignedLemmas.{signed_arith}
+use Rattle.jiff_core.proofs.CalendarLemmas.{days_from_civil-day_count, day_count-day, day_count-lt_year, day_count-lt_month, day_count-later_year, days_in_month_bounds, day_count_bounds}
+use Rattle.jiff_core.proofs.MarchLemmas.{day_count-early}
+use Rattle.jiff_core.proofs.DateLemmas.{days_from_civil-max, days_from_civil-day}
+use Rattle.money_core.specs.declared.day.Day.{Day}
+use Rattle.journal_lines.specs.Date.{IsDay, IsDate, year_part, behind_year, month_part, day_part, separator, is_separator, is_short, number_of, day_of, is_day, is_date, date_of, IsDayNumber, last_begun, year_of, month_of, day_of_month, two_digits, four_digits, printed_date, IsDateText}
+
+-- the number of the first day
+pub days_from_civil-first : days_from_civil (pos 1) 1 1 ≡ neg_ℤ (pos 719_162)
+days_from_civil-first = omega (arith, signed_arith, days_from_civil-day_count, day_count-early (pos 1) 10000 1 1 refl (omega arith) (omega arith) (omega arith))
+
+-- the days of the years 1 to 9999 in numbers
+pub day_number_bounds : (day : Day) → IsDayNumber day → (neg_ℤ (pos 719_162) ≤ℤ day.0) × (day.0 ≤ℤ pos 2_932_896)
+day_number_bounds day h = (rw (← days_from_civil-first) h.low, rw (← days_from_civil-max) h.high)
+
+pub day_number_from : (day : Day) → neg_ℤ (pos 719_162) ≤ℤ day.0 → day.0 ≤ℤ pos 2_932_896 → IsDayNumber day
+day_number_from day low high = record { low = rw days_from_civil-first low; high = rw days_from_civil-max high }
+
+-- a year begins on or before each of its days
+year_begins : (y : ℤ) (m d : ℕ) → IsCivilDate y m d → days_from_civil y 1 1 ≤ℤ days_from_civil y m d
+year_begins y m d h = elim (cases_lt 1 m) [
+  | inl later ↦ omega (arith, signed_arith, days_from_civil-day_count y 1 1, days_from_civil-day_count y m d, day_count-lt_month y 1 1 m d (h.0, (omega arith, omega arith), (omega arith, omega (arith, (days_in_month_bounds y 1).1))) h.2.0 later)
+  | inr first ↦ (let january : m ≡ 1 = omega (arith, h.1.0, first) in
+      rw january (omega (arith, signed_arith, days_from_civil-day y 1 1 d (omega arith) h.2.0, h.2.0)))
+]
+
+-- a later year begins after the day
+year_is_over : (y later : ℤ) (m d : ℕ) → IsCivilDate y m d → y <ℤ later → days_from_civil y m d <ℤ days_from_civil later 1 1
+year_is_over y later m d h lt = omega (arith, signed_arith, days_from_civil-day_count y m d, days_from_civil-day_count later 1 1, day_count-lt_year y m d later 1 1 h (omega arith) lt)
+
+-- a month begins on or before each of its days
+month_begins : (y : ℤ) (m d : ℕ) → 1 ≤ d → days_from_civil y m 1 ≤ℤ days_from_civil y m d
+month_begins y m d first = omega (arith, signed_arith, days_from_civil-day y m 1 d (omega arith) first, first)
+
+-- a later month begins after the day
+month_is_over : (y : ℤ) (m d later : ℕ) → IsCivilDate y m d → m < later → days_from_civil y m d <ℤ days_from_civil y later 1
+month_is_over y m d later h lt = omega (arith, signed_arith, days_from_civil-day_count y m d, days_from_civil-day_count y later 1, day_count-lt_month y m d later 1 h (omega arith) lt)
+
+int_le-true : (a b : ℤ) → a ≤ℤ b → int_le a b ≡ true
+int_le-true a b h = grind (arith, ints)
+
+int_le-false : (a b : ℤ) → b <ℤ a → int_le a b ≡ false
+int_le-false a b h = grind (arith, ints)
+
+-- what has begun, and is over before the next one
+pub last_begun_is : (first_day : ℕ → ℤ) (day : ℤ) (n k : ℕ) → 1 ≤ k → k ≤ n → first_day k ≤ℤ day → ((j : ℕ) → k < j → j ≤ n → day <ℤ first_day j) → last_begun first_day day n ≡ k
+unfolding last_begun
+last_begun_is first_day day zero k low high begun over = absurd (omega arith)
+last_begun_is first_day day (suc n) k low high begun over = elim (cases_lt k (suc n)) [
+  | inl earlier ↦ rw (int_le-false (first_day (suc n)) day (over (suc n) earlier (omega arith))) (last_begun_is first_day day n k low (omega (arith, earlier)) begun (λ j lt le. over j lt (omega (arith, le))))
+  | inr last ↦ (let same : k ≡ suc n = omega (arith, last, high) in
+      let here : first_day (suc n) ≤ℤ day = subst (λ (j : ℕ). first_day j ≤ℤ day) same begun in
+      rw (int_le-true (first_day (suc n)) day here) (sym same))
+]
+
+-- the parts of a day's date
+pub year_of_is : (y m d : ℕ) → IsDay y m d → year_of (record { 0 = days_from_civil (pos y) m d }) ≡ y
+year_of_is y m d h = last_begun_is (λ year. days_from_civil (pos year) 1 1) (days_from_civil (pos y) m d) 9999 y h.0 (omega (arith, signed_arith, h.1.0))
+    (year_begins (pos y) m d h.1) (λ j lt le. year_is_over (pos y) (pos j) m d h.1 (omega (arith, signed_arith, lt)))
+
+month_in : (y m d : ℕ) → IsDay y m d → last_begun (λ month. days_from_civil (pos y) month 1) (days_from_civil (pos y) m d) 12 ≡ m
+month_in y m d h = last_begun_is (λ month. days_from_civil (pos y) month 1) (days_from_civil (pos y) m d) 12 m h.1.1.0 h.1.1.1
+    (month_begins (pos y) m d h.1.2.0) (λ j lt le. month_is_over (pos y) m d j h.1 lt)
+
+pub month_of_is : (y m d : ℕ) → IsDay y m d → month_of (record { 0 = days_from_civil (pos y) m d }) ≡ m
+month_of_is y m d h = rw (year_of_is y m d h) (month_in y m d h)
+
+pub day_of_month_is : (y m d : ℕ) → IsDay y m d → day_of_month (record { 0 = days_from_civil (pos y) m d }) ≡ d
+day_of_month_is y m d h =
+    let since : days_from_civil (pos y) m d -ℤ days_from_civil (pos y) m 1 ≡ pos (d - 1) = omega (arith, signed_arith, days_from_civil-day (pos y) m 1 d (omega arith) h.1.2.0, h.1.2.0) in
+    rw (year_of_is y m d h, month_in y m d h, since) (omega (arith, h.1.2.0))
+
+-- the printed date of a year, month and day
+same_parts : (y m d y' m' d' : ℕ) → y ≡ y' → m ≡ m' → d ≡ d' → four_digits y ++ (45 ∷ (two_digits m ++ (45 ∷ two_digits d))) ≡ four_digits y' ++ (45 ∷ (two_digits m' ++ (45 ∷ two_digits d')))
+same_parts y m d y' m' d' ey em ed = rw (ey, em, ed) refl
+
+pub printed_date_is : (y m d : ℕ) → IsDay y m d → printed_date (record { 0 = days_from_civil (pos y) m d }) ≡ four_digits y ++ (45 ∷ (two_digits m ++ (45 ∷ two_digits d)))
+unfolding printed_date
+printed_date_is y m d h =
+    let day : Day = record { 0 = days_from_civil (pos y) m d } in
+    same_parts (year_of day) (month_of day) (day_of_month day) y m d (year_of_is y m d h) (month_of_is y m d h) (day_of_month_is y m d h)
+
+-- a date of the calendar whose day is one of the years 1 to 9999 has such a year
+pub year_is_positive : (y : ℤ) (m d : ℕ) (day : Day) → IsCivilDate y m d → days_from_civil y m d ≡ day.0 → IsDayNumber day → pos 1 ≤ℤ y
+year_is_positive y m d day h e is = by_lt_z y (pos 1)
+    (λ lt. absurd (omega (arith, signed_arith, year_is_over y (pos 1) m d h lt, is.low, e)))
+    (λ ge. ge)
+
+-- the calendar's test
+day_test : (y m d : ℕ) → IsDay y m d → is_day y m d ≡ true
+day_test y m d h =
+    and_from _ _ (and_from _ _ (and_from _ _ (and_from _ _ (and_from _ _ (leb y 1 h.0) (le y 9999 (omega (arith, signed_arith, h.1.0)))) (leb m 1 h.1.1.0)) (le m 12 h.1.1.1)) (leb d 1 h.1.2.0)) (le d (days_in_month (pos y) m) h.1.2.1)
+  where
+    le : (a b : ℕ) → a ≤ b → nat_le a b ≡ true
+    le a b h = grind arith
+
+    leb : (a b : ℕ) → b ≤ a → nat_le b a ≡ true
+    leb a b h = le b a h
+
+day_from_test : (y m d : ℕ) → is_day y m d ≡ true → IsDay y m d
+day_from_test y m d h =
+    let a = and_parts (nat_le 1 y && nat_le y 9999 && nat_le 1 m && nat_le m 12 && nat_le 1 d) _ h in
+    let b = and_parts (nat_le 1 y && nat_le y 9999 && nat_le 1 m && nat_le m 12) _ a.0 in
+    let e = and_parts (nat_le 1 y && nat_le y 9999 && nat_le 1 m) _ b.0 in
+    let f = and_parts (nat_le 1 y && nat_le y 9999) _ e.0 in
+    let g = and_parts (nat_le 1 y) _ f.0 in
+    let y1 = le 1 y g.0 in
+    let y2 = le y 9999 g.1 in
+    (y1, (omega (arith, signed_arith, y2), (le 1 m f.1, le m 12 e.1), (le 1 d b.1, le d (days_in_month (pos y) m) a.1)))
+  where
+    le : (a b : ℕ) → nat_le a b ≡ true → a ≤ b
+    le a b h = grind arith
+
+-- the facts of a date, as a test
+date_test : (text : List ℕ) → IsDate text → is_date text ≡ true
+date_test text h = and_from _ _ (and_from _ _ (and_from _ _ (and_from _ _ (and_from _ _ (lt-ltb 4 (length text) h.long) h.year) h.separated) h.month) h.day)
+    (day_test (number_of (year_part text)) (number_of (month_part text)) (number_of (day_part text)) h.exists)
+
+date_from_test : (text : List ℕ) → is_date text ≡ true → IsDate text
+date_from_test text h =
+    let a = and_parts (nat_lt 4 (length text) && list_all is_ascii_digit (year_part text) && is_separator (separator text) && is_short (month_part text) && is_short (day_part text)) _ h in
+    let b = and_parts (nat_lt 4 (length text) && list_all is_ascii_digit (year_part text) && is_separator (separator text) && is_short (month_part text)) _ a.0 in
+    let e = and_parts (nat_lt 4 (length text) && list_all is_ascii_digit (year_part text) && is_separator (separator text)) _ b.0 in
+    let f = and_parts (nat_lt 4 (length text) && list_all is_ascii_digit (year_part text)) _ e.0 in
+    let g = and_parts (nat_lt 4 (length text)) _ f.0 in
+    record {
+      long = ltb-true 4 (length text) g.0;
+      year = g.1;
+      separated = f.1;
+      month = e.1;
+      day = b.1;
+      exists = day_from_test (number_of (year_part text)) (number_of (month_part text)) (number_of (day_part text)) a.1;
+    }
+
+-- what a date names
+pub date_of_is : (text : List ℕ) (r : Option Day) → SomeIff r (IsDate text) (day_of text) → r ≡ date_of text
+unfolding date_of
+date_of_is text None h = elim (cases_Bool (is_date text)) [
+  | inl is ↦ absurd (h (date_from_test text is))
+  | inr other ↦ rw other refl
+]
+date_of_is text (Some x) h = rw (date_test text h.0) (ap (λ (day : Day). Some day) (h.1))
+
+-- a date names a day of the years 1 to 9999
+pub day_in_range : (y m d : ℕ) → IsDay y m d → IsDayNumber (record { 0 = days_from_civil (pos y) m d })
+day_in_range y m d h = record { low = first; high = last }
+  where
+    first : days_from_civil (pos 1) 1 1 ≤ℤ days_from_civil (pos y) m d
+    first = by_lt_z (pos 1) (pos y)
+        (λ lt. omega (arith, signed_arith, days_from_civil-day_count (pos 1) 1 1, days_from_civil-day_count (pos y) 1 1, day_count-later_year (pos 1) (pos y) (omega (arith, signed_arith)) lt, year_begins (pos y) m d h.1))
+        (λ ge. let same : y ≡ 1 = omega (arith, signed_arith, ge, h.0) in subst (λ (n : ℕ). days_from_civil (pos n) 1 1 ≤ℤ days_from_civil (pos y) m d) same (year_begins (pos y) m d h.1))
+
+    last : days_from_civil (pos y) m d ≤ℤ days_from_civil (pos 9999) 12 31
+    last = rw days_from_civil-max (omega (arith, signed_arith, days_from_civil-day_count (pos y) m d, day_count_bounds (pos y) m d h.1))
+
+pub read_range : (text : List ℕ) (r : Option Day) → SomeIff r (IsDate text) (day_of text) → IfSome r IsDayNumber
+read_range text None h = tt
+read_range text (Some x) h = subst IsDayNumber (sym h.1) (day_in_range (number_of (year_part text)) (number_of (month_part text)) (number_of (day_part text)) h.0.exists)
+
+digit : (n : ℕ) → n < 10 → is_ascii_digit (48 + n) ≡ true
+digit n h = grind (arith, common_steps)
+
+value : (n : ℕ) → n < 10 → digit_value (48 + n) ≡ n
+value n h = grind (arith, common_steps)
+
+no_mark : (n : ℕ) → (48 + n == 45) ≡ false
+no_mark n = ne_eqb (48 + n) 45 (λ e. omega (arith, e))
+
+number_two : (a b : ℕ) → a < 10 → b < 10 → number_of ((48 + a) ∷ (48 + b) ∷ []) ≡ 10 * a + b
+number_two a b h k = rw (value a h, value b k) (omega arith)
+
+number_four : (a b c d : ℕ) → a < 10 → b < 10 → c < 10 → d < 10 → number_of ((48 + a) ∷ (48 + b) ∷ (48 + c) ∷ (48 + d) ∷ []) ≡ 1000 * a + 100 * b + 10 * c + d
+number_four a b c d h k l m = rw (value a h, value b k, value c l, value d m) (omega arith)
+
+-- the text of a date, cell by cell
+abbrev pub cells : (a b c d e f g h : ℕ) → List ℕ
+cells a b c d e f g h = (48 + a) ∷ (48 + b) ∷ (48 + c) ∷ (48 + d) ∷ 45 ∷ (48 + e) ∷ (48 + f) ∷ 45 ∷ (48 + g) ∷ (48 + h) ∷ []
+
+month_is : (a b c d e f g h : ℕ) → month_part (cells a b c d e f g h) ≡ (48 + e) ∷ (48 + f) ∷ []
+month_is a b c d e f g h = rw (no_mark e, no_mark f) refl
+
+day_is : (a b c d e f g h : ℕ) → day_part (cells a b c d e f g h) ≡ (48 + g) ∷ (48 + h) ∷ []
+day_is a b c d e f g h = rw (no_mark e, no_mark f) refl
+
+pub cells_read : (a b c d e f g h : ℕ) → a < 10 → b < 10 → c < 10 → d < 10 → e < 10 → f < 10 → g < 10 → h < 10 → (y m n : ℕ) → 1000 * a + 100 * b + 10 * c + d ≡ y → 10 * e + f ≡ m → 10 * g + h ≡ n → is_day y m n ≡ true
+    → date_of (cells a b c d e f g h) ≡ Some (record { 0 = days_from_civil (pos y) m n })
+unfolding date_of
+cells_read a b c d e f g h la lb lc ld le lf lg lh y m n ey em en ok =
+    let month = month_is a b c d e f g h in
+    let day = day_is a b c d e f g h in
+    let ny : number_of ((48 + a) ∷ (48 + b) ∷ (48 + c) ∷ (48 + d) ∷ []) ≡ y = number_four a b c d la lb lc ld ∙ ey in
+    let nm : number_of ((48 + e) ∷ (48 + f) ∷ []) ≡ m = number_two e f le lf ∙ em in
+    let nd : number_of ((48 + g) ∷ (48 + h) ∷ []) ≡ n = number_two g h lg lh ∙ en in
+    rw (no_mark e, no_mark f, digit a la, digit b lb, digit c lc, digit d ld, digit e le, digit f lf, digit g lg, digit h lh) (rw (ny, nm, nd, ok) refl)
+
+-- the bytes of a date
+form_of : (n : ℕ) → n < 10 → (is_ascii_digit (48 + n) || (48 + n == 45)) ≡ true
+form_of n h = rw (digit n h) refl
+
+-- a printed date reads as its day
+pub civil_reads : (y m d : ℕ) → IsDay y m d → IsDateText (record { 0 = days_from_civil (pos y) m d }) (four_digits y ++ (45 ∷ (two_digits m ++ (45 ∷ two_digits d))))
+civil_reads y m d h =
+    let small_y : y ≤ 9999 = omega (arith, signed_arith, h.1.0) in
+    let small_m : m ≤ 12 = h.1.1.1 in
+    let small_d : d ≤ 31 = omega (arith, h.1.2.1, (days_in_month_bounds (pos y) m).0) in
+    let a : y / 1000 % 10 < 10 = omega arith in
+    let b : y / 100 % 10 < 10 = omega arith in
+    let c : y / 10 % 10 < 10 = omega arith in
+    let e : y % 10 < 10 = omega arith in
+    let f : m / 10 % 10 < 10 = omega arith in
+    let g : m % 10 < 10 = omega arith in
+    let i : d / 10 % 10 < 10 = omega arith in
+    let j : d % 10 < 10 = omega arith in
+    record {
+      reads = cells_read (y / 1000 % 10) (y / 100 % 10) (y / 10 % 10) (y % 10) (m / 10 % 10) (m % 10) (d / 10 % 10) (d % 10) a b c e f g i j y m d
+          (omega (arith, small_y)) (omega (arith, small_m)) (omega (arith, small_d)) (day_test y m d h);
+      form = rw (form_of (y / 1000 % 10) a, form_of (y / 100 % 10) b, form_of (y / 10 % 10) c, form_of (y % 10) e, form_of (m / 10 % 10) f, form_of (m % 10) g, form_of (d / 10 % 10) i, form_of (d % 10) j) refl;
+      first = digit (y / 1000 % 10) a;
+      ten = refl;
+    }
+
+-- the printed date of a day in the calendar
+pub date_printed : (y : ℤ) (m d n : ℕ) (day : Day) → IsCivilDate y m d → pos 1 ≤ℤ y → n ≡ unsigned_abs y → days_from_civil y m d ≡ day.0
+    → four_digits n ++ (45 ∷ (two_digits m ++ (45 ∷ two_digits d))) ≡ printed_date day
+date_printed (pos y) m d n day h low same e =
+    let whole : day ≡ record { 0 = days_from_civil (pos y) m d } = day_same day (days_from_civil (pos y) m d) (sym e) in
+    same_parts n m d y m d same refl refl ∙ (sym (printed_date_is y m d (omega (arith, signed_arith, low), h)) ∙ ap printed_date (sym whole))
+  where
+    day_same : (a : Day) (z : ℤ) → a.0 ≡ z → a ≡ record { 0 = z }
+    day_same a z e = ap (λ (x : ℤ). (let r : Day = record { 0 = x } in r)) e
+date_printed (negsuc y) m d n day h low same e = absurd (omega (arith, signed_arith, low))
+
+-- a printed date reads as its day
+pub printed_date_reads : (y : ℤ) (m d : ℕ) (day : Day) → IsCivilDate y m d → pos 1 ≤ℤ y → days_from_civil y m d ≡ day.0 → IsDateText day (printed_date day)
+printed_date_reads (pos y) m d day h low e =
+    let is : IsDay y m d = (omega (arith, signed_arith, low), h) in
+    let whole : record { 0 = days_from_civil (pos y) m d } ≡ day = day_same day (days_from_civil (pos y) m d) (sym e) in
+    let text = printed_date_is y m d is in
+    let reads = civil_reads y m d is in
+    subst (λ (a : Day). IsDateText a (printed_date a)) whole (subst (λ (t : List ℕ). IsDateText (record { 0 = days_from_civil (pos y) m d }) t) (sym text) reads)
+  where
+    day_same : (a : Day) (z : ℤ) → a.0 ≡ z → record { 0 = z } ≡ a
+    day_same a z e = ap (λ (x : ℤ). (let r : Day = record { 0 = x } in r)) (sym e)
+printed_date_reads (negsuc y) m d day h low e = absurd (omega (arith, signed_arith, low))
+
+-- a year of at most four digits
+pub small_year : (y : ℤ) → pos 1 ≤ℤ y → IsYear y → unsigned_abs y ≤ 9999
+small_year (pos n) low h = omega (arith, signed_arith, h)
+small_year (negsuc n) low h = absurd (omega (arith, signed_arith, low))

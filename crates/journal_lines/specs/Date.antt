@@ -1,0 +1,112 @@
+-- Dates of a journal (hledger manual, "Simple dates"), and which days they name. That the year has four digits,
+-- month and day one digit or two, and that both separators are the same, are own rules. The calendar is the kit's.
+use Rattle.std.specs.Prelude.{ℕ, ℤ, zero, suc, pos, ◌+◌, ◌-◌, ◌*◌, ◌/◌, ◌%◌, ◌==◌, ◌≡◌, ◌≤◌, ◌<◌, ◌-ℤ◌, ◌≤ℤ◌, int_le, unsigned_abs, nat_le, nat_lt, ◌&&◌, ◌||◌, Bool, true, if◌then◌else◌, List, [], ◌∷◌, ◌++◌, length, slice_index, take, drop, Option, Some, None}
+use Rattle.std.specs.Char.{is_ascii_digit}
+use Rattle.std.specs.List.{list_all, before_first, after_first}
+use Rattle.std.specs.Str.Parse.{digits_value}
+use Rattle.jiff_core.specs.Calendar.{IsCivilDate, days_in_month, days_from_civil}
+use Rattle.money_core.specs.declared.day.Day.{Day}
+
+-- the calendar has the day, in a year from 1 to 9999
+abbrev pub IsDay : ℕ → ℕ → ℕ → Type 0
+IsDay year month day = (1 ≤ year) × IsCivilDate (pos year) month day
+
+-- a byte between the parts of a date: `-`, `/` or `.`
+abbrev pub is_separator : ℕ → Bool
+is_separator b = (b == 45) || (b == 47) || (b == 46)
+
+-- the four bytes of the year
+abbrev pub year_part : List ℕ → List ℕ
+year_part text = take 4 text
+
+-- the byte that follows the year
+abbrev pub separator : List ℕ → ℕ
+separator text = slice_index text 4
+
+-- what follows the year and its separator
+abbrev pub behind_year : List ℕ → List ℕ
+behind_year text = drop 5 text
+
+-- from there up to the same separator again
+abbrev pub month_part : List ℕ → List ℕ
+month_part text = before_first (λ b. b == separator text) (behind_year text)
+
+-- what follows it
+abbrev pub day_part : List ℕ → List ℕ
+day_part text = after_first (λ b. b == separator text) (behind_year text)
+
+-- a month or a day: one digit or two
+abbrev pub is_short : List ℕ → Bool
+is_short part = ((length part == 1) || (length part == 2)) && list_all is_ascii_digit part
+
+-- the number that digits write
+abbrev pub number_of : List ℕ → ℕ
+number_of part = digits_value 10 part
+
+-- the text is a date: four digits, a separator, a month, the same separator, a day, and the calendar has that day
+pub record IsDate (text : List ℕ) : Type 0 where
+  pub long : 4 < length text
+  pub year : list_all is_ascii_digit (year_part text) ≡ true
+  pub separated : is_separator (separator text) ≡ true
+  pub month : is_short (month_part text) ≡ true
+  pub day : is_short (day_part text) ≡ true
+  pub exists : IsDay (number_of (year_part text)) (number_of (month_part text)) (number_of (day_part text))
+
+-- the day that a date names
+abbrev pub day_of : List ℕ → Day
+day_of text = record { 0 = days_from_civil (pos (number_of (year_part text))) (number_of (month_part text)) (number_of (day_part text)) }
+
+-- the calendar has the day, in a year from 1 to 9999
+abbrev pub is_day : ℕ → ℕ → ℕ → Bool
+is_day y m d = nat_le 1 y && nat_le y 9999 && nat_le 1 m && nat_le m 12 && nat_le 1 d && nat_le d (days_in_month (pos y) m)
+
+-- whether the text is a date
+abbrev pub is_date : List ℕ → Bool
+is_date text =
+    nat_lt 4 (length text) && list_all is_ascii_digit (year_part text) && is_separator (separator text) && is_short (month_part text) && is_short (day_part text)
+    && is_day (number_of (year_part text)) (number_of (month_part text)) (number_of (day_part text))
+
+-- the day that a text names, if it is a date
+unfoldable pub date_of : List ℕ → Option Day
+date_of text = if is_date text then Some (day_of text) else None
+
+-- a day of the years 1 to 9999
+pub record IsDayNumber (day : Day) : Type 0 where
+  pub low : days_from_civil (pos 1) 1 1 ≤ℤ day.0
+  pub high : day.0 ≤ℤ days_from_civil (pos 9999) 12 31
+
+-- which of the first n years, or months of a year, lasts on a day, given the days on which they begin: the last that has begun
+unfoldable pub last_begun : (ℕ → ℤ) → ℤ → ℕ → ℕ
+last_begun first_day day zero = 0
+last_begun first_day day (suc n) = if int_le (first_day (suc n)) day then suc n else last_begun first_day day n
+
+-- the year of a day of the years 1 to 9999
+abbrev pub year_of : Day → ℕ
+year_of day = last_begun (λ year. days_from_civil (pos year) 1 1) day.0 9999
+
+-- its month
+abbrev pub month_of : Day → ℕ
+month_of day = last_begun (λ month. days_from_civil (pos (year_of day)) month 1) day.0 12
+
+-- its place in the month, from 1
+abbrev pub day_of_month : Day → ℕ
+day_of_month day = unsigned_abs (day.0 -ℤ days_from_civil (pos (year_of day)) (month_of day) 1) + 1
+
+-- a number in two digits
+abbrev pub two_digits : ℕ → List ℕ
+two_digits n = (48 + n / 10 % 10) ∷ (48 + n % 10) ∷ []
+
+-- a number in four digits
+abbrev pub four_digits : ℕ → List ℕ
+four_digits n = (48 + n / 1000 % 10) ∷ (48 + n / 100 % 10) ∷ two_digits n
+
+-- the date of a day as it is printed: `YYYY-MM-DD`
+unfoldable pub printed_date : Day → List ℕ
+printed_date day = four_digits (year_of day) ++ (45 ∷ (two_digits (month_of day) ++ (45 ∷ two_digits (day_of_month day))))
+
+-- the text is the date of that day wherever it stands: it reads as the day, and is ten digits and `-`, a digit first
+pub record IsDateText (day : Day) (text : List ℕ) : Type 0 where
+  pub reads : date_of text ≡ Some day
+  pub form : list_all (λ b. is_ascii_digit b || (b == 45)) text ≡ true
+  pub first : is_ascii_digit (slice_index text 0) ≡ true
+  pub ten : length text ≡ 10

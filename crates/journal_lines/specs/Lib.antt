@@ -1,0 +1,4 @@
+pub mod Lines
+pub mod LinesLeft
+pub mod Date
+pub mod AccountName

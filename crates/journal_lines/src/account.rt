@@ -1,0 +1,92 @@
+//! Account names.
+
+ghost use Rattle.std.specs.Prelude.{◌≡◌, ◌↔◌, ◌==◌, IsTrue, not, slice_index};
+ghost use Rattle.std.specs.List.{list_all};
+ghost use Rattle.journal_lines.specs.AccountName.{is_name_byte, is_part, parts, is_gap, has_gap, is_sign, IsAccount, IsReserved};
+
+/// Whether the text is a well-formed account name.
+///
+/// It has 1 to 200 bytes, no empty part before, between or after colons, no `;`, no ASCII control character (a tab
+/// among them), no two spaces together, no space at its end, and does not begin with `*`, `!`, `(` or `[`.
+pub fn is_account(text: &[u8]) -> bool
+    ensures { IsTrue result ↔ IsAccount text.now }
+{
+    text.len() <= 200
+        && all_parts(text)
+        && all_name_bytes(text)
+        && !has_gap(text)
+        && !starts_with_sign(text)
+}
+
+/// Whether no part between colons is empty.
+fn all_parts(name: &[u8]) -> bool
+    ensures { result ≡ list_all is_part (parts name.now) }
+{
+    name.split(|b| *b == b':').all(|part| is_part(part))
+}
+
+fn is_part(part: &[u8]) -> bool
+    ensures { result ≡ is_part part.now }
+{
+    !part.is_empty()
+}
+
+fn all_name_bytes(name: &[u8]) -> bool
+    ensures { result ≡ list_all is_name_byte name.now }
+{
+    name.iter().all(|b| is_name_byte(*b))
+}
+
+fn is_name_byte(byte: u8) -> bool
+    ensures { result ≡ is_name_byte byte }
+{
+    byte != b';' && byte >= 32 && byte != 127
+}
+
+/// Whether two spaces stand together, or one at the end.
+fn has_gap(name: &[u8]) -> bool
+    ensures { result ≡ has_gap name.now }
+{
+    for (at, byte) in name.iter().enumerate() {
+        if is_gap(*byte, &name[at + 1..]) {
+            return true;
+        }
+    }
+    false
+}
+
+/// Whether the byte is a space before another, or at the end.
+fn is_gap(byte: u8, rest: &[u8]) -> bool
+    ensures { result ≡ is_gap byte rest.now }
+{
+    match rest {
+        [] => byte == b' ',
+        [next, ..] => byte == b' ' && *next == b' ',
+    }
+}
+
+fn starts_with_sign(name: &[u8]) -> bool
+    ensures { result ≡ is_sign (slice_index name.now 0) }
+{
+    match name {
+        [first, ..] => is_sign(*first),
+        [] => false,
+    }
+}
+
+fn is_sign(byte: u8) -> bool
+    ensures { result ≡ is_sign byte }
+{
+    byte == b'*' || byte == b'!' || byte == b'(' || byte == b'['
+}
+
+/// Whether the account is `assets:transit` or below it.
+pub fn is_reserved(account: &[u8]) -> bool
+    ensures { IsTrue result ↔ IsReserved account.now }
+{
+    match account.strip_prefix(b"assets:transit") {
+        Some([]) => true,
+        Some([next, ..]) => *next == b':',
+        None => false,
+    }
+}
