@@ -24,9 +24,9 @@ abbrev pub has_gap : List ℕ → Bool
 has_gap [] = false
 has_gap (b ∷ rest) = is_gap b rest || has_gap rest
 
--- a byte that would be read as a status or a virtual posting: `*`, `!`, `(` or `[`
-abbrev pub is_sign : ℕ → Bool
-is_sign b = (b == 42) || (b == 33) || (b == 40) || (b == 91)
+-- a byte with which no name begins: a space, `*`, `!`, `(` or `[`
+abbrev pub bars_start : ℕ → Bool
+bars_start b = (b == 32) || (b == 42) || (b == 33) || (b == 40) || (b == 91)
 
 -- the name is well formed
 pub record IsAccount (name : List ℕ) : Type 0 where
@@ -34,7 +34,7 @@ pub record IsAccount (name : List ℕ) : Type 0 where
   pub parts : list_all is_part (parts name) ≡ true
   pub bytes : list_all is_name_byte name ≡ true
   pub gaps : has_gap name ≡ false
-  pub start : is_sign (slice_index name 0) ≡ false
+  pub start : bars_start (slice_index name 0) ≡ false
 
 -- the account under which branches keep what they owe one another
 abbrev pub transit : List ℕ

@@ -2,12 +2,12 @@
 
 ghost use Rattle.std.specs.Prelude.{◌≡◌, ◌↔◌, ◌==◌, IsTrue, not, slice_index};
 ghost use Rattle.std.specs.List.{list_all};
-ghost use Rattle.journal_lines.specs.AccountName.{is_name_byte, is_part, parts, is_gap, has_gap, is_sign, IsAccount, IsReserved};
+ghost use Rattle.journal_lines.specs.AccountName.{is_name_byte, is_part, parts, is_gap, has_gap, bars_start, IsAccount, IsReserved};
 
 /// Whether the text is a well-formed account name.
 ///
 /// It has 1 to 200 bytes, no empty part before, between or after colons, no `;`, no ASCII control character (a tab
-/// among them), no two spaces together, no space at its end, and does not begin with `*`, `!`, `(` or `[`.
+/// among them), no two spaces together, no space at either end, and does not begin with `*`, `!`, `(` or `[`.
 pub fn is_account(text: &[u8]) -> bool
     ensures { IsTrue result ↔ IsAccount text.now }
 {
@@ -15,7 +15,7 @@ pub fn is_account(text: &[u8]) -> bool
         && all_parts(text)
         && all_name_bytes(text)
         && !has_gap(text)
-        && !starts_with_sign(text)
+        && !has_barred_start(text)
 }
 
 /// Whether no part between colons is empty.
@@ -65,19 +65,20 @@ fn is_gap(byte: u8, rest: &[u8]) -> bool
     }
 }
 
-fn starts_with_sign(name: &[u8]) -> bool
-    ensures { result ≡ is_sign (slice_index name.now 0) }
+/// Whether the name begins with a space, `*`, `!`, `(` or `[`.
+fn has_barred_start(name: &[u8]) -> bool
+    ensures { result ≡ bars_start (slice_index name.now 0) }
 {
     match name {
-        [first, ..] => is_sign(*first),
+        [first, ..] => bars_start(*first),
         [] => false,
     }
 }
 
-fn is_sign(byte: u8) -> bool
-    ensures { result ≡ is_sign byte }
+fn bars_start(byte: u8) -> bool
+    ensures { result ≡ bars_start byte }
 {
-    byte == b'*' || byte == b'!' || byte == b'(' || byte == b'['
+    byte == b' ' || byte == b'*' || byte == b'!' || byte == b'(' || byte == b'['
 }
 
 /// Whether the account is `assets:transit` or below it.
