@@ -2,10 +2,16 @@
 #![tactic(auto)]
 
 mod account;
+mod blank;
+mod comment;
 mod date;
+mod header;
 mod lines;
 
 pub use account::{is_account, is_reserved};
+pub use blank::{is_blank, trim, trim_end, trim_start};
+pub use comment::{comment_of, front_of};
 pub use date::{is_day_number, print_date, read_date};
+pub use header::{Header, MAX_COMMENT, Status, behind_status, read_header, status_at};
 pub use lines::Lines;
 pub use money_core::{Cause, Day};

@@ -71,7 +71,7 @@ fn without_return(line: &[u8]) -> &[u8]
 }
 
 /// Where the byte first stands.
-fn find(text: &[u8], byte: u8) -> Option<usize>
+pub(crate) fn find(text: &[u8], byte: u8) -> Option<usize>
     ensures { result ≡ position (λ b. b == byte) text.now }
 {
     text.iter().position(|b| *b == byte)

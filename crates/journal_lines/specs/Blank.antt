@@ -1,0 +1,27 @@
+-- Blanks, and texts without those at their ends (own rule: a blank is a space or a tab).
+use Rattle.std.specs.Prelude.{ℕ, ◌-◌, ◌==◌, List, length, take, drop, reverse, slice_index, Bool, ◌&&◌, ◌||◌, not}
+use Rattle.std.specs.List.{position_or_len}
+
+-- a space or a tab
+abbrev pub is_blank : ℕ → Bool
+is_blank b = (b == 32) || (b == 9)
+
+-- where the first byte stands that is no blank, or the length
+abbrev pub first_solid : List ℕ → ℕ
+first_solid text = position_or_len (λ b. not (is_blank b)) text
+
+-- a text without the blanks at its front
+unfoldable pub trim_start : List ℕ → List ℕ
+trim_start text = drop (first_solid text) text
+
+-- a text without the blanks at its end
+unfoldable pub trim_end : List ℕ → List ℕ
+trim_end text = take (length text - first_solid (reverse text)) text
+
+-- a text without the blanks at both ends
+abbrev pub trim : List ℕ → List ℕ
+trim text = trim_end (trim_start text)
+
+-- no blank stands at either end
+abbrev pub is_trimmed : List ℕ → Bool
+is_trimmed text = not (is_blank (slice_index text 0)) && not (is_blank (slice_index text (length text - 1)))

@@ -1,0 +1,12 @@
+-- Comments (hledger manual, "Comments"): the first `;` begins the comment, which loses the blanks at both ends.
+use Rattle.std.specs.Prelude.{ℕ, ◌==◌, nat_lt, List, length, if◌then◌else◌, Option, Some, None}
+use Rattle.std.specs.List.{position_or_len, before_first, after_first}
+use Rattle.journal_lines.specs.Blank.{trim}
+
+-- what stands before the first `;`, or all
+unfoldable pub front_of : List ℕ → List ℕ
+front_of line = before_first (λ b. b == 59) line
+
+-- the text of the comment behind the first `;`, if there is one
+unfoldable pub comment_of : List ℕ → Option (List ℕ)
+comment_of line = if nat_lt (position_or_len (λ b. b == 59) line) (length line) then Some (trim (after_first (λ b. b == 59) line)) else None

@@ -1,0 +1,23 @@
+-- The parts of a header without where they lie in memory.
+use Rattle.std.specs.Prelude.{ℕ, List, Result, Ok, Err, Option}
+use Rattle.std.specs.Option.{option_map}
+use Rattle.money_core.specs.declared.cause.Cause.{Cause}
+use Rattle.journal_lines.specs.declared.header.Header as read
+use Rattle.journal_lines.specs.declared.header.HeaderCut as cut
+use Rattle.journal_lines.specs.declared.header.Coded as coded
+use Rattle.journal_lines.specs.Header.{Coded, HeaderCut, HeaderParts}
+
+abbrev pub coded_view : coded.Coded → Coded
+coded_view c = record { code = option_map (λ t. t.now) c.code; rest = c.rest.now }
+
+abbrev pub cut_view : cut.HeaderCut → HeaderCut
+cut_view c = record { date = c.date.now; status = c.status; coded = option_map coded_view c.coded; comment = option_map (λ t. t.now) c.comment }
+
+-- the parts of a header
+abbrev pub parts_of : read.Header → HeaderParts
+parts_of h = record { day = h.day; status = h.status; code = option_map (λ t. t.now) h.code; description = h.description.now; comment = option_map (λ t. t.now) h.comment }
+
+-- what reading a header answered
+abbrev pub read_parts : Result read.Header Cause → Result HeaderParts Cause
+read_parts (Ok h) = Ok (parts_of h)
+read_parts (Err e) = Err e

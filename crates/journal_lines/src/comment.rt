@@ -1,0 +1,30 @@
+//! The comment of a line.
+
+ghost use Rattle.std.specs.Prelude.{◌≡◌};
+ghost use Rattle.std.specs.Option.{option_map};
+ghost use Rattle.journal_lines.specs.Comment.{front_of, comment_of};
+
+use crate::blank::trim;
+use crate::lines::find;
+
+/// What stands before the first `;`, or all.
+#[tactic(auto, unfolding(crate::specs::Comment::front_of))]
+pub fn front_of(line: &[u8]) -> &[u8]
+    ensures { result.now ≡ front_of line.now }
+{
+    match find(line, b';') {
+        Some(at) => &line[..at],
+        None => line,
+    }
+}
+
+/// The text behind the first `;`, without blanks at its ends.
+#[tactic(auto, unfolding(crate::specs::Comment::comment_of))]
+pub fn comment_of(line: &[u8]) -> Option<&[u8]>
+    ensures { option_map (λ c. c.now) result ≡ comment_of line.now }
+{
+    match find(line, b';') {
+        Some(at) => Some(trim(&line[at + 1..])),
+        None => None,
+    }
+}

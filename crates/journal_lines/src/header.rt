@@ -1,0 +1,216 @@
+//! The header line of a transaction.
+
+ghost use Rattle.std.specs.Prelude.{◌≡◌, ◌==◌, ◌||◌, nat_lt, slice_index, drop, length, position};
+ghost use Rattle.std.specs.Option.{option_map};
+ghost use Rattle.journal_lines.specs.Blank.{is_blank};
+ghost use Rattle.journal_lines.specs.Header.{status_at, behind_status, closed_code, code_at, date_part, behind_date, cut_header, length_of, is_coded_long, is_cut_long, judged_header, header_of};
+ghost use Rattle.journal_lines.specs.HeaderView.{coded_view, cut_view, read_parts};
+
+use crate::blank::{is_blank, trim_end, trim_start};
+use crate::comment::{comment_of, front_of};
+use crate::date::read_date;
+use crate::lines::find;
+use money_core::{Cause, Day};
+
+/// The status of a transaction or a posting.
+#[derive(Clone, Copy, Debug, PartialEq, Eq)]
+pub enum Status {
+    /// `*`
+    Cleared,
+    /// `!`
+    Pending,
+}
+
+/// The parts of a header line, each a slice of it.
+#[derive(Clone, Copy)]
+pub struct Header<'a> {
+    pub day: Day,
+    pub status: Option<Status>,
+    pub code: Option<&'a [u8]>,
+    pub description: &'a [u8],
+    pub comment: Option<&'a [u8]>,
+}
+
+/// The most bytes that a code has.
+const MAX_CODE: usize = 100;
+
+/// The most bytes that a description has.
+const MAX_DESCRIPTION: usize = 500;
+
+/// The most bytes that a comment has.
+pub const MAX_COMMENT: usize = 900;
+
+/// The parts of a header, not yet judged.
+#[derive(Clone, Copy)]
+struct HeaderCut<'a> {
+    date: &'a [u8],
+    status: Option<Status>,
+    coded: Option<Coded<'a>>,
+    comment: Option<&'a [u8]>,
+}
+
+/// A code, if there is one, and what follows it.
+#[derive(Clone, Copy)]
+struct Coded<'a> {
+    code: Option<&'a [u8]>,
+    rest: &'a [u8],
+}
+
+/// The parts of a header line, or its first fault: 2 where the code, the description or the comment has too many
+/// bytes, 3 where the text up to the first blank or `;` is no date, 4 where the code is not closed.
+#[tactic(auto, unfolding(crate::specs::Header::judged_header))]
+pub fn read_header(line: &[u8]) -> Result<Header<'_>, Cause>
+    ensures { read_parts result ≡ header_of line.now }
+{
+    let cut = cut_header(line);
+    if is_cut_long(&cut) {
+        return Err(Cause::TooLong);
+    }
+    let Some(day) = read_date(cut.date) else {
+        return Err(Cause::Date);
+    };
+    let Some(coded) = cut.coded else {
+        return Err(Cause::Header);
+    };
+    Ok(Header {
+        day,
+        status: cut.status,
+        code: coded.code,
+        description: trim_end(coded.rest),
+        comment: cut.comment,
+    })
+}
+
+/// The parts of a header, by characters alone.
+#[tactic(auto, unfolding(crate::specs::Header::cut_header))]
+fn cut_header(line: &[u8]) -> HeaderCut<'_>
+    ensures { cut_view result ≡ cut_header line.now }
+{
+    let front = front_of(line);
+    let rest = behind_date(front);
+    HeaderCut {
+        date: date_part(front),
+        status: status_at(rest),
+        coded: code_at(behind_status(rest)),
+        comment: comment_of(line),
+    }
+}
+
+/// Whether a part has too many bytes.
+fn is_cut_long(cut: &HeaderCut) -> bool
+    ensures { result ≡ is_cut_long (cut_view cut.now) }
+{
+    is_coded_long(cut.coded) || length_of(cut.comment) > MAX_COMMENT
+}
+
+fn is_coded_long(coded: Option<Coded>) -> bool
+    ensures { result ≡ is_coded_long (option_map coded_view coded.entry) }
+{
+    match coded {
+        Some(coded) => length_of(coded.code) > MAX_CODE
+            || trim_end(coded.rest).len() > MAX_DESCRIPTION,
+        None => false,
+    }
+}
+
+fn length_of(part: Option<&[u8]>) -> usize
+    ensures { result ≡ length_of (option_map (λ t. t.now) part.entry) }
+{
+    match part {
+        Some(text) => text.len(),
+        None => 0,
+    }
+}
+
+/// Where the first blank stands.
+fn find_blank(text: &[u8]) -> Option<usize>
+    ensures { result ≡ position is_blank text.now }
+{
+    text.iter().position(|b| is_blank(*b))
+}
+
+/// The text up to the first blank.
+#[tactic(auto, unfolding(crate::specs::Header::date_part))]
+fn date_part(front: &[u8]) -> &[u8]
+    ensures { result.now ≡ date_part front.now }
+{
+    match find_blank(front) {
+        Some(at) => &front[..at],
+        None => front,
+    }
+}
+
+/// What follows the text up to the first blank, without blanks between.
+#[tactic(auto, unfolding(crate::specs::Header::behind_date))]
+fn behind_date(front: &[u8]) -> &[u8]
+    ensures { result.now ≡ behind_date front.now }
+{
+    match find_blank(front) {
+        Some(at) => trim_start(&front[at..]),
+        None => trim_start(&[]),
+    }
+}
+
+fn first_byte(text: &[u8]) -> u8
+    ensures { result ≡ slice_index text.now 0 }
+{
+    match text {
+        [first, ..] => *first,
+        [] => 0,
+    }
+}
+
+/// The status at the front: `*` or `!`.
+#[tactic(auto, unfolding(crate::specs::Header::status_at))]
+pub fn status_at(text: &[u8]) -> Option<Status>
+    ensures { result ≡ status_at text.now }
+{
+    let first = first_byte(text);
+    if first == b'*' {
+        Some(Status::Cleared)
+    } else if first == b'!' {
+        Some(Status::Pending)
+    } else {
+        None
+    }
+}
+
+/// What follows the status, without blanks between; all where there is none.
+#[tactic(auto, unfolding(crate::specs::Header::behind_status))]
+pub fn behind_status(text: &[u8]) -> &[u8]
+    ensures { result.now ≡ behind_status text.now }
+{
+    let first = first_byte(text);
+    if first == b'*' || first == b'!' {
+        trim_start(&text[1..])
+    } else {
+        text
+    }
+}
+
+/// The code at the front and what follows it, without blanks between; none where it is not closed.
+#[tactic(auto, unfolding(crate::specs::Header::code_at))]
+fn code_at(text: &[u8]) -> Option<Coded<'_>>
+    ensures { option_map coded_view result ≡ code_at text.now }
+{
+    if first_byte(text) != b'(' {
+        return Some(Coded {
+            code: None,
+            rest: text,
+        });
+    }
+    closed_code(&text[1..])
+}
+
+/// The code that ends at the first `)`, and what follows it.
+fn closed_code(text: &[u8]) -> Option<Coded<'_>>
+    ensures { option_map coded_view result ≡ closed_code text.now }
+{
+    match find(text, b')') {
+        Some(at) => Some(Coded {
+            code: Some(&text[..at]),
+            rest: trim_start(&text[at + 1..]),
+        }),
+        None => None,
+    }
+}
