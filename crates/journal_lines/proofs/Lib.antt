@@ -1,3 +1,4 @@
 pub mod LineSteps
 pub mod DateLemmas
 pub mod AccountLemmas
+pub mod TagLemmas

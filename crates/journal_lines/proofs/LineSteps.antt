@@ -48,3 +48,9 @@ lines_last text l e =
 -- what a slice from n on holds
 pub whole_rest : (n : ℕ) (xs : List ℕ) → take (length xs - n) (drop n xs) ≡ drop n xs
 whole_rest n xs = grind (arith, common_steps)
+
+-- where no place was found, it is the length
+pub none_place : (p : ℕ → Bool) (xs : List ℕ) → None ≡ position p xs → length xs ≡ position_or_len p xs
+none_place p xs e =
+    let low = ltb-false _ _ (no_place (ltb (position_or_len p xs) (length xs)) _ e) in
+    omega (arith, prefix_len-le-length (λ b. not (p b)) xs)

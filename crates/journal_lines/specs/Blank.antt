@@ -1,10 +1,14 @@
 -- Blanks, and texts without those at their ends (own rule: a blank is a space or a tab).
 use Rattle.std.specs.Prelude.{ℕ, ◌-◌, ◌==◌, List, length, take, drop, reverse, slice_index, Bool, ◌&&◌, ◌||◌, not}
-use Rattle.std.specs.List.{position_or_len}
+use Rattle.std.specs.List.{position_or_len, before_first}
 
 -- a space or a tab
 abbrev pub is_blank : ℕ → Bool
 is_blank b = (b == 32) || (b == 9)
+
+-- the text up to the first blank
+unfoldable pub first_word : List ℕ → List ℕ
+first_word text = before_first is_blank text
 
 -- where the first byte stands that is no blank, or the length
 abbrev pub first_solid : List ℕ → ℕ

@@ -6,7 +6,7 @@ use Rattle.money_core.specs.declared.cause.Cause.{Cause}
 use Rattle.money_core.specs.declared.cause.Cause.TheVariants.{TooLong, Date as NoDate, Header as CodeIsOpen}
 use Rattle.journal_lines.specs.declared.header.Status.{Status}
 use Rattle.journal_lines.specs.declared.header.Status.TheVariants.{Cleared, Pending}
-use Rattle.journal_lines.specs.Blank.{is_blank, trim_start, trim_end}
+use Rattle.journal_lines.specs.Blank.{is_blank, first_word, trim_start, trim_end}
 use Rattle.journal_lines.specs.Comment.{front_of, comment_of}
 use Rattle.journal_lines.specs.Date.{date_of}
 
@@ -41,18 +41,14 @@ pub record HeaderCut : Type 0 where
   pub coded : Option Coded
   pub comment : Option (List ℕ)
 
--- the text up to the first blank
-unfoldable pub date_part : List ℕ → List ℕ
-date_part front = before_first is_blank front
-
--- what follows it, without blanks between
+-- what follows the text up to the first blank, without blanks between
 unfoldable pub behind_date : List ℕ → List ℕ
 behind_date front = trim_start (drop (position_or_len is_blank front) front)
 
 -- how a line is cut
 unfoldable pub cut_header : List ℕ → HeaderCut
 cut_header line = record {
-  date = date_part (front_of line);
+  date = first_word (front_of line);
   status = status_at (behind_date (front_of line));
   coded = code_at (behind_status (behind_date (front_of line)));
   comment = comment_of line;

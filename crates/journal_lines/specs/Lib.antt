@@ -1,8 +1,11 @@
 pub mod Lines
 pub mod LinesLeft
 pub mod Blank
+pub mod LineKind
 pub mod Comment
 pub mod Date
 pub mod Header
 pub mod HeaderView
 pub mod AccountName
+pub mod Tag
+pub mod TagsLeft

@@ -1,13 +1,31 @@
 //! Blanks, and texts without those at their ends.
 
 ghost use Rattle.std.specs.Prelude.{◌≡◌, ◌-◌, not, reverse, position};
-ghost use Rattle.journal_lines.specs.Blank.{is_blank, trim_start, trim_end, trim};
+ghost use Rattle.journal_lines.specs.Blank.{is_blank, first_word, trim_start, trim_end, trim};
 
 /// Whether the byte is a space or a tab.
 pub fn is_blank(byte: u8) -> bool
     ensures { result ≡ is_blank byte }
 {
     byte == b' ' || byte == b'\t'
+}
+
+/// The text up to the first blank, or all.
+#[tactic(auto, unfolding(crate::specs::Blank::first_word))]
+pub fn first_word(text: &[u8]) -> &[u8]
+    ensures { result.now ≡ first_word text.now }
+{
+    match find_blank(text) {
+        Some(at) => &text[..at],
+        None => text,
+    }
+}
+
+/// Where the first blank stands.
+pub(crate) fn find_blank(text: &[u8]) -> Option<usize>
+    ensures { result ≡ position is_blank text.now }
+{
+    text.iter().position(|b| is_blank(*b))
 }
 
 /// The text without the blanks at its front.

@@ -1,11 +1,14 @@
-//! The comment of a line.
+//! The comment of a line, and its tags.
 
 ghost use Rattle.std.specs.Prelude.{◌≡◌};
 ghost use Rattle.std.specs.Option.{option_map};
 ghost use Rattle.journal_lines.specs.Comment.{front_of, comment_of};
+ghost use Rattle.journal_lines.specs.Tag.{tags_of};
+ghost use Rattle.journal_lines.specs.TagsLeft.{tags_left};
 
 use crate::blank::trim;
 use crate::lines::find;
+use crate::tag::Tags;
 
 /// What stands before the first `;`, or all.
 #[tactic(auto, unfolding(crate::specs::Comment::front_of))]
@@ -27,4 +30,12 @@ pub fn comment_of(line: &[u8]) -> Option<&[u8]>
         Some(at) => Some(trim(&line[at + 1..])),
         None => None,
     }
+}
+
+/// The tags of a comment: `name:value`, where the name is a word of ASCII letters, digits, `-` and `_` at the start or
+/// after a blank or a comma, and the value runs to the next comma or the end, without blanks at its ends.
+pub fn tags(comment: &[u8]) -> Tags<'_>
+    ensures { tags_left result ≡ tags_of comment.entry.now }
+{
+    Tags::new(comment)
 }

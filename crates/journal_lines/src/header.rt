@@ -1,12 +1,11 @@
 //! The header line of a transaction.
 
-ghost use Rattle.std.specs.Prelude.{◌≡◌, ◌==◌, ◌||◌, nat_lt, slice_index, drop, length, position};
+ghost use Rattle.std.specs.Prelude.{◌≡◌, ◌==◌, ◌||◌, nat_lt, slice_index, drop, length};
 ghost use Rattle.std.specs.Option.{option_map};
-ghost use Rattle.journal_lines.specs.Blank.{is_blank};
-ghost use Rattle.journal_lines.specs.Header.{status_at, behind_status, closed_code, code_at, date_part, behind_date, cut_header, length_of, is_coded_long, is_cut_long, judged_header, header_of};
+ghost use Rattle.journal_lines.specs.Header.{status_at, behind_status, closed_code, code_at, behind_date, cut_header, length_of, is_coded_long, is_cut_long, judged_header, header_of};
 ghost use Rattle.journal_lines.specs.HeaderView.{coded_view, cut_view, read_parts};
 
-use crate::blank::{is_blank, trim_end, trim_start};
+use crate::blank::{find_blank, first_word, trim_end, trim_start};
 use crate::comment::{comment_of, front_of};
 use crate::date::read_date;
 use crate::lines::find;
@@ -89,7 +88,7 @@ fn cut_header(line: &[u8]) -> HeaderCut<'_>
     let front = front_of(line);
     let rest = behind_date(front);
     HeaderCut {
-        date: date_part(front),
+        date: first_word(front),
         status: status_at(rest),
         coded: code_at(behind_status(rest)),
         comment: comment_of(line),
@@ -122,24 +121,6 @@ fn length_of(part: Option<&[u8]>) -> usize
     }
 }
 
-/// Where the first blank stands.
-fn find_blank(text: &[u8]) -> Option<usize>
-    ensures { result ≡ position is_blank text.now }
-{
-    text.iter().position(|b| is_blank(*b))
-}
-
-/// The text up to the first blank.
-#[tactic(auto, unfolding(crate::specs::Header::date_part))]
-fn date_part(front: &[u8]) -> &[u8]
-    ensures { result.now ≡ date_part front.now }
-{
-    match find_blank(front) {
-        Some(at) => &front[..at],
-        None => front,
-    }
-}
-
 /// What follows the text up to the first blank, without blanks between.
 #[tactic(auto, unfolding(crate::specs::Header::behind_date))]
 fn behind_date(front: &[u8]) -> &[u8]
@@ -151,7 +132,7 @@ fn behind_date(front: &[u8]) -> &[u8]
     }
 }
 
-fn first_byte(text: &[u8]) -> u8
+pub(crate) fn first_byte(text: &[u8]) -> u8
     ensures { result ≡ slice_index text.now 0 }
 {
     match text {
