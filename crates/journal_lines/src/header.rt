@@ -21,7 +21,7 @@ pub enum Status {
 }
 
 /// The parts of a header line, each a slice of it.
-#[derive(Clone, Copy)]
+#[derive(Clone, Copy, Debug, PartialEq, Eq)]
 pub struct Header<'a> {
     pub day: Day,
     pub status: Option<Status>,

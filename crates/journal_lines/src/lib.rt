@@ -9,6 +9,8 @@ mod header;
 mod line_kind;
 mod lines;
 mod tag;
+#[cfg(test)]
+mod tests;
 
 pub use account::{is_account, is_reserved};
 pub use blank::{first_word, is_blank, trim, trim_end, trim_start};

@@ -1,0 +1,285 @@
+//! Tables of lines, dates, headers, account names and tags.
+
+use crate::{
+    Cause, Day, Header, LineKind, Lines, Status, is_account, is_block_end, is_day_number,
+    is_reserved, kind, print_date, read_date, read_header, tags,
+};
+use std::test::Fail;
+
+#[test]
+fn a_line_ends_at_lf_with_one_cr_before_it(rt: HostRuntime) -> Result<(), Fail> {
+    let rows = [
+        ("", ""),
+        ("\n", "1:|"),
+        ("a\r\nb\r\n", "1:a|2:b|"),
+        ("a\rb\n", "1:a\rb|"),
+        ("a\r", "1:a|"),
+        ("a\r\r\n", "1:a\r|"),
+        ("\r", "1:|"),
+        ("a\nb", "1:a|2:b|"),
+        ("\n\nc", "1:|2:|3:c|"),
+    ];
+    for (text, expected) in rows {
+        let mut seen = Vec::new(rt.alloc());
+        for (number, line) in Lines::new(text.as_bytes()) {
+            seen.extend_from_slice(number.to_string(rt.alloc())?.as_bytes())?;
+            seen.push(b':')?;
+            seen.extend_from_slice(line)?;
+            seen.push(b'|')?;
+        }
+        assert_eq!(rt; seen.as_slice(), expected.as_bytes(), "{text:?}");
+    }
+    Ok(())
+}
+
+#[test]
+fn a_line_is_told_by_its_first_byte_or_word(rt: HostRuntime) {
+    let rows = [
+        ("", LineKind::Blank),
+        (" \t", LineKind::Blank),
+        ("; x", LineKind::Comment),
+        ("# x", LineKind::Comment),
+        ("* x", LineKind::Comment),
+        ("comment \t", LineKind::Block),
+        ("comment x", LineKind::Unknown),
+        ("end comment", LineKind::Unknown),
+        ("2024-01-05 x", LineKind::Header),
+        (" comment", LineKind::Indented),
+        ("\t; x", LineKind::Indented),
+        ("commodity", LineKind::Commodity),
+        ("commodity\tEUR", LineKind::Commodity),
+        ("commodity;x", LineKind::Unknown),
+        ("account a:b", LineKind::Skipped),
+        ("payee", LineKind::Skipped),
+        ("tag x", LineKind::Skipped),
+        ("P 2024-01-05 EUR $1.10", LineKind::Skipped),
+        ("Price", LineKind::Unknown),
+        ("include other.journal", LineKind::Unknown),
+    ];
+    for (line, expected) in rows {
+        assert_eq!(rt; kind(line.as_bytes()), expected, "{line:?}");
+    }
+    assert!(rt; is_block_end(b"end comment \t"));
+    assert!(rt; !is_block_end(b"end comments"));
+}
+
+#[test]
+fn a_date_is_read_in_three_spellings(rt: HostRuntime) {
+    let rows = [
+        ("2024-01-05", Some(Day(19727))),
+        ("2024/01/05", Some(Day(19727))),
+        ("2024.01.05", Some(Day(19727))),
+        ("2024-1-5", Some(Day(19727))),
+        ("1970-01-01", Some(Day(0))),
+        ("0001-01-01", Some(Day(-719_162))),
+        ("9999-12-31", Some(Day(2_932_896))),
+        ("2024-02-29", Some(Day(19782))),
+        ("2023-02-29", None),
+        ("2024-02-30", None),
+        ("2024-1/5", None),
+        ("0000-01-01", None),
+        ("2024-13-05", None),
+        ("2024-01-005", None),
+        ("24-01-05", None),
+        ("2024-01", None),
+        ("2024-01-05 ", None),
+        ("", None),
+    ];
+    for (text, expected) in rows {
+        assert_eq!(rt; read_date(text.as_bytes()), expected, "{text:?}");
+    }
+}
+
+#[test]
+fn a_date_is_printed_in_ten_bytes(rt: HostRuntime) -> Result<(), Fail> {
+    let rows = [
+        (Day(19727), "2024-01-05"),
+        (Day(0), "1970-01-01"),
+        (Day(-719_162), "0001-01-01"),
+        (Day(2_932_896), "9999-12-31"),
+    ];
+    for (day, expected) in rows {
+        let mut out = Vec::new(rt.alloc());
+        out.push(b'>')?;
+        if is_day_number(day) {
+            let printed = print_date(rt.alloc(), day, &mut out);
+            assert!(rt; printed == Ok(()));
+        }
+        assert_eq!(rt; &out.as_slice()[1..], expected.as_bytes());
+    }
+    assert!(rt; !is_day_number(Day(-719_163)));
+    assert!(rt; !is_day_number(Day(2_932_897)));
+    Ok(())
+}
+
+/// The header of 2024-01-05 with these parts.
+fn header<'a>(
+    status: Option<Status>,
+    code: Option<&'a str>,
+    description: &'a str,
+    comment: Option<&'a str>,
+) -> Header<'a> {
+    Header {
+        day: Day(19727),
+        status,
+        code: code.map(|text| text.as_bytes()),
+        description: description.as_bytes(),
+        comment: comment.map(|text| text.as_bytes()),
+    }
+}
+
+#[test]
+fn a_header_has_a_date_and_four_optional_parts(rt: HostRuntime) {
+    let cleared = Some(Status::Cleared);
+    let rows = [
+        (
+            "2024-01-05 * (7) hall ; rent",
+            header(cleared, Some("7"), "hall", Some("rent")),
+        ),
+        (
+            "2024-01-05 (7) hall ; rent",
+            header(None, Some("7"), "hall", Some("rent")),
+        ),
+        (
+            "2024-01-05 * hall ; rent",
+            header(cleared, None, "hall", Some("rent")),
+        ),
+        (
+            "2024-01-05 * (7) ; rent",
+            header(cleared, Some("7"), "", Some("rent")),
+        ),
+        (
+            "2024-01-05 * (7) hall",
+            header(cleared, Some("7"), "hall", None),
+        ),
+        ("2024-01-05", header(None, None, "", None)),
+        ("2024-01-05;", header(None, None, "", Some(""))),
+        (
+            "2024-01-05\t!(a(b )hall  two\t;x;y ",
+            header(
+                Some(Status::Pending),
+                Some("a(b "),
+                "hall  two",
+                Some("x;y"),
+            ),
+        ),
+        ("2024-01-05 ()", header(None, Some(""), "", None)),
+        ("2024-01-05 * ! x", header(cleared, None, "! x", None)),
+        ("2024-01-05 (a) * x", header(None, Some("a"), "* x", None)),
+    ];
+    for (line, expected) in rows {
+        assert_eq!(rt; read_header(line.as_bytes()), Ok(expected), "{line:?}");
+    }
+}
+
+#[test]
+fn a_header_is_refused_by_its_first_fault(rt: HostRuntime) {
+    let rows = [
+        ("2024-01-05* x", Cause::Date),
+        ("2024-13-05 x", Cause::Date),
+        ("", Cause::Date),
+        (" 2024-01-05 x", Cause::Date),
+        ("2024-13-05 (x", Cause::Date),
+        ("2024-01-05 (x", Cause::Header),
+        ("2024-01-05 (x ; )", Cause::Header),
+    ];
+    for (line, cause) in rows {
+        assert_eq!(rt; read_header(line.as_bytes()), Err(cause), "{line:?}");
+    }
+}
+
+#[test]
+fn the_parts_of_a_header_have_limits(rt: HostRuntime) -> Result<(), Fail> {
+    // What stands before so many letters, how many are allowed, what stands behind them.
+    let rows = [
+        ("2024-01-05 (", 100, ") x", false),
+        ("2024-01-05 x", 499, "", false),
+        ("2024-01-05 x ; ", 900, "", false),
+        ("2024-13-05 (x ; ", 900, "", true),
+    ];
+    for (front, most, behind, has_fault) in rows {
+        for count in [most, most + 1] {
+            let mut line = Vec::from_slice(rt.alloc(), front.as_bytes())?;
+            line.extend_from_slice(vec![in rt.alloc(); b'a'; count]?.as_slice())?;
+            line.extend_from_slice(behind.as_bytes())?;
+            let read = read_header(line.as_slice());
+            if count > most {
+                assert_eq!(rt; read.err(), Some(Cause::TooLong), "{front:?}");
+            } else {
+                assert_eq!(rt; read.is_err(), has_fault, "{front:?}");
+            }
+        }
+    }
+    Ok(())
+}
+
+#[test]
+fn an_account_name_is_well_formed(rt: HostRuntime) -> Result<(), Fail> {
+    let rows = [
+        ("assets", true),
+        ("assets:bank", true),
+        ("a b", true),
+        ("\u{e9}:x", true),
+        ("", false),
+        (":a", false),
+        ("a:", false),
+        ("assets::x", false),
+        ("a  b", false),
+        (" a", false),
+        ("a ", false),
+        ("a\tb", false),
+        ("a;b", false),
+        ("a\u{7f}", false),
+        ("*a", false),
+        ("!a", false),
+        ("(a)", false),
+        ("[a]", false),
+    ];
+    for (name, expected) in rows {
+        assert_eq!(rt; is_account(name.as_bytes()), expected, "{name:?}");
+    }
+    assert!(rt; is_account(vec![in rt.alloc(); b'a'; 200]?.as_slice()));
+    assert!(rt; !is_account(vec![in rt.alloc(); b'a'; 201]?.as_slice()));
+    Ok(())
+}
+
+#[test]
+fn the_transit_account_and_those_below_are_reserved(rt: HostRuntime) {
+    let rows = [
+        ("assets:transit", true),
+        ("assets:transit:north:south", true),
+        ("assets:transits", false),
+        ("assets", false),
+        ("Assets:transit", false),
+        ("x:assets:transit", false),
+    ];
+    for (account, expected) in rows {
+        assert_eq!(rt; is_reserved(account.as_bytes()), expected, "{account:?}");
+    }
+}
+
+#[test]
+fn a_tag_is_a_word_before_a_colon(rt: HostRuntime) -> Result<(), Fail> {
+    let rows = [
+        ("vendor:ACME, due: friday", "vendor=ACME|due=friday|"),
+        ("a b:c d:e, f:g", "b=c d:e|f=g|"),
+        ("\u{e9}:1", ""),
+        ("-:1", "-=1|"),
+        ("a:", "a=|"),
+        (":a", ""),
+        ("a :b", ""),
+        ("x,y_1:\t2 ,", "y_1=2|"),
+        ("", ""),
+    ];
+    for (comment, expected) in rows {
+        let mut seen = Vec::new(rt.alloc());
+        for (name, value) in tags(comment.as_bytes()) {
+            seen.extend_from_slice(name)?;
+            seen.push(b'=')?;
+            seen.extend_from_slice(value)?;
+            seen.push(b'|')?;
+        }
+        assert_eq!(rt; seen.as_slice(), expected.as_bytes(), "{comment:?}");
+    }
+    Ok(())
+}
