@@ -35,16 +35,18 @@ trim_start_same (x ∷ xs) h = rw h refl
 
 all_reverse : (p : ℕ → Bool) (xs : List ℕ) → list_all p xs ≡ true → list_all p (reverse xs) ≡ true
 all_reverse p xs h = list_all-from_AllPass p (reverse xs) (λ k d l. let inside : k < length xs = omega (arith, length-reverse xs) in
-  rw (get_or-reverse xs k d inside) (AllPass-from_list_all p xs h (length xs - 1 - k) d (omega arith)))
+    rw (get_or-reverse xs k d inside) (AllPass-from_list_all p xs h (length xs - 1 - k) d (omega arith)))
 
 -- a text that does not end in a blank has none at its end
 solid_back : (xs : List ℕ) → is_blank (slice_index xs (length xs - 1)) ≡ false → first_solid (reverse xs) ≡ 0
 solid_back xs h = elim (cases_lt 0 (length xs)) [
-    inl some ↦ prefix_len-drop_no (λ b. not (not (is_blank b))) (reverse xs) 0 0 (omega (arith, length-reverse xs)) (at some)
-  | inr none ↦ nothing xs none ]
+  | inl some ↦ prefix_len-drop_no (λ b. not (not (is_blank b))) (reverse xs) 0 0 (omega (arith, length-reverse xs)) (at some)
+  | inr none ↦ nothing xs none
+]
   where
     at : 0 < length xs → not (not (is_blank (get_or (reverse xs) 0 0))) ≡ false
     at some = let e : get_or (reverse xs) 0 0 ≡ get_or xs (length xs - 1) 0 = rw (get_or-reverse xs 0 0 some) (ap (λ n. get_or xs n 0) (omega arith)) in rw (e, h) refl
+
     nothing : (ys : List ℕ) → length ys ≤ 0 → first_solid (reverse ys) ≡ 0
     nothing [] l = refl
     nothing (y ∷ ys) l = absurd (omega arith)
@@ -53,7 +55,7 @@ solid_back xs h = elim (cases_lt 0 (length xs)) [
 pub trim_end_before : (xs bs : List ℕ) → list_all is_blank bs ≡ true → is_blank (slice_index xs (length xs - 1)) ≡ false → trim_end (xs ++ bs) ≡ xs
 unfolding trim_end
 trim_end_before xs bs h k =
-  rw (reverse-append xs bs, solid_behind (reverse bs) (reverse xs) (all_reverse is_blank bs h), solid_back xs k, length-reverse bs, length-append xs bs)
+    rw (reverse-append xs bs, solid_behind (reverse bs) (reverse xs) (all_reverse is_blank bs h), solid_back xs k, length-reverse bs, length-append xs bs)
     (take_at xs bs (length xs + length bs - (length bs + 0)) (omega arith))
 
 pub trim_end_same : (xs : List ℕ) → is_blank (slice_index xs (length xs - 1)) ≡ false → trim_end xs ≡ xs
@@ -66,8 +68,8 @@ trim_start_blanks us h = ap trim_start (sym (append-nil us)) ∙ (trim_start_beh
 pub trim_inside : (us xs bs : List ℕ) → list_all is_blank us ≡ true → list_all is_blank bs ≡ true → is_trimmed xs ≡ true → trim (us ++ (xs ++ bs)) ≡ xs
 trim_inside us [] bs h k t = ap trim_end (trim_start_behind us bs h ∙ trim_start_blanks bs k) ∙ trim_end_same [] refl
 trim_inside us (x ∷ xs) bs h k t =
-  let parts = and_parts (not (is_blank x)) _ t in
-  ap trim_end (trim_start_behind us (x ∷ (xs ++ bs)) h ∙ trim_start_same (x ∷ (xs ++ bs)) (not-true _ parts.0)) ∙ trim_end_before (x ∷ xs) bs k (not-true _ parts.1)
+    let parts = and_parts (not (is_blank x)) _ t in
+    ap trim_end (trim_start_behind us (x ∷ (xs ++ bs)) h ∙ trim_start_same (x ∷ (xs ++ bs)) (not-true _ parts.0)) ∙ trim_end_before (x ∷ xs) bs k (not-true _ parts.1)
 
 pub trim_same : (xs : List ℕ) → is_trimmed xs ≡ true → trim xs ≡ xs
 trim_same xs t = ap trim (sym (append-nil xs)) ∙ trim_inside [] xs [] refl refl t
@@ -88,8 +90,8 @@ no_comment line h = rw (no_mark (λ b. b == 59) line h, le-ltb (length line) (le
 pub comment_behind : (front text : List ℕ) → has_no 59 front ≡ true → comment_of (front ++ 59 ∷ text) ≡ Some (trim text)
 unfolding comment_of
 comment_behind front text h =
-  let inside : length front < length (front ++ 59 ∷ text) = rw (length-append front (59 ∷ text)) (omega arith) in
-  rw (before_mark (λ b. b == 59) front text 59 h refl, lt-ltb (length front) (length (front ++ 59 ∷ text)) inside, drop-append-add front (59 ∷ text) 1) refl
+    let inside : length front < length (front ++ 59 ∷ text) = rw (length-append front (59 ∷ text)) (omega arith) in
+    rw (before_mark (λ b. b == 59) front text 59 h refl, lt-ltb (length front) (length (front ++ 59 ∷ text)) inside, drop-append-add front (59 ∷ text) 1) refl
 
 -- a weaker test passes too
 pub all_weaker : (p q : ℕ → Bool) (xs : List ℕ) → ((b : ℕ) → p b ≡ true → q b ≡ true) → list_all p xs ≡ true → list_all q xs ≡ true
@@ -132,30 +134,33 @@ first_trimmed p xs h k = first_kept p (length xs - first_solid (reverse xs)) xs 
 pub trim_start_first : (xs : List ℕ) → is_blank (slice_index (trim_start xs) 0) ≡ false
 trim_start_first [] = ap (λ (t : List ℕ). is_blank (slice_index t 0)) (trim_start_same [] refl)
 trim_start_first (x ∷ xs) = elim (cases_Bool (is_blank x)) [
-    inl blank ↦ ap (λ (t : List ℕ). is_blank (slice_index t 0)) (trim_start_behind (x ∷ []) xs (and_from (is_blank x) true blank refl)) ∙ trim_start_first xs
-  | inr solid ↦ ap (λ (t : List ℕ). is_blank (slice_index t 0)) (trim_start_same (x ∷ xs) solid) ∙ solid ]
+  | inl blank ↦ ap (λ (t : List ℕ). is_blank (slice_index t 0)) (trim_start_behind (x ∷ []) xs (and_from (is_blank x) true blank refl)) ∙ trim_start_first xs
+  | inr solid ↦ ap (λ (t : List ℕ). is_blank (slice_index t 0)) (trim_start_same (x ∷ xs) solid) ∙ solid
+]
 
 -- before blanks at the end
 trim_end_blank : (xs : List ℕ) (b : ℕ) → is_blank b ≡ true → trim_end (xs ++ b ∷ []) ≡ trim_end xs
 unfolding trim_end
 trim_end_blank xs b h =
-  let n : length xs + 1 - (1 + first_solid (reverse xs)) ≡ length xs - first_solid (reverse xs) = omega arith in
-  rw (reverse-append xs (b ∷ []), h, length-append xs (b ∷ []), n) (take-append-le (length xs - first_solid (reverse xs)) xs (b ∷ []) (omega arith))
+    let n : length xs + 1 - (1 + first_solid (reverse xs)) ≡ length xs - first_solid (reverse xs) = omega arith in
+    rw (reverse-append xs (b ∷ []), h, length-append xs (b ∷ []), n) (take-append-le (length xs - first_solid (reverse xs)) xs (b ∷ []) (omega arith))
 
 last_solid : (xs : List ℕ) → is_blank (slice_index (trim_end xs) (length (trim_end xs) - 1)) ≡ false
 last_solid xs = subst (λ (t : List ℕ). is_blank (slice_index (trim_end t) (length (trim_end t) - 1)) ≡ false) (reverse-reverse xs) (backwards (reverse xs))
   where
     at_last : (ys : List ℕ) (y : ℕ) → is_blank y ≡ false → is_blank (slice_index (ys ++ y ∷ []) (length (ys ++ y ∷ []) - 1)) ≡ false
     at_last ys y h = ap is_blank (get_or_at ys y [] 0 (length (ys ++ y ∷ []) - 1) (omega (arith, length-append ys (y ∷ [])))) ∙ h
+
     backwards : (ys : List ℕ) → is_blank (slice_index (trim_end (reverse ys)) (length (trim_end (reverse ys)) - 1)) ≡ false
     backwards [] = ap (λ (t : List ℕ). is_blank (slice_index t (length t - 1))) (trim_end_same [] refl)
     backwards (y ∷ ys) = elim (cases_Bool (is_blank y)) [
-        inl blank ↦ ap (λ (t : List ℕ). is_blank (slice_index t (length t - 1))) (ap trim_end (reverse-append (y ∷ []) ys) ∙ trim_end_blank (reverse ys) y blank) ∙ backwards ys
-      | inr solid ↦ ap (λ (t : List ℕ). is_blank (slice_index t (length t - 1))) (ap trim_end (reverse-append (y ∷ []) ys) ∙ trim_end_same (reverse ys ++ y ∷ []) (at_last (reverse ys) y solid)) ∙ at_last (reverse ys) y solid ]
+      | inl blank ↦ ap (λ (t : List ℕ). is_blank (slice_index t (length t - 1))) (ap trim_end (reverse-append (y ∷ []) ys) ∙ trim_end_blank (reverse ys) y blank) ∙ backwards ys
+      | inr solid ↦ ap (λ (t : List ℕ). is_blank (slice_index t (length t - 1))) (ap trim_end (reverse-append (y ∷ []) ys) ∙ trim_end_same (reverse ys ++ y ∷ []) (at_last (reverse ys) y solid)) ∙ at_last (reverse ys) y solid
+    ]
 
 pub trim_end_trimmed : (xs : List ℕ) → is_blank (slice_index xs 0) ≡ false → is_trimmed (trim_end xs) ≡ true
 trim_end_trimmed xs h =
-  and_from _ _ (first_trimmed (λ b. not (is_blank b)) xs (not_from_false _ h) refl) (not_from_false _ (last_solid xs))
+    and_from _ _ (first_trimmed (λ b. not (is_blank b)) xs (not_from_false _ h) refl) (not_from_false _ (last_solid xs))
 
 pub trim_trimmed : (xs : List ℕ) → is_trimmed (trim xs) ≡ true
 trim_trimmed xs = trim_end_trimmed (trim_start xs) (trim_start_first xs)
@@ -164,7 +169,8 @@ trim_trimmed xs = trim_end_trimmed (trim_start xs) (trim_start_first xs)
 pub before_none : (p : ℕ → Bool) (xs : List ℕ) → list_all (λ b. not (p b)) (take (position_or_len p xs) xs) ≡ true
 before_none p [] = refl
 before_none p (x ∷ xs) = elim (cases_Bool (p x)) [
-    inl here ↦ rw here refl
+  | inl here ↦ rw here refl
   | inr other ↦
       let n : 1 + position_or_len p xs ≡ suc (position_or_len p xs) = omega arith in
-      rw (other, n) (rw other (before_none p xs)) ]
+      rw (other, n) (rw other (before_none p xs))
+]

@@ -1,5 +1,5 @@
 -- What a date names, and that a printed date reads back.
-use Rattle.std.proofs.Common.{◌≡◌, ◌≤◌, ◌<◌, ◌+◌, ◌-◌, ◌*◌, ◌/◌, ◌%◌, ◌++◌, ◌==◌, ℕ, zero, suc, ℤ, pos, negsuc, neg_ℤ, ◌-ℤ◌, ◌≤ℤ◌, ◌<ℤ◌, int_le, unsigned_abs, List, [], ◌∷◌, Bool, true, false, cond, not, ◌&&◌, ◌||◌, length, take, drop, slice_index, arith, refl, ap, ◌∙◌, sym, subst, Option, Some, None, nat_lt, nat_le, inl, inr, ◌⊎◌, ◌↔◌, IfSome}
+use Rattle.std.proofs.Common.{◌≡◌, ◌≤◌, ◌<◌, ◌+◌, ◌-◌, ◌*◌, ◌/◌, ◌%◌, ◌++◌, ◌==◌, ℕ, zero, suc, ℤ, pos, negsuc, neg_ℤ, ◌-ℤ◌, ◌≤ℤ◌, ◌<ℤ◌, int_le, unsigned_abs, List, [], ◌∷◌, Bool, true, false, cond, not, ◌&&◌, ◌||◌, length, take, drop, slice_index, arith, refl, ap, ◌∙◌, sym, subst, Option, Some, None, nat_lt, nat_le, inl, inr, ◌⊎◌, ◌↔◌, IfSome, unwrap_or}
 use Rattle.std.proofs.lemmas.Grind.{common_steps}
 use Rattle.std.proofs.lemmas.Int.{ints, by_lt_z}
 use Rattle.std.proofs.lemmas.Bool.{and_parts, and_from, ne_eqb, cases_lt, cases_Bool, cases_order, lt-ltb, le-ltb, ltb-true, ltb-false}
@@ -11,7 +11,7 @@ use Rattle.jiff_core.specs.Calendar.{days_from_civil, day_count, days_in_month, 
 use Rattle.jiff_core.proofs.SignedLemmas.{signed_arith}
 use Rattle.jiff_core.proofs.CalendarLemmas.{days_from_civil-day_count, day_count-day, day_count-lt_year, day_count-lt_month, day_count-later_year, days_in_month_bounds, day_count_bounds}
 use Rattle.jiff_core.proofs.MarchLemmas.{day_count-early}
-use Rattle.jiff_core.proofs.DateLemmas.{days_from_civil-max, days_from_civil-day}
+use Rattle.jiff_core.proofs.DateLemmas.{days_from_civil-max, days_from_civil-day, days_from_civil-next_month, days_from_civil-next_year}
 use Rattle.money_core.specs.declared.day.Day.{Day}
 use Rattle.journal_lines.specs.Date.{IsDay, IsDate, year_part, behind_year, month_part, day_part, separator, is_separator, is_short, number_of, day_of, is_day, is_date, date_of, IsDayNumber, last_begun, year_of, month_of, day_of_month, two_digits, four_digits, printed_date, IsDateText}
 
@@ -257,3 +257,95 @@ printed_date_reads (negsuc y) m d day h low e = absurd (omega (arith, signed_ari
 pub small_year : (y : ℤ) → pos 1 ≤ℤ y → IsYear y → unsigned_abs y ≤ 9999
 small_year (pos n) low h = omega (arith, signed_arith, h)
 small_year (negsuc n) low h = absurd (omega (arith, signed_arith, low))
+
+-- what is known of the last that has begun
+pub record IsLastBegun (first_day : ℕ → ℤ) (day : ℤ) (n k : ℕ) : Type 0 where
+  pub low : 1 ≤ k
+  pub high : k ≤ n
+  pub begun : first_day k ≤ℤ day
+  pub over : k < n → day <ℤ first_day (k + 1)
+
+last_begun_has : (first_day : ℕ → ℤ) (day : ℤ) (n : ℕ) → first_day 1 ≤ℤ day → 1 ≤ n → IsLastBegun first_day day n (last_begun first_day day n)
+unfolding last_begun
+last_begun_has first_day day zero first some = absurd (omega arith)
+last_begun_has first_day day (suc n) first some = by_lt_z day (first_day (suc n))
+    (λ before. rw (int_le-false (first_day (suc n)) day before) (elim (cases_lt 0 n) [
+      | inl more ↦ (let rest = last_begun_has first_day day n first (omega (arith, more)) in
+          record { low = rest.low; high = omega (arith, rest.high); begun = rest.begun; over = λ below. after (last_begun first_day day n) rest before below })
+      | inr none ↦ (let one : suc n ≡ 1 = omega (arith, none) in
+          absurd (omega (arith, signed_arith, subst (λ (k : ℕ). day <ℤ first_day k) one before, first)))
+    ]))
+    (λ begun. rw (int_le-true (first_day (suc n)) day begun) (record { low = omega arith; high = omega arith; begun = begun; over = λ below. absurd (omega (arith, below)) }))
+  where
+    after : (k : ℕ) → IsLastBegun first_day day n k → day <ℤ first_day (suc n) → k < suc n → day <ℤ first_day (k + 1)
+    after k rest before below = elim (cases_lt k n) [
+      | inl lower ↦ rest.over lower
+      | inr last ↦ subst (λ (j : ℕ). day <ℤ first_day j) (omega (arith, rest.high, last)) before
+    ]
+
+not_negative : (z : ℤ) → pos 0 ≤ℤ z → z ≡ pos (unsigned_abs z)
+not_negative (pos n) h = refl
+not_negative (negsuc n) h = absurd (omega (arith, signed_arith, h))
+
+-- the day in a month that has begun and is not over
+civil_from : (day : Day) (y m d : ℕ) → 1 ≤ y → y ≤ 9999 → 1 ≤ m → m ≤ 12 → days_from_civil (pos y) m 1 ≤ℤ day.0 → (m < 12 → day.0 <ℤ days_from_civil (pos y) (m + 1) 1)
+    → day.0 <ℤ days_from_civil (pos (y + 1)) 1 1 → day.0 -ℤ days_from_civil (pos y) m 1 ≡ pos d → IsDay y m (d + 1) × (days_from_civil (pos y) m (d + 1) ≡ day.0)
+civil_from day y m d y_low y_high m_low m_high begun over year_over since =
+    let same : days_from_civil (pos y) m (d + 1) ≡ day.0 = omega (arith, signed_arith, days_from_civil-day (pos y) m 1 (d + 1) (omega arith) (omega arith), since) in
+    let long : d + 1 ≤ days_in_month (pos y) m = elim (cases_lt m 12) [
+      | inl earlier ↦ omega (arith, signed_arith, since, over earlier, days_from_civil-next_month (pos y) m (days_in_month (pos y) m) m_low refl, days_from_civil-day (pos y) m 1 (days_in_month (pos y) m) (omega arith) (omega (arith, (days_in_month_bounds (pos y) m).1)))
+      | inr last ↦ (let december : m ≡ 12 = omega (arith, last, m_high) in
+          subst (λ (k : ℕ). d + 1 ≤ days_in_month (pos y) k) (sym december)
+          (in_december (subst (λ (k : ℕ). day.0 -ℤ days_from_civil (pos y) k 1 ≡ pos d) december since)))
+    ] in
+    ((y_low, (omega (arith, signed_arith, y_high), (m_low, m_high), (omega arith, long))), same)
+  where
+    in_december : day.0 -ℤ days_from_civil (pos y) 12 1 ≡ pos d → d + 1 ≤ 31
+    in_december since = omega (arith, signed_arith, since, year_over, days_from_civil-next_year (pos y) (pos (y + 1)) (omega (arith, signed_arith)) (omega (arith, signed_arith)), days_from_civil-day (pos y) 12 1 31 (omega arith) (omega arith))
+
+-- the date of each day of the years 1 to 9999 is in the calendar, and is that day
+pub civil_of_day : (day : Day) → IsDayNumber day → IsDay (year_of day) (month_of day) (day_of_month day) × (days_from_civil (pos (year_of day)) (month_of day) (day_of_month day) ≡ day.0)
+civil_of_day day h =
+    let year = last_begun_has (λ y. days_from_civil (pos y) 1 1) day.0 9999 h.low (omega arith) in
+    in_year (year_of day) year
+    (elim (cases_lt (year_of day) 9999) [
+      | inl earlier ↦ year.over earlier
+      | inr last ↦ (let same : year_of day ≡ 9999 = omega (arith, year.high, last) in
+          subst (λ (y : ℕ). day.0 <ℤ days_from_civil (pos (y + 1)) 1 1) (sym same)
+          (omega (arith, signed_arith, h.high, days_from_civil-next_year (pos 9999) (pos 10000) (omega (arith, signed_arith)) refl)))
+    ])
+  where
+    in_month : (y m : ℕ) → 1 ≤ y → y ≤ 9999 → IsLastBegun (λ month. days_from_civil (pos y) month 1) day.0 12 m → day.0 <ℤ days_from_civil (pos (y + 1)) 1 1
+        → IsDay y m (unsigned_abs (day.0 -ℤ days_from_civil (pos y) m 1) + 1) × (days_from_civil (pos y) m (unsigned_abs (day.0 -ℤ days_from_civil (pos y) m 1) + 1) ≡ day.0)
+    in_month y m low high month over =
+        let since = not_negative (day.0 -ℤ days_from_civil (pos y) m 1) (omega (arith, signed_arith, month.begun)) in
+        civil_from day y m (unsigned_abs (day.0 -ℤ days_from_civil (pos y) m 1)) low high month.low month.high month.begun month.over over since
+
+    in_year : (y : ℕ) → IsLastBegun (λ year. days_from_civil (pos year) 1 1) day.0 9999 y → day.0 <ℤ days_from_civil (pos (y + 1)) 1 1
+        → IsDay y (last_begun (λ month. days_from_civil (pos y) month 1) day.0 12) (unsigned_abs (day.0 -ℤ days_from_civil (pos y) (last_begun (λ month. days_from_civil (pos y) month 1) day.0 12) 1) + 1)
+        × (days_from_civil (pos y) (last_begun (λ month. days_from_civil (pos y) month 1) day.0 12) (unsigned_abs (day.0 -ℤ days_from_civil (pos y) (last_begun (λ month. days_from_civil (pos y) month 1) day.0 12) 1) + 1) ≡ day.0)
+    in_year y year over =
+        in_month y (last_begun (λ month. days_from_civil (pos y) month 1) day.0 12) year.low year.high (last_begun_has (λ month. days_from_civil (pos y) month 1) day.0 12 year.begun (omega arith)) over
+
+-- each day of the years 1 to 9999 is printed as a date that reads as it
+pub dates_print : (day : Day) → IsDayNumber day → IsDateText day (printed_date day)
+dates_print day h =
+    let civil = civil_of_day day h in
+    printed_date_reads (pos (year_of day)) (month_of day) (day_of_month day) day civil.0.1 (omega (arith, signed_arith, civil.0.0)) civil.1
+
+-- a date that is read is of those years
+pub dates_bound : (text : List ℕ) (day : Day) → date_of text ≡ Some day → IsDayNumber day
+unfolding date_of
+dates_bound text day e = elim (cases_Bool (is_date text)) [
+  | inl is ↦ (let found : Some (day_of text) ≡ Some day = rw is at e in
+      let same : day_of text ≡ day = some_same (day_of text) day found in
+      let facts = date_from_test text is in
+      subst IsDayNumber same (day_in_range (number_of (year_part text)) (number_of (month_part text)) (number_of (day_part text)) facts.exists))
+  | inr other ↦ (let none : None ≡ Some day = rw other at e in absurd (none_some day none))
+]
+  where
+    some_same : (a b : Day) → Some a ≡ Some b → a ≡ b
+    some_same a b h = ap (λ (o : Option Day). unwrap_or o a) h
+
+    none_some : (b : Day) → None ≡ Some b → ⊥
+    none_some b h = cc

@@ -26,9 +26,9 @@ spaced_trimmed (b ∷ bs) t = ap (λ (xs : List ℕ). trim (32 ∷ xs)) (sym (ap
 pub comment_reads : (text : List ℕ) → is_comment text ≡ true → comment_of (comment_line text) ≡ Some text
 unfolding comment_line
 comment_reads text h =
-  let outer = and_parts (is_trimmed text && list_all is_clean text) _ h in
-  let inner = and_parts (is_trimmed text) _ outer.0 in
-  comment_behind indent (spaced_text text) refl ∙ ap (λ (t : List ℕ). Some t) (spaced_trimmed text inner.0)
+    let outer = and_parts (is_trimmed text && list_all is_clean text) _ h in
+    let inner = and_parts (is_trimmed text) _ outer.0 in
+    comment_behind indent (spaced_text text) refl ∙ ap (λ (t : List ℕ). Some t) (spaced_trimmed text inner.0)
 
 -- a comment line is indented, and `;` is its first byte behind the blanks
 pub comment_shows : (text : List ℕ) → trim_start (comment_line text) ≡ 59 ∷ spaced_text text
@@ -44,11 +44,11 @@ pub record DescriptionOk (status : Option Status) (code : Option (List ℕ)) (te
 
 pub description_parts : (status : Option Status) (code : Option (List ℕ)) (text : List ℕ) → is_description status code text ≡ true → DescriptionOk status code text
 description_parts status code text h =
-  let a = and_parts (is_trimmed text && list_all (λ b. not (b == 59)) text && list_all is_clean text && nat_lt (length text) 501) _ h in
-  let b = and_parts (is_trimmed text && list_all (λ b. not (b == 59)) text && list_all is_clean text) _ a.0 in
-  let c = and_parts (is_trimmed text && list_all (λ b. not (b == 59)) text) _ b.0 in
-  let d = and_parts (is_trimmed text) _ c.0 in
-  record { trimmed = d.0; no_semicolon = d.1; clean = c.1; short = b.1; so = a.1 }
+    let a = and_parts (is_trimmed text && list_all (λ b. not (b == 59)) text && list_all is_clean text && nat_lt (length text) 501) _ h in
+    let b = and_parts (is_trimmed text && list_all (λ b. not (b == 59)) text && list_all is_clean text) _ a.0 in
+    let c = and_parts (is_trimmed text && list_all (λ b. not (b == 59)) text) _ b.0 in
+    let d = and_parts (is_trimmed text) _ c.0 in
+    record { trimmed = d.0; no_semicolon = d.1; clean = c.1; short = b.1; so = a.1 }
 
 pub record CodeOk (code : List ℕ) : Type 0 where
   pub open_end : has_no 41 code ≡ true
@@ -58,25 +58,25 @@ pub record CodeOk (code : List ℕ) : Type 0 where
 
 pub code_parts : (code : List ℕ) → is_code (Some code) ≡ true → CodeOk code
 code_parts code h =
-  let a = and_parts (list_all (λ b. not (b == 41)) code && list_all (λ b. not (b == 59)) code && list_all is_clean code) _ h in
-  let b = and_parts (list_all (λ b. not (b == 41)) code && list_all (λ b. not (b == 59)) code) _ a.0 in
-  let c = and_parts (list_all (λ b. not (b == 41)) code) _ b.0 in
-  record { open_end = c.0; no_semicolon = c.1; clean = b.1; short = a.1 }
+    let a = and_parts (list_all (λ b. not (b == 41)) code && list_all (λ b. not (b == 59)) code && list_all is_clean code) _ h in
+    let b = and_parts (list_all (λ b. not (b == 41)) code && list_all (λ b. not (b == 59)) code) _ a.0 in
+    let c = and_parts (list_all (λ b. not (b == 41)) code) _ b.0 in
+    record { open_end = c.0; no_semicolon = c.1; clean = b.1; short = a.1 }
 
 -- the description behind its space
 description_back : (text : List ℕ) → is_trimmed text ≡ true → trim_start (header_description text) ≡ text
 description_back [] t = trim_start_same [] refl
 description_back (b ∷ bs) t =
-  let parts = and_parts (not (is_blank b)) _ t in
-  trim_start_behind (32 ∷ []) (b ∷ bs) refl ∙ trim_start_same (b ∷ bs) (not-true _ parts.0)
+    let parts = and_parts (not (is_blank b)) _ t in
+    trim_start_behind (32 ∷ []) (b ∷ bs) refl ∙ trim_start_same (b ∷ bs) (not-true _ parts.0)
 
 description_end : (text : List ℕ) → is_trimmed text ≡ true → trim_end text ≡ text
 description_end text t =
-  let parts = and_parts (not (is_blank (slice_index text 0))) _ t in trim_end_same text (not-true _ parts.1)
+    let parts = and_parts (not (is_blank (slice_index text 0))) _ t in trim_end_same text (not-true _ parts.1)
 
 -- the code and the description
 coded_back : (status : Option Status) (code : Option (List ℕ)) (text : List ℕ) → is_code code ≡ true → DescriptionOk status code text
-  → code_at (trim_start (header_code code ++ header_description text)) ≡ Some (record { code = code; rest = text })
+    → code_at (trim_start (header_code code ++ header_description text)) ≡ Some (record { code = code; rest = text })
 unfolding code_at
 coded_back status None text k d = rw (description_back text d.trimmed, no_bracket status d.so) refl
   where
@@ -85,37 +85,43 @@ coded_back status None text k d = rw (description_back text d.trimmed, no_bracke
     no_bracket (Some Pending) h = not-true _ h
     no_bracket (Some Cleared) h = not-true _ h
 coded_back status (Some code) text k d =
-  let c = code_parts code k in
-  let behind : trim_start (header_code (Some code) ++ header_description text) ≡ 40 ∷ (code ++ 41 ∷ header_description text) =
+    let c = code_parts code k in
+    let behind : trim_start (header_code (Some code) ++ header_description text) ≡ 40 ∷ (code ++ 41 ∷ header_description text) =
     trim_start_behind (32 ∷ []) (40 ∷ ((code ++ 41 ∷ []) ++ header_description text)) refl
     ∙ (trim_start_same (40 ∷ ((code ++ 41 ∷ []) ++ header_description text)) refl
     ∙ ap (λ (xs : List ℕ). 40 ∷ xs) (append_assoc code (41 ∷ []) (header_description text))) in
-  let inside : length code < length (code ++ 41 ∷ header_description text) = rw (length-append code (41 ∷ header_description text)) (omega arith) in
-  rw (behind, before_mark (λ b. b == 41) code (header_description text) 41 c.open_end refl, lt-ltb (length code) (length (code ++ 41 ∷ header_description text)) inside,
-      take-append_seam code (41 ∷ header_description text), drop-append-add code (41 ∷ header_description text) 1, description_back text d.trimmed) refl
+    let inside : length code < length (code ++ 41 ∷ header_description text) = rw (length-append code (41 ∷ header_description text)) (omega arith) in
+    rw (
+      behind,
+      before_mark (λ b. b == 41) code (header_description text) 41 c.open_end refl,
+      lt-ltb (length code) (length (code ++ 41 ∷ header_description text)) inside,
+      take-append_seam code (41 ∷ header_description text),
+      drop-append-add code (41 ∷ header_description text) 1,
+      description_back text d.trimmed,
+    ) refl
 
 -- the status in front of them
 status_back : (status : Option Status) (code : Option (List ℕ)) (text : List ℕ) → DescriptionOk status code text
-  → (status_at (trim_start (header_status status ++ (header_code code ++ header_description text))) ≡ status)
-  × (behind_status (trim_start (header_status status ++ (header_code code ++ header_description text))) ≡ trim_start (header_code code ++ header_description text))
+    → (status_at (trim_start (header_status status ++ (header_code code ++ header_description text))) ≡ status)
+    × (behind_status (trim_start (header_status status ++ (header_code code ++ header_description text))) ≡ trim_start (header_code code ++ header_description text))
 unfolding status_at behind_status
 status_back (Some Pending) code text d =
-  let rest = header_code code ++ header_description text in
-  let e : trim_start (32 ∷ 33 ∷ rest) ≡ 33 ∷ rest = trim_start_behind (32 ∷ []) (33 ∷ rest) refl ∙ trim_start_same (33 ∷ rest) refl in
-  (rw e refl, rw e refl)
+    let rest = header_code code ++ header_description text in
+    let e : trim_start (32 ∷ 33 ∷ rest) ≡ 33 ∷ rest = trim_start_behind (32 ∷ []) (33 ∷ rest) refl ∙ trim_start_same (33 ∷ rest) refl in
+    (rw e refl, rw e refl)
 status_back (Some Cleared) code text d =
-  let rest = header_code code ++ header_description text in
-  let e : trim_start (32 ∷ 42 ∷ rest) ≡ 42 ∷ rest = trim_start_behind (32 ∷ []) (42 ∷ rest) refl ∙ trim_start_same (42 ∷ rest) refl in
-  (rw e refl, rw e refl)
+    let rest = header_code code ++ header_description text in
+    let e : trim_start (32 ∷ 42 ∷ rest) ≡ 42 ∷ rest = trim_start_behind (32 ∷ []) (42 ∷ rest) refl ∙ trim_start_same (42 ∷ rest) refl in
+    (rw e refl, rw e refl)
 status_back None (Some code) text d =
-  let rest = (code ++ 41 ∷ []) ++ header_description text in
-  let e : trim_start (32 ∷ 40 ∷ rest) ≡ 40 ∷ rest = trim_start_behind (32 ∷ []) (40 ∷ rest) refl ∙ trim_start_same (40 ∷ rest) refl in
-  (rw e refl, rw e refl)
+    let rest = (code ++ 41 ∷ []) ++ header_description text in
+    let e : trim_start (32 ∷ 40 ∷ rest) ≡ 40 ∷ rest = trim_start_behind (32 ∷ []) (40 ∷ rest) refl ∙ trim_start_same (40 ∷ rest) refl in
+    (rw e refl, rw e refl)
 status_back None None text d =
-  let e = description_back text d.trimmed in
-  let outer = and_parts (not (slice_index text 0 == 42) && not (slice_index text 0 == 33)) _ d.so in
-  let inner = and_parts (not (slice_index text 0 == 42)) _ outer.0 in
-  (rw (e, not-true _ inner.0, not-true _ inner.1) refl, rw (e, not-true _ inner.0, not-true _ inner.1) refl)
+    let e = description_back text d.trimmed in
+    let outer = and_parts (not (slice_index text 0 == 42) && not (slice_index text 0 == 33)) _ d.so in
+    let inner = and_parts (not (slice_index text 0 == 42)) _ outer.0 in
+    (rw (e, not-true _ inner.0, not-true _ inner.1) refl, rw (e, not-true _ inner.0, not-true _ inner.1) refl)
 
 -- what follows the date is nothing, or begins with a space
 abbrev pub StartsBlank : List ℕ → Type 0
@@ -141,47 +147,49 @@ date_no_semicolon b h = grind (arith, common_steps)
 
 -- no `;` stands in a header line
 header_no_semicolon : (day : Day) (status : Option Status) (code : Option (List ℕ)) (text : List ℕ) → IsDateText day (printed_date day) → is_code code ≡ true → DescriptionOk status code text
-  → has_no 59 (header_line day status code text) ≡ true
+    → has_no 59 (header_line day status code text) ≡ true
 unfolding header_line
 header_no_semicolon day status code text date k d =
-  all_joined (λ b. not (b == 59)) (printed_date day) (header_status status ++ (header_code code ++ header_description text))
+    all_joined (λ b. not (b == 59)) (printed_date day) (header_status status ++ (header_code code ++ header_description text))
     (all_weaker (λ b. is_ascii_digit b || (b == 45)) (λ b. not (b == 59)) (printed_date day) date_no_semicolon date.form)
     (all_joined (λ b. not (b == 59)) (header_status status) (header_code code ++ header_description text) (of_status status)
-      (all_joined (λ b. not (b == 59)) (header_code code) (header_description text) (of_code code k) (of_text text d.no_semicolon)))
+    (all_joined (λ b. not (b == 59)) (header_code code) (header_description text) (of_code code k) (of_text text d.no_semicolon)))
   where
     of_status : (s : Option Status) → has_no 59 (header_status s) ≡ true
     of_status None = refl
     of_status (Some Pending) = refl
     of_status (Some Cleared) = refl
+
     of_code : (c : Option (List ℕ)) → is_code c ≡ true → has_no 59 (header_code c) ≡ true
     of_code None h = refl
     of_code (Some c) h = all_joined (λ b. not (b == 59)) c (41 ∷ []) (code_parts c h).no_semicolon refl
+
     of_text : (t : List ℕ) → has_no 59 t ≡ true → has_no 59 (header_description t) ≡ true
     of_text [] h = refl
     of_text (b ∷ bs) h = h
 
 -- what a header line is cut into
 header_cut : (day : Day) (status : Option Status) (code : Option (List ℕ)) (text : List ℕ) → IsDateText day (printed_date day) → is_code code ≡ true → DescriptionOk status code text
-  → cut_header (header_line day status code text) ≡ record { date = printed_date day; status = status; coded = Some (record { code = code; rest = text }); comment = None }
+    → cut_header (header_line day status code text) ≡ record { date = printed_date day; status = status; coded = Some (record { code = code; rest = text }); comment = None }
 unfolding cut_header header_line first_word behind_date
 header_cut day status code text date k d =
-  let rest = header_status status ++ (header_code code ++ header_description text) in
-  let none = header_no_semicolon day status code text date k d in
-  let front : front_of (printed_date day ++ rest) ≡ printed_date day ++ rest = front_whole (printed_date day ++ rest) none in
-  let comment : comment_of (printed_date day ++ rest) ≡ None = no_comment (printed_date day ++ rest) none in
-  let ends = date_ends (printed_date day) rest (all_weaker (λ b. is_ascii_digit b || (b == 45)) (λ b. not (is_blank b)) (printed_date day) date_no_blank date.form) (starts_blank status code text) in
-  let status_is = status_back status code text d in
-  rw (front, comment, ends, take-append_seam (printed_date day) rest, drop_at (printed_date day) rest (length (printed_date day)) refl, status_is.0, status_is.1, coded_back status code text k d) refl
+    let rest = header_status status ++ (header_code code ++ header_description text) in
+    let none = header_no_semicolon day status code text date k d in
+    let front : front_of (printed_date day ++ rest) ≡ printed_date day ++ rest = front_whole (printed_date day ++ rest) none in
+    let comment : comment_of (printed_date day ++ rest) ≡ None = no_comment (printed_date day ++ rest) none in
+    let ends = date_ends (printed_date day) rest (all_weaker (λ b. is_ascii_digit b || (b == 45)) (λ b. not (is_blank b)) (printed_date day) date_no_blank date.form) (starts_blank status code text) in
+    let status_is = status_back status code text d in
+    rw (front, comment, ends, take-append_seam (printed_date day) rest, drop_at (printed_date day) rest (length (printed_date day)) refl, status_is.0, status_is.1, coded_back status code text k d) refl
 
 -- A printed header line reads as its parts.
 pub header_reads : (day : Day) (status : Option Status) (code : Option (List ℕ)) (text : List ℕ) → HeaderOk day status code text
-  → header_of (header_line day status code text) ≡ Ok (record { day = day; status = status; code = code; description = text; comment = None })
+    → header_of (header_line day status code text) ≡ Ok (record { day = day; status = status; code = code; description = text; comment = None })
 unfolding judged_header
 header_reads day status code text h =
-  let date = dates_print day h.number in
-  let d = description_parts status code text h.description_ok in
-  let text_end = description_end text d.trimmed in
-  rw (header_cut day status code text date h.code_ok d, short_code code h.code_ok, text_end, le-ltb 500 (length text) (omega (arith, ltb-true (length text) 501 d.short)), date.reads) (rw text_end refl)
+    let date = dates_print day h.number in
+    let d = description_parts status code text h.description_ok in
+    let text_end = description_end text d.trimmed in
+    rw (header_cut day status code text date h.code_ok d, short_code code h.code_ok, text_end, le-ltb 500 (length text) (omega (arith, ltb-true (length text) 501 d.short)), date.reads) (rw text_end refl)
   where
     short_code : (c : Option (List ℕ)) → is_code c ≡ true → nat_lt 100 (length_of c) ≡ false
     short_code None k = refl
@@ -192,41 +200,53 @@ date_clean b h = grind (arith, common_steps)
 
 -- no control character stands in a header line
 pub header_clean : (day : Day) (status : Option Status) (code : Option (List ℕ)) (text : List ℕ) → IsDateText day (printed_date day) → is_code code ≡ true → DescriptionOk status code text
-  → list_all is_clean (header_line day status code text) ≡ true
+    → list_all is_clean (header_line day status code text) ≡ true
 unfolding header_line
 header_clean day status code text date k d =
-  all_joined is_clean (printed_date day) (header_status status ++ (header_code code ++ header_description text))
+    all_joined is_clean (printed_date day) (header_status status ++ (header_code code ++ header_description text))
     (all_weaker (λ b. is_ascii_digit b || (b == 45)) is_clean (printed_date day) date_clean date.form)
     (all_joined is_clean (header_status status) (header_code code ++ header_description text) (of_status status)
-      (all_joined is_clean (header_code code) (header_description text) (of_code code k) (of_text text d.clean)))
+    (all_joined is_clean (header_code code) (header_description text) (of_code code k) (of_text text d.clean)))
   where
     of_status : (s : Option Status) → list_all is_clean (header_status s) ≡ true
     of_status None = refl
     of_status (Some Pending) = refl
     of_status (Some Cleared) = refl
+
     of_code : (c : Option (List ℕ)) → is_code c ≡ true → list_all is_clean (header_code c) ≡ true
     of_code None h = refl
     of_code (Some c) h = all_joined is_clean c (41 ∷ []) (code_parts c h).clean refl
+
     of_text : (t : List ℕ) → list_all is_clean t ≡ true → list_all is_clean (header_description t) ≡ true
     of_text [] h = refl
     of_text (b ∷ bs) h = h
 
 -- how long a header line is
 pub header_short : (day : Day) (status : Option Status) (code : Option (List ℕ)) (text : List ℕ) → IsDateText day (printed_date day) → is_code code ≡ true → DescriptionOk status code text
-  → length (header_line day status code text) ≤ 1000
+    → length (header_line day status code text) ≤ 1000
 unfolding header_line
 header_short day status code text date k d =
-  omega (arith, date.ten, of_status status, of_code code k, of_text text, ltb-true (length text) 501 d.short,
-    length-append (printed_date day) (header_status status ++ (header_code code ++ header_description text)),
-    length-append (header_status status) (header_code code ++ header_description text), length-append (header_code code) (header_description text))
+    omega (
+      arith,
+      date.ten,
+      of_status status,
+      of_code code k,
+      of_text text,
+      ltb-true (length text) 501 d.short,
+      length-append (printed_date day) (header_status status ++ (header_code code ++ header_description text)),
+      length-append (header_status status) (header_code code ++ header_description text),
+      length-append (header_code code) (header_description text),
+    )
   where
     of_status : (s : Option Status) → length (header_status s) ≤ 2
     of_status None = omega arith
     of_status (Some Pending) = omega arith
     of_status (Some Cleared) = omega arith
+
     of_code : (c : Option (List ℕ)) → is_code c ≡ true → length (header_code c) ≤ 103
     of_code None h = omega arith
     of_code (Some c) h = omega (arith, length-append c (41 ∷ []), ltb-true (length c) 101 (code_parts c h).short)
+
     of_text : (t : List ℕ) → length (header_description t) ≤ length t + 1
     of_text [] = omega arith
     of_text (b ∷ bs) = omega arith
@@ -240,13 +260,14 @@ chosen false x y z h = inr (refl, h)
 pub read_comment : (line text : List ℕ) → list_all is_clean line ≡ true → comment_of line ≡ Some text → nat_lt 900 (length text) ≡ false → is_comment text ≡ true
 unfolding comment_of
 read_comment line text clean e short =
-  elim (chosen (nat_lt (position_or_len (λ b. b == 59) line) (length line)) (Some (trim (after_first (λ b. b == 59) line))) None (Some text) e) [
-    inl found ↦
-      let q : trim (after_first (λ b. b == 59) line) ≡ text = (let found_is = found.1 in cc) in
-      let ends : is_trimmed text ≡ true = ap is_trimmed (sym q) ∙ trim_trimmed (after_first (λ b. b == 59) line) in
-      let good : list_all is_clean text ≡ true = ap (λ (t : List ℕ). list_all is_clean t) (sym q) ∙ all_trim_end is_clean _ (all_trim_start is_clean _ (all_drop is_clean (position_or_len (λ b. b == 59) line + 1) line clean)) in
-      and_from _ _ (and_from _ _ ends good) (lt-ltb (length text) 901 (omega (arith, ltb-false 900 (length text) short)))
-  | inr none ↦ absurd (let none_is = none.1 in cc) ]
+    elim (chosen (nat_lt (position_or_len (λ b. b == 59) line) (length line)) (Some (trim (after_first (λ b. b == 59) line))) None (Some text) e) [
+      | inl found ↦
+          let q : trim (after_first (λ b. b == 59) line) ≡ text = (let found_is = found.1 in cc) in
+          let ends : is_trimmed text ≡ true = ap is_trimmed (sym q) ∙ trim_trimmed (after_first (λ b. b == 59) line) in
+          let good : list_all is_clean text ≡ true = ap (λ (t : List ℕ). list_all is_clean t) (sym q) ∙ all_trim_end is_clean _ (all_trim_start is_clean _ (all_drop is_clean (position_or_len (λ b. b == 59) line + 1) line clean)) in
+          and_from _ _ (and_from _ _ ends good) (lt-ltb (length text) 901 (omega (arith, ltb-false 900 (length text) short)))
+      | inr none ↦ absurd (let none_is = none.1 in cc)
+    ]
 
 -- past a test that refuses
 pub past : {A E : Type 0} (b : Bool) (e : E) (r : Result A E) (x : A) → cond b (Err e) r ≡ Ok x → (b ≡ false) × (r ≡ Ok x)
@@ -272,24 +293,28 @@ date_first front = trim_start_first (drop (position_or_len is_blank front) front
 all_behind_status : (p : ℕ → Bool) (text : List ℕ) → list_all p text ≡ true → list_all p (behind_status text) ≡ true
 unfolding behind_status
 all_behind_status p text h = elim (cases_Bool ((slice_index text 0 == 42) || (slice_index text 0 == 33))) [
-    inl marked ↦ rw marked (all_trim_start p (drop 1 text) (all_drop p 1 text h))
-  | inr bare ↦ rw bare h ]
+  | inl marked ↦ rw marked (all_trim_start p (drop 1 text) (all_drop p 1 text h))
+  | inr bare ↦ rw bare h
+]
 
 status_first : (text : List ℕ) → is_blank (slice_index text 0) ≡ false → is_blank (slice_index (behind_status text) 0) ≡ false
 unfolding behind_status
 status_first text h = elim (cases_Bool ((slice_index text 0 == 42) || (slice_index text 0 == 33))) [
-    inl marked ↦ rw marked (trim_start_first (drop 1 text))
-  | inr bare ↦ rw bare h ]
+  | inl marked ↦ rw marked (trim_start_first (drop 1 text))
+  | inr bare ↦ rw bare h
+]
 
 -- where no status was read, none stands at the front of what follows
 no_status : (text : List ℕ) → status_at text ≡ None → ((slice_index (behind_status text) 0 == 42) ≡ false) × ((slice_index (behind_status text) 0 == 33) ≡ false)
 unfolding status_at behind_status
 no_status text h =
-  elim (cases_Bool (slice_index text 0 == 42)) [
-    inl star ↦ absurd (let e : (Some Cleared) ≡ None = rw star at h in cc)
-  | inr other ↦ elim (cases_Bool (slice_index text 0 == 33)) [
-      inl shout ↦ absurd (let e : (Some Pending) ≡ None = rw (other, shout) at h in cc)
-    | inr bare ↦ (rw (other, bare) other, rw (other, bare) bare) ] ]
+    elim (cases_Bool (slice_index text 0 == 42)) [
+      | inl star ↦ absurd (let e : (Some Cleared) ≡ None = rw star at h in cc)
+      | inr other ↦ elim (cases_Bool (slice_index text 0 == 33)) [
+        | inl shout ↦ absurd (let e : (Some Pending) ≡ None = rw (other, shout) at h in cc)
+        | inr bare ↦ (rw (other, bare) other, rw (other, bare) bare)
+      ]
+    ]
 
 -- what is known of the code and what follows it
 record CodedOk (text : List ℕ) (coded : Coded) : Type 0 where
@@ -302,26 +327,31 @@ record CodedOk (text : List ℕ) (coded : Coded) : Type 0 where
 coded_ok : (text : List ℕ) (coded : Coded) → is_blank (slice_index text 0) ≡ false → code_at text ≡ Some coded → CodedOk text coded
 unfolding code_at
 coded_ok text coded solid h =
-  elim (chosen (slice_index text 0 == 40) _ _ _ h) [
-    inl bracket ↦ elim (chosen (nat_lt (position_or_len (λ b. b == 41) (drop 1 text)) (length (drop 1 text))) (Some (with_code text)) None (Some coded) bracket.1) [
-        inl closed ↦ (let same : with_code text ≡ coded = (let closed_is = closed.1 in cc) in subst (λ (c : Coded). CodedOk text c) same (of_code text))
-      | inr none ↦ absurd (let none_is = none.1 in cc) ]
-  | inr bare ↦ (let same : record { code = None; rest = text } ≡ coded = (let bare_is = bare.1 in cc) in subst (λ (c : Coded). CodedOk text c) same (record {
-      first = solid;
-      inside = λ p k. k;
-      within = λ p code e k. absurd cc;
-      open_end = λ code e. absurd cc;
-      bare = λ e. (refl, bare.0) })) ]
+    elim (chosen (slice_index text 0 == 40) _ _ _ h) [
+      | inl bracket ↦ elim (chosen (nat_lt (position_or_len (λ b. b == 41) (drop 1 text)) (length (drop 1 text))) (Some (with_code text)) None (Some coded) bracket.1) [
+        | inl closed ↦ (let same : with_code text ≡ coded = (let closed_is = closed.1 in cc) in subst (λ (c : Coded). CodedOk text c) same (of_code text))
+        | inr none ↦ absurd (let none_is = none.1 in cc)
+      ]
+      | inr bare ↦ (let same : record { code = None; rest = text } ≡ coded = (let bare_is = bare.1 in cc) in subst (λ (c : Coded). CodedOk text c) same (record {
+        first = solid;
+        inside = λ p k. k;
+        within = λ p code e k. absurd cc;
+        open_end = λ code e. absurd cc;
+        bare = λ e. (refl, bare.0);
+      }))
+    ]
   where
     with_code : List ℕ → Coded
     with_code text = record { code = Some (before_first (λ b. b == 41) (drop 1 text)); rest = trim_start (after_first (λ b. b == 41) (drop 1 text)) }
+
     of_code : (text : List ℕ) → CodedOk text (with_code text)
     of_code text = record {
       first = trim_start_first (after_first (λ b. b == 41) (drop 1 text));
       inside = λ p k. all_trim_start p _ (all_drop p (position_or_len (λ b. b == 41) (drop 1 text) + 1) (drop 1 text) (all_drop p 1 text k));
       within = λ p code e k. (let same : before_first (λ b. b == 41) (drop 1 text) ≡ code = cc in ap (λ (t : List ℕ). list_all p t) (sym same) ∙ all_take p (position_or_len (λ b. b == 41) (drop 1 text)) (drop 1 text) (all_drop p 1 text k));
       open_end = λ code e. (let same : before_first (λ b. b == 41) (drop 1 text) ≡ code = cc in ap (λ (t : List ℕ). has_no 41 t) (sym same) ∙ before_none (λ b. b == 41) (drop 1 text));
-      bare = λ e. absurd cc }
+      bare = λ e. absurd cc;
+    }
 
 -- the facts of a header line's parts
 pub record HeaderRead (h : HeaderParts) : Type 0 where
@@ -335,22 +365,23 @@ code_read text coded k none clean short = at coded.code refl
     at : (o : Option (List ℕ)) → coded.code ≡ o → is_code o ≡ true
     at None e = refl
     at (Some code) e =
-      let size = ltb-false 100 (length code) (ap (λ (o : Option (List ℕ)). nat_lt 100 (length_of o)) (sym e) ∙ short) in
-      and_from _ _ (and_from _ _ (and_from _ _ (k.open_end code e) (k.within (λ b. not (b == 59)) code e none)) (k.within is_clean code e clean)) (lt-ltb (length code) 101 (omega (arith, size)))
+        let size = ltb-false 100 (length code) (ap (λ (o : Option (List ℕ)). nat_lt 100 (length_of o)) (sym e) ∙ short) in
+        and_from _ _ (and_from _ _ (and_from _ _ (k.open_end code e) (k.within (λ b. not (b == 59)) code e none)) (k.within is_clean code e clean)) (lt-ltb (length code) 101 (omega (arith, size)))
 
 so_read : (status : Option Status) (dated : List ℕ) (coded : Coded) → CodedOk (behind_status dated) coded → status_at dated ≡ status → starts_so status coded.code (slice_index (trim_end coded.rest) 0) ≡ true
 so_read status dated coded k e = at coded.code refl status e
   where
     not_one : (n : ℕ) → (0 == n) ≡ false → coded.rest ≡ behind_status dated → (slice_index (behind_status dated) 0 == n) ≡ false → not (slice_index (trim_end coded.rest) 0 == n) ≡ true
     not_one n z same h = first_trimmed (λ b. not (b == n)) coded.rest (not_from_false _ (ap (λ (t : List ℕ). slice_index t 0 == n) same ∙ h)) (not_from_false _ z)
+
     at : (o : Option (List ℕ)) → coded.code ≡ o → (s : Option Status) → status_at dated ≡ s → starts_so s o (slice_index (trim_end coded.rest) 0) ≡ true
     at (Some code) q None u = refl
     at (Some code) q (Some Pending) u = refl
     at (Some code) q (Some Cleared) u = refl
     at None q None u =
-      let b = k.bare q in
-      let s = no_status dated u in
-      and_from _ _ (and_from _ _ (not_one 42 refl b.0 s.0) (not_one 33 refl b.0 s.1)) (not_one 40 refl b.0 b.1)
+        let b = k.bare q in
+        let s = no_status dated u in
+        and_from _ _ (and_from _ _ (not_one 42 refl b.0 s.0) (not_one 33 refl b.0 s.1)) (not_one 40 refl b.0 b.1)
     at None q (Some Pending) u = let b = k.bare q in not_one 40 refl b.0 b.1
     at None q (Some Cleared) u = let b = k.bare q in not_one 40 refl b.0 b.1
 
@@ -358,33 +389,36 @@ so_read status dated coded k e = at coded.code refl status e
 pub read_header : (line : List ℕ) (h : HeaderParts) → list_all is_clean line ≡ true → header_of line ≡ Ok h → HeaderRead h
 unfolding judged_header cut_header
 read_header line h clean e =
-  let front = front_of line in
-  let dated = behind_date front in
-  let text = behind_status dated in
-  let one = past (is_coded_long (code_at text) || nat_lt 900 (length_of (comment_of line))) _ _ h e in
-  let limits = or_parts (is_coded_long (code_at text)) _ one.0 in
-  at_date (date_of (first_word front)) refl (code_at text) refl limits.0 limits.1 one.1
+    let front = front_of line in
+    let dated = behind_date front in
+    let text = behind_status dated in
+    let one = past (is_coded_long (code_at text) || nat_lt 900 (length_of (comment_of line))) _ _ h e in
+    let limits = or_parts (is_coded_long (code_at text)) _ one.0 in
+    at_date (date_of (first_word front)) refl (code_at text) refl limits.0 limits.1 one.1
   where
     at_coded : (day : Day) → IsDayNumber day → (o : Option Coded) → code_at (behind_status (behind_date (front_of line))) ≡ o → is_coded_long o ≡ false → nat_lt 900 (length_of (comment_of line)) ≡ false
-      → closed_header (cut_header line) day o ≡ Ok h → HeaderRead h
+        → closed_header (cut_header line) day o ≡ Ok h → HeaderRead h
     at_coded day number None q long short r = absurd cc
     at_coded day number (Some coded) q long short r =
-      let dated = behind_date (front_of line) in
-      let text = behind_status dated in
-      let k = coded_ok text coded (status_first dated (date_first (front_of line))) q in
-      let none = all_behind_status (λ b. not (b == 59)) dated (all_behind_date (λ b. not (b == 59)) (front_of line) (front_none line)) in
-      let good = all_behind_status is_clean dated (all_behind_date is_clean (front_of line) (all_front is_clean line clean)) in
-      let sizes = or_parts (nat_lt 100 (length_of coded.code)) _ long in
-      let size = ltb-false 500 (length (trim_end coded.rest)) sizes.1 in
-      let same : record { day = day; status = status_at dated; code = coded.code; description = trim_end coded.rest; comment = comment_of line } ≡ h = cc in
-      subst (λ (p : HeaderParts). HeaderRead p) same (record {
-        parts = record {
-          number = number;
-          code_ok = code_read text coded k none good sizes.0;
-          description_ok = and_from _ _ (and_from _ _ (and_from _ _ (and_from _ _ (trim_end_trimmed coded.rest k.first) (all_trim_end (λ b. not (b == 59)) coded.rest (k.inside (λ b. not (b == 59)) none)))
-            (all_trim_end is_clean coded.rest (k.inside is_clean good))) (lt-ltb (length (trim_end coded.rest)) 501 (omega (arith, size)))) (so_read (status_at dated) dated coded k refl) };
-        comment = λ t is. read_comment line t clean is (ap (λ (o : Option (List ℕ)). nat_lt 900 (length_of o)) (sym is) ∙ short) })
+        let dated = behind_date (front_of line) in
+        let text = behind_status dated in
+        let k = coded_ok text coded (status_first dated (date_first (front_of line))) q in
+        let none = all_behind_status (λ b. not (b == 59)) dated (all_behind_date (λ b. not (b == 59)) (front_of line) (front_none line)) in
+        let good = all_behind_status is_clean dated (all_behind_date is_clean (front_of line) (all_front is_clean line clean)) in
+        let sizes = or_parts (nat_lt 100 (length_of coded.code)) _ long in
+        let size = ltb-false 500 (length (trim_end coded.rest)) sizes.1 in
+        let same : record { day = day; status = status_at dated; code = coded.code; description = trim_end coded.rest; comment = comment_of line } ≡ h = cc in
+        subst (λ (p : HeaderParts). HeaderRead p) same (record {
+          parts = record {
+            number = number;
+            code_ok = code_read text coded k none good sizes.0;
+            description_ok = and_from _ _ (and_from _ _ (and_from _ _ (and_from _ _ (trim_end_trimmed coded.rest k.first) (all_trim_end (λ b. not (b == 59)) coded.rest (k.inside (λ b. not (b == 59)) none)))
+                (all_trim_end is_clean coded.rest (k.inside is_clean good))) (lt-ltb (length (trim_end coded.rest)) 501 (omega (arith, size)))) (so_read (status_at dated) dated coded k refl);
+          };
+          comment = λ t is. read_comment line t clean is (ap (λ (o : Option (List ℕ)). nat_lt 900 (length_of o)) (sym is) ∙ short);
+        })
+
     at_date : (o : Option Day) → date_of (first_word (front_of line)) ≡ o → (c : Option Coded) → code_at (behind_status (behind_date (front_of line))) ≡ c → is_coded_long c ≡ false → nat_lt 900 (length_of (comment_of line)) ≡ false
-      → dated_header (cut_header line) o ≡ Ok h → HeaderRead h
+        → dated_header (cut_header line) o ≡ Ok h → HeaderRead h
     at_date None q c r long short f = absurd cc
     at_date (Some day) q c r long short f = at_coded day (dates_bound (first_word (front_of line)) day q) c r long short (subst (λ (x : Option Coded). closed_header (cut_header line) day x ≡ Ok h) r f)

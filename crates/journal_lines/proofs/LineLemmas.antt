@@ -18,22 +18,22 @@ clean_no_return b h = grind (arith, common_steps)
 no_return : (line : List ℕ) → list_all is_clean line ≡ true → without_return line ≡ line
 no_return [] h = refl
 no_return (b ∷ bs) h =
-  let last = AllPass-from_list_all is_clean (b ∷ bs) h (length (b ∷ bs) - 1) 0 (omega arith) in
-  rw (clean_no_return (slice_index (b ∷ bs) (length (b ∷ bs) - 1)) last) refl
+    let last = AllPass-from_list_all is_clean (b ∷ bs) h (length (b ∷ bs) - 1) 0 (omega arith) in
+    rw (clean_no_return (slice_index (b ∷ bs) (length (b ∷ bs) - 1)) last) refl
 
 -- the first line of a text
 pub lines_more : (line rest : List ℕ) → list_all is_clean line ≡ true → lines (line ++ 10 ∷ rest) ≡ line ∷ lines rest
 lines_more line rest h =
-  let p : ℕ → Bool = λ b. b == 10 in
-  let split = slice_split_at p line 10 rest (λ k d l. clean_no_feed (get_or line k d) (AllPass-from_list_all is_clean line h k d l)) refl in
-  let more = first_part p rest in
-  rw (split, more.2, no_return line h) refl
+    let p : ℕ → Bool = λ b. b == 10 in
+    let split = slice_split_at p line 10 rest (λ k d l. clean_no_feed (get_or line k d) (AllPass-from_list_all is_clean line h k d l)) refl in
+    let more = first_part p rest in
+    rw (split, more.2, no_return line h) refl
 
 pub lines_ended : (ls : List (List ℕ)) → list_all (list_all is_clean) ls ≡ true → lines (ended ls) ≡ ls
 lines_ended [] h = refl
 lines_ended (line ∷ ls) h =
-  let parts = and_parts (list_all is_clean line) _ h in
-  ap lines (append_assoc line (10 ∷ []) (ended ls)) ∙ (lines_more line (ended ls) parts.0 ∙ ap (λ (xs : List (List ℕ)). line ∷ xs) (lines_ended ls parts.1))
+    let parts = and_parts (list_all is_clean line) _ h in
+    ap lines (append_assoc line (10 ∷ []) (ended ls)) ∙ (lines_more line (ended ls) parts.0 ∙ ap (λ (xs : List (List ℕ)). line ∷ xs) (lines_ended ls parts.1))
 
 pub ended-append : (xs ys : List (List ℕ)) → ended (xs ++ ys) ≡ ended xs ++ ended ys
 ended-append [] ys = refl

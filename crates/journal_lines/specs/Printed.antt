@@ -67,7 +67,7 @@ starts_so (Some status) None b = not (b == 40)
 -- a description that reads back behind that status and that code
 abbrev pub is_description : Option Status → Option (List ℕ) → List ℕ → Bool
 is_description status code text =
-  is_trimmed text && list_all (λ b. not (b == 59)) text && list_all is_clean text && nat_lt (length text) 501 && starts_so status code (slice_index text 0)
+    is_trimmed text && list_all (λ b. not (b == 59)) text && list_all is_clean text && nat_lt (length text) 501 && starts_so status code (slice_index text 0)
 
 -- the parts of a header that reads back
 pub record HeaderOk (day : Day) (status : Option Status) (code : Option (List ℕ)) (description : List ℕ) : Type 0 where
