@@ -1,10 +1,11 @@
--- Accounts at and below the transit account.
-use Rattle.std.proofs.Common.{◌≡◌, ◌≤◌, ◌++◌, ◌==◌, ℕ, List, [], ◌∷◌, Bool, true, length, take, drop, slice_index, arith, ◌∙◌, append-nil, take-append-drop, ◌⊎◌, sym, ap, inl, inr, nat_eq}
+-- Account names: those at and below the transit account, and that a well-formed name is cut whole.
+use Rattle.std.proofs.Common.{◌≡◌, ◌≤◌, ◌++◌, ◌==◌, ℕ, List, [], ◌∷◌, Bool, true, length, take, drop, slice_index, arith, ◌∙◌, append-nil, take-append-drop, ◌⊎◌, sym, ap, inl, inr, nat_eq, nat_le, false, not, ◌&&◌, ◌||◌, ◌+◌, refl}
 use Rattle.std.specs.Prelude.{IsTrue}
-use Rattle.std.proofs.lemmas.Bool.{eq-eqb, eqb-true}
+use Rattle.std.proofs.lemmas.Bool.{eq-eqb, eqb-true, and_parts, and_from, or_parts, not-true, not_from_false}
 use Rattle.std.specs.Cmp.Lexicographic.{same_text}
 use Rattle.std.proofs.lemmas.Grind.{common_steps}
-use Rattle.journal_lines.specs.AccountName.{transit}
+use Rattle.journal_lines.specs.AccountName.{transit, is_name_byte, parts, is_part, is_gap, has_gap, bars_start, is_account, ends_name, name_end, is_unbroken}
+use Rattle.std.specs.List.{list_all}
 use lib.Pointwise.{pointwise}
 
 -- a front that equals the transit account's name
@@ -33,3 +34,55 @@ at_or_below_by_colon top account (x ∷ xs) e some = (
     | inr below ↦ (let tail : x ∷ xs ≡ 58 ∷ below.0 = same_behind top (x ∷ xs) (58 ∷ below.0) (sym e ∙ below.1) in eq-eqb x 58 cc)
   ],
 )
+
+-- the name is cut whole where a gap or the end follows it
+abbrev pub EndsName : List ℕ → Type 0
+EndsName [] = Unit {0}
+EndsName (b ∷ bs) = ends_name b bs ≡ true
+
+ends_at : (rest : List ℕ) → EndsName rest → name_end rest ≡ 0
+unfolding name_end
+ends_at [] h = refl
+ends_at (b ∷ bs) h = rw h refl
+
+-- a last byte of a name is no blank
+not_last : (x : ℕ) (rest : List ℕ) → ends_name x [] ≡ false → ends_name x rest ≡ false
+not_last x [] h = h
+not_last x (b ∷ bs) h = let parts = or_parts (x == 9) (x == 32) h in rw (parts.0, parts.1) refl
+
+pub name_whole : (name rest : List ℕ) → is_unbroken name ≡ true → EndsName rest → name_end (name ++ rest) ≡ length name
+unfolding name_end
+name_whole [] rest h e = ends_at rest e
+name_whole (x ∷ []) rest h e =
+    let parts = and_parts (not (ends_name x [])) _ h in
+    rw (not_last x rest (not-true _ parts.0), ends_at rest e) refl
+name_whole (x ∷ y ∷ name) rest h e =
+    let parts = and_parts (not (ends_name x (y ∷ name))) _ h in
+    rw (not-true _ parts.0, name_whole (y ∷ name) rest parts.1 e) (omega arith)
+
+-- a well-formed name has no byte that ends it
+pub account_unbroken : (name : List ℕ) → is_account name ≡ true → is_unbroken name ≡ true
+unfolding is_account
+account_unbroken name h =
+    let a = and_parts (nat_le (length name) 200 && list_all is_part (parts name) && list_all is_name_byte name && not (has_gap name)) _ h in
+    let b = and_parts (nat_le (length name) 200 && list_all is_part (parts name) && list_all is_name_byte name) _ a.0 in
+    let c = and_parts (nat_le (length name) 200 && list_all is_part (parts name)) _ b.0 in
+    unbroken name c.1 (not-true _ b.1)
+  where
+    no_tab : (b : ℕ) → is_name_byte b ≡ true → (b == 9) ≡ false
+    no_tab b k = grind (arith, common_steps)
+
+    ends_none : (b : ℕ) (rest : List ℕ) → is_name_byte b ≡ true → list_all is_name_byte rest ≡ true → is_gap b rest ≡ false → ends_name b rest ≡ false
+    ends_none b [] k r g = rw (no_tab b k, g) refl
+    ends_none b (next ∷ rest) k r g = let first = and_parts (is_name_byte next) _ r in rw (no_tab b k, no_tab next first.0) (by_space (b == 32) (next == 32) g)
+      where
+        by_space : (x y : Bool) → (x && y) ≡ false → (x && (y || false)) ≡ false
+        by_space x true e = e
+        by_space x false e = e
+
+    unbroken : (name : List ℕ) → list_all is_name_byte name ≡ true → has_gap name ≡ false → is_unbroken name ≡ true
+    unbroken [] k g = refl
+    unbroken (b ∷ rest) k g =
+        let bytes = and_parts (is_name_byte b) _ k in
+        let gaps = or_parts (is_gap b rest) _ g in
+        and_from _ _ (not_from_false _ (ends_none b rest bytes.0 bytes.1 gaps.0)) (unbroken rest bytes.1 gaps.1)

@@ -1,6 +1,7 @@
 -- Account names (hledger manual, "Account names"). What a well-formed name lacks and how long it is are own rules.
-use Rattle.std.specs.Prelude.{ℕ, ◌≡◌, ◌≢◌, ◌+◌, ◌<◌, ◌≤◌, ◌==◌, nat_le, nat_lt, List, [], ◌∷◌, ◌++◌, length, slice_index, codes, Bool, true, false, not, ◌&&◌, ◌||◌, ◌⊎◌}
+use Rattle.std.specs.Prelude.{ℕ, ◌≡◌, ◌≢◌, ◌+◌, ◌<◌, ◌≤◌, ◌==◌, nat_le, nat_lt, List, [], ◌∷◌, ◌++◌, length, slice_index, codes, Bool, true, false, not, ◌&&◌, ◌||◌, ◌⊎◌, if◌then◌else◌}
 use Rattle.std.specs.List.{list_all, slice_split}
+use Rattle.journal_lines.specs.Blank.{is_blank}
 
 -- a byte that a name may have: no `;`, and no ASCII control character, tabs among them
 abbrev pub is_name_byte : ℕ → Bool
@@ -35,6 +36,25 @@ pub record IsAccount (name : List ℕ) : Type 0 where
   pub bytes : list_all is_name_byte name ≡ true
   pub gaps : has_gap name ≡ false
   pub start : bars_start (slice_index name 0) ≡ false
+
+-- the same as a test
+unfoldable pub is_account : List ℕ → Bool
+is_account name = nat_le (length name) 200 && list_all is_part (parts name) && list_all is_name_byte name && not (has_gap name) && not (bars_start (slice_index name 0))
+
+-- a name ends before a tab, before a space that a blank follows, and before a single space at the end
+abbrev pub ends_name : ℕ → List ℕ → Bool
+ends_name b [] = (b == 9) || (b == 32)
+ends_name b (next ∷ rest) = (b == 9) || ((b == 32) && is_blank next)
+
+-- where the name at the front of a posting's text ends, its comment left out
+unfoldable pub name_end : List ℕ → ℕ
+name_end [] = 0
+name_end (b ∷ rest) = if ends_name b rest then 0 else 1 + name_end rest
+
+-- a name's byte ends it nowhere
+abbrev pub is_unbroken : List ℕ → Bool
+is_unbroken [] = true
+is_unbroken (b ∷ rest) = not (ends_name b rest) && is_unbroken rest
 
 -- the account under which branches keep what they owe one another
 abbrev pub transit : List ℕ

@@ -1,15 +1,19 @@
 //! Account names.
 
-ghost use Rattle.std.specs.Prelude.{◌≡◌, ◌↔◌, ◌==◌, IsTrue, not, slice_index};
+ghost use Rattle.std.specs.Prelude.{◌≡◌, ◌↔◌, ◌==◌, IsTrue, not, slice_index, ◌+◌, ◌≤◌, length, drop};
 ghost use Rattle.std.specs.List.{list_all};
-ghost use Rattle.journal_lines.specs.AccountName.{is_name_byte, is_part, parts, is_gap, has_gap, bars_start, IsAccount, IsReserved};
+ghost use Rattle.journal_lines.specs.AccountName.{is_name_byte, is_part, parts, is_gap, has_gap, bars_start, IsAccount, is_account, ends_name, name_end, IsReserved};
+
+use crate::blank::is_blank;
 
 /// Whether the text is a well-formed account name.
 ///
 /// It has 1 to 200 bytes, no empty part before, between or after colons, no `;`, no ASCII control character (a tab
 /// among them), no two spaces together, no space at either end, and does not begin with `*`, `!`, `(` or `[`.
+#[tactic(auto, unfolding(crate::specs::AccountName::is_account))]
 pub fn is_account(text: &[u8]) -> bool
-    ensures { IsTrue result ↔ IsAccount text.now }
+    ensures rule { IsTrue result ↔ IsAccount text.now }
+    ensures value { result ≡ is_account text.now }
 {
     text.len() <= 200
         && all_parts(text)
@@ -79,6 +83,31 @@ fn bars_start(byte: u8) -> bool
     ensures { result ≡ bars_start byte }
 {
     byte == b' ' || byte == b'*' || byte == b'!' || byte == b'(' || byte == b'['
+}
+
+/// Where the account name at the front of a posting's text ends: before a tab, two blanks, or the text's end, less a
+/// single space there. The text has no comment.
+#[tactic(auto, unfolding(crate::specs::AccountName::name_end))]
+pub fn name_end(text: &[u8]) -> usize
+    ensures place { result ≡ name_end text.now }
+    ensures bound { result ≤ length text.now }
+{
+    for (at, byte) in text.iter().enumerate() {
+        if ends_name(*byte, &text[at + 1..]) {
+            return at;
+        }
+    }
+    text.len()
+}
+
+/// Whether a name ends before the byte.
+fn ends_name(byte: u8, rest: &[u8]) -> bool
+    ensures { result ≡ ends_name byte rest.now }
+{
+    match rest {
+        [] => byte == b'\t' || byte == b' ',
+        [next, ..] => byte == b'\t' || byte == b' ' && is_blank(*next),
+    }
 }
 
 /// Whether the account is `assets:transit` or below it.
