@@ -5,3 +5,4 @@ pub mod TagLemmas
 pub mod CutLemmas
 pub mod LineLemmas
 pub mod HeaderLemmas
+pub mod WorkedValues

@@ -1,0 +1,42 @@
+-- Values worked out by hand, so that a wrong definition does not check.
+use Rattle.std.proofs.Common.{◌≡◌, refl, ℕ, List, [], ◌∷◌, Some, None, Option, true, false, Bool, codes}
+use Rattle.journal_lines.specs.Lines.{lines}
+use Rattle.journal_lines.specs.declared.line_kind.LineKind.{LineKind}
+use Rattle.journal_lines.specs.declared.line_kind.LineKind.TheVariants.{Block, Indented, Skipped, Unknown}
+use Rattle.journal_lines.specs.LineKind.{kind_of, is_block_start, is_skipped_word, is_commodity_word}
+use Rattle.journal_lines.specs.Blank.{trim_end, first_word, trim_start}
+use Rattle.journal_lines.specs.Tag.{tags_of, first_tag, starts_tag, tag_at}
+use Rattle.journal_lines.specs.AccountName.{is_account}
+use Rattle.journal_lines.specs.Date.{is_date}
+
+-- one CR before LF belongs to the line's end, a lone CR does not, and an empty rest is no line
+pub cr_lf : lines (codes "a\r\nb\rc\n") ≡ codes "a" ∷ codes "b\rc" ∷ []
+cr_lf = refl
+
+-- a CR at the end of the text belongs to the line's end, and an empty line is a line
+pub cr_at_the_end : lines (codes "\na\r") ≡ [] ∷ codes "a" ∷ []
+cr_at_the_end = refl
+
+-- a value runs to the next comma, and reading goes on behind it
+pub two_tags : tags_of (codes "a b:c d:e, f:g") ≡ (codes "b", codes "c d:e") ∷ (codes "f", codes "g") ∷ []
+unfolding first_tag starts_tag tag_at trim_start trim_end
+two_tags = refl
+
+-- a word must follow the start, a blank or a comma
+pub no_tag : tags_of (233 ∷ codes ":1") ≡ []
+unfolding first_tag starts_tag tag_at
+no_tag = refl
+
+-- a block starts at the word alone
+pub block_starts : (kind_of (codes "comment ") ≡ Block) × (kind_of (codes "comment x") ≡ Unknown) × (kind_of (codes " comment") ≡ Indented)
+unfolding is_block_start is_skipped_word is_commodity_word trim_end first_word
+block_starts = (refl, refl, refl)
+
+-- which names are well formed
+pub names : (is_account (codes "assets:bank") ≡ true) × (is_account (codes "assets::x") ≡ false) × (is_account (codes "a  b") ≡ false) × (is_account (codes "a b") ≡ true)
+unfolding is_account
+names = (refl, refl, refl, refl)
+
+-- both separators are the same, and the day exists
+pub dates : (is_date (codes "2024-1-5") ≡ true) × (is_date (codes "2024-1/5") ≡ false) × (is_date (codes "2024-02-29") ≡ true) × (is_date (codes "2023-02-29") ≡ false)
+dates = (refl, refl, refl, refl)
