@@ -8,7 +8,7 @@ use Rattle.std.proofs.lemmas.List.Sums.{AllPass-from_list_all, list_all-from_All
 use Rattle.std.proofs.lemmas.List.Folds.{list_all-append}
 use Rattle.std.proofs.Math.Seq.{take-append_seam, drop-append-add, take-length, drop-length}
 use Rattle.journal_lines.specs.Blank.{is_blank, first_solid, trim_start, trim_end, trim, is_trimmed}
-use Rattle.journal_lines.specs.Comment.{front_of, comment_of}
+use Rattle.journal_lines.specs.Comment.{has_no, front_of, comment_of}
 
 -- the first place of a byte that passes
 pub before_mark : (p : ℕ → Bool) (xs ys : List ℕ) (y : ℕ) → list_all (λ b. not (p b)) xs ≡ true → p y ≡ true → position_or_len p (xs ++ y ∷ ys) ≡ length xs
@@ -33,7 +33,7 @@ unfolding trim_start
 trim_start_same [] h = refl
 trim_start_same (x ∷ xs) h = rw h refl
 
-all_reverse : (p : ℕ → Bool) (xs : List ℕ) → list_all p xs ≡ true → list_all p (reverse xs) ≡ true
+pub all_reverse : (p : ℕ → Bool) (xs : List ℕ) → list_all p xs ≡ true → list_all p (reverse xs) ≡ true
 all_reverse p xs h = list_all-from_AllPass p (reverse xs) (λ k d l. let inside : k < length xs = omega (arith, length-reverse xs) in
     rw (get_or-reverse xs k d inside) (AllPass-from_list_all p xs h (length xs - 1 - k) d (omega arith)))
 
@@ -73,10 +73,6 @@ trim_inside us (x ∷ xs) bs h k t =
 
 pub trim_same : (xs : List ℕ) → is_trimmed xs ≡ true → trim xs ≡ xs
 trim_same xs t = ap trim (sym (append-nil xs)) ∙ trim_inside [] xs [] refl refl t
-
--- no `;` stands in it
-abbrev pub has_no : ℕ → List ℕ → Bool
-has_no byte text = list_all (λ b. not (b == byte)) text
 
 pub front_whole : (line : List ℕ) → has_no 59 line ≡ true → front_of line ≡ line
 unfolding front_of

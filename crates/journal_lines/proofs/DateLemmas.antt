@@ -122,11 +122,11 @@ day_from_test y m d h =
     le a b h = grind arith
 
 -- the facts of a date, as a test
-date_test : (text : List ℕ) → IsDate text → is_date text ≡ true
+pub date_test : (text : List ℕ) → IsDate text → is_date text ≡ true
 date_test text h = and_from _ _ (and_from _ _ (and_from _ _ (and_from _ _ (and_from _ _ (lt-ltb 4 (length text) h.long) h.year) h.separated) h.month) h.day)
     (day_test (number_of (year_part text)) (number_of (month_part text)) (number_of (day_part text)) h.exists)
 
-date_from_test : (text : List ℕ) → is_date text ≡ true → IsDate text
+pub date_from_test : (text : List ℕ) → is_date text ≡ true → IsDate text
 date_from_test text h =
     let a = and_parts (nat_lt 4 (length text) && list_all is_ascii_digit (year_part text) && is_separator (separator text) && is_short (month_part text) && is_short (day_part text)) _ h in
     let b = and_parts (nat_lt 4 (length text) && list_all is_ascii_digit (year_part text) && is_separator (separator text) && is_short (month_part text)) _ a.0 in

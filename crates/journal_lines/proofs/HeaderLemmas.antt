@@ -11,11 +11,12 @@ use Rattle.money_core.specs.declared.cause.Cause.{Cause}
 use Rattle.journal_lines.specs.declared.header.Status.{Status}
 use Rattle.journal_lines.specs.declared.header.Status.TheVariants.{Pending, Cleared}
 use Rattle.journal_lines.specs.Blank.{is_blank, first_word, first_solid, trim_start, trim_end, trim, is_trimmed}
-use Rattle.journal_lines.specs.Comment.{front_of, comment_of}
+use Rattle.journal_lines.specs.Comment.{has_no, front_of, comment_of}
 use Rattle.journal_lines.specs.Date.{date_of, printed_date, IsDateText, IsDayNumber}
 use Rattle.journal_lines.specs.Header.{status_at, behind_status, Coded, closed_code, code_at, HeaderCut, behind_date, cut_header, HeaderParts, is_coded_long, is_cut_long, length_of, judged_header, dated_header, closed_header, header_of}
-use Rattle.journal_lines.specs.Printed.{is_clean, indent, header_status, header_code, header_description, header_line, spaced_text, comment_line, is_comment, is_code, is_description, starts_so, HeaderOk}
-use Rattle.journal_lines.proofs.CutLemmas.{before_mark, no_mark, trim_start_behind, trim_start_same, trim_end_before, trim_end_same, trim_inside, trim_same, has_no, front_whole, no_comment, comment_behind, all_weaker, all_joined, all_take, all_drop, all_trim_start, all_trim_end, first_kept, first_trimmed, trim_start_first, trim_end_trimmed, trim_trimmed, before_none}
+use Rattle.journal_lines.specs.Printed.{is_clean, indent, header_status, header_code, header_description, header_line, spaced_text, comment_line, is_comment, is_code, is_description, HeaderOk}
+use Rattle.journal_lines.specs.HeaderForm.{starts_so}
+use Rattle.journal_lines.proofs.CutLemmas.{before_mark, no_mark, trim_start_behind, trim_start_same, trim_end_before, trim_end_same, trim_inside, trim_same, front_whole, no_comment, comment_behind, all_weaker, all_joined, all_take, all_drop, all_trim_start, all_trim_end, first_kept, first_trimmed, trim_start_first, trim_end_trimmed, trim_trimmed, before_none}
 use Rattle.journal_lines.proofs.DateLemmas.{dates_print, dates_bound}
 
 -- comment lines
@@ -278,26 +279,26 @@ all_front : (p : ℕ → Bool) (line : List ℕ) → list_all p line ≡ true �
 unfolding front_of
 all_front p line h = all_take p (position_or_len (λ b. b == 59) line) line h
 
-front_none : (line : List ℕ) → has_no 59 (front_of line) ≡ true
+pub front_none : (line : List ℕ) → has_no 59 (front_of line) ≡ true
 unfolding front_of
 front_none line = before_none (λ b. b == 59) line
 
-all_behind_date : (p : ℕ → Bool) (front : List ℕ) → list_all p front ≡ true → list_all p (behind_date front) ≡ true
+pub all_behind_date : (p : ℕ → Bool) (front : List ℕ) → list_all p front ≡ true → list_all p (behind_date front) ≡ true
 unfolding behind_date
 all_behind_date p front h = all_trim_start p (drop (position_or_len is_blank front) front) (all_drop p (position_or_len is_blank front) front h)
 
-date_first : (front : List ℕ) → is_blank (slice_index (behind_date front) 0) ≡ false
+pub date_first : (front : List ℕ) → is_blank (slice_index (behind_date front) 0) ≡ false
 unfolding behind_date
 date_first front = trim_start_first (drop (position_or_len is_blank front) front)
 
-all_behind_status : (p : ℕ → Bool) (text : List ℕ) → list_all p text ≡ true → list_all p (behind_status text) ≡ true
+pub all_behind_status : (p : ℕ → Bool) (text : List ℕ) → list_all p text ≡ true → list_all p (behind_status text) ≡ true
 unfolding behind_status
 all_behind_status p text h = elim (cases_Bool ((slice_index text 0 == 42) || (slice_index text 0 == 33))) [
   | inl marked ↦ rw marked (all_trim_start p (drop 1 text) (all_drop p 1 text h))
   | inr bare ↦ rw bare h
 ]
 
-status_first : (text : List ℕ) → is_blank (slice_index text 0) ≡ false → is_blank (slice_index (behind_status text) 0) ≡ false
+pub status_first : (text : List ℕ) → is_blank (slice_index text 0) ≡ false → is_blank (slice_index (behind_status text) 0) ≡ false
 unfolding behind_status
 status_first text h = elim (cases_Bool ((slice_index text 0 == 42) || (slice_index text 0 == 33))) [
   | inl marked ↦ rw marked (trim_start_first (drop 1 text))
@@ -317,14 +318,14 @@ no_status text h =
     ]
 
 -- what is known of the code and what follows it
-record CodedOk (text : List ℕ) (coded : Coded) : Type 0 where
-  first : is_blank (slice_index coded.rest 0) ≡ false
-  inside : (p : ℕ → Bool) → list_all p text ≡ true → list_all p coded.rest ≡ true
-  within : (p : ℕ → Bool) (code : List ℕ) → coded.code ≡ Some code → list_all p text ≡ true → list_all p code ≡ true
-  open_end : (code : List ℕ) → coded.code ≡ Some code → has_no 41 code ≡ true
-  bare : coded.code ≡ None → (coded.rest ≡ text) × ((slice_index text 0 == 40) ≡ false)
+pub record CodedOk (text : List ℕ) (coded : Coded) : Type 0 where
+  pub first : is_blank (slice_index coded.rest 0) ≡ false
+  pub inside : (p : ℕ → Bool) → list_all p text ≡ true → list_all p coded.rest ≡ true
+  pub within : (p : ℕ → Bool) (code : List ℕ) → coded.code ≡ Some code → list_all p text ≡ true → list_all p code ≡ true
+  pub open_end : (code : List ℕ) → coded.code ≡ Some code → has_no 41 code ≡ true
+  pub bare : coded.code ≡ None → (coded.rest ≡ text) × ((slice_index text 0 == 40) ≡ false)
 
-coded_ok : (text : List ℕ) (coded : Coded) → is_blank (slice_index text 0) ≡ false → code_at text ≡ Some coded → CodedOk text coded
+pub coded_ok : (text : List ℕ) (coded : Coded) → is_blank (slice_index text 0) ≡ false → code_at text ≡ Some coded → CodedOk text coded
 unfolding code_at
 coded_ok text coded solid h =
     elim (chosen (slice_index text 0 == 40) _ _ _ h) [
@@ -368,7 +369,7 @@ code_read text coded k none clean short = at coded.code refl
         let size = ltb-false 100 (length code) (ap (λ (o : Option (List ℕ)). nat_lt 100 (length_of o)) (sym e) ∙ short) in
         and_from _ _ (and_from _ _ (and_from _ _ (k.open_end code e) (k.within (λ b. not (b == 59)) code e none)) (k.within is_clean code e clean)) (lt-ltb (length code) 101 (omega (arith, size)))
 
-so_read : (status : Option Status) (dated : List ℕ) (coded : Coded) → CodedOk (behind_status dated) coded → status_at dated ≡ status → starts_so status coded.code (slice_index (trim_end coded.rest) 0) ≡ true
+pub so_read : (status : Option Status) (dated : List ℕ) (coded : Coded) → CodedOk (behind_status dated) coded → status_at dated ≡ status → starts_so status coded.code (slice_index (trim_end coded.rest) 0) ≡ true
 so_read status dated coded k e = at coded.code refl status e
   where
     not_one : (n : ℕ) → (0 == n) ≡ false → coded.rest ≡ behind_status dated → (slice_index (behind_status dated) 0 == n) ≡ false → not (slice_index (trim_end coded.rest) 0 == n) ≡ true

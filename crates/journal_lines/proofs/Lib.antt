@@ -6,3 +6,4 @@ pub mod CutLemmas
 pub mod LineLemmas
 pub mod HeaderLemmas
 pub mod WorkedValues
+pub mod HeaderFormLemmas

@@ -6,6 +6,7 @@ pub mod Comment
 pub mod Date
 pub mod Header
 pub mod HeaderView
+pub mod HeaderForm
 pub mod Printed
 pub mod AccountName
 pub mod Tag

@@ -6,6 +6,7 @@ use Rattle.money_core.specs.declared.day.Day.{Day}
 use Rattle.journal_lines.specs.declared.header.Status.{Status}
 use Rattle.journal_lines.specs.declared.header.Status.TheVariants.{Cleared, Pending}
 use Rattle.journal_lines.specs.Blank.{is_blank, is_trimmed}
+use Rattle.journal_lines.specs.HeaderForm.{starts_so}
 use Rattle.journal_lines.specs.Date.{printed_date, IsDayNumber}
 
 -- a byte that a line may hold: no ASCII control character but the tab
@@ -57,12 +58,6 @@ is_comment text = is_trimmed text && list_all is_clean text && nat_lt (length te
 abbrev pub is_code : Option (List ℕ) → Bool
 is_code None = true
 is_code (Some code) = list_all (λ b. not (b == 41)) code && list_all (λ b. not (b == 59)) code && list_all is_clean code && nat_lt (length code) 101
-
--- the description's first byte is none that would be taken for a status or a code
-abbrev pub starts_so : Option Status → Option (List ℕ) → ℕ → Bool
-starts_so status (Some code) b = true
-starts_so None None b = not (b == 42) && not (b == 33) && not (b == 40)
-starts_so (Some status) None b = not (b == 40)
 
 -- a description that reads back behind that status and that code
 abbrev pub is_description : Option Status → Option (List ℕ) → List ℕ → Bool
