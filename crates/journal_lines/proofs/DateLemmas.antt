@@ -349,3 +349,15 @@ dates_bound text day e = elim (cases_Bool (is_date text)) [
 
     none_some : (b : Day) → None ≡ Some b → ⊥
     none_some b h = cc
+
+-- what is known of a text that names a day
+pub date_facts : (text : List ℕ) (day : Day) → date_of text ≡ Some day → IsDate text × (day_of text ≡ day)
+unfolding date_of
+date_facts text day e = elim (cases_Bool (is_date text)) [
+  | inl is ↦ (let found : Some (day_of text) ≡ Some day = rw is at e in
+      (date_from_test text is, ap (λ (o : Option Day). unwrap_or o (day_of text)) found))
+  | inr other ↦ (let none : None ≡ Some day = rw other at e in absurd (none_some day none))
+]
+  where
+    none_some : (b : Day) → None ≡ Some b → ⊥
+    none_some b h = cc

@@ -4,8 +4,8 @@ use Rattle.std.proofs.lemmas.Grind.{common_steps}
 use Rattle.std.proofs.lemmas.Bool.{cases_Bool, cases_lt, and_parts, and_from, or_parts, not-true, not_from_false, lt-ltb, le-ltb, ltb-true, ltb-false, eq-eqb, eqb-true, ne_eqb}
 use Rattle.std.specs.List.{list_all, position_or_len, prefix_len, before_first, after_first}
 use Rattle.std.specs.Char.{is_ascii_digit}
-use Rattle.std.proofs.lemmas.List.{take_at, drop_at, get_or-reverse, length-reverse}
-use Rattle.std.proofs.lemmas.List.Sums.{AllPass-from_list_all, list_all-from_AllPass, fails_before_first, prefix_len-le-length}
+use Rattle.std.proofs.lemmas.List.{take_at, drop_at, get_or-reverse, length-reverse, length-drop, get_or-drop}
+use Rattle.std.proofs.lemmas.List.Sums.{AllPass-from_list_all, list_all-from_AllPass, fails_before_first, passes_at_first, split_at_first, prefix_len-le-length}
 use Rattle.std.proofs.Math.Seq.{take-append_seam, drop-append-add, take-length, drop-length, drop-cons}
 use Rattle.money_core.specs.declared.day.Day.{Day}
 use Rattle.money_core.specs.declared.cause.Cause.{Cause}
@@ -16,9 +16,9 @@ use Rattle.journal_lines.specs.Comment.{has_no, front_of, comment_of}
 use Rattle.journal_lines.specs.Date.{year_part, behind_year, separator, month_part, day_part, is_separator, is_short, IsDate, is_date, date_of, day_of}
 use Rattle.journal_lines.specs.Header.{status_at, behind_status, Coded, closed_code, code_at, HeaderCut, behind_date, cut_header, HeaderParts, is_coded_long, is_cut_long, length_of, judged_header, dated_header, closed_header, header_of}
 use Rattle.journal_lines.specs.HeaderForm.{status_text, code_text, is_closed, starts_so, WritesComment, IsRemark, Reads}
-use Rattle.journal_lines.proofs.CutLemmas.{before_mark, no_mark, trim_start_behind, trim_start_same, trim_start_blanks, trim_end_before, trim_inside, front_whole, no_comment, comment_behind, all_weaker, all_joined, trim_trimmed, trim_start_first, trim_end_trimmed, all_reverse}
-use Rattle.journal_lines.proofs.DateLemmas.{date_of_is, date_from_test}
-use Rattle.journal_lines.proofs.HeaderLemmas.{StartsBlank, date_ends}
+use Rattle.journal_lines.proofs.CutLemmas.{before_mark, no_mark, trim_start_behind, trim_start_same, trim_start_blanks, trim_end_before, trim_end_same, trim_inside, all_trim_end, front_whole, no_comment, comment_behind, all_weaker, all_joined, trim_trimmed, trim_start_first, trim_end_trimmed, all_reverse}
+use Rattle.journal_lines.proofs.DateLemmas.{date_of_is, date_facts}
+use Rattle.journal_lines.proofs.HeaderLemmas.{StartsBlank, date_ends, chosen, past, CodedOk, coded_ok, so_read, all_behind_date, all_behind_status, front_none, date_first, status_first}
 
 -- ---- what a date is made of
 
@@ -221,3 +221,255 @@ form_reads line parts r =
     let description : trim_end (trim_start (parts.description ++ r.end_gap)) ≡ parts.description = trim_inside [] parts.description r.end_gap refl last.1 r.trimmed in
     let day : date_of r.date ≡ Some parts.day = sym (date_of_is r.date (Some (day_of r.date)) (r.is_date, refl)) ∙ ap (λ (d : Day). Some d) r.names_day in
     rw (cut_is line parts r) (rw (short_code parts.code r.short_code, description, le-ltb 500 (length parts.description) r.short_description, le-ltb 900 (length_of parts.comment) r.short_comment, day) (rw description refl))
+
+-- ---- a line that reads has the form
+
+blanks_front : (xs : List ℕ) → list_all is_blank (take (first_solid xs) xs) ≡ true
+blanks_front [] = refl
+blanks_front (x ∷ xs) = elim (cases_Bool (is_blank x)) [
+  | inl blank ↦ (let n : 1 + first_solid xs ≡ suc (first_solid xs) = omega arith in rw (blank, n) (rw blank (blanks_front xs)))
+  | inr solid ↦ rw solid refl
+]
+
+split_start : (xs : List ℕ) → xs ≡ take (first_solid xs) xs ++ trim_start xs
+unfolding trim_start
+split_start xs = sym (take-append-drop (first_solid xs) xs)
+
+-- the blanks that were cut off at the end
+abbrev end_blanks : List ℕ → List ℕ
+end_blanks xs = drop (length xs - first_solid (reverse xs)) xs
+
+split_end : (xs : List ℕ) → xs ≡ trim_end xs ++ end_blanks xs
+unfolding trim_end
+split_end xs = sym (take-append-drop (length xs - first_solid (reverse xs)) xs)
+
+blanks_end : (xs : List ℕ) → list_all is_blank (end_blanks xs) ≡ true
+blanks_end xs = list_all-from_AllPass is_blank (end_blanks xs) (λ k d l.
+    let n = length xs - first_solid (reverse xs) in
+    let inside : n + k < length xs = omega (arith, length-drop n xs, l) in
+    let place : length xs - 1 - (n + k) < first_solid (reverse xs) = omega (arith, inside) in
+    let back : get_or (reverse xs) (length xs - 1 - (n + k)) d ≡ get_or xs (n + k) d =
+    get_or-reverse xs (length xs - 1 - (n + k)) d (omega (arith, inside)) ∙ ap (λ i. get_or xs i d) (omega (arith, inside)) in
+    let blank : not (is_blank (get_or (reverse xs) (length xs - 1 - (n + k)) d)) ≡ false = fails_before_first (λ b. not (is_blank b)) (reverse xs) (length xs - 1 - (n + k)) d place in
+    ap is_blank (get_or-drop n xs k d ∙ sym back) ∙ not-false _ blank)
+  where
+    not-false : (b : Bool) → not b ≡ false → b ≡ true
+    not-false true h = refl
+    not-false false h = absurd cc
+
+-- the first mark, with what stands before and behind it
+at_mark : (m : ℕ) (xs : List ℕ) → position_or_len (λ b. b == m) xs < length xs → xs ≡ before_first (λ b. b == m) xs ++ (m ∷ after_first (λ b. b == m) xs)
+at_mark m xs h =
+    let here : get_or xs (position_or_len (λ b. b == m) xs) 0 ≡ m = eqb-true _ m (passes_at_first (λ b. b == m) xs 0 h) in
+    split_at_first (λ b. b == m) xs 0 h ∙ ap (λ (b : ℕ). before_first (λ b. b == m) xs ++ (b ∷ after_first (λ b. b == m) xs)) here
+
+-- a status and the blanks behind it
+record StatusForm (text : List ℕ) (status : Option Status) (rest : List ℕ) : Type 0 where
+  gap : List ℕ
+  blanks : list_all is_blank gap ≡ true
+  written : text ≡ status_text status ++ (gap ++ rest)
+
+status_form : (text : List ℕ) → StatusForm text (status_at text) (behind_status text)
+unfolding status_at behind_status
+status_form [] = record { gap = []; blanks = refl; written = refl }
+status_form (x ∷ xs) = elim (cases_Bool (x == 42)) [
+  | inl star ↦ rw star (record { gap = take (first_solid xs) xs; blanks = blanks_front xs; written = ap (λ (b : ℕ). b ∷ xs) (eqb-true x 42 star) ∙ ap (λ (t : List ℕ). 42 ∷ t) (split_start xs) })
+  | inr other ↦ elim (cases_Bool (x == 33)) [
+    | inl shout ↦ rw (other, shout) (record { gap = take (first_solid xs) xs; blanks = blanks_front xs; written = ap (λ (b : ℕ). b ∷ xs) (eqb-true x 33 shout) ∙ ap (λ (t : List ℕ). 33 ∷ t) (split_start xs) })
+    | inr bare ↦ rw (other, bare) (record { gap = []; blanks = refl; written = refl })
+  ]
+]
+
+-- a code and the blanks behind it
+record CodeForm (text : List ℕ) (coded : Coded) : Type 0 where
+  gap : List ℕ
+  blanks : list_all is_blank gap ≡ true
+  written : text ≡ code_text coded.code ++ (gap ++ coded.rest)
+
+code_form : (text : List ℕ) (coded : Coded) → code_at text ≡ Some coded → CodeForm text coded
+unfolding code_at
+code_form text coded h =
+    elim (chosen (slice_index text 0 == 40) (closed_code (drop 1 text)) (Some (record { code = None; rest = text })) (Some coded) h) [
+      | inl bracket ↦ elim (chosen (nat_lt (position_or_len (λ b. b == 41) (drop 1 text)) (length (drop 1 text))) (Some (with_code (drop 1 text))) None (Some coded) bracket.1) [
+        | inl closed ↦ (let same : with_code (drop 1 text) ≡ coded = (let closed_is = closed.1 in cc) in
+            subst (λ (c : Coded). CodeForm text c) same (of_code text bracket.0 (ltb-true _ _ closed.0)))
+        | inr none ↦ absurd (let none_is = none.1 in cc)
+      ]
+      | inr bare ↦ (let same : record { code = None; rest = text } ≡ coded = (let bare_is = bare.1 in cc) in
+          subst (λ (c : Coded). CodeForm text c) same (record { gap = []; blanks = refl; written = refl }))
+    ]
+  where
+    with_code : List ℕ → Coded
+    with_code xs = record { code = Some (before_first (λ b. b == 41) xs); rest = trim_start (after_first (λ b. b == 41) xs) }
+
+    of_code : (text : List ℕ) → (slice_index text 0 == 40) ≡ true → position_or_len (λ b. b == 41) (drop 1 text) < length (drop 1 text) → CodeForm text (with_code (drop 1 text))
+    of_code [] first inside = absurd cc
+    of_code (x ∷ xs) first inside =
+        let code = before_first (λ b. b == 41) xs in
+        let after = after_first (λ b. b == 41) xs in
+        record {
+          gap = take (first_solid after) after;
+          blanks = blanks_front after;
+          written = ap (λ (b : ℕ). b ∷ xs) (eqb-true x 40 first) ∙ ap (λ (t : List ℕ). 40 ∷ t)
+              (at_mark 41 xs inside ∙ (sym (append_assoc code (41 ∷ []) after) ∙ ap (λ (t : List ℕ). (code ++ 41 ∷ []) ++ t) (split_start after)));
+        }
+
+-- the comment of a line
+record RemarkForm (line front : List ℕ) (comment : Option (List ℕ)) : Type 0 where
+  remark : List ℕ
+  written : line ≡ front ++ remark
+  is : IsRemark comment remark
+
+blanks_joined : (a b : List ℕ) → list_all is_blank a ≡ true → list_all is_blank b ≡ true → list_all is_blank (a ++ b) ≡ true
+blanks_joined a b h k = all_joined is_blank a b h k
+
+remark_form : (line : List ℕ) → RemarkForm line (front_of line) (comment_of line)
+unfolding front_of comment_of
+remark_form line =
+    let after = after_first (λ b. b == 59) line in
+    elim (cases_lt (position_or_len (λ b. b == 59) line) (length line)) [
+      | inl found ↦ rw (lt-ltb (position_or_len (λ b. b == 59) line) (length line) found) (record {
+        remark = 59 ∷ after;
+        written = at_mark 59 line found;
+        is = record {
+          before = take (first_solid after) after;
+          after = end_blanks (trim_start after);
+          written = ap (λ (t : List ℕ). 59 ∷ t) (split_start after ∙ ap (λ (t : List ℕ). take (first_solid after) after ++ t) (split_end (trim_start after)));
+          blanks = blanks_joined (take (first_solid after) after) (end_blanks (trim_start after)) (blanks_front after) (blanks_end (trim_start after));
+          trimmed = trim_trimmed after;
+        };
+      })
+      | inr none ↦ rw (le-ltb (position_or_len (λ b. b == 59) line) (length line) none) (record {
+        remark = [];
+        written = sym (take_all (position_or_len (λ b. b == 59) line) line none) ∙ sym (append-nil (take (position_or_len (λ b. b == 59) line) line));
+        is = refl;
+      })
+    ]
+  where
+    take_all : (n : ℕ) (xs : List ℕ) → length xs ≤ n → take n xs ≡ xs
+    take_all n xs h = grind (arith, common_steps)
+
+-- what follows the text up to the first blank is nothing, or begins with a blank
+blank_or_nothing : (front : List ℕ) → (drop (position_or_len is_blank front) front ≡ []) ⊎ (is_blank (slice_index (drop (position_or_len is_blank front) front) 0) ≡ true)
+blank_or_nothing front = elim (cases_lt (position_or_len is_blank front) (length front)) [
+  | inl found ↦ inr (ap (λ (xs : List ℕ). is_blank (slice_index xs 0)) (drop-cons front (position_or_len is_blank front) 0 found) ∙ passes_at_first is_blank front 0 found)
+  | inr none ↦ inl (drop_all (position_or_len is_blank front) front none)
+]
+  where
+    drop_all : (n : ℕ) (xs : List ℕ) → length xs ≤ n → drop n xs ≡ []
+    drop_all n xs h = grind (arith, common_steps)
+
+nothing_has_no_status : status_at [] ≡ None
+unfolding status_at
+nothing_has_no_status = refl
+
+nothing_has_no_code : (coded : Coded) → code_at (behind_status []) ≡ Some coded → (coded.code ≡ None) × (coded.rest ≡ [])
+unfolding code_at behind_status
+nothing_has_no_code coded h =
+    let same : record { code = None; rest = [] } ≡ coded = cc in
+    (ap (λ (c : Coded). c.code) (sym same), ap (λ (c : Coded). c.rest) (sym same))
+
+-- nothing behind the date
+nothing_behind : (dated : List ℕ) (coded : Coded) → dated ≡ [] → code_at (behind_status dated) ≡ Some coded → (status_at dated ≡ None) × (coded.code ≡ None) × (trim_end coded.rest ≡ [])
+nothing_behind dated coded e h =
+    let empty : code_at (behind_status []) ≡ Some coded = subst (λ (xs : List ℕ). code_at (behind_status xs) ≡ Some coded) e h in
+    let parts = of_nothing coded empty in
+    (ap status_at e ∙ no_status, parts.0, ap trim_end parts.1 ∙ trim_end_same [] refl)
+  where
+    no_status : status_at [] ≡ None
+    no_status = nothing_has_no_status
+
+    of_nothing : (coded : Coded) → code_at (behind_status []) ≡ Some coded → (coded.code ≡ None) × (coded.rest ≡ [])
+    of_nothing coded h = nothing_has_no_code coded h
+
+-- what follows the date, cut at its blanks
+date_split : (front : List ℕ) → front ≡ first_word front ++ (take (first_solid (drop (position_or_len is_blank front) front)) (drop (position_or_len is_blank front) front) ++ behind_date front)
+unfolding first_word behind_date
+date_split front = sym (take-append-drop (position_or_len is_blank front) front) ∙ ap (λ (xs : List ℕ). before_first is_blank front ++ xs) (split_start (drop (position_or_len is_blank front) front))
+
+-- a date with no blank behind it has nothing there
+nothing_apart : (front : List ℕ) → take (first_solid (drop (position_or_len is_blank front) front)) (drop (position_or_len is_blank front) front) ≡ [] → behind_date front ≡ []
+unfolding behind_date
+nothing_apart front none =
+    let rest = drop (position_or_len is_blank front) front in
+    let whole : rest ≡ trim_start rest = split_start rest ∙ ap (λ (xs : List ℕ). xs ++ trim_start rest) none in
+    elim (blank_or_nothing front) [
+      | inl nothing ↦ sym whole ∙ nothing
+      | inr blank ↦ absurd (let solid : is_blank (slice_index rest 0) ≡ false = ap (λ (xs : List ℕ). is_blank (slice_index xs 0)) whole ∙ trim_start_first rest in cc)
+    ]
+
+-- the form of the parts that were cut
+form_of_parts : (line : List ℕ) (day : Day) (coded : Coded) → date_of (first_word (front_of line)) ≡ Some day → code_at (behind_status (behind_date (front_of line))) ≡ Some coded
+    → is_coded_long (Some coded) ≡ false → nat_lt 900 (length_of (comment_of line)) ≡ false
+    → Reads line (record { day = day; status = status_at (behind_date (front_of line)); code = coded.code; description = trim_end coded.rest; comment = comment_of line })
+form_of_parts line day coded date code long short =
+    let front = front_of line in
+    let dated = behind_date front in
+    let text = behind_status dated in
+    let behind = drop (position_or_len is_blank front) front in
+    let gap = take (first_solid behind) behind in
+    let status = status_form dated in
+    let closing = code_form text coded code in
+    let remark = remark_form line in
+    let k = coded_ok text coded (status_first dated (date_first front)) code in
+    let none = all_behind_status (λ b. not (b == 59)) dated (all_behind_date (λ b. not (b == 59)) front (front_none line)) in
+    let sizes = or_parts (nat_lt 100 (length_of coded.code)) _ long in
+    let facts = date_facts (first_word front) day date in
+    let inner : coded.rest ≡ trim_end coded.rest ++ end_blanks coded.rest = split_end coded.rest in
+    let text_is : text ≡ code_text coded.code ++ (closing.gap ++ (trim_end coded.rest ++ end_blanks coded.rest)) = closing.written ∙ ap (λ (xs : List ℕ). code_text coded.code ++ (closing.gap ++ xs)) inner in
+    let dated_is : dated ≡ status_text (status_at dated) ++ (status.gap ++ (code_text coded.code ++ (closing.gap ++ (trim_end coded.rest ++ end_blanks coded.rest)))) =
+    status.written ∙ ap (λ (xs : List ℕ). status_text (status_at dated) ++ (status.gap ++ xs)) text_is in
+    let front_is : front ≡ first_word front ++ (gap ++ (status_text (status_at dated) ++ (status.gap ++ (code_text coded.code ++ (closing.gap ++ (trim_end coded.rest ++ end_blanks coded.rest)))))) =
+    date_split front ∙ ap (λ (xs : List ℕ). first_word front ++ (gap ++ xs)) dated_is in
+    record {
+      date = first_word front;
+      gap = gap;
+      status_gap = status.gap;
+      code_gap = closing.gap;
+      end_gap = end_blanks coded.rest;
+      remark = remark.remark;
+      written = remark.written ∙ (ap (λ (xs : List ℕ). xs ++ remark.remark) front_is
+          ∙ sym (regroup (first_word front) gap (status_text (status_at dated)) status.gap (code_text coded.code) closing.gap (trim_end coded.rest) (end_blanks coded.rest) remark.remark));
+      is_date = facts.0;
+      names_day = facts.1;
+      blanks = blanks_joined gap (status.gap ++ (closing.gap ++ end_blanks coded.rest)) (blanks_front behind)
+          (blanks_joined status.gap (closing.gap ++ end_blanks coded.rest) status.blanks (blanks_joined closing.gap (end_blanks coded.rest) closing.blanks (blanks_end coded.rest)));
+      apart = λ no_gap. nothing_behind dated coded (nothing_apart front no_gap) code;
+      closed = closed_code_is text coded k none;
+      trimmed = trim_end_trimmed coded.rest k.first;
+      uncommented = all_trim_end (λ b. not (b == 59)) coded.rest (k.inside (λ b. not (b == 59)) none);
+      begins = so_read (status_at dated) dated coded k refl;
+      commented = remark.is;
+      short_code = ltb-false 100 (length_of coded.code) sizes.0;
+      short_description = ltb-false 500 (length (trim_end coded.rest)) sizes.1;
+      short_comment = ltb-false 900 (length_of (comment_of line)) short;
+    }
+  where
+    closed_code_is : (text : List ℕ) (coded : Coded) → CodedOk text coded → has_no 59 text ≡ true → is_closed coded.code ≡ true
+    closed_code_is text coded k none = at coded.code refl
+      where
+        at : (o : Option (List ℕ)) → coded.code ≡ o → is_closed o ≡ true
+        at None e = refl
+        at (Some code) e = and_from _ _ (k.open_end code e) (k.within (λ b. not (b == 59)) code e none)
+
+-- the parts of a line that reads are written in it
+pub reads_form : (line : List ℕ) (parts : HeaderParts) → header_of line ≡ Ok parts → Reads line parts
+unfolding judged_header cut_header
+reads_form line parts e =
+    let dated = behind_date (front_of line) in
+    let one = past (is_coded_long (code_at (behind_status dated)) || nat_lt 900 (length_of (comment_of line))) _ _ parts e in
+    let limits = or_parts (is_coded_long (code_at (behind_status dated))) _ one.0 in
+    at_date (date_of (first_word (front_of line))) refl (code_at (behind_status dated)) refl limits.0 limits.1 one.1
+  where
+    at_coded : (day : Day) → date_of (first_word (front_of line)) ≡ Some day → (o : Option Coded) → code_at (behind_status (behind_date (front_of line))) ≡ o → is_coded_long o ≡ false → nat_lt 900 (length_of (comment_of line)) ≡ false
+        → closed_header (cut_header line) day o ≡ Ok parts → Reads line parts
+    at_coded day date None q long short r = absurd cc
+    at_coded day date (Some coded) q long short r =
+        let dated = behind_date (front_of line) in
+        let same : record { day = day; status = status_at dated; code = coded.code; description = trim_end coded.rest; comment = comment_of line } ≡ parts = cc in
+        subst (λ (p : HeaderParts). Reads line p) same (form_of_parts line day coded date q long short)
+
+    at_date : (o : Option Day) → date_of (first_word (front_of line)) ≡ o → (c : Option Coded) → code_at (behind_status (behind_date (front_of line))) ≡ c → is_coded_long c ≡ false → nat_lt 900 (length_of (comment_of line)) ≡ false
+        → dated_header (cut_header line) o ≡ Ok parts → Reads line parts
+    at_date None q c r long short f = absurd cc
+    at_date (Some day) q c r long short f = at_coded day q c r long short (subst (λ (x : Option Coded). closed_header (cut_header line) day x ≡ Ok parts) r f)
