@@ -7,3 +7,4 @@ pub mod LineLemmas
 pub mod HeaderLemmas
 pub mod WorkedValues
 pub mod HeaderFormLemmas
+pub mod HeaderReadLemmas

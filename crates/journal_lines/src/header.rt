@@ -1,9 +1,10 @@
 //! The header line of a transaction.
 
-ghost use Rattle.std.specs.Prelude.{◌≡◌, ◌==◌, ◌||◌, nat_lt, slice_index, drop, length};
+ghost use Rattle.std.specs.Prelude.{◌≡◌, ◌==◌, ◌||◌, nat_lt, slice_index, drop, length, IfOk, Ok};
 ghost use Rattle.std.specs.Option.{option_map};
-ghost use Rattle.journal_lines.specs.Header.{status_at, behind_status, closed_code, code_at, behind_date, cut_header, length_of, is_coded_long, is_cut_long, judged_header, header_of};
-ghost use Rattle.journal_lines.specs.HeaderView.{coded_view, cut_view, read_parts};
+ghost use Rattle.journal_lines.specs.Header.{status_at, behind_status, closed_code, code_at, behind_date, cut_header, length_of, is_coded_long, is_cut_long, HeaderParts, judged_header, header_of};
+ghost use Rattle.journal_lines.specs.HeaderForm.{Reads};
+ghost use Rattle.journal_lines.specs.HeaderView.{coded_view, cut_view, parts_of, read_parts};
 
 use crate::blank::{find_blank, first_word, trim_end, trim_start};
 use crate::comment::{comment_of, front_of};
@@ -57,11 +58,22 @@ struct Coded<'a> {
 
 /// The parts of a header line, or its first fault: 2 where the code, the description or the comment has too many
 /// bytes, 3 where the text up to the first blank or `;` is no date, 4 where the code is not closed.
-#[tactic(auto, unfolding(crate::specs::Header::judged_header))]
 pub fn read_header(line: &[u8]) -> Result<Header<'_>, Cause>
-    ensures { read_parts result ≡ header_of line.now }
+    // What is read is written in the line, and a line in the form of a header is read.
+    ensures found { IfOk result (λ header. Reads line.entry.now (parts_of header)) }
+    ensures only { (parts : HeaderParts) → Reads line.entry.now parts → read_parts result ≡ Ok parts }
+
+    // The value, or the first fault.
+    ensures value { read_parts result ≡ header_of line.entry.now }
 {
-    let cut = cut_header(line);
+    judged_header(cut_header(line))
+}
+
+/// The parts of a header that was cut, or its first fault.
+#[tactic(auto, unfolding(crate::specs::Header::judged_header))]
+fn judged_header(cut: HeaderCut<'_>) -> Result<Header<'_>, Cause>
+    ensures { read_parts result ≡ judged_header (cut_view cut.entry) }
+{
     if is_cut_long(&cut) {
         return Err(Cause::TooLong);
     }

@@ -1,0 +1,10 @@
+use Rattle.std.proofs.Common.{◌∙◌, ap}
+use Rattle.journal_lines.specs.Header.{judged_header}
+use Rattle.journal_lines.proofs.HeaderReadLemmas.{found_from, only_from}
+use Rattle.journal_lines.proofs.header.read_header.Goals as goal
+
+pub returns-clause-found : goal.returns-clause-found
+returns-clause-found c = found_from c.args.line.now c.judged_header.result (c.judged_header.ensures ∙ ap judged_header c.cut_header.ensures)
+
+pub returns-clause-only : goal.returns-clause-only
+returns-clause-only c = only_from c.args.line.now c.judged_header.result (c.judged_header.ensures ∙ ap judged_header c.cut_header.ensures)
