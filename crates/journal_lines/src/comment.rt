@@ -1,9 +1,9 @@
 //! The comment of a line, and its tags.
 
-ghost use Rattle.std.specs.Prelude.{◌≡◌};
+ghost use Rattle.std.specs.Prelude.{◌≡◌, ℕ, List, true};
 ghost use Rattle.std.specs.Option.{option_map};
 ghost use Rattle.journal_lines.specs.Comment.{front_of, comment_of};
-ghost use Rattle.journal_lines.specs.Tag.{tags_of};
+ghost use Rattle.journal_lines.specs.Tag.{first_tag, tags_of, IsTagOf};
 ghost use Rattle.journal_lines.specs.TagsLeft.{tags_left};
 
 use crate::blank::trim;
@@ -35,7 +35,10 @@ pub fn comment_of(line: &[u8]) -> Option<&[u8]>
 /// The tags of a comment: `name:value`, where the name is a word of ASCII letters, digits, `-` and `_` at the start or
 /// after a blank or a comma, and the value runs to the next comma or the end, without blanks at its ends.
 pub fn tags(comment: &[u8]) -> Tags<'_>
-    ensures { tags_left result ≡ tags_of comment.entry.now }
+    ensures list { tags_left result ≡ tags_of comment.entry.now }
+
+    // Of each part between commas it is the first tag, and there is one where the part holds one.
+    ensures rule { (part : List ℕ) → IsTagOf true part (first_tag true part) }
 {
     Tags::new(comment)
 }
