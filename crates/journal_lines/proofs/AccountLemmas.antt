@@ -1,10 +1,10 @@
 -- Account names: those at and below the transit account, and that a well-formed name is cut whole.
-use Rattle.std.proofs.Common.{◌≡◌, ◌≤◌, ◌++◌, ◌==◌, ℕ, List, [], ◌∷◌, Bool, true, length, take, drop, slice_index, arith, ◌∙◌, append-nil, take-append-drop, ◌⊎◌, sym, ap, inl, inr, nat_eq, nat_le, false, not, ◌&&◌, ◌||◌, ◌+◌, refl}
+use Rattle.std.proofs.Common.{◌≡◌, ◌≤◌, ◌++◌, ◌==◌, ℕ, List, [], ◌∷◌, Bool, true, length, take, drop, slice_index, arith, ◌∙◌, append-nil, take-append-drop, ◌⊎◌, sym, ap, inl, inr, nat_eq, nat_le, false, not, ◌&&◌, ◌||◌, refl}
 use Rattle.std.specs.Prelude.{IsTrue}
 use Rattle.std.proofs.lemmas.Bool.{eq-eqb, eqb-true, and_parts, and_from, or_parts, not-true, not_from_false}
 use Rattle.std.specs.Cmp.Lexicographic.{same_text}
 use Rattle.std.proofs.lemmas.Grind.{common_steps}
-use Rattle.journal_lines.specs.AccountName.{transit, is_name_byte, parts, is_part, is_gap, has_gap, bars_start, is_account, ends_name, name_end, is_unbroken}
+use Rattle.journal_lines.specs.AccountName.{transit, is_name_byte, parts, is_part, is_gap, has_gap, is_account, ends_name, name_end, is_unbroken}
 use Rattle.std.specs.List.{list_all}
 use lib.Pointwise.{pointwise}
 

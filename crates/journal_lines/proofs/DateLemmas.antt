@@ -1,19 +1,18 @@
 -- What a date names, and that a printed date reads back.
-use Rattle.std.proofs.Common.{◌≡◌, ◌≤◌, ◌<◌, ◌+◌, ◌-◌, ◌*◌, ◌/◌, ◌%◌, ◌++◌, ◌==◌, ℕ, zero, suc, ℤ, pos, negsuc, neg_ℤ, ◌-ℤ◌, ◌≤ℤ◌, ◌<ℤ◌, int_le, unsigned_abs, List, [], ◌∷◌, Bool, true, false, cond, not, ◌&&◌, ◌||◌, length, take, drop, slice_index, arith, refl, ap, ◌∙◌, sym, subst, Option, Some, None, nat_lt, nat_le, inl, inr, ◌⊎◌, ◌↔◌, IfSome, unwrap_or}
+use Rattle.std.proofs.Common.{◌≡◌, ◌≤◌, ◌<◌, ◌+◌, ◌-◌, ◌*◌, ◌/◌, ◌%◌, ◌++◌, ◌==◌, ℕ, zero, suc, ℤ, pos, negsuc, neg_ℤ, ◌-ℤ◌, ◌≤ℤ◌, ◌<ℤ◌, int_le, unsigned_abs, List, [], ◌∷◌, true, false, ◌&&◌, ◌||◌, length, arith, refl, ap, ◌∙◌, sym, subst, Option, Some, None, nat_lt, nat_le, inl, inr, IfSome, unwrap_or}
 use Rattle.std.proofs.lemmas.Grind.{common_steps}
 use Rattle.std.proofs.lemmas.Int.{ints, by_lt_z}
-use Rattle.std.proofs.lemmas.Bool.{and_parts, and_from, ne_eqb, cases_lt, cases_Bool, cases_order, lt-ltb, le-ltb, ltb-true, ltb-false}
+use Rattle.std.proofs.lemmas.Bool.{and_parts, and_from, ne_eqb, cases_lt, cases_Bool, lt-ltb, ltb-true}
 use Rattle.std.specs.Option.{SomeIff}
-use Rattle.std.specs.List.{list_all, position_or_len, before_first, after_first}
+use Rattle.std.specs.List.{list_all}
 use Rattle.std.specs.Char.{is_ascii_digit, digit_value}
-use Rattle.std.specs.Str.Parse.{digits_value}
-use Rattle.jiff_core.specs.Calendar.{days_from_civil, day_count, days_in_month, days_in_year, IsCivilDate, IsYear}
+use Rattle.jiff_core.specs.Calendar.{days_from_civil, days_in_month, IsCivilDate, IsYear}
 use Rattle.jiff_core.proofs.SignedLemmas.{signed_arith}
-use Rattle.jiff_core.proofs.CalendarLemmas.{days_from_civil-day_count, day_count-day, day_count-lt_year, day_count-lt_month, day_count-later_year, days_in_month_bounds, day_count_bounds}
+use Rattle.jiff_core.proofs.CalendarLemmas.{days_from_civil-day_count, day_count-lt_year, day_count-lt_month, day_count-later_year, days_in_month_bounds, day_count_bounds}
 use Rattle.jiff_core.proofs.MarchLemmas.{day_count-early}
 use Rattle.jiff_core.proofs.DateLemmas.{days_from_civil-max, days_from_civil-day, days_from_civil-next_month, days_from_civil-next_year}
 use Rattle.money_core.specs.declared.day.Day.{Day}
-use Rattle.journal_lines.specs.Date.{IsDay, IsDate, year_part, behind_year, month_part, day_part, separator, is_separator, is_short, number_of, day_of, is_day, is_date, date_of, IsDayNumber, last_begun, year_of, month_of, day_of_month, two_digits, four_digits, printed_date, IsDateText}
+use Rattle.journal_lines.specs.Date.{IsDay, IsDate, year_part, month_part, day_part, separator, is_separator, is_short, number_of, day_of, is_day, is_date, date_of, IsDayNumber, last_begun, year_of, month_of, day_of_month, two_digits, four_digits, printed_date, IsDateText}
 
 -- the number of the first day
 pub days_from_civil-first : days_from_civil (pos 1) 1 1 ≡ neg_ℤ (pos 719_162)

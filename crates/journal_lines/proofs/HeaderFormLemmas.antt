@@ -1,22 +1,21 @@
 -- A header is read exactly where it has its form.
-use Rattle.std.proofs.Common.{◌≡◌, ◌≤◌, ◌<◌, ◌+◌, ◌-◌, ◌++◌, ◌==◌, ℕ, ℤ, zero, suc, List, [], ◌∷◌, Bool, true, false, cond, not, ◌&&◌, ◌||◌, length, take, drop, reverse, get_or, slice_index, arith, refl, ap, ◌∙◌, append-nil, append_assoc, take-append-drop, sym, subst, Option, Some, None, Result, Ok, Err, lit<, inl, inr, ◌⊎◌, length-append, nat_lt, nat_le}
+use Rattle.std.proofs.Common.{◌≡◌, ◌≤◌, ◌<◌, ◌+◌, ◌-◌, ◌++◌, ◌==◌, ℕ, suc, List, [], ◌∷◌, Bool, true, false, not, ◌&&◌, ◌||◌, length, take, drop, reverse, get_or, slice_index, arith, refl, ap, ◌∙◌, append-nil, append_assoc, take-append-drop, sym, subst, Option, Some, None, Ok, inl, inr, ◌⊎◌, length-append, nat_lt}
 use Rattle.std.proofs.lemmas.Grind.{common_steps}
-use Rattle.std.proofs.lemmas.Bool.{cases_Bool, cases_lt, and_parts, and_from, or_parts, not-true, not_from_false, lt-ltb, le-ltb, ltb-true, ltb-false, eq-eqb, eqb-true, ne_eqb}
-use Rattle.std.specs.List.{list_all, position_or_len, prefix_len, before_first, after_first}
+use Rattle.std.proofs.lemmas.Bool.{cases_Bool, cases_lt, and_parts, and_from, or_parts, not-true, lt-ltb, le-ltb, ltb-true, ltb-false, eqb-true}
+use Rattle.std.specs.List.{list_all, position_or_len, before_first, after_first}
 use Rattle.std.specs.Char.{is_ascii_digit}
-use Rattle.std.proofs.lemmas.List.{take_at, drop_at, get_or-reverse, length-reverse, length-drop, get_or-drop}
-use Rattle.std.proofs.lemmas.List.Sums.{AllPass-from_list_all, list_all-from_AllPass, fails_before_first, passes_at_first, split_at_first, prefix_len-le-length}
-use Rattle.std.proofs.Math.Seq.{take-append_seam, drop-append-add, take-length, drop-length, drop-cons}
+use Rattle.std.proofs.lemmas.List.{drop_at, get_or-reverse, length-drop, get_or-drop}
+use Rattle.std.proofs.lemmas.List.Sums.{list_all-from_AllPass, fails_before_first, passes_at_first, split_at_first}
+use Rattle.std.proofs.Math.Seq.{take-append_seam, drop-append-add, drop-cons}
 use Rattle.money_core.specs.declared.day.Day.{Day}
-use Rattle.money_core.specs.declared.cause.Cause.{Cause}
 use Rattle.journal_lines.specs.declared.header.Status.{Status}
 use Rattle.journal_lines.specs.declared.header.Status.TheVariants.{Pending, Cleared}
-use Rattle.journal_lines.specs.Blank.{is_blank, first_word, first_solid, trim_start, trim_end, trim, is_trimmed}
+use Rattle.journal_lines.specs.Blank.{is_blank, first_word, first_solid, trim_start, trim_end, is_trimmed}
 use Rattle.journal_lines.specs.Comment.{has_no, front_of, comment_of}
-use Rattle.journal_lines.specs.Date.{year_part, behind_year, separator, month_part, day_part, is_separator, is_short, IsDate, is_date, date_of, day_of}
-use Rattle.journal_lines.specs.Header.{status_at, behind_status, Coded, closed_code, code_at, HeaderCut, behind_date, cut_header, HeaderParts, is_coded_long, is_cut_long, length_of, judged_header, dated_header, closed_header, header_of}
-use Rattle.journal_lines.specs.HeaderForm.{status_text, code_text, is_closed, starts_so, WritesComment, IsRemark, Reads}
-use Rattle.journal_lines.proofs.CutLemmas.{before_mark, no_mark, trim_start_behind, trim_start_same, trim_start_blanks, trim_end_before, trim_end_same, trim_inside, all_trim_end, front_whole, no_comment, comment_behind, all_weaker, all_joined, trim_trimmed, trim_start_first, trim_end_trimmed, all_reverse}
+use Rattle.journal_lines.specs.Date.{behind_year, separator, month_part, day_part, is_separator, is_short, IsDate, date_of, day_of}
+use Rattle.journal_lines.specs.Header.{status_at, behind_status, Coded, closed_code, code_at, behind_date, cut_header, HeaderParts, is_coded_long, length_of, judged_header, dated_header, closed_header, header_of}
+use Rattle.journal_lines.specs.HeaderForm.{status_text, code_text, is_closed, starts_so, IsRemark, Reads}
+use Rattle.journal_lines.proofs.CutLemmas.{before_mark, trim_start_behind, trim_start_same, trim_start_blanks, trim_end_same, trim_inside, all_trim_end, front_whole, no_comment, comment_behind, all_weaker, all_joined, trim_trimmed, trim_start_first, trim_end_trimmed}
 use Rattle.journal_lines.proofs.DateLemmas.{date_of_is, date_facts}
 use Rattle.journal_lines.proofs.HeaderLemmas.{StartsBlank, date_ends, chosen, past, CodedOk, coded_ok, so_read, all_behind_date, all_behind_status, front_none, date_first, status_first}
 

@@ -1,22 +1,21 @@
 -- A printed comment line and a printed header line read back as their parts, and what is read prints so.
-use Rattle.std.proofs.Common.{◌≡◌, ◌≤◌, ◌<◌, ◌+◌, ◌-◌, ◌++◌, ◌==◌, ℕ, ℤ, zero, suc, List, [], ◌∷◌, Bool, true, false, cond, not, ◌&&◌, ◌||◌, length, take, drop, reverse, get_or, slice_index, arith, refl, ap, ◌∙◌, append-nil, append_assoc, sym, subst, Option, Some, None, Result, Ok, Err, lit<, inl, inr, ◌⊎◌, length-append, nat_lt, nat_le}
+use Rattle.std.proofs.Common.{◌≡◌, ◌≤◌, ◌<◌, ◌+◌, ◌++◌, ◌==◌, ℕ, List, [], ◌∷◌, Bool, true, false, cond, not, ◌&&◌, ◌||◌, length, drop, slice_index, arith, refl, ap, ◌∙◌, append-nil, append_assoc, sym, subst, Option, Some, None, Result, Ok, Err, inl, inr, ◌⊎◌, length-append, nat_lt}
 use Rattle.std.proofs.lemmas.Grind.{common_steps}
-use Rattle.std.proofs.lemmas.Bool.{cases_Bool, cases_lt, and_parts, and_from, or_parts, not-true, not_from_false, lt-ltb, le-ltb, ltb-true, ltb-false, eq-eqb, ne_eqb, or_from}
+use Rattle.std.proofs.lemmas.Bool.{cases_Bool, and_parts, and_from, or_parts, not-true, not_from_false, lt-ltb, le-ltb, ltb-true, ltb-false}
 use Rattle.std.specs.List.{list_all, position_or_len, before_first, after_first}
 use Rattle.std.specs.Char.{is_ascii_digit}
-use Rattle.std.proofs.lemmas.List.{take_at, drop_at}
-use Rattle.std.proofs.Math.Seq.{take-append_seam, drop-append-add, take-length, drop-length}
+use Rattle.std.proofs.lemmas.List.{drop_at}
+use Rattle.std.proofs.Math.Seq.{take-append_seam, drop-append-add}
 use Rattle.money_core.specs.declared.day.Day.{Day}
-use Rattle.money_core.specs.declared.cause.Cause.{Cause}
 use Rattle.journal_lines.specs.declared.header.Status.{Status}
 use Rattle.journal_lines.specs.declared.header.Status.TheVariants.{Pending, Cleared}
-use Rattle.journal_lines.specs.Blank.{is_blank, first_word, first_solid, trim_start, trim_end, trim, is_trimmed}
+use Rattle.journal_lines.specs.Blank.{is_blank, first_word, trim_start, trim_end, trim, is_trimmed}
 use Rattle.journal_lines.specs.Comment.{has_no, front_of, comment_of}
 use Rattle.journal_lines.specs.Date.{date_of, printed_date, IsDateText, IsDayNumber}
-use Rattle.journal_lines.specs.Header.{status_at, behind_status, Coded, closed_code, code_at, HeaderCut, behind_date, cut_header, HeaderParts, is_coded_long, is_cut_long, length_of, judged_header, dated_header, closed_header, header_of}
+use Rattle.journal_lines.specs.Header.{status_at, behind_status, Coded, code_at, behind_date, cut_header, HeaderParts, is_coded_long, length_of, judged_header, dated_header, closed_header, header_of}
 use Rattle.journal_lines.specs.Printed.{is_clean, indent, header_status, header_code, header_description, header_line, spaced_text, comment_line, is_comment, is_code, is_description, HeaderOk}
 use Rattle.journal_lines.specs.HeaderForm.{starts_so}
-use Rattle.journal_lines.proofs.CutLemmas.{before_mark, no_mark, trim_start_behind, trim_start_same, trim_end_before, trim_end_same, trim_inside, trim_same, front_whole, no_comment, comment_behind, all_weaker, all_joined, all_take, all_drop, all_trim_start, all_trim_end, first_kept, first_trimmed, trim_start_first, trim_end_trimmed, trim_trimmed, before_none}
+use Rattle.journal_lines.proofs.CutLemmas.{before_mark, no_mark, trim_start_behind, trim_start_same, trim_end_same, trim_inside, trim_same, front_whole, no_comment, comment_behind, all_weaker, all_joined, all_take, all_drop, all_trim_start, all_trim_end, first_trimmed, trim_start_first, trim_end_trimmed, trim_trimmed, before_none}
 use Rattle.journal_lines.proofs.DateLemmas.{dates_print, dates_bound}
 
 -- comment lines

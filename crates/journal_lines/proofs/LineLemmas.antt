@@ -1,11 +1,11 @@
 -- Lines that were ended are the lines of their text.
-use Rattle.std.proofs.Common.{◌≡◌, ◌≤◌, ◌<◌, ◌+◌, ◌-◌, ◌++◌, ◌==◌, ℕ, List, [], ◌∷◌, Bool, true, false, cond, not, ◌&&◌, ◌||◌, length, take, get_or, slice_index, arith, refl, ap, ◌∙◌, append-nil, append_assoc, sym, nat_le, nat_lt, length-append}
+use Rattle.std.proofs.Common.{◌≡◌, ◌+◌, ◌-◌, ◌++◌, ◌==◌, ℕ, List, [], ◌∷◌, Bool, true, false, length, get_or, slice_index, arith, refl, ap, ◌∙◌, append_assoc, sym, length-append}
 use Rattle.std.proofs.lemmas.Grind.{common_steps}
 use Rattle.std.proofs.lemmas.Bool.{and_parts}
-use Rattle.std.specs.List.{list_all, slice_split, flat_map}
+use Rattle.std.specs.List.{list_all}
 use Rattle.std.proofs.lemmas.List.Sums.{AllPass-from_list_all}
 use Rattle.std.proofs.lemmas.List.Splits.{slice_split_at}
-use Rattle.journal_lines.specs.Lines.{without_return, lines, lines_of_parts}
+use Rattle.journal_lines.specs.Lines.{without_return, lines}
 use Rattle.journal_lines.specs.Printed.{is_clean, ended}
 use Rattle.journal_lines.proofs.LineSteps.{first_part}
 

@@ -1,13 +1,12 @@
 -- The first line of a text, and those after it.
-use Rattle.std.proofs.Common.{◌≡◌, ◌≤◌, ◌<◌, ◌+◌, ◌-◌, ◌++◌, ◌==◌, ℕ, List, [], ◌∷◌, Bool, true, false, cond, not, length, take, drop, get_or, arith, refl, ap, ◌∙◌, sym, subst, Option, Some, None, position, lit<, inl, inr}
+use Rattle.std.proofs.Common.{◌≡◌, ◌<◌, ◌+◌, ◌-◌, ◌==◌, ℕ, List, [], ◌∷◌, Bool, true, false, cond, not, length, take, drop, arith, refl, Some, None, position, inl, inr}
 use Rattle.std.proofs.lemmas.Grind.{common_steps}
 use Rattle.std.proofs.lemmas.Bool.{cases_Bool, ltb-true, ltb-false, ne_eqb}
 use Rattle.std.proofs.lemmas.List.Splits.{slice_split_first, slice_split_none}
 use Rattle.std.proofs.lemmas.List.Sums.{prefix_len-le-length, fails_before_first}
-use Rattle.std.proofs.Math.Seq.{take-length, drop-length}
-use Rattle.std.specs.List.{slice_split, onto_first, position_or_len, before_first, after_first, enumerate_from}
+use Rattle.std.specs.List.{slice_split, position_or_len}
 use lib.Dec.{ltb}
-use Rattle.journal_lines.specs.Lines.{without_return, lines_of_parts, lines, numbered}
+use Rattle.journal_lines.specs.Lines.{without_return, lines}
 
 -- there is a first part
 pub first_part : (p : ℕ → Bool) (xs : List ℕ) → (y : List ℕ) × (ys : List (List ℕ)) × (slice_split p xs ≡ y ∷ ys)

@@ -2,13 +2,13 @@
 use Rattle.std.proofs.Common.{◌≡◌, ◌<◌, ◌≤◌, ◌+◌, ◌==◌, ℕ, List, [], ◌∷◌, Bool, true, false, length, take, drop, arith, refl, ap, ◌∙◌, sym, Option, Some, None, inl, inr, is_some, IfSome, not, ◌&&◌, ◌++◌, suc, slice_index, subst, nat_lt, take-append-drop}
 use Rattle.std.proofs.lemmas.Bool.{cases_lt, cases_Bool, and_parts, and_from, lt-ltb, ltb-true, eqb-true}
 use Rattle.std.proofs.lemmas.List.Splits.{slice_split_first, slice_split_none}
-use Rattle.std.proofs.lemmas.List.Sums.{fails_before_first, prefix_len-le-length}
+use Rattle.std.proofs.lemmas.List.Sums.{fails_before_first}
 use Rattle.std.proofs.Math.Seq.{drop-cons}
 use Rattle.std.proofs.lemmas.List.{get_or_at, length-take}
 use Rattle.std.specs.List.{list_all, slice_split, position_or_len, before_first, after_first, cons_option}
 use Rattle.std.specs.Option.{option_map}
 use Rattle.std.proofs.lemmas.Grind.{common_steps}
-use Rattle.journal_lines.specs.Blank.{is_blank, trim}
+use Rattle.journal_lines.specs.Blank.{is_blank}
 use Rattle.journal_lines.specs.Tag.{is_tag_byte, name_len, starts_tag, tag_at, first_tag, tags_of, may_begin, HasTag, IsFirstTag, IsTagOf}
 use Rattle.journal_lines.proofs.CutLemmas.{before_mark, all_weaker}
 

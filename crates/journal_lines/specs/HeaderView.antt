@@ -1,5 +1,5 @@
 -- The parts of a header without where they lie in memory.
-use Rattle.std.specs.Prelude.{ℕ, List, Result, Ok, Err, Option}
+use Rattle.std.specs.Prelude.{Result, Ok, Err}
 use Rattle.std.specs.Option.{option_map}
 use Rattle.money_core.specs.declared.cause.Cause.{Cause}
 use Rattle.journal_lines.specs.declared.header.Header as read

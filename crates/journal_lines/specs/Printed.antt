@@ -1,11 +1,11 @@
 -- The lines of an entry that this crate can read, as they are printed (own rule: one canonical form), and which parts print so that they
 -- read back.
-use Rattle.std.specs.Prelude.{◌≡◌, ℕ, ◌-◌, ◌==◌, nat_lt, nat_le, List, [], ◌∷◌, ◌++◌, length, slice_index, Bool, true, ◌&&◌, ◌||◌, not, Option, Some, None}
+use Rattle.std.specs.Prelude.{◌≡◌, ℕ, ◌==◌, nat_lt, nat_le, List, [], ◌∷◌, ◌++◌, length, slice_index, Bool, true, ◌&&◌, ◌||◌, not, Option, Some, None}
 use Rattle.std.specs.List.{list_all, flat_map}
 use Rattle.money_core.specs.declared.day.Day.{Day}
 use Rattle.journal_lines.specs.declared.header.Status.{Status}
 use Rattle.journal_lines.specs.declared.header.Status.TheVariants.{Cleared, Pending}
-use Rattle.journal_lines.specs.Blank.{is_blank, is_trimmed}
+use Rattle.journal_lines.specs.Blank.{is_trimmed}
 use Rattle.journal_lines.specs.HeaderForm.{starts_so}
 use Rattle.journal_lines.specs.Date.{printed_date, IsDayNumber}
 

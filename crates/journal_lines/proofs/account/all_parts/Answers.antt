@@ -1,5 +1,4 @@
-use Rattle.std.proofs.Common.{rules, ◌≡◌, ◌==◌, ℕ, Bool}
-use Rattle.std.specs.List.{list_all, slice_split}
+use Rattle.std.proofs.Common.{rules, ◌==◌}
 use Rattle.journal_lines.specs.AccountName.{is_part}
 use Rattle.std.proofs.lemmas.Iterator.Splits.{YieldsList-from_slice_split}
 use Rattle.std.proofs.lemmas.Iterator.Search.{all_from_yields_List}

@@ -1,6 +1,5 @@
-use Rattle.std.proofs.Common.{rules, arith, ◌≡◌, ◌≤ℤ◌, ◌∙◌, ℤ, pos, neg_ℤ, refl}
+use Rattle.std.proofs.Common.{rules, arith, ◌≡◌}
 use Rattle.std.proofs.lemmas.Int.{ints}
-use Rattle.jiff_core.specs.Calendar.{IsEpochDay}
 use Rattle.jiff_core.specs.Date.{epoch_day}
 use Rattle.jiff_core.proofs.DateLemmas.{civil}
 use Rattle.jiff_core.proofs.SignedLemmas.{signed_arith}

@@ -1,6 +1,6 @@
-use Rattle.std.proofs.Common.{arith, ◌≡◌, ◌∙◌, ℤ, pos, sym, ap, unsigned_abs, to_z, of_z}
+use Rattle.std.proofs.Common.{arith, ◌≡◌, ◌∙◌, ap, unsigned_abs, to_z, of_z}
 use Rattle.jiff_core.proofs.DateLemmas.{civil}
-use Rattle.jiff_core.proofs.SignedLemmas.{signed_arith, back_small}
+use Rattle.jiff_core.proofs.SignedLemmas.{back_small}
 use mir.Syntax.{w16}
 use Rattle.journal_lines.proofs.DateLemmas.{date_printed, printed_date_reads, small_year}
 use Rattle.journal_lines.proofs.date.date_text.Goals as goal

@@ -1,7 +1,7 @@
-use Rattle.std.proofs.Common.{rules, arith, ◌≡◌, ◌∙◌, ℕ, ℤ, pos, List, sym, ap, true, length, take, drop, ◌-◌, subst, Option, Some, None, ◌≤◌, ◌<◌}
+use Rattle.std.proofs.Common.{arith, ◌≡◌, ℕ, pos, List, sym, true, length, Option, Some, None, ◌<◌}
 use Rattle.std.specs.Option.{SomeIff}
 use Rattle.std.specs.Char.{is_ascii_digit}
-use Rattle.std.specs.List.{list_all, before_first, after_first}
+use Rattle.std.specs.List.{list_all}
 use Rattle.jiff_core.specs.Calendar.{days_from_civil}
 use Rattle.money_core.specs.declared.day.Day.{Day}
 use Rattle.journal_lines.specs.Date.{IsDate, IsDay, day_of, is_short, number_of, month_part, day_part, year_part, is_separator, separator}

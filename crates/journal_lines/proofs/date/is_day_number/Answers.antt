@@ -1,6 +1,5 @@
-use Rattle.std.proofs.Common.{arith, ◌≡◌, true, ℤ, pos}
+use Rattle.std.proofs.Common.{arith}
 use Rattle.std.proofs.lemmas.Int.{ints}
-use Rattle.journal_lines.specs.Date.{IsDayNumber}
 use Rattle.journal_lines.proofs.DateLemmas.{day_number_bounds, day_number_from}
 use Rattle.journal_lines.proofs.date.is_day_number.Goals as goal
 

@@ -1,6 +1,4 @@
-use Rattle.std.proofs.Common.{arith, ◌≡◌, ◌≤◌, ◌∙◌, ◌+◌, ◌-◌, ap, sym, length, take, drop, ◌∷◌, refl, List, ℕ}
-use Rattle.std.proofs.lemmas.Grind.{common_steps}
-use Rattle.journal_lines.specs.Lines.{lines, without_return}
+use Rattle.std.proofs.Common.{◌+◌}
 use Rattle.journal_lines.proofs.LineSteps.{lines_found, lines_last, whole_rest}
 use Rattle.journal_lines.proofs.lines.cut_line.Goals as goal
 
