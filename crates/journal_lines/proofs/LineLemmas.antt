@@ -1,13 +1,16 @@
 -- Lines that were ended are the lines of their text.
-use Rattle.std.proofs.Common.{◌≡◌, ◌+◌, ◌-◌, ◌++◌, ◌==◌, ℕ, List, [], ◌∷◌, Bool, true, false, length, get_or, slice_index, arith, refl, ap, ◌∙◌, append_assoc, sym, length-append}
+use Rattle.std.proofs.Common.{◌≡◌, ◌+◌, ◌-◌, ◌++◌, ◌==◌, ℕ, List, [], ◌∷◌, Bool, true, false, length, get_or, slice_index, arith, refl, ap, ◌∙◌, append_assoc, sym, length-append, zero, suc, ◌<◌, ◌≤◌, drop, take, subst, Option, Some, None, position, inl, inr, take-append-drop, append-nil}
 use Rattle.std.proofs.lemmas.Grind.{common_steps}
-use Rattle.std.proofs.lemmas.Bool.{and_parts}
-use Rattle.std.specs.List.{list_all}
-use Rattle.std.proofs.lemmas.List.Sums.{AllPass-from_list_all}
+use Rattle.std.proofs.lemmas.Bool.{and_parts, cases_Bool, cases_lt, eqb-true, ltb-true}
+use Rattle.std.specs.List.{list_all, position_or_len}
+use Rattle.std.proofs.lemmas.List.Sums.{AllPass-from_list_all, passes_at_first}
+use Rattle.std.proofs.lemmas.List.{length-drop}
+use Rattle.std.proofs.Math.Seq.{drop-cons}
+use lib.Dec.{ltb}
 use Rattle.std.proofs.lemmas.List.Splits.{slice_split_at}
-use Rattle.journal_lines.specs.Lines.{without_return, lines}
+use Rattle.journal_lines.specs.Lines.{without_return, IsEnd, IsLastEnd, MakeUp, lines}
 use Rattle.journal_lines.specs.Printed.{is_clean, ended}
-use Rattle.journal_lines.proofs.LineSteps.{first_part}
+use Rattle.journal_lines.proofs.LineSteps.{first_part, found_place, lines_found, lines_last}
 
 clean_no_feed : (b : ℕ) → is_clean b ≡ true → (b == 10) ≡ false
 clean_no_feed b h = grind (arith, common_steps)
@@ -45,3 +48,56 @@ size-append xs ys = ap length (ended-append xs ys) ∙ length-append (ended xs) 
 pub all_lines : (xs ys : List (List ℕ)) → list_all (list_all is_clean) xs ≡ true → list_all (list_all is_clean) ys ≡ true → list_all (list_all is_clean) (xs ++ ys) ≡ true
 all_lines [] ys h k = k
 all_lines (x ∷ xs) ys h k = let parts = and_parts (list_all is_clean x) _ h in rw (parts.0) (all_lines xs ys parts.1 k)
+
+-- the CR that was left out of a line
+cut_return : (xs : List ℕ) → (end : List ℕ) × ((xs ≡ without_return xs ++ end) × IsLastEnd end)
+cut_return xs = elim (cases_Bool (slice_index xs (length xs - 1) == 13)) [
+  | inl cr ↦ (let byte : slice_index xs (length xs - 1) ≡ 13 = eqb-true _ 13 cr in
+      let some : 0 < length xs = elim (cases_lt 0 (length xs)) [ inl s ↦ s | inr none ↦ absurd (let past : slice_index xs (length xs - 1) ≡ 0 = get_or_past (length xs - 1) xs (omega (arith, none)) in omega (arith, byte, past)) ] in
+      let nothing : drop (suc (length xs - 1)) xs ≡ [] = drop_all (suc (length xs - 1)) xs (omega (arith, some)) in
+      let last : drop (length xs - 1) xs ≡ 13 ∷ [] = drop-cons xs (length xs - 1) 0 (omega (arith, some)) ∙ (ap (λ (b : ℕ). b ∷ drop (suc (length xs - 1)) xs) byte ∙ ap (λ (ys : List ℕ). 13 ∷ ys) nothing) in
+      rw cr (13 ∷ [], (sym (take-append-drop (length xs - 1) xs) ∙ ap (λ (ys : List ℕ). take (length xs - 1) xs ++ ys) last, inr refl)))
+  | inr other ↦ rw other ([], (sym (append-nil xs), inl refl))
+]
+  where
+    get_or_past : (n : ℕ) (ys : List ℕ) → length ys ≤ n → slice_index ys n ≡ 0
+    get_or_past n ys h = grind (arith, common_steps)
+
+    drop_all : (n : ℕ) (ys : List ℕ) → length ys ≤ n → drop n ys ≡ []
+    drop_all n ys h = grind (arith, common_steps)
+
+-- an end with its line feed
+with_feed : (end : List ℕ) → IsLastEnd end → IsEnd (end ++ 10 ∷ [])
+with_feed end (inl e) = inl (ap (λ (xs : List ℕ). xs ++ 10 ∷ []) e)
+with_feed end (inr e) = inr (ap (λ (xs : List ℕ). xs ++ 10 ∷ []) e)
+
+regroup : (line end rest : List ℕ) → (line ++ end) ++ (10 ∷ rest) ≡ line ++ ((end ++ 10 ∷ []) ++ rest)
+regroup line end rest = simp append_assoc
+
+-- a text is its lines, each with its end
+made_up : (n : ℕ) (text : List ℕ) → length text ≤ n → MakeUp (lines text) text
+made_up n [] h = refl
+made_up zero (x ∷ xs) h = absurd (omega arith)
+made_up (suc n) (x ∷ xs) h = at (x ∷ xs) (λ rest small. made_up n rest small) (omega arith) h (position (λ b. b == 10) (x ∷ xs)) refl
+  where
+    at : (text : List ℕ) → ((rest : List ℕ) → length rest ≤ n → MakeUp (lines rest) rest) → 0 < length text → length text ≤ suc n → (o : Option ℕ) → o ≡ position (λ b. b == 10) text → MakeUp (lines text) text
+    at text again some small None e =
+        let cut = cut_return text in
+        subst (λ (ls : List (List ℕ)). MakeUp ls text) (sym (lines_last text some e))
+        (cut.0, ([], (cut.1.0 ∙ ap (λ (xs : List ℕ). without_return text ++ xs) (sym (append-nil cut.0)), inr (cut.1.1, (refl, refl)))))
+    at text again some small (Some i) e =
+        let found = lines_found text i e in
+        let place = found_place (ltb (position_or_len (λ b. b == 10) text) (length text)) i (position_or_len (λ b. b == 10) text) e in
+        let inside : position_or_len (λ b. b == 10) text < length text = ltb-true _ _ place.0 in
+        let feed : get_or text i 0 ≡ 10 = ap (λ (k : ℕ). get_or text k 0) place.1 ∙ eqb-true _ 10 (passes_at_first (λ b. b == 10) text 0 inside) in
+        let next : suc i ≡ i + 1 = omega arith in
+        let tail : drop i text ≡ 10 ∷ drop (i + 1) text = drop-cons text i 0 found.1 ∙ (ap (λ (b : ℕ). b ∷ drop (suc i) text) feed ∙ ap (λ (k : ℕ). 10 ∷ drop k text) next) in
+        let whole : text ≡ take i text ++ (10 ∷ drop (i + 1) text) = sym (take-append-drop i text) ∙ ap (λ (xs : List ℕ). take i text ++ xs) tail in
+        let cut = cut_return (take i text) in
+        let written : text ≡ without_return (take i text) ++ ((cut.0 ++ 10 ∷ []) ++ drop (i + 1) text) =
+        whole ∙ (ap (λ (xs : List ℕ). xs ++ (10 ∷ drop (i + 1) text)) cut.1.0 ∙ regroup (without_return (take i text)) cut.0 (drop (i + 1) text)) in
+        subst (λ (ls : List (List ℕ)). MakeUp ls text) (sym found.0)
+        (cut.0 ++ 10 ∷ [], (drop (i + 1) text, (written, inl (with_feed cut.0 cut.1.1, again (drop (i + 1) text) (omega (arith, length-drop (i + 1) text, small, found.1))))))
+
+pub lines_make_up : (text : List ℕ) → MakeUp (lines text) text
+lines_make_up text = made_up (length text) text (omega arith)

@@ -18,7 +18,7 @@ first_part p (x ∷ xs) =
     ]
 
 -- where a place was found, it is the first
-found_place : (b : Bool) (m n : ℕ) → Some m ≡ cond b (Some n) None → (b ≡ true) × (m ≡ n)
+pub found_place : (b : Bool) (m n : ℕ) → Some m ≡ cond b (Some n) None → (b ≡ true) × (m ≡ n)
 found_place true m n h = (refl, cc)
 found_place false m n h = cc
 

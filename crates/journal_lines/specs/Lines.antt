@@ -1,5 +1,5 @@
 -- The lines of a journal's text (own rule: how a line ends, and that each has its number).
-use Rattle.std.specs.Prelude.{ℕ, ◌-◌, ◌==◌, List, [], ◌∷◌, length, slice_index, take, if◌then◌else◌}
+use Rattle.std.specs.Prelude.{ℕ, ◌≡◌, ◌++◌, ◌⊎◌, ◌-◌, ◌==◌, List, [], ◌∷◌, length, slice_index, take, if◌then◌else◌}
 use Rattle.std.specs.List.{slice_split, enumerate_from}
 
 -- a line without the one CR that belongs to its end
@@ -19,3 +19,17 @@ lines text = lines_of_parts (slice_split (λ b. b == 10) text)
 -- the lines with their numbers, the first of which is given
 abbrev pub numbered : ℕ → List ℕ → List (ℕ × List ℕ)
 numbered first text = enumerate_from first (lines text)
+
+-- what ends a line: a line feed, behind one CR or none
+abbrev pub IsEnd : List ℕ → Type 0
+IsEnd end = (end ≡ 10 ∷ []) ⊎ (end ≡ 13 ∷ 10 ∷ [])
+
+-- what may follow the last line: one CR, or nothing
+abbrev pub IsLastEnd : List ℕ → Type 0
+IsLastEnd end = (end ≡ []) ⊎ (end ≡ 13 ∷ [])
+
+-- the text is these lines in order, each with its end, and nothing else
+abbrev pub MakeUp : List (List ℕ) → List ℕ → Type 0
+MakeUp [] text = text ≡ []
+MakeUp (line ∷ more) text =
+    (end : List ℕ) × ((rest : List ℕ) × ((text ≡ line ++ (end ++ rest)) × ((IsEnd end × MakeUp more rest) ⊎ (IsLastEnd end × ((rest ≡ []) × (more ≡ []))))))

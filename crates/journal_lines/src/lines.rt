@@ -3,7 +3,7 @@
 ghost use Rattle.std.specs.Prelude.{◌≡◌, ℕ, List, ◌+◌, ◌-◌, ◌^◌, ◌<◌, ◌≤◌, ◌==◌, [], ◌∷◌, take, drop, length, position};
 ghost use Rattle.std.specs.List.{position_or_len, before_first, after_first};
 ghost use Rattle.std.specs.Iterator.{YieldsFirstBy, item_count};
-ghost use Rattle.journal_lines.specs.Lines.{without_return, lines, numbered};
+ghost use Rattle.journal_lines.specs.Lines.{without_return, lines, numbered, MakeUp};
 
 /// The lines of a text with their numbers from 1, in order, each the slice of the text without its end.
 #[derive(Drop)]
@@ -18,7 +18,10 @@ impl<'a> Lines<'a> {
 
     /// All lines of the text.
     pub fn new(text: &'a [u8]) -> Self
-        ensures { lines_left result ≡ numbered 1 text.entry.now }
+        ensures list { lines_left result ≡ numbered 1 text.entry.now }
+
+        // The lines, each with its end, are the text.
+        ensures rule { MakeUp (lines text.entry.now) text.entry.now }
     {
         Lines {
             rest: text,
