@@ -1,0 +1,7 @@
+pub mod Place
+pub mod Account
+pub mod Book
+pub mod Balance
+pub mod Claim
+pub mod GoodBook
+pub mod PlainLedger

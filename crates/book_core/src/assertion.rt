@@ -1,0 +1,289 @@
+//! Assertions against the whole book, one after another.
+
+ghost use Rattle.std.specs.Prelude.{◌≡◌, ◌+◌, ◌<◌, ◌^◌, ◌++◌, length};
+ghost use Rattle.book_core.specs.Book.{legs_of};
+ghost use Rattle.book_core.specs.Claim.{account_at, reach_of, is_sole, lower, is_stray, least_unit, stray, fault, earlier, first_fault, asserted_claims, asserted_from, failure, claims_of, counted};
+ghost use Rattle.book_core.specs.GoodBook.{HasRoom};
+
+use crate::account::Reach;
+use crate::balance::balance_over;
+use crate::claim::{Claim, ClaimKind, Placed};
+use crate::entry::Entry;
+use crate::leg::Leg;
+use crate::place::{Place, Until, is_at_most};
+use crate::refusal::{Count, Failure};
+use money_core::Unit;
+
+/// The account of a leg by its number from 1; the empty text where there is none.
+pub fn account_of(legs: &[Leg], number: usize) -> &str
+    ensures { result.now ≡ account_at legs.now number }
+{
+    if number == 0 {
+        return "";
+    }
+    if number > legs.len() {
+        return "";
+    }
+    legs[number - 1].account.as_str()
+}
+
+pub fn reach_of_kind(kind: ClaimKind) -> Reach
+    ensures { result ≡ reach_of kind }
+{
+    match kind {
+        ClaimKind::Exact | ClaimKind::Sole => Reach::Own,
+        ClaimKind::ExactIn | ClaimKind::SoleIn => Reach::Inside,
+    }
+}
+
+/// Of two failures, the one with the earlier place.
+pub fn earlier_of(a: Option<Failure>, b: Option<Failure>) -> Option<Failure>
+    ensures { result ≡ earlier a b }
+{
+    match (a, b) {
+        (Some(x), Some(y)) => {
+            if is_at_most(x.place, y.place) {
+                Some(x)
+            } else {
+                Some(y)
+            }
+        }
+        (Some(x), None) => Some(x),
+        (None, y) => y,
+    }
+}
+
+pub fn is_sole_kind(kind: ClaimKind) -> bool
+    ensures { result ≡ is_sole kind }
+{
+    match kind {
+        ClaimKind::Exact | ClaimKind::ExactIn => false,
+        ClaimKind::Sole | ClaimKind::SoleIn => true,
+    }
+}
+
+/// Of two commodities, the one declared first.
+pub fn lower_of(a: Option<Unit>, b: Option<Unit>) -> Option<Unit>
+    ensures { result ≡ lower a b }
+{
+    match (a, b) {
+        (Some(x), Some(y)) => { if x.0 <= y.0 { Some(x) } else { Some(y) } }
+        (Some(x), None) => Some(x),
+        (None, y) => y,
+    }
+}
+
+/// Whether a commodity is another than `own`, and not zero in the account.
+fn strays(
+    old: &[Entry],
+    new: &[Entry],
+    reach: Reach,
+    account: &str,
+    own: Unit,
+    limit: Until,
+    unit: Unit,
+) -> bool
+    requires small { HasRoom (old.now ++ new.now) }
+    requires short { length old.now + length new.now < 2 ^ 63 }
+    ensures { result ≡ is_stray reach (old.now ++ new.now) account.now own limit unit }
+{
+    if unit.0 == own.0 {
+        return false;
+    }
+    let found = balance_over(old, new, reach, account, unit, limit);
+    found != 0
+}
+
+fn stray_legs(
+    old: &[Entry],
+    new: &[Entry],
+    reach: Reach,
+    account: &str,
+    own: Unit,
+    limit: Until,
+    legs: &[Leg],
+    known: Option<Unit>,
+) -> Option<Unit>
+    requires small { HasRoom (old.now ++ new.now) }
+    requires short { length old.now + length new.now < 2 ^ 63 }
+    ensures { result ≡ lower known (least_unit (is_stray reach (old.now ++ new.now) account.now own limit) legs.now) }
+{
+    let mut first = known;
+    for leg in legs {
+        let unit = leg.unit;
+        let one = if strays(old, new, reach, account, own, limit, unit) {
+            Some(unit)
+        } else {
+            None
+        };
+        first = lower_of(first, one);
+    }
+    first
+}
+
+fn stray_entries(
+    old: &[Entry],
+    new: &[Entry],
+    reach: Reach,
+    account: &str,
+    own: Unit,
+    limit: Until,
+    scanned: &[Entry],
+    known: Option<Unit>,
+) -> Option<Unit>
+    requires small { HasRoom (old.now ++ new.now) }
+    requires short { length old.now + length new.now < 2 ^ 63 }
+    ensures { result ≡ lower known (least_unit (is_stray reach (old.now ++ new.now) account.now own limit) (legs_of scanned.now)) }
+{
+    let mut first = known;
+    for entry in scanned {
+        first = stray_legs(
+            old,
+            new,
+            reach,
+            account,
+            own,
+            limit,
+            entry.legs.items(),
+            first,
+        );
+    }
+    first
+}
+
+/// The first other commodity of the account that is not zero.
+fn stray_over(
+    old: &[Entry],
+    new: &[Entry],
+    reach: Reach,
+    account: &str,
+    own: Unit,
+    limit: Until,
+) -> Option<Unit>
+    requires small { HasRoom (old.now ++ new.now) }
+    requires short { length old.now + length new.now < 2 ^ 63 }
+    ensures { result ≡ stray reach (old.now ++ new.now) account.now own limit }
+{
+    let first = stray_entries(old, new, reach, account, own, limit, old, None);
+    stray_entries(old, new, reach, account, own, limit, new, first)
+}
+
+/// Why a claim of entry `number` fails, if it does.
+fn fault_of(
+    old: &[Entry],
+    new: &[Entry],
+    entry: &Entry,
+    number: usize,
+    placed: Placed,
+) -> Option<Failure>
+    requires small { HasRoom (old.now ++ new.now) }
+    requires short { length old.now + length new.now < 2 ^ 63 }
+    ensures { result ≡ fault (old.now ++ new.now) (record { place = record { day = entry.now.day; entry = number; leg = placed.leg }; account = account_at entry.now.legs placed.leg; claim = placed.claim }) }
+{
+    let place = Place {
+        day: entry.day,
+        entry: number,
+        leg: placed.leg,
+    };
+    let account = account_of(entry.legs.items(), placed.leg);
+    claim_fault(old, new, place, account, placed.claim)
+}
+
+/// Why a claim fails, if it does.
+pub fn claim_fault(
+    old: &[Entry],
+    new: &[Entry],
+    place: Place,
+    account: &str,
+    claim: Claim,
+) -> Option<Failure>
+    requires small { HasRoom (old.now ++ new.now) }
+    requires short { length old.now + length new.now < 2 ^ 63 }
+    ensures { result ≡ fault (old.now ++ new.now) (record { place = place; account = account.now; claim = claim }) }
+{
+    let reach = reach_of_kind(claim.kind);
+    let limit = Until::At(place);
+    let found = balance_over(old, new, reach, account, claim.unit, limit);
+    if found != claim.qty {
+        return Some(Failure {
+            place,
+            unit: claim.unit,
+            asserted: claim.qty,
+            found,
+        });
+    }
+    if !is_sole_kind(claim.kind) {
+        return None;
+    }
+    match stray_over(old, new, reach, account, claim.unit, limit) {
+        None => None,
+        Some(unit) => {
+            let other = balance_over(old, new, reach, account, unit, limit);
+            Some(Failure {
+                place,
+                unit,
+                asserted: 0,
+                found: other,
+            })
+        }
+    }
+}
+
+/// The first failure among those of an entry's claims and one that is known.
+fn scan_entry(
+    old: &[Entry],
+    new: &[Entry],
+    entry: &Entry,
+    number: usize,
+    known: Option<Failure>,
+    count: &mut Count,
+) -> Option<Failure>
+    requires small { HasRoom (old.now ++ new.now) }
+    requires short { length old.now + length new.now < 2 ^ 63 }
+    ensures first { result ≡ earlier known (first_fault (old.now ++ new.now) (asserted_claims entry.now.day number entry.now.legs entry.now.claims)) }
+    ensures count { count.new.claims ≡ counted count.old.claims (length entry.now.claims) }
+{
+    let _start = count.claims;
+    let mut first = known;
+    for placed in entry.claims.items() {
+        count.claims = count.claims.saturating_add(1);
+        let fault = fault_of(old, new, entry, number, *placed);
+        first = earlier_of(first, fault);
+    }
+    first
+}
+
+/// The same over several entries, numbered from `start`.
+pub fn scan_entries(
+    old: &[Entry],
+    new: &[Entry],
+    scanned: &[Entry],
+    start: usize,
+    known: Option<Failure>,
+    count: &mut Count,
+) -> Option<Failure>
+    requires small { HasRoom (old.now ++ new.now) }
+    requires short { length old.now + length new.now < 2 ^ 63 }
+    requires numbers { start + length scanned.now < 2 ^ 64 }
+    ensures first { result ≡ earlier known (first_fault (old.now ++ new.now) (asserted_from start scanned.now)) }
+    ensures count { count.new.claims ≡ counted count.old.claims (length (asserted_from start scanned.now)) }
+{
+    let _start = count.claims;
+    let mut first = known;
+    let mut number = start;
+    for entry in scanned {
+        first = scan_entry(old, new, entry, number, first, count);
+        number += 1;
+    }
+    first
+}
+
+pub fn first_failure(old: &[Entry], new: &[Entry], count: &mut Count) -> Option<Failure>
+    requires small { HasRoom (old.now ++ new.now) }
+    requires short { length old.now + length new.now < 2 ^ 63 }
+    ensures first { result ≡ failure (old.now ++ new.now) }
+    ensures count { count.new.claims ≡ counted count.old.claims (claims_of (old.now ++ new.now)) }
+{
+    let first = scan_entries(old, new, old, 1, None, count);
+    scan_entries(old, new, new, old.len() + 1, first, count)
+}

@@ -1,0 +1,26 @@
+//! The book of one branch: entries, balances, balance assertions, and the ledgers that keep them.
+#![tactic(auto)]
+
+mod account;
+mod account_list;
+mod assertion;
+mod balance;
+mod claim;
+mod entry;
+mod ledger;
+mod leg;
+mod place;
+mod plain_ledger;
+mod refusal;
+mod turnover;
+
+pub use account::Reach;
+pub use claim::{Asserted, Claim, ClaimKind, Placed};
+pub use entry::Entry;
+pub use ledger::Ledger;
+pub use leg::Leg;
+pub use money_core::{Cause, Copied, Day, Fault, Items, Text, Unit};
+pub use place::{Place, Until};
+pub use plain_ledger::{MAX_ENTRIES, PlainLedger};
+pub use refusal::{Count, Failure, Refusal};
+pub use turnover::MAX_TURNOVER;

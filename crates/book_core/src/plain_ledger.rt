@@ -1,0 +1,114 @@
+//! The ledger that keeps the list of entries and adds it up at each question.
+
+ghost use Rattle.std.specs.Prelude.{◌≤◌, ◌++◌, List};
+ghost use Rattle.book_core.specs.Claim.{claims_of, counted};
+ghost use Rattle.book_core.specs.GoodBook.{IsWithin, Checks};
+ghost use Rattle.book_core.specs.declared.entry.Entry.{Entry as Line};
+
+use crate::account::Reach;
+use crate::account_list::{new_accounts, put_accounts};
+use crate::assertion::first_failure;
+use crate::balance::balance_over;
+use crate::entry::Entry;
+use crate::ledger::Ledger;
+use crate::place::Until;
+use crate::refusal::{Count, Refusal};
+use crate::turnover::passes_limit;
+use money_core::{Cause, Day, Text, Unit};
+use std::alloc::Global;
+use std::marker::Model;
+
+/// The greatest number of entries of a branch.
+pub const MAX_ENTRIES: usize = 50_000;
+
+/// The ledger that keeps the list of entries, and the sorted list of their accounts.
+#[derive(Drop)]
+pub struct PlainLedger {
+    entries: Vec<Entry>,
+    accounts: Vec<Text>,
+}
+
+impl Model for PlainLedger {
+    ghost use Rattle.std.specs.Prelude.{List};
+    ghost use Rattle.book_core.specs.declared.entry.Entry.{Entry as Line};
+
+    ghost Value = { List Line };
+
+    ghost use Rattle.book_core.specs.PlainLedger.{IsKept};
+
+    ghost view = { λ a. a.entries.items };
+
+    ghost invariant = { λ a. IsKept a.entries.items a.accounts.items };
+}
+
+/// Whether the new entries may follow the old ones.
+pub fn check_lists(old: &[Entry], new: &[Entry], count: &mut Count) -> Result<(), Refusal>
+    requires { IsWithin old.now }
+    ensures checks { Checks (old.now ++ new.now) result }
+    ensures least { count.old.claims ≤ count.new.claims }
+    ensures most { count.new.claims ≤ counted count.old.claims (claims_of (old.now ++ new.now)) }
+{
+    let _start = count.claims;
+    if new.len() > MAX_ENTRIES - old.len() {
+        return Err(Refusal::Plain(Cause::Full));
+    }
+    if passes_limit(old, new) {
+        return Err(Refusal::Plain(Cause::Limit));
+    }
+    match first_failure(old, new, count) {
+        Some(failure) => Err(Refusal::ClaimFailed(failure)),
+        None => Ok(()),
+    }
+}
+
+impl Ledger for PlainLedger {
+    ghost book = { λ b. b };
+
+    fn empty(alloc: Global) -> Self {
+        PlainLedger {
+            entries: Vec::new(alloc),
+            accounts: Vec::new(alloc),
+        }
+    }
+
+    fn len(&self) -> usize {
+        self.entries.len()
+    }
+
+    fn balance(&self, account: &str, unit: Unit, day: Day) -> i64 {
+        let limit = Until::Through(day);
+        balance_over(&self.entries, &[], Reach::Own, account, unit, limit)
+    }
+
+    fn balance_in(&self, account: &str, unit: Unit, day: Day) -> i64 {
+        let limit = Until::Through(day);
+        balance_over(&self.entries, &[], Reach::Inside, account, unit, limit)
+    }
+
+    fn accounts(&self) -> &[Text] {
+        self.accounts.as_slice()
+    }
+
+    fn check(&self, new: &[Entry], count: &mut Count) -> Result<(), Refusal> {
+        check_lists(&self.entries, new, count)
+    }
+
+    // All room is made before either list changes.
+    fn add(&mut self, entry: Entry) -> Result<(), Cause> {
+        let alloc = *self.entries.allocator();
+        let fresh = match new_accounts(alloc, &self.accounts, entry.legs.items()) {
+            Ok(fresh) => fresh,
+            Err(cause) => return Err(cause),
+        };
+        match self.accounts.reserve(fresh.len()) {
+            Ok(()) => {}
+            Err(_) => return Err(Cause::OutOfMemory),
+        }
+        match self.entries.push(entry) {
+            Ok(()) => {}
+            Err(_) => return Err(Cause::OutOfMemory),
+        }
+        put_accounts(&mut self.accounts, fresh);
+        Ok(())
+    }
+}
