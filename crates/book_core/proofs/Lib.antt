@@ -1,7 +1,9 @@
+pub mod AccountLemmas
 pub mod AccountListLemmas
 pub mod SumLemmas
 pub mod BookLemmas
 pub mod AccountsLemmas
+pub mod CommodityLemmas
 pub mod ClaimLemmas
 pub mod VerdictLemmas
 pub mod StrayLemmas

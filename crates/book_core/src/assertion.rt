@@ -8,6 +8,7 @@ ghost use Rattle.book_core.specs.GoodBook.{HasRoom};
 use crate::account::Reach;
 use crate::balance::balance_over;
 use crate::claim::{Claim, ClaimKind, Placed};
+use crate::commodity::lower_of;
 use crate::entry::Entry;
 use crate::leg::Leg;
 use crate::place::{Place, Until, is_at_most};
@@ -59,17 +60,6 @@ pub fn is_sole_kind(kind: ClaimKind) -> bool
     match kind {
         ClaimKind::Exact | ClaimKind::ExactIn => false,
         ClaimKind::Sole | ClaimKind::SoleIn => true,
-    }
-}
-
-/// Of two commodities, the one declared first.
-pub fn lower_of(a: Option<Unit>, b: Option<Unit>) -> Option<Unit>
-    ensures { result ≡ lower a b }
-{
-    match (a, b) {
-        (Some(x), Some(y)) => { if x.0 <= y.0 { Some(x) } else { Some(y) } }
-        (Some(x), None) => Some(x),
-        (None, y) => y,
     }
 }
 

@@ -1,12 +1,12 @@
 //! The limit on the turnover, the sum of the absolute quantities of all legs in one commodity.
 
-ghost use Rattle.std.specs.Prelude.{◌≡◌, ◌+◌, ◌≤◌, ◌++◌, min, nat_lt};
-ghost use Rattle.std.specs.List.{list_any};
-ghost use Rattle.book_core.specs.declared.leg.Leg.{Leg as Part};
+ghost use Rattle.std.specs.Prelude.{◌≡◌, ◌+◌, ◌≤◌, ◌<◌, ◌↔◌, ◌++◌, IsTrue, min, nat_eq, nat_lt, unsigned_abs, if◌then◌else◌};
 ghost use Rattle.book_core.specs.Book.{legs_of};
 ghost use Rattle.book_core.specs.Balance.{moved, turnover};
+ghost use Rattle.book_core.specs.Claim.{lower, least_unit};
 ghost use Rattle.book_core.specs.GoodBook.{HasRoom, is_over, most_turnover};
 
+use crate::commodity::lower_of;
 use crate::entry::Entry;
 use crate::leg::Leg;
 use money_core::Unit;
@@ -40,35 +40,85 @@ fn add_turnover(entries: &[Entry], unit: Unit, start: u64) -> u64
     sum
 }
 
-/// Whether a commodity of the legs has too large a turnover.
-fn legs_pass_limit(old: &[Entry], new: &[Entry], legs: &[Leg]) -> bool
-    ensures { result ≡ list_any (λ (x : Part). nat_lt most_turnover (turnover x.unit (old.now ++ new.now))) legs.now }
-{
-    for leg in legs {
-        let first = add_turnover(old, leg.unit, 0);
-        let both = add_turnover(new, leg.unit, first);
-        if both > MAX_TURNOVER {
-            return true;
-        }
-    }
-    false
+/// What legs move in one commodity, and the first declared commodity after it that they have.
+#[derive(Clone, Copy)]
+struct Tally {
+    /// In smallest units, at most one past the limit.
+    moved: u64,
+    next: Option<Unit>,
 }
 
-fn entries_pass_limit(old: &[Entry], new: &[Entry], scanned: &[Entry]) -> bool
-    ensures { result ≡ list_any (λ (x : Part). nat_lt most_turnover (turnover x.unit (old.now ++ new.now))) (legs_of scanned.now) }
+fn tally_leg(known: Tally, leg: &Leg, unit: Unit) -> Tally
+    requires { known.moved ≤ most_turnover + 1 }
+    ensures moved { result.moved ≡ min (known.moved + (if nat_eq leg.now.unit.0 unit.0 then unsigned_abs leg.now.qty else 0)) (most_turnover + 1) }
+    ensures next { result.next ≡ lower known.next (if nat_lt unit.0 leg.now.unit.0 then Some leg.now.unit else None) }
 {
-    for entry in scanned {
-        if legs_pass_limit(old, new, entry.legs.items()) {
-            return true;
-        }
+    let Tally { moved, next } = known;
+    if leg.unit.0 == unit.0 {
+        let moved = (moved + leg.qty.unsigned_abs()).min(MAX_TURNOVER + 1);
+        return Tally { moved, next };
     }
-    false
+    if leg.unit.0 > unit.0 {
+        let next = lower_of(next, Some(leg.unit));
+        return Tally { moved, next };
+    }
+    Tally { moved, next }
+}
+
+fn tally_legs(known: Tally, legs: &[Leg], unit: Unit) -> Tally
+    requires { known.moved ≤ most_turnover + 1 }
+    ensures moved { result.moved ≡ min (known.moved + moved unit legs.now) (most_turnover + 1) }
+    ensures next { result.next ≡ lower known.next (least_unit (λ v. nat_lt unit.0 v.0) legs.now) }
+{
+    let mut tally = known;
+    for leg in legs {
+        tally = tally_leg(tally, leg, unit);
+    }
+    tally
+}
+
+fn tally_entries(entries: &[Entry], unit: Unit) -> Tally
+    ensures moved { result.moved ≡ min (turnover unit entries.now) (most_turnover + 1) }
+    ensures next { result.next ≡ least_unit (λ v. nat_lt unit.0 v.0) (legs_of entries.now) }
+{
+    let mut tally = Tally {
+        moved: 0,
+        next: None,
+    };
+    for entry in entries {
+        tally = tally_legs(tally, entry.legs.items(), unit);
+    }
+    tally
+}
+
+/// Whether the turnover in a commodity passes the limit where the new legs move `moved` in it.
+fn is_over_in(old: &[Entry], unit: Unit, moved: u64) -> bool
+    requires small { moved ≤ most_turnover + 1 }
+    requires room { turnover unit old.now ≤ most_turnover }
+    ensures { IsTrue result ↔ (most_turnover < moved + turnover unit old.now) }
+{
+    if moved == 0 {
+        return false;
+    }
+    add_turnover(old, unit, moved) > MAX_TURNOVER
 }
 
 /// Whether the turnover of some commodity passes the limit once `new` follows `old`.
+///
+/// Costs one pass over all legs for each commodity of the new ones.
 pub fn passes_limit(old: &[Entry], new: &[Entry]) -> bool
     requires { HasRoom old.now }
     ensures { result ≡ is_over (old.now ++ new.now) }
 {
-    entries_pass_limit(old, new, new)
+    let mut unit = Unit(0);
+    'units: loop {
+        let tally = tally_entries(new, unit);
+        if is_over_in(old, unit, tally.moved) {
+            return true;
+        }
+        match tally.next {
+            Some(next) => unit = next,
+            None => return false,
+        }
+    }
 }
