@@ -65,7 +65,7 @@ up_to_lower v (Some x) (Some y) e = by_test (nat_le x.0 y.0) refl e
     by_test false k f = let h : y ≡ v = cc in let g : y.0 ≡ v.0 = ap (λ (u : Commodity). u.0) h in let l : y.0 < x.0 = grind (arith, nat_tests) in (omega arith, omega arith)
 
 -- the least is no later than any commodity of the legs that passes
-least_le : (test : Commodity → Bool) (u v : Commodity) (xs : List Leg) → least_unit test xs ≡ Some v → has_leg u xs ≡ true → test u ≡ true → v.0 ≤ u.0
+pub least_le : (test : Commodity → Bool) (u v : Commodity) (xs : List Leg) → least_unit test xs ≡ Some v → has_leg u xs ≡ true → test u ≡ true → v.0 ≤ u.0
 least_le test u v [] e h t = absurd (cc)
 least_le test u v (x ∷ xs) e h t = by_test (nat_eq x.unit.0 u.0) refl h (λ m w f. least_le test u w xs f m t)
   where

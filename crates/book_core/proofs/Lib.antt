@@ -5,5 +5,8 @@ pub mod BookLemmas
 pub mod AccountsLemmas
 pub mod CommodityLemmas
 pub mod ClaimLemmas
+pub mod HoldLemmas
 pub mod VerdictLemmas
+pub mod GoodBookLemmas
+pub mod BalanceLemmas
 pub mod StrayLemmas
