@@ -55,3 +55,8 @@ accepts_good b (Err x) (inr e) good = absurd (let v = verdict_good b good in cc)
 pub refuses_bad : (b : List Entry) (r : Result ⊤ Refusal) → OnOk r (IsGoodBook b) → (IsGoodBook b → ⊥) → IsErr r
 refuses_bad b (Ok x) h bad = absurd (bad h)
 refuses_bad b (Err x) h bad = refl
+
+-- nothing fails in the empty book
+pub failure_nil : failure [] ≡ None
+unfolding failure
+failure_nil = refl

@@ -10,3 +10,4 @@ pub mod VerdictLemmas
 pub mod GoodBookLemmas
 pub mod BalanceLemmas
 pub mod StrayLemmas
+mod WorkedValues

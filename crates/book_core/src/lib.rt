@@ -15,12 +15,14 @@ mod leg;
 mod place;
 mod plain_ledger;
 mod refusal;
+#[cfg(test)]
+mod tests;
 mod turnover;
 
 pub use account::{Reach, is_inside};
 pub use claim::{Asserted, Claim, ClaimKind, Placed};
 pub use entry::Entry;
-pub use fit::{is_balanced, is_fit};
+pub use fit::{are_fit, is_balanced, is_fit};
 pub use law::{check_good, failure_law, verdict_law};
 pub use ledger::Ledger;
 pub use leg::Leg;
