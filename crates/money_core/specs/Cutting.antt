@@ -1,4 +1,4 @@
--- How an amount is cut into its parts from the left; that these are the parts of `Amount`, and the only ones, is the law of `amount_grammar`.
+-- How an amount is cut into its parts from the left; that these are the parts of `Amount`, and the only ones, stands behind the clauses of `read_amount`.
 use Rattle.std.specs.Prelude.{ℕ, ◌==◌, List, length, take, drop, slice_index, nat_lt, Bool, true, false, ◌&&◌, ◌||◌, not, if◌then◌else◌, Option, Some, None, option_and_then}
 use Rattle.std.specs.List.{position_or_len, before_first, after_first}
 use Rattle.money_core.specs.declared.class.Class.TheVariants.{Blank, Symbol, Number}
