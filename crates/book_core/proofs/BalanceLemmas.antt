@@ -1,5 +1,5 @@
 -- Balances of a book with more entries, of one entry, and of a book that passes: for the crates above.
-use Rattle.std.proofs.Common.{◌≡◌, ℕ, ◌+◌, Bool, true, false, List, [], ◌∷◌, ◌++◌, length, arith, refl, ap, ◌∙◌, sym, subst, nat_eq, ℤ, pos, neg_ℤ, ◌+ℤ◌, ◌≤ℤ◌, ◌≤◌, append-nil, None}
+use Rattle.std.proofs.Common.{◌≡◌, ℕ, ◌+◌, Bool, true, false, List, [], ◌∷◌, ◌++◌, length, arith, refl, ap, ◌∙◌, sym, nat_eq, ℤ, pos, ◌+ℤ◌, append-nil, None}
 use Rattle.std.specs.Prelude.{if◌then◌else◌, ◌&&◌, int_le}
 use Rattle.std.proofs.lemmas.Int.{ints}
 use Rattle.money_core.specs.declared.unit.Unit.{Unit as Commodity}
@@ -12,7 +12,7 @@ use Rattle.book_core.specs.declared.place.Until.TheVariants.{Through}
 use Rattle.book_core.specs.Account.{reaches}
 use Rattle.book_core.specs.Book.{posted, posted_from, posted_legs}
 use Rattle.book_core.specs.Balance.{balance, counts, total, turnover}
-use Rattle.book_core.specs.GoodBook.{HasRoom, IsWithin, most_turnover, verdict}
+use Rattle.book_core.specs.GoodBook.{HasRoom, most_turnover, verdict}
 use Rattle.book_core.proofs.SumLemmas.{Within, total-append, within_entries}
 use Rattle.book_core.proofs.BookLemmas.{posted_from-append}
 use Rattle.book_core.proofs.VerdictLemmas.{within_from}

@@ -1,6 +1,6 @@
 -- what an assertion that holds says, and what the first failure is
-use Rattle.std.proofs.Common.{◌≡◌, ℕ, ◌+◌, ◌<◌, ◌≤◌, Bool, true, false, ◌||◌, ◌&&◌, List, [], ◌∷◌, ◌++◌, length, arith, refl, ap, ◌∙◌, sym, subst, nat_eq, zero, suc, Option, Some, None, ℤ, pos, ◌⊎◌, inl, inr, ◌+ℤ◌}
-use Rattle.std.specs.Prelude.{◌↔◌, if◌then◌else◌, option_map, not, cond, nat_lt, Contains, IfSome}
+use Rattle.std.proofs.Common.{◌≡◌, ℕ, ◌<◌, Bool, true, false, ◌&&◌, List, [], ◌∷◌, arith, refl, ap, ◌∙◌, sym, subst, nat_eq, Option, Some, None, ℤ, pos, ◌⊎◌, inl, inr}
+use Rattle.std.specs.Prelude.{◌↔◌, if◌then◌else◌, option_map, not, Contains, IfSome}
 use Rattle.std.specs.List.{list_any, AllByRecursion}
 use Rattle.std.specs.Ordering.{int_eq}
 use Rattle.std.proofs.lemmas.Bool.Decides.{Decides-int_eq, nat_tests}
@@ -22,7 +22,7 @@ use Rattle.book_core.specs.Claim.{reach_of, is_sole, is_stray, least_unit, stray
 use Rattle.book_core.proofs.SumLemmas.{Within, within_entries}
 use Rattle.book_core.proofs.BookLemmas.{none_moves}
 use Rattle.book_core.proofs.CommodityLemmas.{passes_not, least_passes, least_le, has_leg}
-use Rattle.book_core.proofs.ClaimLemmas.{judged_right, judged_wrong, is_over_zero, differs, le_total, le_trans, fault_plain, fault_alone}
+use Rattle.book_core.proofs.ClaimLemmas.{is_over_zero, differs, le_total, le_trans, fault_plain, fault_alone}
 
 pub none_least : (test : Commodity → Bool) → ((v : Commodity) → test v ≡ false) → (xs : List Leg) → least_unit test xs ≡ None
 none_least test h [] = refl
