@@ -1,0 +1,5 @@
+pub mod RequestLemmas
+pub mod WriteLemmas
+pub mod LineLemmas
+pub mod RunLemmas
+pub mod WorkedValues

@@ -1,0 +1,12 @@
+-- The request that a form is, for private clauses.
+use Rattle.treasury.specs.declared.request.Request.{Request}
+use Rattle.treasury.specs.declared.request.Request.TheVariants.{Branch, Commodity, Import, Balance}
+use Rattle.treasury.specs.declared.request.form.Form.{Form}
+use Rattle.treasury.specs.declared.request.form.Form.TheVariants.{Branch as BranchForm, Commodity as CommodityForm, Import as ImportForm, Balance as BalanceForm}
+
+-- the request of a form
+abbrev pub shown : Form → Request
+shown (BranchForm name) = Branch name.now
+shown (CommodityForm sample) = Commodity sample.now
+shown (ImportForm branch journal) = Import branch.now journal.now
+shown (BalanceForm branch day) = Balance branch.now day

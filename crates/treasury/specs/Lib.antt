@@ -1,0 +1,5 @@
+pub mod Request
+pub mod Form
+pub mod Transcript
+pub mod RunEnd
+pub mod Served

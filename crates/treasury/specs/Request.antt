@@ -1,0 +1,61 @@
+-- The requests (own rule; docs/FORMATS.md, "Requests"). A request is one JSON object, and each of its values is a text.
+-- What JSON is, `serde_json` says: arrays and objects nest 127 deep, and of a key that is written twice the last value stays.
+use Rattle.std.specs.Prelude.{ℕ, ◌+◌, Bool, List, Option, None, ◌==◌, ◌&&◌, if◌then◌else◌, option_map, option_and_then, codes, ⊤}
+use Rattle.std.specs.Str.{bytes_eq, is_utf8}
+use Rattle.serde_json.specs.Data.{Data, null, boolean, number, string, array, object, Members, no_members, member}
+use Rattle.serde_json.specs.Find.{get, as_str}
+use Rattle.serde_json.specs.Read.{read}
+use Rattle.money_core.specs.declared.day.Day.{Day}
+use Rattle.journal_lines.specs.Date.{date_of, IsDayNumber}
+use Rattle.treasury.specs.declared.request.Request.{Request}
+use Rattle.treasury.specs.declared.request.Request.TheVariants.{Branch, Commodity, Import, Balance}
+
+-- the text at a key of an object
+abbrev pub text_at : List ℕ → Data → Option (List ℕ)
+text_at key d = option_and_then as_str (get key d)
+
+-- the day at a key of an object: its text is a date
+abbrev pub day_at : List ℕ → Data → Option Day
+day_at key d = option_and_then date_of (text_at key d)
+
+-- how many members there are
+abbrev pub count_members : Members → ℕ
+count_members no_members = 0
+count_members (member k d ms) = count_members ms + 1
+
+-- how many keys an object has, each counted once
+abbrev pub key_count : Data → ℕ
+key_count null = 0
+key_count (boolean b) = 0
+key_count (number n) = 0
+key_count (string s) = 0
+key_count (array ds) = 0
+key_count (object ms) = count_members ms
+
+-- the word of `do` is this one, and there are so many keys with `do`
+abbrev pub is_form : List ℕ → ℕ → List ℕ → Data → Bool
+is_form name keys word d = bytes_eq word name && (key_count d == keys)
+
+-- the request of each word: its keys are all there, each with a text, and since they are so many there is no further one
+abbrev pub form : List ℕ → Data → Option Request
+form word d =
+    if is_form (codes "branch") 2 word d then option_map Branch (text_at (codes "name") d)
+    else if is_form (codes "commodity") 2 word d then option_map Commodity (text_at (codes "sample") d)
+    else if is_form (codes "import") 3 word d then option_and_then (λ branch. option_map (Import branch) (text_at (codes "journal") d)) (text_at (codes "branch") d)
+    else if is_form (codes "balance") 3 word d then option_and_then (λ branch. option_map (Balance branch) (day_at (codes "day") d)) (text_at (codes "branch") d)
+    else None
+
+-- the request that an object is
+abbrev pub request_of : Data → Option Request
+request_of d = option_and_then (λ word. form word d) (text_at (codes "do") d)
+
+-- the request that bytes spell: they are UTF-8, and JSON of one of the forms
+unfoldable pub spelled : List ℕ → Option Request
+spelled bytes = if is_utf8 bytes then option_and_then request_of (read bytes) else None
+
+-- each day of the request is one of the years 1 to 9999
+abbrev pub HasDayNumbers : Request → Type 0
+HasDayNumbers (Branch name) = ⊤
+HasDayNumbers (Commodity sample) = ⊤
+HasDayNumbers (Import branch journal) = ⊤
+HasDayNumbers (Balance branch day) = IsDayNumber day

@@ -1,0 +1,10 @@
+//! The treasury's requests, and the run over their lines.
+#![tactic(auto)]
+
+mod bytes;
+mod lines;
+mod request;
+
+pub use bytes::Bytes;
+pub use lines::{MAX_INPUT, Machine, Shortage, run_machine};
+pub use request::{Request, read_command, read_line};

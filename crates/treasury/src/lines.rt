@@ -1,0 +1,10 @@
+//! Requests by lines: what a reader gives is answered line by line, and the answers go to a writer.
+
+mod machine;
+mod run;
+#[cfg(test)]
+mod tests;
+mod write;
+
+pub use machine::{Machine, Shortage};
+pub use run::{MAX_INPUT, run_machine};

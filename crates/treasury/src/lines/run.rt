@@ -1,0 +1,139 @@
+//! The run over all lines of a reader.
+
+ghost use Rattle.std.specs.Prelude.{◌≡◌, ◌∷◌, ◌++◌, [], MatchResult};
+ghost use Rattle.std.specs.Str.Lines.{strip_carriage_return};
+ghost use Rattle.treasury.specs.Transcript.{is_blank, requests_among};
+ghost use Rattle.treasury.specs.RunEnd.{HasNoLineFeed, AnswersWhole, StopsBy, Finished, EndsBy};
+ghost use Rattle.treasury.specs.Served.{Served, FailsBy};
+
+use crate::lines::machine::Machine;
+use crate::lines::write::write_whole;
+use money_core::Cause;
+use std::alloc::Global;
+use std::io::{Read, Write};
+
+/// The most bytes that a run reads.
+pub const MAX_INPUT: usize = 64 * 1024 * 1024;
+
+/// How many bytes are read at once.
+const CHUNK: usize = 4096;
+
+/// Whether the line is spaces and tabs, or empty.
+fn is_blank(line: &[u8]) -> bool
+    ensures { result ≡ is_blank line.now }
+{
+    line.iter().all(|byte| *byte == b' ' || *byte == b'\t')
+}
+
+/// The line without the carriage return at its end.
+fn without_carriage_return(line: &[u8]) -> &[u8]
+    ensures { result.now ≡ strip_carriage_return line.now }
+{
+    match line.len() {
+        0 => line,
+        length if line[length - 1] == b'\r' => &line[..length - 1],
+        _ => line,
+    }
+}
+
+/// Answers the request on a line, if it has one.
+fn serve_line<W: Write, M: Machine>(
+    alloc: Global,
+    line: &[u8],
+    writer: &mut W,
+    machine: &mut M,
+) -> Result<(), Cause>
+    ensures { MatchResult result
+        (λ _. Served M.step (W.contents writer.old) (W.contents writer.new) machine.old (requests_among (line.now ∷ [])) machine.new)
+        (λ cause. FailsBy cause M.step M.loses (W.contents writer.old) (W.contents writer.new) machine.old
+        (requests_among (line.now ∷ [])) machine.new) }
+{
+    if is_blank(line) {
+        return Ok(());
+    }
+    let mut text = Vec::new(alloc);
+    match machine.answer(alloc, line, &mut text) {
+        Ok(()) => {}
+        Err(_) => return Err(Cause::OutOfMemory),
+    }
+    match write_whole(writer, text.as_slice()) {
+        Ok(()) => Ok(()),
+        Err(_) => Err(Cause::WriteFault),
+    }
+}
+
+/// Answers each line that these bytes end, and keeps what they begin of the next.
+fn feed<W: Write, M: Machine>(
+    alloc: Global,
+    bytes: &[u8],
+    line: &mut Vec<u8>,
+    writer: &mut W,
+    machine: &mut M,
+) -> Result<(), Cause>
+    requires { HasNoLineFeed line.old.items }
+    ensures { MatchResult result
+        (λ _. AnswersWhole M.step (W.contents writer.old) (W.contents writer.new) machine.old
+        (line.old.items ++ bytes.now) line.new.items machine.new)
+        (λ cause. StopsBy cause M.step M.loses ⊥ (W.contents writer.old) (W.contents writer.new) machine.old
+        (line.old.items ++ bytes.now) machine.new) }
+{
+    'feeding: for byte in bytes {
+        if *byte == b'\n' {
+            match serve_line(
+                alloc,
+                without_carriage_return(line.as_slice()),
+                writer,
+                machine,
+            ) {
+                Ok(()) => line.clear(),
+                Err(cause) => return Err(cause),
+            }
+        } else if line.push(*byte).is_err() {
+            return Err(Cause::OutOfMemory);
+        }
+    }
+    Ok(())
+}
+
+/// Answers each request that the reader gives, of at most `MAX_INPUT` bytes in all.
+///
+/// Each answer is one text that is written at once. `ReadFault` comes where a read fails, whatever its error, or where
+/// the input goes on past the bound; `WriteFault` where a write fails or takes nothing.
+pub fn run_machine<R: Read, W: Write, M: Machine>(
+    alloc: Global,
+    reader: &mut R,
+    writer: &mut W,
+    machine: &mut M,
+) -> Result<(), Cause>
+    ensures { MatchResult result
+        (λ _. Finished M.step MAX_INPUT (R.remaining reader.old) (R.remaining reader.new)
+        (W.contents writer.old) (W.contents writer.new) machine.old machine.new)
+        (λ cause. EndsBy cause M.step M.loses MAX_INPUT (R.remaining reader.old) (R.remaining reader.new)
+        (W.contents writer.old) (W.contents writer.new) machine.old machine.new) }
+{
+    let mut chunk = [0u8; CHUNK];
+    let mut line = Vec::new(alloc);
+    let mut left = MAX_INPUT;
+    'reading: loop {
+        // Behind the last byte that may be read, one more shows that the input goes on.
+        let most = left.min(CHUNK).max(1);
+        match reader.read(&mut chunk[..most]) {
+            Ok(0) => break,
+            Ok(count) => {
+                if count > left {
+                    return Err(Cause::ReadFault);
+                }
+                left -= count;
+                match feed(alloc, &chunk[..count], &mut line, writer, machine) {
+                    Ok(()) => {}
+                    Err(cause) => return Err(cause),
+                }
+            }
+            Err(_) => return Err(Cause::ReadFault),
+        }
+    }
+    match serve_line(alloc, line.as_slice(), writer, machine) {
+        Ok(()) => Ok(()),
+        Err(cause) => Err(cause),
+    }
+}

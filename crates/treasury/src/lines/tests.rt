@@ -1,0 +1,280 @@
+//! The run, over a machine that answers each request with itself.
+
+ghost use Rattle.std.specs.Prelude.{◌≡◌, ◌∷◌, ◌++◌, [], codes, MatchResult};
+ghost use Rattle.treasury.specs.RunEnd.{Finished, EndsBy};
+
+use crate::lines::{MAX_INPUT, Machine, Shortage, run_machine};
+use money_core::Cause;
+use std::alloc::Global;
+use std::io::{self, Read, Write};
+use std::test::Fail;
+
+/// Answers each request with itself and a line feed, and counts them. It has no memory for `kept`, and is lost at `lost`.
+#[derive(Drop)]
+struct Echo {
+    answered: u64,
+}
+
+impl Machine for Echo {
+    ghost step = { λ _ request answer _. answer ≡ request ++ 10 ∷ [] };
+
+    ghost loses = { λ _ request. request ≡ codes "lost" };
+
+    fn answer(
+        &mut self,
+        _alloc: Global,
+        request: &[u8],
+        out: &mut Vec<u8>,
+    ) -> Result<(), Shortage> {
+        if request == b"lost".as_slice() {
+            self.answered = 0;
+            return Err(Shortage::Lost);
+        }
+        if request == b"kept".as_slice() || out.extend_from_slice(request).is_err() {
+            return Err(Shortage::Kept);
+        }
+        if out.push(b'\n').is_err() {
+            return Err(Shortage::Kept);
+        }
+        self.answered = self.answered.saturating_add(1);
+        Ok(())
+    }
+}
+
+/// A reader that gives at most so many bytes at once, and fails once its text is read where it is told to.
+#[derive(Drop)]
+struct Slow<'a> {
+    text: &'a [u8],
+    at_once: usize,
+    fails: bool,
+}
+
+impl Read for Slow<'_> {
+    fn read(&mut self, buf: &mut [u8]) -> io::Result<usize> {
+        if self.text.is_empty() && self.fails {
+            return Err(io::Error::from(io::ErrorKind::Interrupted));
+        }
+        let most = buf.len().min(self.at_once);
+        self.text.read(&mut buf[..most])
+    }
+}
+
+/// A reader of that many blanks, in lines as long as a read.
+#[derive(Drop)]
+struct Blanks {
+    left: usize,
+}
+
+impl Read for Blanks {
+    fn read(&mut self, buf: &mut [u8]) -> io::Result<usize> {
+        let count = buf.len().min(self.left);
+        buf[..count].fill(b' ');
+        if let Some(last) = buf.last_mut() {
+            *last = b'\n';
+        }
+        self.left -= count;
+        Ok(count)
+    }
+}
+
+/// A writer that takes at most so many bytes at once, and none once it is full.
+#[derive(Drop)]
+struct Narrow {
+    taken: Vec<u8>,
+    at_once: usize,
+    room: usize,
+    fails: bool,
+}
+
+impl Write for Narrow {
+    fn write(&mut self, buf: &[u8]) -> io::Result<usize> {
+        if self.room == 0 && self.fails {
+            return Err(io::Error::from(io::ErrorKind::BrokenPipe));
+        }
+        let count = buf.len().min(self.at_once).min(self.room);
+        self.taken.extend_from_slice(&buf[..count])?;
+        self.room -= count;
+        Ok(count)
+    }
+
+    fn flush(&mut self) -> io::Result<()> {
+        Ok(())
+    }
+}
+
+/// The run at a concrete machine, whose clause names no member of the trait.
+fn run_echo<R: Read, W: Write>(
+    alloc: Global,
+    reader: &mut R,
+    writer: &mut W,
+    echo: &mut Echo,
+) -> Result<(), Cause>
+    ensures { MatchResult result
+        (λ _. Finished (λ _ request answer _. answer ≡ request ++ 10 ∷ []) MAX_INPUT (R.remaining reader.old) (R.remaining reader.new)
+        (W.contents writer.old) (W.contents writer.new) echo.old echo.new)
+        (λ cause. EndsBy cause (λ _ request answer _. answer ≡ request ++ 10 ∷ []) (λ _ request. request ≡ codes "lost") MAX_INPUT (R.remaining reader.old) (R.remaining reader.new)
+        (W.contents writer.old) (W.contents writer.new) echo.old echo.new) }
+{
+    run_machine(alloc, reader, writer, echo)
+}
+
+#[test]
+fn a_line_ends_in_lf_or_cr_lf(rt: HostRuntime) -> Result<(), Fail> {
+    let rows: [(&[u8], &[u8], u64); 13] = [
+        (b"", b"", 0),
+        (b"a", b"a\n", 1),
+        (b"a\n", b"a\n", 1),
+        (b"a\r\n", b"a\n", 1),
+        (b"a\nb", b"a\nb\n", 2),
+        (b"a\r\nb\r\n", b"a\nb\n", 2),
+        (b"\n \t\n\r\n\t \r\na\n  ", b"a\n", 1),
+        (b" a \n", b" a \n", 1),
+        (b"\r", b"\r\n", 1),
+        (b"a\r", b"a\r\n", 1),
+        (b"\r\r\n", b"\r\n", 1),
+        (b"a\rb\n", b"a\rb\n", 1),
+        (b"\xff\x00\n", b"\xff\x00\n", 1),
+    ];
+    for (input, want, count) in rows {
+        let mut reader = input;
+        let mut writer = Vec::new(rt.alloc());
+        let mut echo = Echo { answered: 0 };
+        let ended = run_echo(rt.alloc(), &mut reader, &mut writer, &mut echo);
+        assert!(rt; ended.is_ok());
+        assert_eq!(rt; writer.as_slice(), want);
+        assert_eq!(rt; echo.answered, count);
+    }
+    Ok(())
+}
+
+#[test]
+fn a_line_may_come_in_parts(rt: HostRuntime) -> Result<(), Fail> {
+    let mut long = Vec::new(rt.alloc());
+    for _ in 0..3 {
+        for _ in 0..4095 {
+            long.push(b'x')?;
+        }
+        long.push(b'\r')?;
+        long.push(b'\n')?;
+    }
+    let mut want = Vec::new(rt.alloc());
+    for byte in &long {
+        if *byte != b'\r' {
+            want.push(*byte)?;
+        }
+    }
+    for at_once in [1, 2, 4095, 4096, 5000] {
+        let mut reader = Slow {
+            text: long.as_slice(),
+            at_once,
+            fails: false,
+        };
+        let mut writer = Narrow {
+            taken: Vec::new(rt.alloc()),
+            at_once: 1000,
+            room: 100_000,
+            fails: false,
+        };
+        let mut echo = Echo { answered: 0 };
+        let ended = run_echo(rt.alloc(), &mut reader, &mut writer, &mut echo);
+        assert!(rt; ended.is_ok());
+        assert!(rt; writer.taken.as_slice() == want.as_slice());
+        assert_eq!(rt; echo.answered, 3);
+    }
+    Ok(())
+}
+
+#[test]
+fn a_read_that_fails_leaves_the_complete_lines_answered(rt: HostRuntime) -> Result<(), Fail> {
+    let rows: [(&[u8], &[u8], u64); 5] = [
+        (b"", b"", 0),
+        (b"a", b"", 0),
+        (b"a\n", b"a\n", 1),
+        (b"a\nb", b"a\n", 1),
+        (b"a\n\nb\r\nc\r", b"a\nb\n", 2),
+    ];
+    for (input, want, count) in rows {
+        let mut reader = Slow {
+            text: input,
+            at_once: 3,
+            fails: true,
+        };
+        let mut writer = Vec::new(rt.alloc());
+        let mut echo = Echo { answered: 0 };
+        let ended = run_echo(rt.alloc(), &mut reader, &mut writer, &mut echo);
+        assert!(rt; ended == Err(Cause::ReadFault));
+        assert_eq!(rt; writer.as_slice(), want);
+        assert_eq!(rt; echo.answered, count);
+    }
+    Ok(())
+}
+
+#[test]
+fn a_write_that_fails_or_takes_nothing_ends_the_run(rt: HostRuntime) -> Result<(), Fail> {
+    let rows: [(usize, &[u8], u64, bool); 8] = [
+        (0, b"", 1, true),
+        (1, b"a", 1, false),
+        (2, b"ab", 1, true),
+        (3, b"ab\n", 2, false),
+        (4, b"ab\nc", 2, true),
+        (5, b"ab\nc\n", 3, false),
+        (6, b"ab\nc\nd", 3, true),
+        (7, b"ab\nc\nd\n", 3, false),
+    ];
+    for (room, want, count, fails) in rows {
+        let mut reader: &[u8] = b"ab\nc\n\nd";
+        let mut writer = Narrow {
+            taken: Vec::new(rt.alloc()),
+            at_once: 2,
+            room,
+            fails,
+        };
+        let mut echo = Echo { answered: 0 };
+        let ended = run_echo(rt.alloc(), &mut reader, &mut writer, &mut echo);
+        if room < 7 {
+            assert!(rt; ended == Err(Cause::WriteFault));
+        } else {
+            assert!(rt; ended.is_ok());
+        }
+        assert_eq!(rt; writer.taken.as_slice(), want);
+        assert_eq!(rt; echo.answered, count);
+    }
+    Ok(())
+}
+
+#[test]
+fn an_input_has_at_most_64_mebibytes(rt: HostRuntime) -> Result<(), Fail> {
+    for (over, want) in [(0, Ok(())), (1, Err(Cause::ReadFault))] {
+        let mut reader = Blanks {
+            left: MAX_INPUT + over,
+        };
+        let mut writer = Vec::new(rt.alloc());
+        let mut echo = Echo { answered: 0 };
+        let ended = run_echo(rt.alloc(), &mut reader, &mut writer, &mut echo);
+        assert!(rt; ended == want);
+        assert_eq!(rt; reader.left, 0);
+        assert_eq!(rt; echo.answered, 0);
+    }
+    Ok(())
+}
+
+#[test]
+fn want_of_memory_ends_the_run_between_two_requests(rt: HostRuntime) -> Result<(), Fail> {
+    let rows: [(&[u8], &[u8], u64); 5] = [
+        (b"kept", b"", 0),
+        (b"a\nkept\nb\n", b"a\n", 1),
+        (b"a\n\nb\r\nkept", b"a\nb\n", 2),
+        (b"a\nlost\nb\n", b"a\n", 0),
+        (b"a\nlost", b"a\n", 0),
+    ];
+    for (input, want, count) in rows {
+        let mut reader = input;
+        let mut writer = Vec::new(rt.alloc());
+        let mut echo = Echo { answered: 0 };
+        let ended = run_echo(rt.alloc(), &mut reader, &mut writer, &mut echo);
+        assert!(rt; ended == Err(Cause::OutOfMemory));
+        assert_eq!(rt; writer.as_slice(), want);
+        assert_eq!(rt; echo.answered, count);
+    }
+    Ok(())
+}

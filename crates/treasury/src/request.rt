@@ -1,0 +1,47 @@
+//! What a treasury is asked: one variant for each word of `do`.
+
+mod form;
+mod reading;
+#[cfg(test)]
+mod tests;
+
+use crate::bytes::Bytes;
+use money_core::{Cause, Copied, Day, Text};
+pub use reading::{read_command, read_line};
+
+/// A request, with its texts as they were written and its days read.
+#[derive(Debug, Drop)]
+pub enum Request {
+    /// A new branch of that name.
+    Branch { name: Text },
+    /// A new commodity, in the style that the sample amount shows.
+    Commodity { sample: Text },
+    /// The transactions of a journal's text, into the branch of that name.
+    Import { branch: Text, journal: Bytes },
+    /// The balances of the branch of that name through the day.
+    Balance { branch: Text, day: Day },
+}
+
+impl Copied for Request {
+    fn copy(&self) -> Result<Self, Cause> {
+        match self {
+            Request::Branch { name } => {
+                let name = name.copy()?;
+                Ok(Request::Branch { name })
+            }
+            Request::Commodity { sample } => {
+                let sample = sample.copy()?;
+                Ok(Request::Commodity { sample })
+            }
+            Request::Import { branch, journal } => {
+                let branch = branch.copy()?;
+                let journal = journal.copy()?;
+                Ok(Request::Import { branch, journal })
+            }
+            Request::Balance { branch, day } => {
+                let branch = branch.copy()?;
+                Ok(Request::Balance { branch, day: *day })
+            }
+        }
+    }
+}

@@ -1,0 +1,72 @@
+//! The forms of requests: which keys each word of `do` has beside it.
+
+ghost use Rattle.std.specs.Prelude.{◌≡◌, option_map, option_and_then, IfSome};
+ghost use Rattle.serde_json.specs.View.{view};
+ghost use Rattle.journal_lines.specs.Date.{IsDayNumber};
+ghost use Rattle.treasury.specs.Request.{text_at, day_at, key_count, request_of, HasDayNumbers};
+ghost use Rattle.treasury.specs.Form.{shown};
+
+use journal_lines::read_date;
+use money_core::Day;
+use serde_json::Value;
+
+/// A request whose texts are those of a JSON value.
+#[derive(Clone, Copy, Drop)]
+pub enum Form<'a> {
+    Branch { name: &'a str },
+    Commodity { sample: &'a str },
+    Import { branch: &'a str, journal: &'a str },
+    Balance { branch: &'a str, day: Day },
+}
+
+/// The text at a key.
+fn text_at<'a>(value: &'a Value, key: &str) -> Option<&'a str>
+    ensures { option_map (λ s. s.now) result ≡ text_at key.now (view value.now) }
+{
+    value.get(key).and_then(Value::as_str)
+}
+
+/// The day at a key.
+fn day_at(value: &Value, key: &str) -> Option<Day>
+    ensures value { result ≡ day_at key.now (view value.now) }
+    ensures range { IfSome result IsDayNumber }
+{
+    let text = text_at(value, key)?;
+    read_date(text.as_bytes())
+}
+
+/// How many keys an object has.
+fn count_keys(value: &Value) -> usize
+    ensures { result ≡ key_count (view value.now) }
+{
+    match value.as_object() {
+        Some(map) => map.len(),
+        None => 0,
+    }
+}
+
+/// The form of a value, if it has one: the word's keys, each with a text, and no further key.
+pub fn form_of<'a>(value: &'a Value) -> Option<Form<'a>>
+    ensures value { option_map shown result ≡ request_of (view value.now) }
+    ensures days { IfSome result (λ form. HasDayNumbers (shown form)) }
+{
+    let word = text_at(value, "do")?;
+    let keys = count_keys(value);
+    if word == "branch" && keys == 2 {
+        let name = text_at(value, "name")?;
+        Some(Form::Branch { name })
+    } else if word == "commodity" && keys == 2 {
+        let sample = text_at(value, "sample")?;
+        Some(Form::Commodity { sample })
+    } else if word == "import" && keys == 3 {
+        let branch = text_at(value, "branch")?;
+        let journal = text_at(value, "journal")?;
+        Some(Form::Import { branch, journal })
+    } else if word == "balance" && keys == 3 {
+        let branch = text_at(value, "branch")?;
+        let day = day_at(value, "day")?;
+        Some(Form::Balance { branch, day })
+    } else {
+        None
+    }
+}

@@ -1,0 +1,86 @@
+//! Requests out of JSON.
+
+ghost use Rattle.std.specs.Prelude.{◌≡◌, ◌⊎◌, Some, None, Ok, Err, IfOk, IfErr};
+ghost use Rattle.std.specs.Result.{IsOkUnless};
+ghost use Rattle.treasury.specs.Request.{spelled, HasDayNumbers};
+ghost use Rattle.treasury.specs.Form.{shown};
+
+use crate::bytes::Bytes;
+use crate::request::Request;
+use crate::request::form::{Form, form_of};
+use money_core::{Cause, Text};
+use serde_json::Value;
+use std::alloc::Global;
+
+/// The request of a form, with texts of its own.
+fn owned(alloc: Global, form: Form) -> Result<Request, Cause>
+    ensures equal { IfOk result (λ request. request ≡ shown form.entry) }
+    ensures memory { IsOkUnless result Cause.OutOfMemory }
+{
+    match form {
+        Form::Branch { name } => {
+            let name = Text::of(alloc, name)?;
+            Ok(Request::Branch { name })
+        }
+        Form::Commodity { sample } => {
+            let sample = Text::of(alloc, sample)?;
+            Ok(Request::Commodity { sample })
+        }
+        Form::Import { branch, journal } => {
+            let branch = Text::of(alloc, branch)?;
+            let journal = Bytes::of(alloc, journal.as_bytes())?;
+            Ok(Request::Import { branch, journal })
+        }
+        Form::Balance { branch, day } => {
+            let branch = Text::of(alloc, branch)?;
+            Ok(Request::Balance { branch, day })
+        }
+    }
+}
+
+/// The request that a text spells.
+///
+/// `Request` comes where the text is no JSON object of a request's form, and where it is none only
+/// `Request` or `OutOfMemory` comes.
+#[tactic(auto, unfolding(crate::specs::Request::spelled))]
+pub fn read_command(alloc: Global, text: &str) -> Result<Request, Cause>
+    ensures ok { IfOk result (λ request. spelled text.now ≡ Some request) }
+    ensures days { IfOk result HasDayNumbers }
+    ensures refused { result ≡ Err Cause.Request → spelled text.now ≡ None }
+    ensures causes { IfErr result (λ cause. (cause ≡ Cause.Request) ⊎ (cause ≡ Cause.OutOfMemory)) }
+{
+    let value = match Value::from_str(alloc, text) {
+        Ok(value) => value,
+        Err(error) => {
+            return if error.is_memory() {
+                Err(Cause::OutOfMemory)
+            } else {
+                Err(Cause::Request)
+            };
+        }
+    };
+    let form = match form_of(&value) {
+        Some(form) => form,
+        None => return Err(Cause::Request),
+    };
+    match owned(alloc, form) {
+        Ok(request) => Ok(request),
+        Err(_) => Err(Cause::OutOfMemory),
+    }
+}
+
+/// The request that the bytes of a line spell, as `read_command` reads it; bytes that are not UTF-8 spell none.
+pub fn read_line(alloc: Global, line: &[u8]) -> Result<Request, Cause>
+    ensures ok { IfOk result (λ request. spelled line.now ≡ Some request) }
+    ensures days { IfOk result HasDayNumbers }
+    ensures refused { result ≡ Err Cause.Request → spelled line.now ≡ None }
+    ensures causes { IfErr result (λ cause. (cause ≡ Cause.Request) ⊎ (cause ≡ Cause.OutOfMemory)) }
+{
+    match str::from_utf8(line) {
+        Ok(text) => match read_command(alloc, text) {
+            Ok(request) => Ok(request),
+            Err(cause) => Err(cause),
+        },
+        Err(_) => Err(Cause::Request),
+    }
+}
