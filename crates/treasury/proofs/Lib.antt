@@ -3,3 +3,7 @@ pub mod WriteLemmas
 pub mod LineLemmas
 pub mod RunLemmas
 pub mod WorkedValues
+pub mod LineKindLemmas
+pub mod SmallJournalLemmas
+pub mod KindLemmas
+pub mod FaultLemmas

@@ -4,7 +4,9 @@
 mod bytes;
 mod lines;
 mod request;
+mod small_journal;
 
 pub use bytes::Bytes;
 pub use lines::{MAX_INPUT, Machine, Shortage, run_machine};
 pub use request::{Request, read_command, read_line};
+pub use small_journal::{Written, read_journal};
