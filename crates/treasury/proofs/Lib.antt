@@ -7,3 +7,8 @@ pub mod LineKindLemmas
 pub mod SmallJournalLemmas
 pub mod KindLemmas
 pub mod FaultLemmas
+pub mod AppendLemmas
+pub mod AccountOrder
+pub mod BalanceLemmas
+pub mod UnitLemmas
+pub mod VerdictLemmas

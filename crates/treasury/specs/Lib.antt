@@ -5,3 +5,5 @@ pub mod RunEnd
 pub mod Served
 pub mod SmallJournal
 pub mod LineView
+pub mod Answer
+pub mod BalanceReport
