@@ -12,3 +12,9 @@ pub mod AccountOrder
 pub mod BalanceLemmas
 pub mod UnitLemmas
 pub mod VerdictLemmas
+pub mod StepLemmas
+pub mod BookLemmas
+pub mod FederationLemmas
+pub mod EnteringLemmas
+pub mod DecisionLemmas
+pub mod EnterLemmas

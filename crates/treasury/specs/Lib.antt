@@ -7,3 +7,6 @@ pub mod SmallJournal
 pub mod LineView
 pub mod Answer
 pub mod BalanceReport
+pub mod Federation
+pub mod Step
+pub mod Entering

@@ -1,0 +1,11 @@
+use Rattle.std.proofs.Common.{◌≡◌, ◌++◌, reverse, vec_len}
+use Rattle.std.specs.List.{AllByRecursion}
+use Rattle.book_core.specs.GoodBook.{IsFit, IsWithin}
+use Rattle.treasury.proofs.EnteringLemmas.{Half}
+use Rattle.treasury.proofs.entering.enter_all.Given as goal
+
+abbrev pub invariant-entering : goal.invariant-entering
+invariant-entering l = Half l.fn.book l.fn.new.items l.book (reverse l.left.items)
+
+abbrev pub decreases-entering : goal.decreases-entering
+decreases-entering l = vec_len l.left

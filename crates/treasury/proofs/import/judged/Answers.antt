@@ -1,0 +1,11 @@
+use Rattle.std.proofs.Common.{◌≡◌, None, ◌∙◌, sym, ap}
+use Rattle.book_core.specs.GoodBook.{IsFit}
+use Rattle.std.specs.List.{AllByRecursion}
+use Rattle.treasury.specs.Step.{unbalanced_line}
+use Rattle.treasury.proofs.StepLemmas.{IsFit-entries_of}
+use Rattle.treasury.proofs.import.judged.Goals as goal
+
+pub checked-requires-clause-fit : goal.checked-requires-clause-fit
+checked-requires-clause-fit c =
+    let none : unbalanced_line c.args.list.items ≡ None = cc in
+    rw c.in-Ok.ensures.equal (IsFit-entries_of c.args.list.items c.requires.unclaimed none)

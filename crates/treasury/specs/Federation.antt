@@ -1,0 +1,46 @@
+-- The state of a federation: its commodities, and its branches with their books (own rules; docs/RULES.md, "Branches", "Commodities", "Books").
+use Rattle.std.specs.Prelude.{◌≡◌, ◌≤◌, ◌<◌, ℕ, ◌==◌, nat_le, ◌&&◌, ◌||◌, Bool, true, List, [], ◌∷◌, ◌++◌, length, slice_index, slice_get, position, Option, Some}
+use Rattle.std.specs.Char.{is_ascii_lowercase, is_ascii_digit}
+use Rattle.std.specs.List.{list_all, AllByRecursion}
+use Rattle.std.specs.Str.{bytes_eq}
+use Rattle.money_core.specs.declared.style.Style.{Style}
+use Rattle.money_core.specs.Style.{AreStyles}
+use Rattle.book_core.specs.declared.leg.Leg.{Leg}
+use Rattle.book_core.specs.declared.entry.Entry.{Entry}
+use Rattle.book_core.specs.GoodBook.{IsGoodBook}
+use Rattle.treasury.specs.declared.branch.Branch.{Branch}
+
+-- the commodities in order of declaration, and the branches in order, each with its name and its book, the list of its entries
+pub record Federation : Type 0 where
+  pub styles : List Style
+  pub branches : List Branch
+
+-- a lower-case ASCII letter, a digit or `-`
+abbrev pub is_name_byte : ℕ → Bool
+is_name_byte b = is_ascii_lowercase b || is_ascii_digit b || (b == 45)
+
+-- a branch's name: a lower-case ASCII letter, then 0 to 31 lower-case letters, digits or `-`
+abbrev pub is_branch_name : List ℕ → Bool
+is_branch_name name = is_ascii_lowercase (slice_index name 0) && list_all is_name_byte name && nat_le (length name) 32
+
+-- where the branch of that name stands, from 0
+abbrev pub branch_place : List Branch → List ℕ → Option ℕ
+branch_place branches name = position (λ branch. bytes_eq branch.name name) branches
+
+-- an entry of this stage: no assertions, and each leg in a declared commodity
+pub record IsPlainEntry (styles : List Style) (e : Entry) : Type 0 where
+  pub unclaimed : e.claims ≡ []
+  pub declared : AllByRecursion (λ (x : Leg). x.unit.0 < length styles) e.legs
+
+-- a branch whose name is well formed, and whose book is good
+pub record IsGoodBranch (styles : List Style) (branch : Branch) : Type 0 where
+  pub named : is_branch_name branch.name ≡ true
+  pub book : IsGoodBook branch.book
+  pub plain : AllByRecursion (IsPlainEntry styles) branch.book
+
+-- a good state: good commodities, at most 32 branches, each good and the one that its name finds
+pub record IsGoodFederation (f : Federation) : Type 0 where
+  pub styles : AreStyles f.styles
+  pub few : length f.branches ≤ 32
+  pub good : AllByRecursion (IsGoodBranch f.styles) f.branches
+  pub found : (i : ℕ) (branch : Branch) → slice_get f.branches i ≡ Some branch → branch_place f.branches branch.name ≡ Some i

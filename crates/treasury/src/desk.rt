@@ -1,0 +1,344 @@
+//! The desk: the state of a federation in memory, and what it answers to requests.
+
+ghost use Rattle.std.specs.Prelude.{◌≡◌, ◌↔◌, IsTrue, true, ◌≤◌, ◌<◌, ◌++◌, ◌∷◌, [], List, ℕ, Ok, Err, Some, None, IfOk, OnOk, OnErr, IsErrOf};
+ghost use Rattle.std.specs.Result.{IsOkUnless};
+ghost use Rattle.money_core.specs.Style.{is_style};
+ghost use Rattle.money_core.specs.Sampling.{style_of};
+ghost use Rattle.treasury.specs.Step.{branch_answer, with_branch, declaration_answer, after_commodity, import_decision, after_import, step, IsOutcome, IsAcceptedImport, IsAcceptedRequest};
+ghost use Rattle.treasury.specs.Answer.{answer_text};
+ghost use Rattle.treasury.specs.declared.answers.Answer.TheVariants.{Done};
+ghost use Rattle.treasury.specs.declared.request.Request.TheVariants.{Branch as ForBranch, Commodity as ForCommodity, Import as ForImport, Balance as ForBalance};
+
+use crate::answers::{Answer, answer_line};
+use crate::balance_report::balance_report;
+use crate::branch::{Branch, branch_place, is_branch_name};
+use crate::entering::enter_all;
+use crate::import::{Accepted, judged};
+use crate::lines::Shortage;
+use crate::request::Request;
+use crate::small_journal::read_journal;
+use book_core::{Ledger, PlainLedger, Refusal};
+use money_core::{Cause, Day, Declared, Style, Styles, Text, read_style};
+use std::alloc::Global;
+use std::marker::Model;
+
+/// The greatest number of branches.
+pub const MAX_BRANCHES: usize = 32;
+
+/// The commodities of a federation, and its branches with their books.
+#[derive(Drop)]
+pub struct Desk {
+    styles: Styles,
+    branches: Vec<Branch>,
+}
+
+impl Model for Desk {
+    ghost use Rattle.treasury.specs.Federation.{Federation, IsGoodFederation};
+
+    ghost Value = { Federation };
+
+    ghost view = { λ d. record { styles = d.styles; branches = d.branches.items } };
+
+    ghost invariant = { λ d. IsGoodFederation (record { styles = d.styles; branches = d.branches.items }) };
+}
+
+/// Whether it is want of memory.
+fn is_memory(cause: Cause) -> bool
+    ensures { IsTrue result ↔ (cause ≡ Cause.OutOfMemory) }
+{
+    cause == Cause::OutOfMemory
+}
+
+/// The style that a sample spells, if it is one.
+fn spelled_style(alloc: Global, sample: &str) -> Result<Option<Style>, Cause>
+    ensures value { IfOk result (λ style. style ≡ style_of sample.now) }
+    ensures memory { IsOkUnless result Cause.OutOfMemory }
+{
+    match read_style(alloc, sample) {
+        Ok(style) => Ok(Some(style)),
+        Err(cause) => {
+            if is_memory(cause) {
+                Err(Cause::OutOfMemory)
+            } else {
+                Ok(None)
+            }
+        }
+    }
+}
+
+/// What a declaration is answered.
+fn declaration_answer(judged: Result<Declared, Cause>) -> Result<Answer, Refusal>
+    ensures { result ≡ declaration_answer judged }
+{
+    match judged {
+        Ok(Declared::New(_)) => Ok(Answer::Done),
+        Ok(Declared::Same(_)) => Ok(Answer::Repeated),
+        Err(cause) => Err(Refusal::Plain(cause)),
+    }
+}
+
+impl Desk {
+    /// A federation without commodities and branches.
+    pub fn empty(alloc: Global) -> Self
+        ensures { result ≡ record { styles = []; branches = [] } }
+    {
+        Desk {
+            styles: Styles::empty(alloc),
+            branches: Vec::new(alloc),
+        }
+    }
+
+    /// What a new branch is answered.
+    fn branch_answer(&self, name: &str) -> Result<Answer, Refusal>
+        ensures { result ≡ branch_answer self.now name.now }
+    {
+        if !is_branch_name(name.as_bytes()) {
+            return Err(Refusal::Plain(Cause::BranchName));
+        }
+        if branch_place(&self.branches, name.as_bytes()).is_some() {
+            return Ok(Answer::Repeated);
+        }
+        if self.branches.len() >= MAX_BRANCHES {
+            return Err(Refusal::Plain(Cause::Full));
+        }
+        Ok(Answer::Done)
+    }
+
+    /// Adds a branch with an empty book.
+    fn add_branch(&mut self, alloc: Global, name: &str) -> Result<(), Cause>
+        requires { branch_answer self.old name.now ≡ Ok Done }
+        ensures ok { OnOk result (self.new ≡ with_branch self.old name.now) }
+        ensures err { OnErr result (self.new ≡ self.old) }
+        ensures memory { IsOkUnless result Cause.OutOfMemory }
+    {
+        let name = Text::of(alloc, name)?;
+        let book = PlainLedger::empty(alloc);
+        self.branches.push(Branch { name, book })?;
+        Ok(())
+    }
+
+    /// Answers the request for a new branch. The answer's room is made before the branch is.
+    #[tactic(auto, unfolding(crate::specs::Step::step))]
+    fn answer_branch(&mut self, alloc: Global, name: &str, out: &mut Vec<u8>) -> Result<(), Cause>
+        ensures ok { OnOk result (IsOutcome (step self.old (ForBranch name.now)) out.old.items out.new.items self.new) }
+        ensures err { OnErr result ((self.new ≡ self.old) × (out.new.items ≡ out.old.items)) }
+        ensures memory { IsOkUnless result Cause.OutOfMemory }
+    {
+        let answer = self.branch_answer(name);
+        let before = out.len();
+        match answer_line(alloc, &answer, &self.styles, out) {
+            Ok(()) => {}
+            Err(cause) => return Err(cause),
+        }
+        match answer {
+            Ok(Answer::Done) => match self.add_branch(alloc, name) {
+                Ok(()) => Ok(()),
+                Err(cause) => {
+                    out.truncate(before);
+                    Err(cause)
+                }
+            },
+            _ => Ok(()),
+        }
+    }
+
+    /// Answers the request for a new commodity, by its sample. The answer's room is made before the commodity is.
+    #[tactic(auto, unfolding(crate::specs::Step::step))]
+    fn answer_commodity(
+        &mut self,
+        alloc: Global,
+        sample: &str,
+        out: &mut Vec<u8>,
+    ) -> Result<(), Cause>
+        ensures ok { OnOk result (IsOutcome (step self.old (ForCommodity sample.now)) out.old.items out.new.items self.new) }
+        ensures err { OnErr result ((self.new ≡ self.old) × (out.new.items ≡ out.old.items)) }
+        ensures memory { IsOkUnless result Cause.OutOfMemory }
+    {
+        let style = match spelled_style(alloc, sample) {
+            Ok(Some(style)) => style,
+            Ok(None) => {
+                return answer_line(
+                    alloc,
+                    &Err(Refusal::Plain(Cause::Amount)),
+                    &self.styles,
+                    out,
+                );
+            }
+            Err(cause) => return Err(cause),
+        };
+        let answer = declaration_answer(self.styles.judge(&style));
+        let before = out.len();
+        match answer_line(alloc, &answer, &self.styles, out) {
+            Ok(()) => {}
+            Err(cause) => return Err(cause),
+        }
+        match self.declare(style) {
+            Ok(()) => Ok(()),
+            Err(cause) => {
+                out.truncate(before);
+                Err(cause)
+            }
+        }
+    }
+
+    /// Declares the style as it was judged.
+    fn declare(&mut self, style: Style) -> Result<(), Cause>
+        requires { is_style style ≡ true }
+        ensures ok { OnOk result (self.new ≡ after_commodity self.old (Some style)) }
+        ensures err { OnErr result (self.new ≡ self.old) }
+        ensures memory { IsOkUnless result Cause.OutOfMemory }
+    {
+        match self.styles.declare(style) {
+            Err(Cause::OutOfMemory) => Err(Cause::OutOfMemory),
+            _ => Ok(()),
+        }
+    }
+
+    /// What an import is decided to be.
+    fn import_decision(
+        &self,
+        alloc: Global,
+        name: &str,
+        journal: &[u8],
+    ) -> Result<Result<Accepted, Refusal>, Cause>
+        ensures decided { IfOk result (λ decision. decision ≡ import_decision self.now name.now journal.now) }
+        ensures memory { IsOkUnless result Cause.OutOfMemory }
+    {
+        let list = match read_journal(alloc, journal, &self.styles) {
+            Ok(list) => list,
+            Err(fault) => {
+                return if is_memory(fault.cause) {
+                    Err(Cause::OutOfMemory)
+                } else {
+                    Ok(Err(Refusal::Text(fault)))
+                };
+            }
+        };
+        match branch_place(&self.branches, name.as_bytes()) {
+            None => Ok(Err(Refusal::Plain(Cause::UnknownBranch))),
+            Some(place) => judged(alloc, place, &self.branches[place].book, list),
+        }
+    }
+
+    /// Enters the entries of an accepted import. Where memory is refused, those that were entered stay.
+    fn enter(&mut self, accepted: Accepted) -> Result<(), Cause>
+        requires { (name : List ℕ) × ((journal : List ℕ) × (import_decision self.old name journal ≡ Ok accepted)) }
+        ensures ok { OnOk result (self.new ≡ after_import self.old (Ok accepted)) }
+        ensures memory { IsOkUnless result Cause.OutOfMemory }
+    {
+        let Accepted { place, new } = accepted;
+        enter_all(&mut self.branches[place].book, new.into_vec())
+    }
+
+    /// Answers the request for an import. The answer's room is made before an entry is added.
+    #[tactic(auto, unfolding(crate::specs::Step::step))]
+    fn answer_import(
+        &mut self,
+        alloc: Global,
+        name: &str,
+        journal: &[u8],
+        out: &mut Vec<u8>,
+    ) -> Result<(), Shortage>
+        ensures ok { OnOk result (IsOutcome (step self.old (ForImport name.now journal.now)) out.old.items out.new.items self.new) }
+        ensures kept { IsErrOf result Shortage.Kept → (self.new ≡ self.old) × (out.new.items ≡ out.old.items) }
+        ensures lost { IsErrOf result Shortage.Lost → IsAcceptedImport self.old name.now journal.now }
+    {
+        let accepted = match self.import_decision(alloc, name, journal) {
+            Ok(Ok(accepted)) => accepted,
+            Ok(Err(refusal)) => {
+                return match answer_line(alloc, &Err(refusal), &self.styles, out) {
+                    Ok(()) => Ok(()),
+                    Err(_) => Err(Shortage::Kept),
+                };
+            }
+            Err(_) => return Err(Shortage::Kept),
+        };
+        let answer = Ok(Answer::Entered {
+            new: accepted.new.items().len(),
+            repeated: 0,
+        });
+        match answer_line(alloc, &answer, &self.styles, out) {
+            Ok(()) => {}
+            Err(_) => return Err(Shortage::Kept),
+        }
+        match self.enter(accepted) {
+            Ok(()) => Ok(()),
+            Err(_) => Err(Shortage::Lost),
+        }
+    }
+
+    /// Answers the request for a branch's balances: the report and `ok`, or that the branch is not there.
+    #[tactic(auto, unfolding(crate::specs::Step::step))]
+    fn answer_balance(
+        &self,
+        alloc: Global,
+        name: &str,
+        day: Day,
+        out: &mut Vec<u8>,
+    ) -> Result<(), Cause>
+        ensures ok { OnOk result (IsOutcome (step self.now (ForBalance name.now day)) out.old.items out.new.items self.now) }
+        ensures err { OnErr result (out.new.items ≡ out.old.items) }
+        ensures memory { IsOkUnless result Cause.OutOfMemory }
+    {
+        let place = match branch_place(&self.branches, name.as_bytes()) {
+            Some(place) => place,
+            None => {
+                let refusal = Err(Refusal::Plain(Cause::UnknownBranch));
+                return answer_line(alloc, &refusal, &self.styles, out);
+            }
+        };
+        let before = out.len();
+        match balance_report(alloc, &self.branches[place].book, &self.styles, day, out) {
+            Ok(()) => {}
+            Err(cause) => return Err(cause),
+        }
+        match answer_line(alloc, &Ok(Answer::Done), &self.styles, out) {
+            Ok(()) => Ok(()),
+            Err(cause) => {
+                out.truncate(before);
+                Err(cause)
+            }
+        }
+    }
+
+    /// Answers a request. Where memory is refused before it is decided, nothing has changed.
+    pub fn perform(
+        &mut self,
+        alloc: Global,
+        request: &Request,
+        out: &mut Vec<u8>,
+    ) -> Result<(), Shortage>
+        ensures ok { OnOk result (IsOutcome (step self.old request.now) out.old.items out.new.items self.new) }
+        ensures kept { IsErrOf result Shortage.Kept → (self.new ≡ self.old) × (out.new.items ≡ out.old.items) }
+        ensures lost { IsErrOf result Shortage.Lost → IsAcceptedRequest self.old request.now }
+    {
+        let done = match request {
+            Request::Branch { name } => self.answer_branch(alloc, name.as_str(), out),
+            Request::Commodity { sample } => self.answer_commodity(alloc, sample.as_str(), out),
+            Request::Import { branch, journal } => {
+                return self.answer_import(alloc, branch.as_str(), journal.as_bytes(), out);
+            }
+            Request::Balance { branch, day } => self.answer_balance(
+                alloc,
+                branch.as_str(),
+                *day,
+                out,
+            ),
+        };
+        match done {
+            Ok(()) => Ok(()),
+            Err(_) => Err(Shortage::Kept),
+        }
+    }
+
+    /// Answers with a refusal.
+    pub fn refuse(&self, alloc: Global, cause: Cause, out: &mut Vec<u8>) -> Result<(), Shortage>
+        ensures ok { OnOk result (out.new.items ≡ out.old.items ++ answer_text self.now.styles (Err (Refusal.Plain cause))) }
+        ensures err { OnErr result (result ≡ Err Shortage.Kept) }
+    {
+        match answer_line(alloc, &Err(Refusal::Plain(cause)), &self.styles, out) {
+            Ok(()) => Ok(()),
+            Err(_) => Err(Shortage::Kept),
+        }
+    }
+}

@@ -1,0 +1,36 @@
+//! Entries that a check has passed go into a branch's book.
+
+ghost use Rattle.std.specs.Prelude.{◌≡◌, ◌++◌, ℕ, List, reverse, OnOk, OnErr};
+ghost use Rattle.std.specs.List.{AllByRecursion};
+ghost use Rattle.std.specs.Result.{IsOkUnless};
+ghost use Rattle.book_core.specs.GoodBook.{IsFit, IsWithin};
+ghost use Rattle.treasury.specs.Entering.{Begins};
+
+use book_core::{Entry, Ledger, PlainLedger};
+use money_core::Cause;
+
+/// The entries, last first.
+fn reversed(mut entries: Vec<Entry>) -> Vec<Entry>
+    ensures { result.items ≡ reverse entries.items }
+{
+    entries.reverse();
+    entries
+}
+
+/// Adds the entries in order. Where memory is refused, the first of them stay in the book.
+pub fn enter_all(book: &mut PlainLedger, new: Vec<Entry>) -> Result<(), Cause>
+    requires fit { AllByRecursion IsFit new.items }
+    requires room { IsWithin (book.old ++ new.items) }
+    ensures ok { OnOk result (book.new ≡ book.old ++ new.items) }
+    ensures err { OnErr result (Begins book.old new.items book.new) }
+    ensures memory { IsOkUnless result Cause.OutOfMemory }
+{
+    let mut left = reversed(new);
+    'entering: while let Some(entry) = left.pop() {
+        match book.add(entry) {
+            Ok(()) => {}
+            Err(cause) => return Err(cause),
+        }
+    }
+    Ok(())
+}
