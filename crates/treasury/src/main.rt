@@ -1,0 +1,40 @@
+//! The program `treasury`: a federation's requests from standard input, their answers to standard output.
+#![tactic(auto)]
+
+mod answers;
+mod balance_report;
+mod branch;
+mod bytes;
+mod columns;
+mod desk;
+mod entering;
+mod import;
+mod lines;
+mod request;
+mod running;
+mod small_journal;
+mod words;
+
+use std::process::ExitCode;
+use std::{env, io};
+
+/// The words that the program was called with, its own name first.
+fn words_given(rt: &HostRuntime) -> io::Result<Vec<String>> {
+    let mut words = Vec::new(rt.alloc());
+    for word in env::args(rt)? {
+        words.push(word)?;
+    }
+    Ok(words)
+}
+
+fn main(rt: HostRuntime) -> io::Result<ExitCode> {
+    // Words that cannot be had are as none: the usage is shown.
+    let words = match words_given(&rt) {
+        Ok(words) => words,
+        Err(_) => Vec::new(rt.alloc()),
+    };
+    let mut input = rt.reader();
+    let mut output = io::writer(&rt);
+    let status = words::run_words(&rt, words.as_slice(), &mut input, &mut output);
+    Ok(ExitCode::from(status))
+}

@@ -1,0 +1,95 @@
+//! The words of the command line, and what they do.
+
+use crate::desk::Desk;
+use crate::running::run_lines;
+use clap::error::ErrorKind;
+use clap::{Command, Error};
+use std::alloc::{AllocError, Global};
+use std::io::{Read, Write};
+
+/// What the program is for, and an example.
+const ABOUT: &str = "Keeps the books of a federation of branches: requests in, answers out.";
+
+/// How the program is called.
+const EXAMPLE: &str = "Example:{n}  treasury run < requests.jsonl{n}{n}Status 0: done. 1: cut off, by input, output or memory. 2: other words.";
+
+/// What `run` does.
+const ABOUT_RUN: &str = "Answers the requests on standard input, one JSON object a line, on standard output";
+
+/// A day's requests and their answers.
+const EXAMPLE_RUN: &str = r#"Requests:
+  {"do":"branch","name":NAME}                    a new branch
+  {"do":"commodity","sample":AMOUNT}             a new commodity, in the style of the amount
+  {"do":"import","branch":NAME,"journal":TEXT}   a journal's transactions, into the branch
+  {"do":"balance","branch":NAME,"day":DAY}       the branch's balances through the day
+
+Each is answered by a line that begins with ok, repeated or refused; a balance report stands above its ok.
+All is kept in memory, and ends with the input.
+
+Example:
+  $ treasury run
+  {"do":"branch","name":"north"}
+  ok
+  {"do":"branch","name":"North"}
+  refused 21 BranchName"#;
+
+/// The words that the program knows.
+fn known_words<'a>(alloc: Global) -> Result<Command<'a>, AllocError> {
+    let run = Command::new(alloc, "run")
+        .about(ABOUT_RUN)
+        .after_help(EXAMPLE_RUN);
+    Command::new(alloc, "treasury")
+        .about(ABOUT)
+        .after_help(EXAMPLE)
+        .arg_required_else_help(true)
+        .subcommand_required(true)
+        .subcommand(run)
+}
+
+/// Runs from the input to the output, over a federation that has nothing yet.
+fn run<R: Read, W: Write>(alloc: Global, input: &mut R, output: &mut W) -> u8 {
+    let mut desk = Desk::empty(alloc);
+    match run_lines(alloc, input, output, &mut desk) {
+        Ok(()) => 0,
+        Err(_) => 1,
+    }
+}
+
+/// Shows the help on the output.
+fn show<W: Write>(alloc: Global, help: &Error, output: &mut W) -> u8 {
+    let Ok(text) = help.to_string(alloc) else {
+        return 1;
+    };
+    match output.write_all(text.as_bytes()) {
+        Ok(()) => 0,
+        Err(_) => 1,
+    }
+}
+
+/// Does what the words say, and answers the exit status.
+///
+/// The words begin with the program's name. 0: done, whatever was refused. 1: cut off, because memory was refused, the
+/// input broke or a write failed; nothing is said of it. 2: words that say nothing to do, with the reason and the usage
+/// on standard error. `--help` is written to the output.
+pub fn run_words<H, R, W>(rt: &H, words: &[String], input: &mut R, output: &mut W) -> u8
+where
+    H: Eprint + AllocGlobal,
+    R: Read,
+    W: Write,
+{
+    let alloc = rt.alloc();
+    let Ok(known) = known_words(alloc) else {
+        return 1;
+    };
+    match known.try_get_matches_from(words) {
+        Ok(_) => run(alloc, input, output),
+        Err(error) => match error.kind() {
+            ErrorKind::OutOfMemory => 1,
+            ErrorKind::DisplayHelp => show(alloc, &error, output),
+            _ => {
+                let _ = rt.eprint(&error);
+                2
+            }
+        },
+    }
+}
