@@ -18,3 +18,4 @@ pub mod FederationLemmas
 pub mod EnteringLemmas
 pub mod DecisionLemmas
 pub mod EnterLemmas
+pub mod HistoryLemmas

@@ -10,3 +10,4 @@ pub mod BalanceReport
 pub mod Federation
 pub mod Step
 pub mod Entering
+pub mod History

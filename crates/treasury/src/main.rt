@@ -9,6 +9,7 @@ mod columns;
 mod desk;
 mod entering;
 mod import;
+mod laws;
 mod lines;
 mod request;
 mod running;

@@ -1,0 +1,8 @@
+use Rattle.treasury.proofs.HistoryLemmas.{left_step, left_answered}
+use Rattle.treasury.proofs.laws.refusal_law.Goals as goal
+
+pub returns-clause-decided : goal.returns-clause-decided
+returns-clause-decided c = left_step
+
+pub returns-clause-answered : goal.returns-clause-answered
+returns-clause-answered c = left_answered
