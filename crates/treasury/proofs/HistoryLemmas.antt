@@ -70,37 +70,38 @@ before to bs = prefix_len (λ (b : Branch). not (bytes_eq b.name to)) bs
 
 added_elsewhere : (b to name : List ℕ) (new : List Entry) → bytes_eq b to ≡ false → bytes_eq b name ≡ true → added to new name ≡ []
 added_elsewhere b to name new other same = elim (cases_Bool (bytes_eq to name)) [
-    inl yes_ ↦ absurd (
+  | inl yes_ ↦ absurd (
       let e : b ≡ to = (bytes_eq-Decides b name).0 same ∙ sym ((bytes_eq-Decides to name).0 yes_) in
       let t : bytes_eq b to ≡ true = (bytes_eq-Decides b to).1 e in
       cc)
-  | inr no_ ↦ ap (λ (t : Bool). if t then new else []) no_ ]
+  | inr no_ ↦ ap (λ (t : Bool). if t then new else []) no_
+]
 
 entered_here : (to name : List ℕ) (new : List Entry) (b : Branch) (bs : List Branch) (t : Bool) → bytes_eq b.name to ≡ t
-  → (before to bs < length bs → book_of (entered_at bs (before to bs) new) name ≡ book_of bs name ++ added to new name)
-  → cond (not t) (1 + before to bs) 0 < length (b ∷ bs)
-  → book_of (entered_at (b ∷ bs) (cond (not t) (1 + before to bs) 0) new) name ≡ book_of (b ∷ bs) name ++ added to new name
+    → (before to bs < length bs → book_of (entered_at bs (before to bs) new) name ≡ book_of bs name ++ added to new name)
+    → cond (not t) (1 + before to bs) 0 < length (b ∷ bs)
+    → book_of (entered_at (b ∷ bs) (cond (not t) (1 + before to bs) 0) new) name ≡ book_of (b ∷ bs) name ++ added to new name
 entered_here to name new b bs true is rest low =
-  let e : b.name ≡ to = (bytes_eq-Decides b.name to).0 is in
-  if-append (bytes_eq b.name name) b.book (book_of bs name) new
-  ∙ ap (λ (s : List ℕ). book_of (b ∷ bs) name ++ added s new name) e
+    let e : b.name ≡ to = (bytes_eq-Decides b.name to).0 is in
+    if-append (bytes_eq b.name name) b.book (book_of bs name) new
+    ∙ ap (λ (s : List ℕ). book_of (b ∷ bs) name ++ added s new name) e
 entered_here to name new b bs false is rest low =
-  let next : 1 + before to bs ≡ suc (before to bs) = omega arith in
-  ap (λ (i : ℕ). book_of (entered_at (b ∷ bs) i new) name) next
-  ∙ if-other (bytes_eq b.name name) b.book (book_of bs name) (book_of (entered_at bs (before to bs) new) name) (added to new name)
-      (added_elsewhere b.name to name new is) (rest (omega (arith, low)))
+    let next : 1 + before to bs ≡ suc (before to bs) = omega arith in
+    ap (λ (i : ℕ). book_of (entered_at (b ∷ bs) i new) name) next
+    ∙ if-other (bytes_eq b.name name) b.book (book_of bs name) (book_of (entered_at bs (before to bs) new) name) (added to new name)
+    (added_elsewhere b.name to name new is) (rest (omega (arith, low)))
 
 entered_before : (to name : List ℕ) (new : List Entry) (bs : List Branch) → before to bs < length bs
-  → book_of (entered_at bs (before to bs) new) name ≡ book_of bs name ++ added to new name
+    → book_of (entered_at bs (before to bs) new) name ≡ book_of bs name ++ added to new name
 entered_before to name new [] low = absurd (omega (arith, low))
 entered_before to name new (b ∷ bs) low = entered_here to name new b bs (bytes_eq b.name to) refl (entered_before to name new bs) low
 
 book_of-entered_at : (bs : List Branch) (i : ℕ) (new : List Entry) (to name : List ℕ) → branch_place bs to ≡ Some i
-  → book_of (entered_at bs i new) name ≡ book_of bs name ++ added to new name
+    → book_of (entered_at bs i new) name ≡ book_of bs name ++ added to new name
 book_of-entered_at bs i new to name h =
-  let n = position_or_len (λ (b : Branch). bytes_eq b.name to) bs in
-  let at = some_chosen (nat_lt n (length bs)) n i h in
-  ap (λ (j : ℕ). book_of (entered_at bs j new) name) (sym at.1) ∙ entered_before to name new bs (ltb-true n (length bs) at.0)
+    let n = position_or_len (λ (b : Branch). bytes_eq b.name to) bs in
+    let at = some_chosen (nat_lt n (length bs)) n i h in
+    ap (λ (j : ℕ). book_of (entered_at bs j new) name) (sym at.1) ∙ entered_before to name new bs (ltb-true n (length bs) at.0)
 
 -- ---- the place of an accepted import is that of its branch
 
@@ -141,11 +142,11 @@ book_after_commodity f None name = sym (append-nil (book_of f.branches name))
 book_after_commodity f (Some style) name = sym (append-nil (book_of f.branches name))
 
 book_after_import : (f : Federation) (to : List ℕ) (r : Result Accepted Refusal) (name : List ℕ) → ((accepted : Accepted) → r ≡ Ok accepted → branch_place f.branches to ≡ Some accepted.place)
-  → book_of (after_import f r).branches name ≡ book_of f.branches name ++ entered_into name (imported_if to r)
+    → book_of (after_import f r).branches name ≡ book_of f.branches name ++ entered_into name (imported_if to r)
 book_after_import f to (Err refusal) name place = sym (append-nil (book_of f.branches name))
 book_after_import f to (Ok accepted) name place =
-  book_of-entered_at f.branches accepted.place accepted.new to name (place accepted refl)
-  ∙ ap (λ (es : List Entry). book_of f.branches name ++ es) (sym (append-nil (added to accepted.new name)))
+    book_of-entered_at f.branches accepted.place accepted.new to name (place accepted refl)
+    ∙ ap (λ (es : List Entry). book_of f.branches name ++ es) (sym (append-nil (added to accepted.new name)))
 
 book_after_step : (f : Federation) (request : Request) (name : List ℕ) → book_of (step f request).after.branches name ≡ book_of f.branches name ++ entered_into name (import_in f request)
 unfolding step
@@ -160,7 +161,7 @@ book_of_same : (f g : Federation) (name : List ℕ) → g ≡ f → book_of g.br
 book_of_same f g name h = ap (λ (k : Federation). book_of k.branches name) h
 
 book_answered : (f : Federation) (line text : List ℕ) (g : Federation) (t : Answers f line text g) (name : List ℕ)
-  → book_of g.branches name ≡ book_of f.branches name ++ entered_into name (import_answered f line text g t)
+    → book_of g.branches name ≡ book_of f.branches name ++ entered_into name (import_answered f line text g t)
 book_answered f line text g (inl (request, answered)) name = book_of_same (step f request).after g name answered.2 ∙ book_after_step f request name
 book_answered f line text g (inr (inl none)) name = book_of_same f g name none.2 ∙ sym (append-nil (book_of f.branches name))
 book_answered f line text g (inr (inr memory)) name = book_of_same f g name memory.1 ∙ sym (append-nil (book_of f.branches name))
@@ -168,31 +169,31 @@ book_answered f line text g (inr (inr memory)) name = book_of_same f g name memo
 entered_into-append : (name : List ℕ) (xs ys : List Imported) → entered_into name (xs ++ ys) ≡ entered_into name xs ++ entered_into name ys
 entered_into-append name [] ys = refl
 entered_into-append name (x ∷ xs) ys =
-  let first : List Entry = if bytes_eq x.branch name then x.entries else [] in
-  ap (λ (es : List Entry). first ++ es) (entered_into-append name xs ys) ∙ sym (append_assoc first (entered_into name xs) (entered_into name ys))
+    let first : List Entry = if bytes_eq x.branch name then x.entries else [] in
+    ap (λ (es : List Entry). first ++ es) (entered_into-append name xs ys) ∙ sym (append_assoc first (entered_into name xs) (entered_into name ys))
 
 book_in_turn : (start : Federation) (requests : List (List ℕ)) (output : List ℕ) (end : Federation) (t : AnswersInTurn Answers start requests output end) (name : List ℕ)
-  → book_of end.branches name ≡ book_of start.branches name ++ entered_into name (imports_in_turn start requests output end t)
+    → book_of end.branches name ≡ book_of start.branches name ++ entered_into name (imports_in_turn start requests output end t)
 book_in_turn start [] output end t name = book_of_same start end name t.1 ∙ sym (append-nil (book_of start.branches name))
 book_in_turn start (request ∷ requests) output end t name =
-  let now : List Imported = import_answered start request t.1 t.0 t.3.0 in
-  let later : List Imported = imports_in_turn t.0 requests t.2 end t.3.1 in
-  book_in_turn t.0 requests t.2 end t.3.1 name
-  ∙ ap (λ (es : List Entry). es ++ entered_into name later) (book_answered start request t.1 t.0 t.3.0 name)
-  ∙ append_assoc (book_of start.branches name) (entered_into name now) (entered_into name later)
-  ∙ ap (λ (es : List Entry). book_of start.branches name ++ es) (sym (entered_into-append name now later))
+    let now : List Imported = import_answered start request t.1 t.0 t.3.0 in
+    let later : List Imported = imports_in_turn t.0 requests t.2 end t.3.1 in
+    book_in_turn t.0 requests t.2 end t.3.1 name
+    ∙ ap (λ (es : List Entry). es ++ entered_into name later) (book_answered start request t.1 t.0 t.3.0 name)
+    ∙ append_assoc (book_of start.branches name) (entered_into name now) (entered_into name later)
+    ∙ ap (λ (es : List Entry). book_of start.branches name ++ es) (sym (entered_into-append name now later))
 
 pub book_along : (start : Federation) (input output : List ℕ) (end : Federation) (t : IsTranscript Answers start input output end) (name : List ℕ)
-  → book_of end.branches name ≡ book_of start.branches name ++ entered_into name (history start input output end t)
+    → book_of end.branches name ≡ book_of start.branches name ++ entered_into name (history start input output end t)
 book_along start input output end t name = book_in_turn start (requests_in input) output end t name
 
 pub balance_along : (start : Federation) (input output : List ℕ) (end : Federation) (t : IsTranscript Answers start input output end) (name : List ℕ)
-  (reach : Reach) (account : List ℕ) (unit : Commodity) (day : Day)
-  → balance reach (book_of end.branches name) account unit (Through day)
-  ≡ balance reach (book_of start.branches name) account unit (Through day) +ℤ balance reach (entered_into name (history start input output end t)) account unit (Through day)
+    (reach : Reach) (account : List ℕ) (unit : Commodity) (day : Day)
+    → balance reach (book_of end.branches name) account unit (Through day)
+    ≡ balance reach (book_of start.branches name) account unit (Through day) +ℤ balance reach (entered_into name (history start input output end t)) account unit (Through day)
 balance_along start input output end t name reach account unit day =
-  ap (λ (b : List Entry). balance reach b account unit (Through day)) (book_along start input output end t name)
-  ∙ balance-append reach (book_of start.branches name) (entered_into name (history start input output end t)) account unit day
+    ap (λ (b : List Entry). balance reach b account unit (Through day)) (book_along start input output end t name)
+    ∙ balance-append reach (book_of start.branches name) (entered_into name (history start input output end t)) account unit day
 
 -- ---- a good state stays good
 
@@ -205,14 +206,14 @@ good_after_branch f name (Err refusal) h ok = ok
 good_after_commodity : (f : Federation) (sample : List ℕ) (o : Option Style) → style_of sample ≡ o → IsGoodFederation f → IsGoodFederation (after_commodity f o)
 good_after_commodity f sample None h ok = ok
 good_after_commodity f sample (Some style) h ok =
-  IsGoodFederation-after f style (declared f.styles style) (after f.styles style (declared f.styles style)) ok
+    IsGoodFederation-after f style (declared f.styles style) (after f.styles style (declared f.styles style)) ok
     ((is_style_iff style (is_style style) refl).1 (sample, style_spelled sample style h)) (inl refl) refl
 
 good_after_import : (f : Federation) (name journal : List ℕ) (r : Result Accepted Refusal) → import_decision f name journal ≡ r → IsGoodFederation f → IsGoodFederation (after_import f r)
 good_after_import f name journal (Err refusal) h ok = ok
 good_after_import f name journal (Ok accepted) h ok =
-  let t = taken f name journal accepted h in
-  IsGoodFederation-entered f accepted.place accepted.new t.branch ok t.at t.fit t.plain (taken_within f accepted t)
+    let t = taken f name journal accepted h in
+    IsGoodFederation-entered f accepted.place accepted.new t.branch ok t.at t.fit t.plain (taken_within f accepted t)
 
 good_after_step : (f : Federation) (request : Request) → IsGoodFederation f → IsGoodFederation (step f request).after
 unfolding step

@@ -11,10 +11,12 @@ use std::io::{Read, Write};
 const ABOUT: &str = "Keeps the books of a federation of branches: requests in, answers out.";
 
 /// How the program is called.
-const EXAMPLE: &str = "Example:{n}  treasury run < requests.jsonl{n}{n}Status 0: done. 1: cut off, by input, output or memory. 2: other words.";
+const EXAMPLE: &str =
+    "Example:{n}  treasury run < requests.jsonl{n}{n}Status 0: done. 1: cut off, by input, output or memory. 2: other words.";
 
 /// What `run` does.
-const ABOUT_RUN: &str = "Answers the requests on standard input, one JSON object a line, on standard output";
+const ABOUT_RUN: &str =
+    "Answers the requests on standard input, one JSON object a line, on standard output";
 
 /// A day's requests and their answers.
 const EXAMPLE_RUN: &str = r#"Requests:
