@@ -1,5 +1,5 @@
 -- What came into the books along a transcript: step by step, and what follows of balances and of a good state.
-use Rattle.std.proofs.Common.{◌≡◌, ◌<◌, ◌+◌, ◌++◌, ℕ, zero, suc, List, [], ◌∷◌, Bool, true, false, not, cond, Option, Some, None, Result, Ok, Err, length, arith, refl, ap, ◌∙◌, sym, subst, inl, inr, ◌⊎◌, append_assoc, append-nil, if◌then◌else◌, nat_eq, nat_lt, codes, ℤ, pos, ◌+ℤ◌}
+use Rattle.std.proofs.Common.{◌≡◌, ◌<◌, ◌+◌, ◌++◌, ℕ, suc, List, [], ◌∷◌, Bool, true, false, not, cond, Option, Some, None, Result, Ok, Err, length, arith, refl, ap, ◌∙◌, sym, subst, inl, inr, append_assoc, append-nil, if◌then◌else◌, nat_lt, ℤ, pos, ◌+ℤ◌}
 use Rattle.std.specs.List.{AllByRecursion, slice_get, prefix_len, position_or_len}
 use Rattle.std.specs.Str.{bytes_eq}
 use Rattle.std.proofs.lemmas.Bool.{cases_Bool, ltb-true}
@@ -35,7 +35,7 @@ use Rattle.treasury.specs.declared.request.Request.TheVariants.{Branch as ForBra
 use Rattle.treasury.specs.declared.small_journal.Written.{Written}
 use Rattle.treasury.specs.SmallJournal.{journal_of, entries_of}
 use Rattle.treasury.specs.Federation.{Federation, branch_place, IsGoodBranch, IsGoodFederation}
-use Rattle.treasury.specs.Step.{branch_answer, after_branch, with_entries, entered_at, commodity_answer, declaration_answer, after_commodity, checked, judged, into_branch, into_place, import_read, import_decision, import_answer, after_import, unbalanced_line, step, Answers}
+use Rattle.treasury.specs.Step.{branch_answer, after_branch, entered_at, commodity_answer, declaration_answer, after_commodity, checked, judged, into_branch, into_place, import_read, import_decision, import_answer, after_import, unbalanced_line, step, Answers}
 use Rattle.treasury.specs.Answer.{answer_text}
 use Rattle.treasury.specs.Transcript.{requests_in, AnswersInTurn, IsTranscript}
 use Rattle.treasury.specs.History.{book_of, Imported, entered_into, imported_if, import_in, import_answered, imports_in_turn, history, IsBalancedFederation, IsRefusedOrRepeated, LeavesState, IsRefusalOrRepeat}

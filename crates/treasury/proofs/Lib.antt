@@ -19,3 +19,4 @@ pub mod EnteringLemmas
 pub mod DecisionLemmas
 pub mod EnterLemmas
 pub mod HistoryLemmas
+pub mod WorkedHistory
