@@ -1,5 +1,14 @@
 //! The words of the command line, and what they do.
 
+ghost use Rattle.std.specs.Prelude.{◌≡◌, ◌⊎◌, ◌≢◌, ◌<◌, []};
+ghost use Rattle.money_core.specs.declared.cause.Cause.{Cause};
+ghost use Rattle.treasury.specs.Federation.{Federation};
+ghost use Rattle.treasury.specs.RunEnd.{Finished, EndsBy};
+ghost use Rattle.treasury.specs.Step.{Answers, Loses};
+
+#[cfg(test)]
+mod tests;
+
 use crate::desk::Desk;
 use crate::running::run_lines;
 use clap::error::ErrorKind;
@@ -49,7 +58,13 @@ fn known_words<'a>(alloc: Global) -> Result<Command<'a>, AllocError> {
 }
 
 /// Runs from the input to the output, over a federation that has nothing yet.
-fn run<R: Read, W: Write>(alloc: Global, input: &mut R, output: &mut W) -> u8 {
+fn run<R: Read, W: Write>(alloc: Global, input: &mut R, output: &mut W) -> u8
+    ensures done { result ≡ 0 → (end : Federation) × Finished Answers 67108864 (R.remaining input.old) (R.remaining input.new)
+        (W.contents output.old) (W.contents output.new) (record { styles = []; branches = [] }) end }
+    ensures cut_off { result ≢ 0 → (result ≡ 1) × ((cause : Cause) × ((end : Federation) × EndsBy cause Answers Loses 67108864
+        (R.remaining input.old) (R.remaining input.new) (W.contents output.old) (W.contents output.new)
+        (record { styles = []; branches = [] }) end)) }
+{
     let mut desk = Desk::empty(alloc);
     match run_lines(alloc, input, output, &mut desk) {
         Ok(()) => 0,
@@ -58,13 +73,16 @@ fn run<R: Read, W: Write>(alloc: Global, input: &mut R, output: &mut W) -> u8 {
 }
 
 /// Shows the help on the output.
-fn show<W: Write>(alloc: Global, help: &Error, output: &mut W) -> u8 {
+fn show<W: Write>(alloc: Global, help: &Error, output: &mut W) -> u8
+    ensures { result < 2 }
+{
     let Ok(text) = help.to_string(alloc) else {
         return 1;
     };
-    match output.write_all(text.as_bytes()) {
-        Ok(()) => 0,
-        Err(_) => 1,
+    if output.write_all(text.as_bytes()).is_ok() {
+        0
+    } else {
+        1
     }
 }
 
@@ -78,6 +96,12 @@ where
     H: Eprint + AllocGlobal,
     R: Read,
     W: Write,
+    ensures usage { result ≡ 2 → (input.new ≡ input.old) × (output.new ≡ output.old) }
+
+    // Where all is done, the help was shown, or all input was answered over a federation that had nothing yet.
+    ensures done { result ≡ 0 → (input.new ≡ input.old) ⊎ ((end : Federation) × Finished Answers 67108864
+        (R.remaining input.old) (R.remaining input.new) (W.contents output.old) (W.contents output.new)
+        (record { styles = []; branches = [] }) end) }
 {
     let alloc = rt.alloc();
     let Ok(known) = known_words(alloc) else {

@@ -1,0 +1,392 @@
+//! The program's words, and the answers to whole inputs.
+
+use crate::words::run_words;
+use std::alloc::{AllocError, Global};
+use std::io::{self, Read, Write};
+use std::test::Fail;
+
+/// Two branches and two commodities, and what they are answered.
+const OPENING: &str = r#"{"do":"branch","name":"north"}
+{"do":"branch","name":"south"}
+{"do":"commodity","sample":"1,000.00 EUR"}
+{"do":"commodity","sample":"$1,000.00"}
+"#;
+
+const OPENED: &str = "ok\nok\nok\nok\n";
+
+/// Behind the opening: an entry of north, and its balances.
+const FIRST_DAY: &str =
+    r#"{"do":"import","branch":"north","journal":"2024-01-05 hall\n    expenses:hall  120.00 EUR\n    assets:bank  -120.00 EUR\n"}
+{"do":"balance","branch":"north","day":"2024-01-31"}
+"#;
+
+/// The words of a command line.
+fn command_line(alloc: Global, words: &[&str]) -> Result<Vec<String>, AllocError> {
+    let mut line = Vec::new(alloc);
+    for word in words {
+        line.push(String::from_str(alloc, word)?)?;
+    }
+    Ok(line)
+}
+
+/// The texts one behind the other.
+fn joined(alloc: Global, texts: &[&str]) -> Result<Vec<u8>, AllocError> {
+    let mut all = Vec::new(alloc);
+    for text in texts {
+        all.extend_from_slice(text.as_bytes())?;
+    }
+    Ok(all)
+}
+
+/// A reader that fails once its text is read.
+#[derive(Drop)]
+struct Broken<'a> {
+    text: &'a [u8],
+}
+
+impl Read for Broken<'_> {
+    fn read(&mut self, buf: &mut [u8]) -> io::Result<usize> {
+        if self.text.is_empty() {
+            return Err(io::Error::from(io::ErrorKind::BrokenPipe));
+        }
+        self.text.read(buf)
+    }
+}
+
+/// A writer that has room for so many bytes more, and keeps what it takes.
+#[derive(Drop)]
+struct Kept {
+    taken: Vec<u8>,
+    room: usize,
+}
+
+impl Write for Kept {
+    fn write(&mut self, buf: &[u8]) -> io::Result<usize> {
+        let count = buf.len().min(self.room);
+        self.taken.extend_from_slice(&buf[..count])?;
+        self.room -= count;
+        Ok(count)
+    }
+
+    fn flush(&mut self) -> io::Result<()> {
+        Ok(())
+    }
+}
+
+/// A writer with that room.
+fn writer_of(alloc: Global, room: usize) -> Kept {
+    Kept {
+        taken: Vec::new(alloc),
+        room,
+    }
+}
+
+#[test]
+fn words_say_what_is_done(rt: HostRuntime) -> Result<(), Fail> {
+    let rows: [(&[&str], u8, &str, &str); 9] = [
+        (&["treasury", "run"], 0, "", ""),
+        (&["treasury"], 2, "", ""),
+        (&[], 2, "", ""),
+        (&["treasury", "fly"], 2, "", ""),
+        (&["treasury", "run", "fast"], 2, "", ""),
+        (&["treasury", "--db", "x"], 2, "", ""),
+        (
+            &["treasury", "--help"],
+            0,
+            "Keeps the books of a federation",
+            "treasury run < requests.jsonl",
+        ),
+        (
+            &["treasury", "run", "--help"],
+            0,
+            "Answers the requests on standard input",
+            "refused 21 BranchName\n",
+        ),
+        (
+            &["treasury", "help", "run"],
+            0,
+            "Answers the requests on standard input",
+            "refused 21 BranchName\n",
+        ),
+    ];
+    for (words, status, begin, part) in rows {
+        let line = command_line(rt.alloc(), words)?;
+        let mut input: &[u8] = b"";
+        let mut output = Vec::new(rt.alloc());
+        let ended = run_words(&rt, line.as_slice(), &mut input, &mut output);
+        assert_eq!(rt; ended, status, "{words:?}");
+        let text = str::from_utf8(output.as_slice())
+            .ok()
+            .ok_or("bytes that are no text")?;
+        assert!(rt; text.starts_with(begin), "{text}");
+        assert!(rt; text.contains(part), "{text}");
+        assert_eq!(rt; text.is_empty(), begin.is_empty());
+    }
+    Ok(())
+}
+
+/// Each row follows the opening: requests, and what they are answered.
+#[test]
+fn requests_are_answered_in_turn(rt: HostRuntime) -> Result<(), Fail> {
+    let rows = [
+        (r#"{"do":"branch"}"#, "refused 44 Request\n"),
+        (
+            r#"{"do":"branch","name":"North"}"#,
+            "refused 21 BranchName\n",
+        ),
+        (r#"{"do":"branch","name":"north"}"#, "repeated\n"),
+        (
+            r#"{"do":"commodity","sample":"1,000.00 EUR"}"#,
+            "repeated\n",
+        ),
+        (
+            r#"{"do":"commodity","sample":"1,000.000 EUR"}"#,
+            "refused 22 CommodityExists\n",
+        ),
+        (
+            r#"{"do":"commodity","sample":"1000 EUR"}"#,
+            "refused 8 Amount\n",
+        ),
+        (
+            r#"{"do":"balance","branch":"west","day":"2024-01-31"}"#,
+            "refused 20 UnknownBranch\n",
+        ),
+        (
+            r#"{"do":"import","branch":"west","journal":"bad"}"#,
+            "refused 5 Directive line 1\n",
+        ),
+        (
+            r#"{"do":"import","branch":"west","journal":"2024-01-05 x\n    a:y  1.00 EUR\n"}"#,
+            "refused 20 UnknownBranch\n",
+        ),
+        (
+            r#"{"do":"import","branch":"north","journal":"2024-01-05 x\n    a:y  1.00 EUR\n"}"#,
+            "refused 18 Unbalanced line 1\n",
+        ),
+        (
+            r#"{"do":"import","branch":"north","journal":"2024-01-05 x\n    a:y  1.00 GBP\n"}"#,
+            "refused 9 UnknownCommodity line 2\n",
+        ),
+        (
+            r#"{"do":"import","branch":"west","journal":"2024-01-05 x\n    a:y  1.505 EUR\n"}"#,
+            "refused 10 Decimals line 2\n",
+        ),
+        (
+            r#"{"do":"import","branch":"north","journal":""}"#,
+            "ok 0 new, 0 repeated\n",
+        ),
+        (
+            r#"{"do":"import","branch":"north","journal":"2024-01-05 note"}"#,
+            "ok 1 new, 0 repeated\n",
+        ),
+        // A turnover of 10^16 smallest units is the most; a longer amount stands as it is.
+        (
+            r#"{"do":"import","branch":"north","journal":"2024-01-01 big\n    a:x  50000000000000.00 EUR\n    a:y  -50000000000000.00 EUR\n"}
+{"do":"import","branch":"north","journal":"2024-01-02 x\n    a:x  0.01 EUR\n    a:y  -0.01 EUR\n"}
+{"do":"balance","branch":"north","day":"2024-01-31"}"#,
+            "ok 1 new, 0 repeated\nrefused 28 Limit\n50,000,000,000,000.00 EUR  a:x\n-50,000,000,000,000.00 EUR  a:y\nok\n",
+        ),
+        // A refused import leaves none of its entries.
+        (
+            r#"{"do":"import","branch":"north","journal":"2024-01-01 a\n    a:x  1.00 EUR\n    a:y  -1.00 EUR\n\n2024-01-02 b\n    a:x  1.00 EUR\n"}
+{"do":"balance","branch":"north","day":"2024-01-31"}"#,
+            "refused 18 Unbalanced line 5\nok\n",
+        ),
+        (
+            r#"{"do":"import","branch":"north","journal":"2024-01-01 a\n    a:x  50000000000000.00 EUR\n    a:y  -50000000000000.00 EUR\n\n2024-01-02 b\n    a:x  0.01 EUR\n    a:y  -0.01 EUR\n"}
+{"do":"balance","branch":"north","day":"2024-01-31"}"#,
+            "refused 28 Limit\nok\n",
+        ),
+        (
+            r#"{"do":"import","branch":"north","journal":"2024-01-01 a\n    a:x  100000000000000.00 EUR\n    a:y  100000000000000.00 EUR\n"}"#,
+            "refused 18 Unbalanced line 1\n",
+        ),
+        // The width is counted in characters; a zero balance is left out; the other branch has none of it.
+        (
+            r#"{"do":"commodity","sample":"€1,000.00"}
+{"do":"import","branch":"north","journal":"2024-02-01 a\n    assets:bank  €100.00\n    assets:cash  €-100.00\n"}
+{"do":"import","branch":"north","journal":"2024-02-02 b\n    assets:cash  €100.00\n    assets:bank2  €-100.00\n"}
+{"do":"balance","branch":"north","day":"2024-02-29"}
+{"do":"balance","branch":"north","day":"2024-01-31"}
+{"do":"balance","branch":"south","day":"2024-02-29"}"#,
+            "ok\nok 1 new, 0 repeated\nok 1 new, 0 repeated\n             €100.00  assets:bank\n            €-100.00  assets:bank2\nok\nok\nok\n",
+        ),
+    ];
+    for (requests, answers) in rows {
+        let line = command_line(rt.alloc(), &["treasury", "run"])?;
+        let text = joined(rt.alloc(), &[OPENING, requests])?;
+        let wanted = joined(rt.alloc(), &[OPENED, answers])?;
+        let mut input = text.as_slice();
+        let mut output = Vec::new(rt.alloc());
+        let ended = run_words(&rt, line.as_slice(), &mut input, &mut output);
+        assert_eq!(rt; ended, 0, "{requests}");
+        assert!(rt; output.as_slice() == wanted.as_slice(), "{requests}");
+    }
+    Ok(())
+}
+
+#[test]
+fn lines_end_in_lf_or_cr_lf_and_blank_ones_are_skipped(rt: HostRuntime) -> Result<(), Fail> {
+    let rows = [
+        ("", ""),
+        ("\n \t\n\r\n", ""),
+        (r#"{"do":"branch","name":"north"}"#, "ok\n"),
+        (
+            "{\"do\":\"branch\",\"name\":\"north\"}\r\n\r\n  \n{\"do\":\"branch\",\"name\":\"north\"}",
+            "ok\nrepeated\n",
+        ),
+        ("x\n\ny", "refused 44 Request\nrefused 44 Request\n"),
+    ];
+    for (requests, answers) in rows {
+        let line = command_line(rt.alloc(), &["treasury", "run"])?;
+        let mut input = requests.as_bytes();
+        let mut output = Vec::new(rt.alloc());
+        let ended = run_words(&rt, line.as_slice(), &mut input, &mut output);
+        assert_eq!(rt; ended, 0, "{requests}");
+        assert!(rt; output.as_slice() == answers.as_bytes(), "{requests}");
+    }
+    Ok(())
+}
+
+#[test]
+fn a_federation_has_32_branches_and_16_commodities(rt: HostRuntime) -> Result<(), Fail> {
+    let line = command_line(rt.alloc(), &["treasury", "run"])?;
+    let mut text = Vec::new(rt.alloc());
+    let mut wanted = Vec::new(rt.alloc());
+    for number in 0..34u32 {
+        let request = format!(in rt.alloc(); "{{\"do\":\"branch\",\"name\":\"b{number}\"}}\n")?;
+        text.extend_from_slice(request.as_bytes())?;
+        let answer = if number < 32 {
+            "ok\n"
+        } else {
+            "refused 23 Full\n"
+        };
+        wanted.extend_from_slice(answer.as_bytes())?;
+    }
+    text.extend_from_slice(b"{\"do\":\"branch\",\"name\":\"b31\"}\n")?;
+    wanted.extend_from_slice(b"repeated\n")?;
+    for letter in b'A'..=b'R' {
+        text.extend_from_slice(b"{\"do\":\"commodity\",\"sample\":\"1.00 ")?;
+        text.push(letter)?;
+        text.extend_from_slice(b"\"}\n")?;
+        let answer = if letter <= b'P' {
+            "ok\n"
+        } else {
+            "refused 23 Full\n"
+        };
+        wanted.extend_from_slice(answer.as_bytes())?;
+    }
+    text.extend_from_slice(b"{\"do\":\"commodity\",\"sample\":\"1.000 A\"}\n")?;
+    wanted.extend_from_slice(b"refused 22 CommodityExists\n")?;
+    let mut input = text.as_slice();
+    let mut output = Vec::new(rt.alloc());
+    let ended = run_words(&rt, line.as_slice(), &mut input, &mut output);
+    assert_eq!(rt; ended, 0);
+    assert!(rt; output.as_slice() == wanted.as_slice());
+    Ok(())
+}
+
+/// 1,845 postings sum to 2^64 smallest units: not zero, though they are in 64 bits.
+#[test]
+fn postings_are_summed_in_128_bits(rt: HostRuntime) -> Result<(), Fail> {
+    let line = command_line(rt.alloc(), &["treasury", "run"])?;
+    let import = r#"{"do":"import","branch":"north","journal":"2024-01-05 x\n"#;
+    let mut text = joined(rt.alloc(), &[OPENING, import])?;
+    for _ in 0..1844 {
+        text.extend_from_slice(br"    a:x  100000000000000.00 EUR\n")?;
+    }
+    text.extend_from_slice(br"    a:x  67440737095516.16 EUR\n")?;
+    text.extend_from_slice(b"\"}\n")?;
+    let wanted = joined(rt.alloc(), &[OPENED, "refused 18 Unbalanced line 1\n"])?;
+    let mut input = text.as_slice();
+    let mut output = Vec::new(rt.alloc());
+    let ended = run_words(&rt, line.as_slice(), &mut input, &mut output);
+    assert_eq!(rt; ended, 0);
+    assert!(rt; output.as_slice() == wanted.as_slice());
+    Ok(())
+}
+
+#[test]
+fn a_broken_reader_and_a_full_writer_end_with_1(rt: HostRuntime) -> Result<(), Fail> {
+    let line = command_line(rt.alloc(), &["treasury", "run"])?;
+    let mut reader = Broken {
+        text: b"{\"do\":\"branch\",\"name\":\"north\"}\n{\"do\"",
+    };
+    let mut writer = writer_of(rt.alloc(), 4096);
+    let ended = run_words(&rt, line.as_slice(), &mut reader, &mut writer);
+    assert_eq!(rt; ended, 1);
+    assert!(rt; writer.taken.as_slice() == b"ok\n".as_slice());
+    let mut whole = OPENING.as_bytes();
+    let mut full = writer_of(rt.alloc(), 5);
+    let ended = run_words(&rt, line.as_slice(), &mut whole, &mut full);
+    assert_eq!(rt; ended, 1);
+    assert!(rt; full.taken.as_slice() == b"ok\nok".as_slice());
+    let help = command_line(rt.alloc(), &["treasury", "--help"])?;
+    let mut nothing: &[u8] = b"";
+    let mut none = writer_of(rt.alloc(), 0);
+    let ended = run_words(&rt, help.as_slice(), &mut nothing, &mut none);
+    assert_eq!(rt; ended, 1);
+    Ok(())
+}
+
+/// The text without that beginning, if it has it.
+fn behind<'a>(text: &'a [u8], begin: &str) -> Option<&'a [u8]> {
+    text.strip_prefix(begin.as_bytes())
+}
+
+/// Whether these are the stored run's answers, or a front of them. Each may be want of memory in its place, and those
+/// behind it are then as if its request had not come.
+fn is_front_of_stored_run(text: &[u8], whole: bool) -> bool {
+    let mut rest = text;
+    let mut north = false;
+    let mut euro = false;
+    let mut entered = false;
+    for number in 0..6u32 {
+        if rest.is_empty() && !whole {
+            return true;
+        }
+        if let Some(behind_it) = behind(rest, "refused 40 OutOfMemory\n") {
+            rest = behind_it;
+            continue;
+        }
+        let wanted = match number {
+            4 if !euro => "refused 9 UnknownCommodity line 2\n",
+            4 | 5 if !north => "refused 20 UnknownBranch\n",
+            4 => "ok 1 new, 0 repeated\n",
+            5 if entered =>
+                "         -120.00 EUR  assets:bank\n          120.00 EUR  expenses:hall\nok\n",
+            _ => "ok\n",
+        };
+        match behind(rest, wanted) {
+            Some(behind_it) => rest = behind_it,
+            None => return false,
+        }
+        match number {
+            0 => north = true,
+            2 => euro = true,
+            4 => entered = euro && north,
+            _ => {}
+        }
+    }
+    rest.is_empty()
+}
+
+/// With ample memory the stored run is answered; the script `sweep` refuses each piece of memory in turn.
+#[test]
+fn the_stored_run_is_answered_or_out_of_memory(rt: HostRuntime) -> Result<(), Fail> {
+    let alloc = rt.alloc();
+    // Where the words or the input themselves find no memory, there is no run to judge.
+    let Ok(line) = command_line(alloc, &["treasury", "run"]) else {
+        return Ok(());
+    };
+    let Ok(text) = joined(alloc, &[OPENING, FIRST_DAY]) else {
+        return Ok(());
+    };
+    let mut input = text.as_slice();
+    let mut output: Vec<u8> = Vec::new(alloc);
+    let ended = run_words(&rt, line.as_slice(), &mut input, &mut output);
+    let answers = output.as_slice();
+    assert!(rt; ended <= 1);
+    assert!(rt; is_front_of_stored_run(answers, ended == 0));
+    Ok(())
+}
