@@ -1,0 +1,55 @@
+// Stands between the built program and the C library, and makes one call fail: of CALL (memory, read or write) the one
+// whose number is NUMBER. Where the program ends before that call, a line on standard error says so.
+#define _GNU_SOURCE
+#include <dlfcn.h>
+#include <errno.h>
+#include <stdlib.h>
+#include <string.h>
+#include <unistd.h>
+
+static long seen;
+static int failed;
+
+// Whether this call is the one that fails.
+static int is_refused(const char *call) {
+    const char *wanted = getenv("CALL");
+    const char *number = getenv("NUMBER");
+    if (wanted == 0 || number == 0 || strcmp(wanted, call) != 0) return 0;
+    seen++;
+    if (seen != atol(number)) return 0;
+    failed = 1;
+    return 1;
+}
+
+void *malloc(size_t size) {
+    void *(*next)(size_t) = dlsym(RTLD_NEXT, "malloc");
+    if (!is_refused("memory")) return next(size);
+    errno = ENOMEM;
+    return 0;
+}
+
+void *realloc(void *block, size_t size) {
+    void *(*next)(void *, size_t) = dlsym(RTLD_NEXT, "realloc");
+    if (!is_refused("memory")) return next(block, size);
+    errno = ENOMEM;
+    return 0;
+}
+
+ssize_t read(int file, void *bytes, size_t count) {
+    ssize_t (*next)(int, void *, size_t) = dlsym(RTLD_NEXT, "read");
+    if (file != 0 || !is_refused("read")) return next(file, bytes, count);
+    errno = EIO;
+    return -1;
+}
+
+ssize_t write(int file, const void *bytes, size_t count) {
+    ssize_t (*next)(int, const void *, size_t) = dlsym(RTLD_NEXT, "write");
+    if (file != 1 || !is_refused("write")) return next(file, bytes, count);
+    errno = EIO;
+    return -1;
+}
+
+__attribute__((destructor)) static void report(void) {
+    ssize_t (*next)(int, const void *, size_t) = dlsym(RTLD_NEXT, "write");
+    if (getenv("NUMBER") != 0 && !failed) next(2, "no failure\n", 11);
+}
