@@ -12,9 +12,9 @@ use Rattle.std.proofs.lemmas.Slice.Eq.{starts_is}
 use Rattle.std.proofs.lemmas.Bool.Decides.{Decides-eqb}
 use Rattle.money_core.specs.declared.day.Day.{Day}
 use Rattle.journal_lines.specs.Blank.{is_blank}
-use Rattle.journal_lines.specs.AccountName.{is_name_byte, is_gap, has_gap, bars_start, IsAccount}
+use Rattle.journal_lines.specs.AccountName.{is_name_byte, is_gap, has_gap, bars_start, is_account, IsAccount}
 use Rattle.journal_lines.specs.Date.{is_date, day_of, date_of}
-use Rattle.treasury.specs.SmallJournal.{is_blank_text, is_account, cut_at_gap, Kind, Blank, Header, Posting, Other, header_day, behind_indent, posting_cut, posting_behind, dated_or_posting, kind_of_text, IsHeader, IsPosting, IsOfKind, KindsAreFound}
+use Rattle.treasury.specs.SmallJournal.{is_blank_text, cut_at_gap, Kind, Blank, Header, Posting, Other, header_day, behind_indent, posting_cut, posting_behind, dated_or_posting, kind_of_text, IsHeader, IsPosting, IsOfKind, KindsAreFound}
 use Rattle.treasury.proofs.LineKindLemmas.{gap, starts_not, kind_of-utf8}
 
 -- both tests hold
@@ -46,6 +46,7 @@ false_or false lacks = refl
 
 -- the test of an account says what an account is
 account_of_test : (name : List ℕ) → is_account name ≡ true → IsAccount name
+unfolding is_account
 account_of_test name h =
     let started = both_hold _ _ h in
     let spaced = both_hold _ _ started.0 in
@@ -60,6 +61,7 @@ account_of_test name h =
     }
 
 test_of_account : (name : List ℕ) → IsAccount name → is_account name ≡ true
+unfolding is_account
 test_of_account name is = rw (le-leb (length name) 200 is.short, is.parts, is.bytes, is.gaps, is.start) refl
 
 -- a digit is no blank, and a name begins with none

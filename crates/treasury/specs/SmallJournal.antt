@@ -1,5 +1,5 @@
 -- A journal of dated entries (hledger manual, "Transactions", "Postings"). Which lines it may have for now is an own rule (docs/FORMATS.md, "Journals").
-use Rattle.std.specs.Prelude.{ℕ, ℤ, ◌==◌, ◌≤◌, ◌&&◌, ◌≡◌, ◌↔◌, ◌⊎◌, nat_le, nat_eq, Bool, true, false, not, if◌then◌else◌, List, [], ◌∷◌, ◌++◌, length, slice_index, take, drop, map, codes, Option, Some, None, option_map, option_to_list, Result, Ok, Err}
+use Rattle.std.specs.Prelude.{ℕ, ℤ, ◌==◌, ◌≤◌, ◌&&◌, ◌≡◌, ◌↔◌, ◌⊎◌, nat_eq, Bool, true, false, not, if◌then◌else◌, List, [], ◌∷◌, ◌++◌, length, slice_index, take, drop, map, codes, Option, Some, None, option_map, option_to_list, Result, Ok, Err}
 use Rattle.std.specs.List.{list_all, starts_with, AllByRecursion}
 use Rattle.std.specs.Str.{is_utf8, IsUtf8}
 use Rattle.money_core.specs.declared.day.Day.{Day}
@@ -13,7 +13,7 @@ use Rattle.money_core.specs.AmountText.{IsDeclared}
 use Rattle.journal_lines.specs.Blank.{is_blank}
 use Rattle.journal_lines.specs.Date.{separator, date_of}
 use Rattle.journal_lines.specs.Lines.{numbered}
-use Rattle.journal_lines.specs.AccountName.{is_name_byte, is_part, parts, has_gap, bars_start, IsAccount}
+use Rattle.journal_lines.specs.AccountName.{is_account, IsAccount}
 use Rattle.book_core.specs.declared.leg.Leg.{Leg}
 use Rattle.book_core.specs.declared.entry.Entry.{Entry}
 use Rattle.treasury.specs.declared.small_journal.Written.{Written}
@@ -22,10 +22,6 @@ use Rattle.treasury.specs.declared.small_journal.Reading.{Reading}
 -- nothing but blanks
 abbrev pub is_blank_text : List ℕ → Bool
 is_blank_text text = list_all is_blank text
-
--- whether the name is well formed
-abbrev pub is_account : List ℕ → Bool
-is_account name = nat_le (length name) 200 && list_all is_part (parts name) && list_all is_name_byte name && not (has_gap name) && not (bars_start (slice_index name 0))
 
 -- the text before the first two spaces that stand together, and the text behind them
 abbrev pub cut_at_gap : List ℕ → Option (List ℕ × List ℕ)

@@ -1,10 +1,10 @@
 //! The lines of a journal by their kind.
 
 ghost use Rattle.std.specs.Prelude.{◌≡◌, option_map};
-ghost use Rattle.treasury.specs.SmallJournal.{is_blank_text, is_account, cut_at_gap, header_day, behind_indent, posting_behind, kind_of_text, kind_of};
+ghost use Rattle.treasury.specs.SmallJournal.{is_blank_text, cut_at_gap, header_day, behind_indent, posting_behind, kind_of_text, kind_of};
 ghost use Rattle.treasury.specs.LineView.{shown};
 
-use journal_lines::{is_blank, read_date};
+use journal_lines::{is_account, is_blank, read_date};
 use money_core::Day;
 
 /// A line of a journal by its kind.
@@ -25,13 +25,6 @@ fn is_blank_text(text: &[u8]) -> bool
     ensures { result ≡ is_blank_text text.now }
 {
     text.iter().all(|b| is_blank(*b))
-}
-
-/// Whether the account name is well formed.
-fn is_account(name: &str) -> bool
-    ensures { result ≡ is_account name.now }
-{
-    journal_lines::is_account(name.as_bytes())
 }
 
 /// The text before the first two spaces that stand together, and the text behind them.
@@ -71,7 +64,7 @@ fn posting_of(line: &str) -> LineKind<'_>
     let Some((account, amount)) = cut_at_gap(text) else {
         return LineKind::Other;
     };
-    if is_account(account) {
+    if is_account(account.as_bytes()) {
         LineKind::Posting { account, amount }
     } else {
         LineKind::Other
