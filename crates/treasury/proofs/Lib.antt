@@ -20,3 +20,5 @@ pub mod DecisionLemmas
 pub mod EnterLemmas
 pub mod HistoryLemmas
 pub mod WorkedHistory
+pub mod WordLemmas
+pub mod WorkedWords

@@ -11,3 +11,4 @@ pub mod Federation
 pub mod Step
 pub mod Entering
 pub mod History
+pub mod Words

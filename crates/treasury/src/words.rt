@@ -1,15 +1,15 @@
 //! The words of the command line, and what they do.
 
-ghost use Rattle.std.specs.Prelude.{◌≡◌, ◌⊎◌, ◌≢◌, ◌<◌, []};
-ghost use Rattle.money_core.specs.declared.cause.Cause.{Cause};
-ghost use Rattle.treasury.specs.Federation.{Federation};
-ghost use Rattle.treasury.specs.RunEnd.{Finished, EndsBy};
-ghost use Rattle.treasury.specs.Step.{Answers, Loses};
+ghost use Rattle.std.specs.Prelude.{◌≡◌, ◌⊎◌, ◌≢◌, ◌<◌, map, IfOk};
+ghost use Rattle.std.specs.String.{string_bytes};
+ghost use Rattle.clap.specs.Simple.{app_of};
+ghost use Rattle.treasury.specs.Words.{known, AskForRun, MayAskForHelp, AnswersAll, IsCutOff};
 
 #[cfg(test)]
 mod tests;
 
 use crate::desk::Desk;
+use crate::laws::{books_law, good_law};
 use crate::running::run_lines;
 use clap::error::ErrorKind;
 use clap::{Command, Error};
@@ -45,7 +45,9 @@ Example:
   refused 21 BranchName"#;
 
 /// The words that the program knows.
-fn known_words<'a>(alloc: Global) -> Result<Command<'a>, AllocError> {
+fn known_words<'a>(alloc: Global) -> Result<Command<'a>, AllocError>
+    ensures { IfOk result (λ command. app_of command ≡ known) }
+{
     let run = Command::new(alloc, "run")
         .about(ABOUT_RUN)
         .after_help(EXAMPLE_RUN);
@@ -59,13 +61,12 @@ fn known_words<'a>(alloc: Global) -> Result<Command<'a>, AllocError> {
 
 /// Runs from the input to the output, over a federation that has nothing yet.
 fn run<R: Read, W: Write>(alloc: Global, input: &mut R, output: &mut W) -> u8
-    ensures done { result ≡ 0 → (end : Federation) × Finished Answers 67108864 (R.remaining input.old) (R.remaining input.new)
-        (W.contents output.old) (W.contents output.new) (record { styles = []; branches = [] }) end }
-    ensures cut_off { result ≢ 0 → (result ≡ 1) × ((cause : Cause) × ((end : Federation) × EndsBy cause Answers Loses 67108864
-        (R.remaining input.old) (R.remaining input.new) (W.contents output.old) (W.contents output.new)
-        (record { styles = []; branches = [] }) end)) }
+    ensures done { result ≡ 0 → AnswersAll (R.remaining input.old) (R.remaining input.new) (W.contents output.old) (W.contents output.new) }
+    ensures cut_off { result ≢ 0 → (result ≡ 1) × IsCutOff (R.remaining input.old) (R.remaining input.new) (W.contents output.old) (W.contents output.new) }
 {
     let mut desk = Desk::empty(alloc);
+    books_law();
+    good_law();
     match run_lines(alloc, input, output, &mut desk) {
         Ok(()) => 0,
         Err(_) => 1,
@@ -89,19 +90,25 @@ fn show<W: Write>(alloc: Global, help: &Error, output: &mut W) -> u8
 /// Does what the words say, and answers the exit status.
 ///
 /// The words begin with the program's name. 0: done, whatever was refused. 1: cut off, because memory was refused, the
-/// input broke or a write failed; nothing is said of it. 2: words that say nothing to do, with the reason and the usage
-/// on standard error. `--help` is written to the output.
+/// input broke or a write failed. 2: words that say nothing to do, with the reason and the usage on standard error.
+/// `--help` is written to the output.
 pub fn run_words<H, R, W>(rt: &H, words: &[String], input: &mut R, output: &mut W) -> u8
 where
     H: Eprint + AllocGlobal,
     R: Read,
     W: Write,
-    ensures usage { result ≡ 2 → (input.new ≡ input.old) × (output.new ≡ output.old) }
+    // Words that ask for a run have one, unless there is no memory to read them.
+    ensures done { AskForRun (map string_bytes words.now) → result ≡ 0 → AnswersAll (R.remaining input.old) (R.remaining input.new)
+        (W.contents output.old) (W.contents output.new) }
+    ensures cut_off { AskForRun (map string_bytes words.now) → result ≢ 0 → (result ≡ 1)
+        × (((input.new ≡ input.old) × (output.new ≡ output.old))
+        ⊎ IsCutOff (R.remaining input.old) (R.remaining input.new) (W.contents output.old) (W.contents output.new)) }
 
-    // Where all is done, the help was shown, or all input was answered over a federation that had nothing yet.
-    ensures done { result ≡ 0 → (input.new ≡ input.old) ⊎ ((end : Federation) × Finished Answers 67108864
-        (R.remaining input.old) (R.remaining input.new) (W.contents output.old) (W.contents output.new)
-        (record { styles = []; branches = [] }) end) }
+    // Others have none, and all but those that may ask for help are answered 2.
+    ensures other { (AskForRun (map string_bytes words.now) → ⊥) → input.new ≡ input.old }
+    ensures wrong { (AskForRun (map string_bytes words.now) → ⊥) → (MayAskForHelp (map string_bytes words.now) → ⊥)
+        → ((result ≡ 2) ⊎ (result ≡ 1)) × (output.new ≡ output.old) }
+    ensures usage { result ≡ 2 → (input.new ≡ input.old) × (output.new ≡ output.old) }
 {
     let alloc = rt.alloc();
     let Ok(known) = known_words(alloc) else {

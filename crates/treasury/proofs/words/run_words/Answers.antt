@@ -1,6 +1,37 @@
-use Rattle.std.proofs.Common.{inr}
+use Rattle.std.proofs.Common.{◌≡◌, refl, sym, ◌∙◌, inl}
+use Rattle.clap.specs.declared.error.kind.ErrorKind.TheVariants.{OutOfMemory, DisplayHelp}
+use Rattle.treasury.proofs.WordLemmas.{taken, fails_by, run_fails, help_shown}
 use Rattle.treasury.proofs.words.run_words.Goals as goal
 
-pub returns-in-Ok-try_get_matches_from-clause-done :
-    goal.returns-in-Ok-try_get_matches_from-clause-done
-returns-in-Ok-try_get_matches_from-clause-done g c = λ zero. inr (c.run.ensures.done zero)
+pub returns-in-Ok-try_get_matches_from-clause-other :
+    goal.returns-in-Ok-try_get_matches_from-clause-other
+returns-in-Ok-try_get_matches_from-clause-other g c =
+    λ others. absurd (others (taken _ _ c.in-Ok.ensures c.in-Ok-try_get_matches_from.ensures.kinds))
+
+pub returns-in-Ok-try_get_matches_from-clause-wrong :
+    goal.returns-in-Ok-try_get_matches_from-clause-wrong
+returns-in-Ok-try_get_matches_from-clause-wrong g c =
+    λ others _. absurd (others (taken _ _ c.in-Ok.ensures c.in-Ok-try_get_matches_from.ensures.kinds))
+
+pub returns-in-DisplayHelp-clause-done : goal.returns-in-DisplayHelp-clause-done
+returns-in-DisplayHelp-clause-done g c =
+    λ asks _. let memory = run_fails _ _ (fails_by _ _ _ c.in-Ok.ensures c.in-Err.ensures.kinds) asks in
+    let clash : DisplayHelp ≡ OutOfMemory = c.in-DisplayHelp.ensures ∙ memory in cc
+
+pub returns-in-DisplayHelp-clause-cut_off : goal.returns-in-DisplayHelp-clause-cut_off
+returns-in-DisplayHelp-clause-cut_off g c =
+    λ asks _. let memory = run_fails _ _ (fails_by _ _ _ c.in-Ok.ensures c.in-Err.ensures.kinds) asks in
+    let clash : DisplayHelp ≡ OutOfMemory = c.in-DisplayHelp.ensures ∙ memory in cc
+
+pub returns-in-DisplayHelp-clause-wrong : goal.returns-in-DisplayHelp-clause-wrong
+returns-in-DisplayHelp-clause-wrong g c =
+    λ _ helpless. absurd (helpless (help_shown _ _ (fails_by _ _ _ c.in-Ok.ensures c.in-Err.ensures.kinds) (sym c.in-DisplayHelp.ensures)))
+
+pub returns : goal.returns
+returns g c = record {
+  done = λ _ zero. cc;
+  cut_off = λ asks _. absurd (c.in_default-kind.not-OutOfMemory (c.kind.ensures ∙ run_fails _ _ (fails_by _ _ _ c.in-Ok.ensures c.in-Err.ensures.kinds) asks));
+  other = λ _. refl;
+  wrong = λ _ _. (inl refl, refl);
+  usage = λ _. (refl, refl);
+}
