@@ -1,14 +1,11 @@
 -- Books that get further entries, at a stage at which no entry has an assertion.
-use Rattle.std.proofs.Common.{◌≡◌, ◌≤◌, ◌<◌, ◌+◌, ◌++◌, ℕ, List, [], ◌∷◌, Option, Some, None, length, arith, refl, ap, ◌∙◌, sym, subst, append_assoc, append-nil, length-append}
+use Rattle.std.proofs.Common.{◌≡◌, ◌<◌, ◌+◌, ◌++◌, ℕ, List, [], ◌∷◌, None, length, arith, refl, ap, sym, subst, length-append}
 use Rattle.std.specs.List.{AllByRecursion}
 use Rattle.money_core.specs.declared.day.Day.{Day}
 use Rattle.money_core.specs.declared.style.Style.{Style}
-use Rattle.money_core.specs.declared.unit.Unit.{Unit as Commodity}
 use Rattle.book_core.specs.declared.leg.Leg.{Leg}
 use Rattle.book_core.specs.declared.claim.Placed.{Placed}
 use Rattle.book_core.specs.declared.entry.Entry.{Entry}
-use Rattle.book_core.specs.declared.refusal.Failure.{Failure}
-use Rattle.book_core.specs.Balance.{turnover}
 use Rattle.book_core.specs.declared.claim.Asserted.{Asserted}
 use Rattle.book_core.specs.Claim.{asserted_claims, asserted_from, failure, first_fault, Holds}
 use Rattle.book_core.specs.GoodBook.{IsFit, IsWithin, IsGoodBook}

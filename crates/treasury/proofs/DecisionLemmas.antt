@@ -7,7 +7,6 @@ use Rattle.money_core.specs.declared.cause.Fault.{Fault}
 use Rattle.money_core.specs.declared.cause.Cause.TheVariants.{Full, Limit, Unbalanced, UnknownBranch}
 use Rattle.book_core.specs.declared.refusal.Failure.{Failure}
 use Rattle.book_core.specs.Claim.{failure}
-use Rattle.money_core.specs.AmountText.{AmountsBound}
 use Rattle.money_core.proofs.AmountPrint.{amounts_bound}
 use Rattle.book_core.specs.declared.leg.Leg.{Leg}
 use Rattle.book_core.specs.declared.entry.Entry.{Entry}
@@ -20,9 +19,9 @@ use Rattle.treasury.specs.declared.import.Accepted.{Accepted}
 use Rattle.treasury.specs.declared.small_journal.Written.{Written}
 use Rattle.treasury.specs.SmallJournal.{journal_of, entries_of, IsReadEntry, IsReadLeg}
 use Rattle.treasury.specs.Answer.{IsPrintableRefusal}
-use Rattle.treasury.specs.Federation.{Federation, branch_place, IsPlainEntry, IsGoodBranch, IsGoodFederation}
+use Rattle.treasury.specs.Federation.{Federation, branch_place, IsPlainEntry, IsGoodBranch}
 use Rattle.treasury.specs.Step.{checked, judged, into_branch, into_place, import_read, import_decision, unbalanced_line}
-use Rattle.treasury.proofs.BookLemmas.{AreUnclaimed, failure-unclaimed, unclaimed_from_plain, all-append, all_weaker}
+use Rattle.treasury.proofs.BookLemmas.{AreUnclaimed, failure-unclaimed, unclaimed_from_plain, all-append}
 use Rattle.treasury.proofs.SmallJournalLemmas.{entries_are_read}
 use Rattle.treasury.proofs.StepLemmas.{IsFit-entries_of}
 

@@ -1,5 +1,5 @@
 -- The entries of an accepted import go into their branch's book, all of them or the first ones.
-use Rattle.std.proofs.Common.{◌≡◌, ◌++◌, ◌<◌, ℕ, List, [], ◌∷◌, Some, Result, Ok, Err, OnOk, OnErr, refl, ap, ◌∙◌, sym, subst, append-nil, append_assoc, get_or, length}
+use Rattle.std.proofs.Common.{◌≡◌, ◌++◌, ◌<◌, ℕ, List, [], Some, Result, Ok, Err, OnOk, OnErr, ap, ◌∙◌, sym, subst, append-nil, append_assoc, get_or, length}
 use Rattle.std.specs.List.{AllByRecursion, slice_get, slice_set}
 use Rattle.std.proofs.lemmas.Option.{get_or_from_slice_get, slice_get_within}
 use Rattle.money_core.specs.declared.style.Style.{Style}

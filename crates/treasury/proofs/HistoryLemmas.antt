@@ -1,5 +1,5 @@
 -- What came into the books along a transcript: step by step, and what follows of balances and of a good state.
-use Rattle.std.proofs.Common.{◌≡◌, ◌<◌, ◌+◌, ◌++◌, ℕ, suc, List, [], ◌∷◌, Bool, true, false, not, cond, Option, Some, None, Result, Ok, Err, length, arith, refl, ap, ◌∙◌, sym, subst, inl, inr, append_assoc, append-nil, if◌then◌else◌, nat_lt, ℤ, pos, ◌+ℤ◌}
+use Rattle.std.proofs.Common.{◌≡◌, ◌<◌, ◌+◌, ◌++◌, ℕ, suc, List, [], ◌∷◌, Bool, true, false, not, cond, Option, Some, None, Result, Ok, Err, length, arith, refl, ap, ◌∙◌, sym, subst, inl, inr, append_assoc, append-nil, if◌then◌else◌, nat_lt, pos, ◌+ℤ◌}
 use Rattle.std.specs.List.{AllByRecursion, slice_get, prefix_len, position_or_len}
 use Rattle.std.specs.Str.{bytes_eq}
 use Rattle.std.proofs.lemmas.Bool.{cases_Bool, ltb-true}

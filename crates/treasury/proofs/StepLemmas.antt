@@ -1,5 +1,5 @@
 -- Transactions that sum to zero.
-use Rattle.std.proofs.Common.{◌≡◌, ◌↔◌, IsTrue, ◌++◌, ℕ, ℤ, pos, ◌+ℤ◌, List, [], ◌∷◌, Bool, true, false, not, cond, if◌then◌else◌, nat_eq, refl, ap, ◌∙◌, sym, subst, inl, inr, ◌⊎◌, arith, Option, Some, None}
+use Rattle.std.proofs.Common.{◌≡◌, ◌↔◌, IsTrue, ℕ, pos, List, [], ◌∷◌, Bool, true, false, not, nat_eq, refl, ap, ◌∙◌, sym, subst, inl, inr, ◌⊎◌, Option, Some, None}
 use Rattle.std.specs.Ordering.{int_eq}
 use Rattle.std.specs.List.{list_all, AllByRecursion}
 use Rattle.std.proofs.lemmas.Bool.{cases_Bool, and_parts, and_from, not-true, false_from_ne_true}

@@ -1,5 +1,5 @@
 -- a book that is not refused
-use Rattle.std.proofs.Common.{◌≡◌, Bool, true, false, List, [], ◌∷◌, length, refl, nat_lt, Option, Some, None, ap, subst, sym, ◌∙◌, arith}
+use Rattle.std.proofs.Common.{◌≡◌, Bool, true, false, List, [], length, refl, nat_lt, Option, Some, None, ap, subst, sym, arith}
 use Rattle.std.specs.Prelude.{if◌then◌else◌, option_map}
 use Rattle.money_core.specs.declared.cause.Cause.TheVariants.{Full, Limit}
 use Rattle.book_core.specs.declared.entry.Entry.{Entry}

@@ -1,5 +1,5 @@
 -- The state of a federation: its commodities, and its branches with their books (own rules; docs/RULES.md, "Branches", "Commodities", "Books").
-use Rattle.std.specs.Prelude.{◌≡◌, ◌≤◌, ◌<◌, ℕ, ◌==◌, nat_le, ◌&&◌, ◌||◌, Bool, true, List, [], ◌∷◌, ◌++◌, length, slice_index, slice_get, position, Option, Some}
+use Rattle.std.specs.Prelude.{◌≡◌, ◌≤◌, ◌<◌, ℕ, ◌==◌, nat_le, ◌&&◌, ◌||◌, Bool, true, List, [], length, slice_index, slice_get, position, Option, Some}
 use Rattle.std.specs.Char.{is_ascii_lowercase, is_ascii_digit}
 use Rattle.std.specs.List.{list_all, AllByRecursion}
 use Rattle.std.specs.Str.{bytes_eq}

@@ -1,5 +1,5 @@
 -- What a request is answered, and the state after it (own rules; docs/RULES.md, "Orders"). The cases stand in the order of the refusals.
-use Rattle.std.specs.Prelude.{◌≡◌, ℕ, zero, suc, pos, ◌==◌, nat_le, Bool, not, if◌then◌else◌, List, [], ◌∷◌, ◌++◌, length, slice_get, find, is_some, Option, Some, None, option_map, Result, Ok, Err, ◌⊎◌}
+use Rattle.std.specs.Prelude.{◌≡◌, ℕ, zero, suc, pos, nat_le, Bool, not, if◌then◌else◌, List, [], ◌∷◌, ◌++◌, length, slice_get, find, is_some, Option, Some, None, option_map, Result, Ok, Err, ◌⊎◌}
 use Rattle.std.specs.Ordering.{int_eq}
 use Rattle.std.specs.List.{list_all}
 use Rattle.money_core.specs.declared.day.Day.{Day}

@@ -1,4 +1,4 @@
-use Rattle.std.proofs.Common.{◌≡◌, ◌+◌, ◌++◌, ◌≤◌, ◌<◌, ◌∙◌, ℕ, length, arith, add-one, ap}
+use Rattle.std.proofs.Common.{◌≡◌, ◌+◌, ◌++◌, ◌<◌, ◌∙◌, ℕ, length, arith, add-one, ap}
 use Rattle.std.specs.List.{flat_map}
 use Rattle.treasury.specs.BalanceReport.{first_units, balance_line}
 use Rattle.treasury.proofs.AppendLemmas.{flat_map_next}

@@ -2,7 +2,6 @@
 use Rattle.std.proofs.Common.{◌≡◌, inl, inr, Option, Some, None, Err, sym, ap, refl, ℕ, List}
 use Rattle.money_core.specs.declared.style.Style.{Style}
 use Rattle.money_core.specs.declared.cause.Cause.{Cause}
-use Rattle.money_core.specs.declared.cause.Cause.TheVariants.{Amount, OutOfMemory}
 use Rattle.money_core.specs.Style.{IsSample}
 use Rattle.money_core.specs.Sampling.{style_of}
 use Rattle.money_core.proofs.SampleLemmas.{style_spelled, spelled_style}

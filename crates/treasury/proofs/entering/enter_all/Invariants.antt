@@ -1,6 +1,4 @@
-use Rattle.std.proofs.Common.{◌≡◌, ◌++◌, reverse, vec_len}
-use Rattle.std.specs.List.{AllByRecursion}
-use Rattle.book_core.specs.GoodBook.{IsFit, IsWithin}
+use Rattle.std.proofs.Common.{reverse, vec_len}
 use Rattle.treasury.proofs.EnteringLemmas.{Half}
 use Rattle.treasury.proofs.entering.enter_all.Given as goal
 

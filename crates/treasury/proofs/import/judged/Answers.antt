@@ -1,6 +1,4 @@
-use Rattle.std.proofs.Common.{◌≡◌, None, ◌∙◌, sym, ap}
-use Rattle.book_core.specs.GoodBook.{IsFit}
-use Rattle.std.specs.List.{AllByRecursion}
+use Rattle.std.proofs.Common.{◌≡◌, None}
 use Rattle.treasury.specs.Step.{unbalanced_line}
 use Rattle.treasury.proofs.StepLemmas.{IsFit-entries_of}
 use Rattle.treasury.proofs.import.judged.Goals as goal

@@ -1,7 +1,6 @@
-use Rattle.std.proofs.Common.{◌≡◌, sym, ap, ◌∙◌, subst, refl, List, ℕ, [], ◌∷◌, ◌++◌, Ok}
-use Rattle.treasury.specs.declared.branch.Branch.{Branch}
+use Rattle.std.proofs.Common.{◌≡◌, ap, ◌∙◌, refl, [], ◌∷◌, ◌++◌, Ok}
 use Rattle.treasury.specs.declared.answers.Answer.TheVariants.{Done}
-use Rattle.treasury.specs.Federation.{Federation, IsGoodFederation}
+use Rattle.treasury.specs.Federation.{Federation}
 use Rattle.treasury.specs.Step.{branch_answer}
 use Rattle.treasury.proofs.FederationLemmas.{IsGoodFederation-with_branch, new_branch}
 use Rattle.treasury.proofs.desk.Desk.add_branch.Goals as goal

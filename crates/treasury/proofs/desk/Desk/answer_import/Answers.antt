@@ -1,4 +1,4 @@
-use Rattle.std.proofs.Common.{◌≡◌, Ok, Err, sym, ap, ◌∙◌, subst}
+use Rattle.std.proofs.Common.{◌≡◌, Err, sym, ap, ◌∙◌}
 use Rattle.treasury.specs.Federation.{Federation}
 use Rattle.treasury.specs.Step.{import_decision}
 use Rattle.treasury.proofs.DecisionLemmas.{printable_decision}

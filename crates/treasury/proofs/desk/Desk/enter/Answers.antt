@@ -1,7 +1,6 @@
 -- An accepted import is of a branch that is there, and keeps the state good, also where it is cut off.
-use Rattle.std.proofs.Common.{◌≡◌, ◌++◌, ◌<◌, ℕ, List, Some, Ok, sym, ap, ◌∙◌, subst, arith, refl}
+use Rattle.std.proofs.Common.{◌≡◌, ℕ, List, Ok, ap, ◌∙◌, subst, arith, refl}
 use Rattle.book_core.specs.declared.entry.Entry.{Entry}
-use Rattle.book_core.specs.GoodBook.{IsWithin}
 use Rattle.treasury.specs.declared.branch.Branch.{Branch}
 use Rattle.treasury.specs.declared.import.Accepted.{Accepted}
 use Rattle.treasury.specs.declared.desk.Desk.TheInside as inside

@@ -1,6 +1,5 @@
 -- The journal's reading, the branch and the check decide, one after another.
-use Rattle.std.proofs.Common.{◌≡◌, inl, inr, ℕ, List, Some, None, Result, Ok, Err, IfOk, sym, ap, ◌∙◌, refl}
-use Rattle.std.specs.List.{slice_get}
+use Rattle.std.proofs.Common.{◌≡◌, inl, inr, Some, None, Result, Ok, Err, IfOk, sym, ap, ◌∙◌}
 use Rattle.money_core.specs.declared.cause.Fault.{Fault}
 use Rattle.treasury.specs.declared.desk.Desk.TheInside as inside
 use Rattle.treasury.specs.Federation.{Federation, branch_place}
