@@ -7,6 +7,10 @@ use Rattle.money_core.specs.declared.cause.Cause.{Cause}
 use Rattle.money_core.specs.declared.cause.Cause.TheVariants.{OutOfMemory, ReadFault, WriteFault}
 use Rattle.treasury.specs.Transcript.{requests_in, IsTranscript}
 
+-- the most bytes that the program reads: 64 MiB
+abbrev pub most_input : ℕ
+most_input = 67_108_864
+
 -- no line of the text is cut off: a line feed ends the text, or it is empty
 abbrev pub IsWholeLines : List ℕ → Type 0
 IsWholeLines text = (text ≡ []) ⊎ ((front : List ℕ) × (text ≡ front ++ (10 ∷ [])))

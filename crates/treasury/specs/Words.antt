@@ -6,7 +6,7 @@ use Rattle.clap.specs.Faults.{fault_of}
 use Rattle.clap.specs.declared.error.kind.ErrorKind.TheVariants.{DisplayHelp}
 use Rattle.money_core.specs.declared.cause.Cause.{Cause}
 use Rattle.treasury.specs.Federation.{Federation, IsGoodFederation}
-use Rattle.treasury.specs.RunEnd.{Finished, EndsBy}
+use Rattle.treasury.specs.RunEnd.{most_input, Finished, EndsBy}
 use Rattle.treasury.specs.Step.{Answers, Loses}
 use Rattle.treasury.specs.History.{IsBalancedFederation, book_of, entered_into, history}
 
@@ -33,11 +33,11 @@ nothing = record { styles = []; branches = [] }
 -- All of the input is answered, at most 64 MiB of it, over a federation that had nothing yet. At its end the state is good, in each branch every commodity sums to zero, and each book is the entries of the accepted imports into its branch, in order, and nothing else.
 pub record AnswersAll (r0 r1 w0 w1 : Option (List ℕ)) : Type 0 where
   pub end : Federation
-  pub finished : Finished Answers 67108864 r0 r1 w0 w1 nothing end
+  pub finished : Finished Answers most_input r0 r1 w0 w1 nothing end
   pub good : IsGoodFederation end
   pub balanced : IsBalancedFederation end
   pub books : (name : List ℕ) → book_of end.branches name ≡ entered_into name (history nothing finished.seen finished.written end finished.transcript)
 
 -- a run over a federation that had nothing yet is cut off by memory, by its input or by its output
 abbrev pub IsCutOff : Option (List ℕ) → Option (List ℕ) → Option (List ℕ) → Option (List ℕ) → Type 0
-IsCutOff r0 r1 w0 w1 = (cause : Cause) × ((end : Federation) × EndsBy cause Answers Loses 67108864 r0 r1 w0 w1 nothing end)
+IsCutOff r0 r1 w0 w1 = (cause : Cause) × ((end : Federation) × EndsBy cause Answers Loses most_input r0 r1 w0 w1 nothing end)

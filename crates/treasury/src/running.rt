@@ -1,7 +1,7 @@
 //! The run of a desk over the lines of a reader.
 
 ghost use Rattle.std.specs.Prelude.{◌≡◌, ◌++◌, ◌⊎◌, MatchResult, OnOk, IsErrOf};
-ghost use Rattle.treasury.specs.RunEnd.{Finished, EndsBy};
+ghost use Rattle.treasury.specs.RunEnd.{most_input, Finished, EndsBy};
 ghost use Rattle.treasury.specs.Step.{Answers, Loses};
 
 use crate::desk::Desk;
@@ -42,9 +42,9 @@ pub fn run_lines<R: Read, W: Write>(
     desk: &mut Desk,
 ) -> Result<(), Cause>
     ensures { MatchResult result
-        (λ _. Finished Answers 67108864 (R.remaining reader.old) (R.remaining reader.new)
+        (λ _. Finished Answers most_input (R.remaining reader.old) (R.remaining reader.new)
         (W.contents writer.old) (W.contents writer.new) desk.old desk.new)
-        (λ cause. EndsBy cause Answers Loses 67108864 (R.remaining reader.old) (R.remaining reader.new)
+        (λ cause. EndsBy cause Answers Loses most_input (R.remaining reader.old) (R.remaining reader.new)
         (W.contents writer.old) (W.contents writer.new) desk.old desk.new) }
 {
     run_machine(alloc, reader, writer, desk)
