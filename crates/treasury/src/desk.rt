@@ -1,6 +1,6 @@
 //! The desk: the state of a federation in memory, and what it answers to requests.
 
-ghost use Rattle.std.specs.Prelude.{◌≡◌, ◌↔◌, IsTrue, true, ◌≤◌, ◌<◌, ◌++◌, ◌∷◌, [], List, ℕ, Ok, Err, Some, None, IfOk, OnOk, OnErr, IsErrOf};
+ghost use Rattle.std.specs.Prelude.{◌≡◌, ◌↔◌, IsTrue, true, ◌≤◌, ◌<◌, ◌++◌, ◌∷◌, [], List, ℕ, Ok, Err, Some, None, IfOk, IfSome, OnOk, OnErr, IsErrOf};
 ghost use Rattle.std.specs.Result.{IsOkUnless};
 ghost use Rattle.money_core.specs.Style.{is_style};
 ghost use Rattle.money_core.specs.Sampling.{style_of};
@@ -52,6 +52,7 @@ fn is_memory(cause: Cause) -> bool
 /// The style that a sample spells, if it is one.
 fn spelled_style(alloc: Global, sample: &str) -> Result<Option<Style>, Cause>
     ensures value { IfOk result (λ style. style ≡ style_of sample.now) }
+    ensures declarable { IfOk result (λ found. IfSome found (λ style. is_style style ≡ true)) }
     ensures memory { IsOkUnless result Cause.OutOfMemory }
 {
     match read_style(alloc, sample) {
