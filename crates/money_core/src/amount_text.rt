@@ -1,16 +1,25 @@
 //! Amounts printed as their canonical texts, which read as the same amounts.
 
-ghost use Rattle.std.specs.Prelude.{◌≡◌, ◌≤◌, ◌++◌, take, length, OnOk, OnErr};
+ghost use Rattle.std.specs.Prelude.{◌≡◌, ◌↔◌, ◌≤◌, ◌++◌, take, length, IsTrue, OnOk, OnErr};
 ghost use Rattle.std.specs.Result.{IsOkUnless};
 ghost use Rattle.money_core.specs.AmountText.{minus, gap, printed_symbol, printed_signed, printed_with, printed_in, IsDeclared, IsAmountText, AmountsPrint, AmountsBound};
 
 use crate::cause::Cause;
+use crate::number::LIMIT;
 use crate::printing::print_number;
 use crate::style::Style;
 use crate::styles::Styles;
 use crate::symbol::is_bare;
 use crate::unit::Unit;
 use std::alloc::{AllocError, Global};
+
+/// Whether the commodity is declared, and the quantity at most 10^16 with either sign: the amounts that are printed, and
+/// that have a cost.
+pub fn is_declared(styles: &Styles, unit: Unit, qty: i64) -> bool
+    ensures { IsTrue result ↔ IsDeclared styles.now unit qty }
+{
+    styles.style(unit).is_some() && qty.unsigned_abs() <= LIMIT
+}
 
 /// Appends the symbol, in quotes where it could not stand without.
 #[tactic(auto, unfolding(crate::specs::AmountText::printed_symbol))]

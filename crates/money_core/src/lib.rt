@@ -23,7 +23,7 @@ mod symbol;
 mod text;
 mod unit;
 
-pub use amount_text::{amounts_bound, amounts_print, print_amount};
+pub use amount_text::{amounts_bound, amounts_print, is_declared, print_amount};
 pub use cause::{Cause, Fault};
 pub use cost::cost_of;
 pub use day::Day;

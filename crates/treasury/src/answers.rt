@@ -8,7 +8,7 @@ ghost use Rattle.treasury.specs.Answer.{refused_text, line_text, place_text, dif
 
 use book_core::{Failure, Place, Refusal};
 use journal_lines::{is_day_number, print_date};
-use money_core::{Cause, Styles, Unit, print_amount};
+use money_core::{Cause, Styles, is_declared, print_amount};
 use std::alloc::{AllocError, Global};
 
 /// What a command answers that is not refused.
@@ -20,16 +20,6 @@ pub enum Answer {
     Entered { new: usize, repeated: usize },
     /// It was done before.
     Repeated,
-}
-
-/// The greatest quantity of an amount, in smallest units.
-const MAX_QUANTITY: u64 = 10_000_000_000_000_000;
-
-/// Whether the commodity is declared, and the quantity within its limit.
-fn is_declared(styles: &Styles, unit: Unit, qty: i64) -> bool
-    ensures { IsTrue result ↔ IsDeclared styles.now unit qty }
-{
-    styles.style(unit).is_some() && qty.unsigned_abs() <= MAX_QUANTITY
 }
 
 /// Whether the date and the amounts of a failed assertion can be printed.

@@ -1,10 +1,11 @@
 //! Amounts read and printed, row by row.
 
-use crate::amount_text::{amounts_bound, print_amount};
+use crate::amount_text::{amounts_bound, is_declared, print_amount};
 use crate::cause::Cause;
 use crate::fixture::declared_styles;
 use crate::reading::read_amount;
 use crate::styles::Styles;
+use crate::unit::Unit;
 use std::alloc::Global;
 
 /// A line of what the text is read as and printed as, behind what the vector holds.
@@ -52,6 +53,28 @@ fn an_amount_is_printed_in_its_commoditys_style(rt: HostRuntime) {
         assert!(rt;
             read_amount(printed, &styles) == read_amount(text, &styles),
             "{text}"
+        );
+    }
+}
+
+#[test]
+fn a_declared_amount_is_within_the_limit(rt: HostRuntime) {
+    let styles = declared_styles(&rt, rt.alloc());
+    let rows = [
+        (0, 0, true),
+        (5, -1, true),
+        (6, 0, false),
+        (65535, 0, false),
+        (0, 10_000_000_000_000_000, true),
+        (0, 10_000_000_000_000_001, false),
+        (0, -10_000_000_000_000_000, true),
+        (0, -10_000_000_000_000_001, false),
+        (0, i64::MIN, false),
+    ];
+    for (unit, quantity, wanted) in rows {
+        assert!(rt;
+            is_declared(&styles, Unit(unit), quantity) == wanted,
+            "{unit} {quantity}"
         );
     }
 }
