@@ -1,12 +1,12 @@
 //! Assertions against the whole book, one after another.
 
-ghost use Rattle.std.specs.Prelude.{◌≡◌, ◌+◌, ◌<◌, ◌^◌, ◌++◌, length};
+ghost use Rattle.std.specs.Prelude.{◌≡◌, ◌+◌, ◌<◌, ◌^◌, length};
 ghost use Rattle.book_core.specs.Book.{legs_of};
 ghost use Rattle.book_core.specs.Claim.{account_at, reach_of, is_sole, lower, is_stray, least_unit, stray, fault, earlier, first_fault, asserted_claims, asserted_from, failure, claims_of, counted};
-ghost use Rattle.book_core.specs.GoodBook.{HasRoom};
 
 use crate::account::Reach;
 use crate::balance::balance_over;
+use crate::book::Book;
 use crate::claim::{Claim, ClaimKind, Placed};
 use crate::commodity::lower_of;
 use crate::entry::Entry;
@@ -64,29 +64,18 @@ pub fn is_sole_kind(kind: ClaimKind) -> bool
 }
 
 /// Whether a commodity is another than `own`, and not zero in the account.
-fn strays(
-    old: &[Entry],
-    new: &[Entry],
-    reach: Reach,
-    account: &str,
-    own: Unit,
-    limit: Until,
-    unit: Unit,
-) -> bool
-    requires small { HasRoom (old.now ++ new.now) }
-    requires short { length old.now + length new.now < 2 ^ 63 }
-    ensures { result ≡ is_stray reach (old.now ++ new.now) account.now own limit unit }
+fn strays(book: &Book<'_>, reach: Reach, account: &str, own: Unit, limit: Until, unit: Unit) -> bool
+    ensures { result ≡ is_stray reach book.now account.now own limit unit }
 {
     if unit.0 == own.0 {
         return false;
     }
-    let found = balance_over(old, new, reach, account, unit, limit);
+    let found = balance_over(book, reach, account, unit, limit);
     found != 0
 }
 
 fn stray_legs(
-    old: &[Entry],
-    new: &[Entry],
+    book: &Book<'_>,
     reach: Reach,
     account: &str,
     own: Unit,
@@ -94,14 +83,12 @@ fn stray_legs(
     legs: &[Leg],
     known: Option<Unit>,
 ) -> Option<Unit>
-    requires small { HasRoom (old.now ++ new.now) }
-    requires short { length old.now + length new.now < 2 ^ 63 }
-    ensures { result ≡ lower known (least_unit (is_stray reach (old.now ++ new.now) account.now own limit) legs.now) }
+    ensures { result ≡ lower known (least_unit (is_stray reach book.now account.now own limit) legs.now) }
 {
     let mut first = known;
     for leg in legs {
         let unit = leg.unit;
-        let one = if strays(old, new, reach, account, own, limit, unit) {
+        let one = if strays(book, reach, account, own, limit, unit) {
             Some(unit)
         } else {
             None
@@ -112,8 +99,7 @@ fn stray_legs(
 }
 
 fn stray_entries(
-    old: &[Entry],
-    new: &[Entry],
+    book: &Book<'_>,
     reach: Reach,
     account: &str,
     own: Unit,
@@ -121,54 +107,26 @@ fn stray_entries(
     scanned: &[Entry],
     known: Option<Unit>,
 ) -> Option<Unit>
-    requires small { HasRoom (old.now ++ new.now) }
-    requires short { length old.now + length new.now < 2 ^ 63 }
-    ensures { result ≡ lower known (least_unit (is_stray reach (old.now ++ new.now) account.now own limit) (legs_of scanned.now)) }
+    ensures { result ≡ lower known (least_unit (is_stray reach book.now account.now own limit) (legs_of scanned.now)) }
 {
     let mut first = known;
     for entry in scanned {
-        first = stray_legs(
-            old,
-            new,
-            reach,
-            account,
-            own,
-            limit,
-            entry.legs.items(),
-            first,
-        );
+        first = stray_legs(book, reach, account, own, limit, entry.legs.items(), first);
     }
     first
 }
 
 /// The first other commodity of the account that is not zero.
-fn stray_over(
-    old: &[Entry],
-    new: &[Entry],
-    reach: Reach,
-    account: &str,
-    own: Unit,
-    limit: Until,
-) -> Option<Unit>
-    requires small { HasRoom (old.now ++ new.now) }
-    requires short { length old.now + length new.now < 2 ^ 63 }
-    ensures { result ≡ stray reach (old.now ++ new.now) account.now own limit }
+fn stray_over(book: &Book<'_>, reach: Reach, account: &str, own: Unit, limit: Until) -> Option<Unit>
+    ensures { result ≡ stray reach book.now account.now own limit }
 {
-    let first = stray_entries(old, new, reach, account, own, limit, old, None);
-    stray_entries(old, new, reach, account, own, limit, new, first)
+    let first = stray_entries(book, reach, account, own, limit, book.old, None);
+    stray_entries(book, reach, account, own, limit, book.new, first)
 }
 
 /// Why a claim of entry `number` fails, if it does.
-fn fault_of(
-    old: &[Entry],
-    new: &[Entry],
-    entry: &Entry,
-    number: usize,
-    placed: Placed,
-) -> Option<Failure>
-    requires small { HasRoom (old.now ++ new.now) }
-    requires short { length old.now + length new.now < 2 ^ 63 }
-    ensures { result ≡ fault (old.now ++ new.now) (record { place = record { day = entry.now.day; entry = number; leg = placed.leg }; account = account_at entry.now.legs placed.leg; claim = placed.claim }) }
+fn fault_of(book: &Book<'_>, entry: &Entry, number: usize, placed: Placed) -> Option<Failure>
+    ensures { result ≡ fault book.now (record { place = record { day = entry.now.day; entry = number; leg = placed.leg }; account = account_at entry.now.legs placed.leg; claim = placed.claim }) }
 {
     let place = Place {
         day: entry.day,
@@ -176,24 +134,16 @@ fn fault_of(
         leg: placed.leg,
     };
     let account = account_of(entry.legs.items(), placed.leg);
-    claim_fault(old, new, place, account, placed.claim)
+    claim_fault(book, place, account, placed.claim)
 }
 
 /// Why a claim fails, if it does.
-pub fn claim_fault(
-    old: &[Entry],
-    new: &[Entry],
-    place: Place,
-    account: &str,
-    claim: Claim,
-) -> Option<Failure>
-    requires small { HasRoom (old.now ++ new.now) }
-    requires short { length old.now + length new.now < 2 ^ 63 }
-    ensures { result ≡ fault (old.now ++ new.now) (record { place = place; account = account.now; claim = claim }) }
+pub fn claim_fault(book: &Book<'_>, place: Place, account: &str, claim: Claim) -> Option<Failure>
+    ensures { result ≡ fault book.now (record { place = place; account = account.now; claim = claim }) }
 {
     let reach = reach_of_kind(claim.kind);
     let limit = Until::At(place);
-    let found = balance_over(old, new, reach, account, claim.unit, limit);
+    let found = balance_over(book, reach, account, claim.unit, limit);
     if found != claim.qty {
         return Some(Failure {
             place,
@@ -205,10 +155,10 @@ pub fn claim_fault(
     if !is_sole_kind(claim.kind) {
         return None;
     }
-    match stray_over(old, new, reach, account, claim.unit, limit) {
+    match stray_over(book, reach, account, claim.unit, limit) {
         None => None,
         Some(unit) => {
-            let other = balance_over(old, new, reach, account, unit, limit);
+            let other = balance_over(book, reach, account, unit, limit);
             Some(Failure {
                 place,
                 unit,
@@ -221,23 +171,20 @@ pub fn claim_fault(
 
 /// The first failure among those of an entry's claims and one that is known.
 fn scan_entry(
-    old: &[Entry],
-    new: &[Entry],
+    book: &Book<'_>,
     entry: &Entry,
     number: usize,
     known: Option<Failure>,
     count: &mut Count,
 ) -> Option<Failure>
-    requires small { HasRoom (old.now ++ new.now) }
-    requires short { length old.now + length new.now < 2 ^ 63 }
-    ensures first { result ≡ earlier known (first_fault (old.now ++ new.now) (asserted_claims entry.now.day number entry.now.legs entry.now.claims)) }
+    ensures first { result ≡ earlier known (first_fault book.now (asserted_claims entry.now.day number entry.now.legs entry.now.claims)) }
     ensures count { count.new.claims ≡ counted count.old.claims (length entry.now.claims) }
 {
     let _start = count.claims;
     let mut first = known;
     for placed in entry.claims.items() {
         count.claims = count.claims.saturating_add(1);
-        let fault = fault_of(old, new, entry, number, *placed);
+        let fault = fault_of(book, entry, number, *placed);
         first = earlier_of(first, fault);
     }
     first
@@ -245,35 +192,30 @@ fn scan_entry(
 
 /// The same over several entries, numbered from `start`.
 pub fn scan_entries(
-    old: &[Entry],
-    new: &[Entry],
+    book: &Book<'_>,
     scanned: &[Entry],
     start: usize,
     known: Option<Failure>,
     count: &mut Count,
 ) -> Option<Failure>
-    requires small { HasRoom (old.now ++ new.now) }
-    requires short { length old.now + length new.now < 2 ^ 63 }
     requires numbers { start + length scanned.now < 2 ^ 64 }
-    ensures first { result ≡ earlier known (first_fault (old.now ++ new.now) (asserted_from start scanned.now)) }
+    ensures first { result ≡ earlier known (first_fault book.now (asserted_from start scanned.now)) }
     ensures count { count.new.claims ≡ counted count.old.claims (length (asserted_from start scanned.now)) }
 {
     let _start = count.claims;
     let mut first = known;
     let mut number = start;
     for entry in scanned {
-        first = scan_entry(old, new, entry, number, first, count);
+        first = scan_entry(book, entry, number, first, count);
         number += 1;
     }
     first
 }
 
-pub fn first_failure(old: &[Entry], new: &[Entry], count: &mut Count) -> Option<Failure>
-    requires small { HasRoom (old.now ++ new.now) }
-    requires short { length old.now + length new.now < 2 ^ 63 }
-    ensures first { result ≡ failure (old.now ++ new.now) }
-    ensures count { count.new.claims ≡ counted count.old.claims (claims_of (old.now ++ new.now)) }
+pub fn first_failure(book: &Book<'_>, count: &mut Count) -> Option<Failure>
+    ensures first { result ≡ failure book.now }
+    ensures count { count.new.claims ≡ counted count.old.claims (claims_of book.now) }
 {
-    let first = scan_entries(old, new, old, 1, None, count);
-    scan_entries(old, new, new, old.len() + 1, first, count)
+    let first = scan_entries(book, book.old, 1, None, count);
+    scan_entries(book, book.new, book.old.len() + 1, first, count)
 }

@@ -1,11 +1,12 @@
 //! Balances, as sums over whole lists of entries.
 
-ghost use Rattle.std.specs.Prelude.{◌≡◌, ◌+◌, ◌≤◌, ◌<◌, ◌^◌, ◌++◌, length, pos, if◌then◌else◌};
+ghost use Rattle.std.specs.Prelude.{◌≡◌, ◌+◌, ◌≤◌, ◌<◌, ◌^◌, length, pos, if◌then◌else◌};
 ghost use Rattle.book_core.specs.Book.{posted_legs, posted_from};
 ghost use Rattle.book_core.specs.Balance.{counts, total, balance, moved, turnover};
 ghost use Rattle.book_core.specs.GoodBook.{most_turnover};
 
 use crate::account::{Reach, is_reached};
+use crate::book::Book;
 use crate::entry::Entry;
 use crate::leg::Leg;
 use crate::place::{Place, Until, is_in_time};
@@ -71,22 +72,11 @@ fn sum_entries(
     sum
 }
 
-/// The balance over two lists of entries, the second after the first, in smallest units.
-///
-/// Costs one pass over all legs.
-pub fn balance_over(
-    old: &[Entry],
-    new: &[Entry],
-    reach: Reach,
-    account: &str,
-    unit: Unit,
-    limit: Until,
-) -> i64
-    requires small { turnover unit (old.now ++ new.now) ≤ most_turnover }
-    requires short { length old.now + length new.now < 2 ^ 63 }
-    ensures { result ≡ balance reach (old.now ++ new.now) account.now unit limit }
+/// The balance of a book, in smallest units. Costs one pass over all legs.
+pub fn balance_over(book: &Book<'_>, reach: Reach, account: &str, unit: Unit, limit: Until) -> i64
+    ensures { result ≡ balance reach book.now account.now unit limit }
 {
-    let first = sum_entries(old, 1, reach, account, unit, limit);
-    let second = sum_entries(new, old.len() + 1, reach, account, unit, limit);
+    let first = sum_entries(book.old, 1, reach, account, unit, limit);
+    let second = sum_entries(book.new, book.old.len() + 1, reach, account, unit, limit);
     first + second
 }

@@ -5,6 +5,7 @@ mod account;
 mod account_list;
 mod assertion;
 mod balance;
+mod book;
 mod claim;
 mod commodity;
 mod entry;

@@ -9,6 +9,7 @@ use crate::account::Reach;
 use crate::account_list::{new_accounts, put_accounts};
 use crate::assertion::first_failure;
 use crate::balance::balance_over;
+use crate::book::Book;
 use crate::entry::Entry;
 use crate::ledger::Ledger;
 use crate::place::Until;
@@ -62,7 +63,8 @@ pub fn check_lists(old: &[Entry], new: &[Entry], count: &mut Count) -> Result<()
     if passes_limit(old, new) {
         return Err(Refusal::Plain(Cause::Limit));
     }
-    match first_failure(old, new, count) {
+    let book = Book { old, new };
+    match first_failure(&book, count) {
         Some(failure) => Err(Refusal::ClaimFailed(failure)),
         None => Ok(()),
     }
@@ -83,13 +85,19 @@ impl Ledger for PlainLedger {
     }
 
     fn balance(&self, account: &str, unit: Unit, day: Day) -> i64 {
-        let limit = Until::Through(day);
-        balance_over(&self.entries, &[], Reach::Own, account, unit, limit)
+        let book = Book {
+            old: &self.entries,
+            new: &[],
+        };
+        balance_over(&book, Reach::Own, account, unit, Until::Through(day))
     }
 
     fn balance_in(&self, account: &str, unit: Unit, day: Day) -> i64 {
-        let limit = Until::Through(day);
-        balance_over(&self.entries, &[], Reach::Inside, account, unit, limit)
+        let book = Book {
+            old: &self.entries,
+            new: &[],
+        };
+        balance_over(&book, Reach::Inside, account, unit, Until::Through(day))
     }
 
     fn accounts(&self) -> &[Text] {

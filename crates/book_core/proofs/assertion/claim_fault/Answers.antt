@@ -1,4 +1,4 @@
-use Rattle.std.proofs.Common.{◌≡◌, ◌++◌, rules, ap, sym, ◌∙◌, w64, to_z, of_z, FitsSigned}
+use Rattle.std.proofs.Common.{◌≡◌, rules, ap, sym, ◌∙◌, w64, to_z, of_z, FitsSigned}
 use Rattle.std.proofs.lemmas.Int.{to_z-of_z}
 use Rattle.book_core.specs.declared.account.Reach.{Reach}
 use Rattle.book_core.specs.declared.place.Until.TheVariants.{At}
@@ -10,7 +10,7 @@ use Rattle.book_core.proofs.assertion.claim_fault.Goals as goal
 
 pub returns-then-found-claim : goal.returns-then-found-claim
 returns-then-found-claim c =
-    let b = c.args.old.now ++ c.args.new.now in
+    let b = c.args.book.now in
     let x : Asserted = record { place = c.args.place; account = c.args.account.now; claim = c.args.claim } in
     let fits : FitsSigned w64 c.args.claim.qty = search rules in
     let found : to_z w64 (of_z w64 c.balance_over-found.result) ≡ c.balance_over-found.result = to_z-of_z w64 c.balance_over-found.result (search rules) in
@@ -22,7 +22,7 @@ returns-then-found-claim c =
 
 pub returns-then-not-is_sole_kind : goal.returns-then-not-is_sole_kind
 returns-then-not-is_sole_kind c =
-    let b = c.args.old.now ++ c.args.new.now in
+    let b = c.args.book.now in
     let x : Asserted = record { place = c.args.place; account = c.args.account.now; claim = c.args.claim } in
     let same : c.balance_over-found.result ≡ c.args.claim.qty = sym (to_z-of_z w64 c.balance_over-found.result (search rules)) ∙ ap (to_z w64) c.if-found-claim.false ∙ to_z-of_z w64 c.args.claim.qty (search rules) in
     fault_plain b x c.balance_over-found.result
@@ -31,7 +31,7 @@ returns-then-not-is_sole_kind c =
 
 pub returns-in-None : goal.returns-in-None
 returns-in-None c =
-    let b = c.args.old.now ++ c.args.new.now in
+    let b = c.args.book.now in
     let x : Asserted = record { place = c.args.place; account = c.args.account.now; claim = c.args.claim } in
     let same : c.balance_over-found.result ≡ c.args.claim.qty = sym (to_z-of_z w64 c.balance_over-found.result (search rules)) ∙ ap (to_z w64) c.if-found-claim.false ∙ to_z-of_z w64 c.args.claim.qty (search rules) in
     fault_alone b x c.balance_over-found.result
@@ -41,7 +41,7 @@ returns-in-None c =
 
 pub returns-in-Some : goal.returns-in-Some
 returns-in-Some c =
-    let b = c.args.old.now ++ c.args.new.now in
+    let b = c.args.book.now in
     let x : Asserted = record { place = c.args.place; account = c.args.account.now; claim = c.args.claim } in
     let same : c.balance_over-found.result ≡ c.args.claim.qty = sym (to_z-of_z w64 c.balance_over-found.result (search rules)) ∙ ap (to_z w64) c.if-found-claim.false ∙ to_z-of_z w64 c.args.claim.qty (search rules) in
     let other : to_z w64 (of_z w64 c.balance_over-other.result) ≡ c.balance_over-other.result = to_z-of_z w64 c.balance_over-other.result (search rules) in
