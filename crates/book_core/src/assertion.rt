@@ -2,10 +2,11 @@
 
 ghost use Rattle.std.specs.Prelude.{◌≡◌, ◌+◌, ◌<◌, ◌^◌, length};
 ghost use Rattle.book_core.specs.Book.{legs_of};
-ghost use Rattle.book_core.specs.Claim.{account_at, reach_of, is_sole, lower, is_stray, least_unit, stray, fault, earlier, first_fault, asserted_claims, asserted_from, failure, claims_of, counted};
+ghost use Rattle.book_core.specs.Claim.{account_at, reach_of, is_sole, lower, least_unit, fault, earlier, first_fault, asserted_claims, asserted_from, failure, claims_of, counted};
+ghost use Rattle.book_core.specs.Query.{is_stray_for, stray_for};
 
 use crate::account::Reach;
-use crate::balance::balance_over;
+use crate::balance::{Query, balance_over};
 use crate::book::Book;
 use crate::claim::{Claim, ClaimKind, Placed};
 use crate::commodity::lower_of;
@@ -28,6 +29,7 @@ pub fn account_of(legs: &[Leg], number: usize) -> &str
     legs[number - 1].account.as_str()
 }
 
+/// Which accounts an assertion of the kind looks at.
 pub fn reach_of_kind(kind: ClaimKind) -> Reach
     ensures { result ≡ reach_of kind }
 {
@@ -35,6 +37,117 @@ pub fn reach_of_kind(kind: ClaimKind) -> Reach
         ClaimKind::Exact | ClaimKind::Sole => Reach::Own,
         ClaimKind::ExactIn | ClaimKind::SoleIn => Reach::Inside,
     }
+}
+
+/// Whether an assertion of the kind asks that every other commodity is zero.
+pub fn is_sole_kind(kind: ClaimKind) -> bool
+    ensures { result ≡ is_sole kind }
+{
+    match kind {
+        ClaimKind::Exact | ClaimKind::ExactIn => false,
+        ClaimKind::Sole | ClaimKind::SoleIn => true,
+    }
+}
+
+/// Whether a commodity is another than the one that is asked, and not zero in the account.
+fn strays(book: &Book<'_>, query: &Query<'_>, unit: Unit) -> bool
+    ensures { result ≡ is_stray_for query.now book.now unit }
+{
+    if unit.0 == query.unit.0 {
+        return false;
+    }
+    let found = balance_over(book, &Query { unit, ..*query });
+    found != 0
+}
+
+/// Of the legs' commodities that stray and one that is known, the one declared first.
+fn stray_legs(book: &Book<'_>, query: &Query<'_>, legs: &[Leg], known: Option<Unit>) -> Option<Unit>
+    ensures { result ≡ lower known (least_unit (is_stray_for query.now book.now) legs.now) }
+{
+    let mut first = known;
+    for leg in legs {
+        let unit = leg.unit;
+        let one = if strays(book, query, unit) {
+            Some(unit)
+        } else {
+            None
+        };
+        first = lower_of(first, one);
+    }
+    first
+}
+
+/// The same over the legs of several entries.
+fn stray_entries(
+    book: &Book<'_>,
+    query: &Query<'_>,
+    scanned: &[Entry],
+    known: Option<Unit>,
+) -> Option<Unit>
+    ensures { result ≡ lower known (least_unit (is_stray_for query.now book.now) (legs_of scanned.now)) }
+{
+    let mut first = known;
+    for entry in scanned {
+        first = stray_legs(book, query, entry.legs.items(), first);
+    }
+    first
+}
+
+/// The first other commodity of the account that is not zero.
+fn stray_over(book: &Book<'_>, query: &Query<'_>) -> Option<Unit>
+    ensures { result ≡ stray_for query.now book.now }
+{
+    let first = stray_entries(book, query, book.old, None);
+    stray_entries(book, query, book.new, first)
+}
+
+/// Why a claim fails, if it does.
+pub fn claim_fault(book: &Book<'_>, place: Place, account: &str, claim: Claim) -> Option<Failure>
+    ensures { result ≡ fault book.now (record { place = place; account = account.now; claim = claim }) }
+{
+    let query = Query {
+        reach: reach_of_kind(claim.kind),
+        account,
+        unit: claim.unit,
+        limit: Until::At(place),
+    };
+    let found = balance_over(book, &query);
+    if found != claim.qty {
+        return Some(Failure {
+            place,
+            unit: claim.unit,
+            asserted: claim.qty,
+            found,
+        });
+    }
+    if !is_sole_kind(claim.kind) {
+        return None;
+    }
+    match stray_over(book, &query) {
+        None => None,
+        Some(unit) => {
+            let other = balance_over(book, &Query { unit, ..query });
+            Some(Failure {
+                place,
+                unit,
+                asserted: 0,
+                found: other,
+            })
+        }
+    }
+}
+
+/// Why a claim of entry `number` fails, if it does.
+fn fault_of(book: &Book<'_>, entry: &Entry, number: usize, placed: Placed) -> Option<Failure>
+    ensures { result ≡ fault book.now (record { place = record { day = entry.now.day; entry = number; leg = placed.leg }; account = account_at entry.now.legs placed.leg; claim = placed.claim }) }
+{
+    let place = Place {
+        day: entry.day,
+        entry: number,
+        leg: placed.leg,
+    };
+    let account = account_of(entry.legs.items(), placed.leg);
+    claim_fault(book, place, account, placed.claim)
 }
 
 /// Of two failures, the one with the earlier place.
@@ -51,121 +164,6 @@ pub fn earlier_of(a: Option<Failure>, b: Option<Failure>) -> Option<Failure>
         }
         (Some(x), None) => Some(x),
         (None, y) => y,
-    }
-}
-
-pub fn is_sole_kind(kind: ClaimKind) -> bool
-    ensures { result ≡ is_sole kind }
-{
-    match kind {
-        ClaimKind::Exact | ClaimKind::ExactIn => false,
-        ClaimKind::Sole | ClaimKind::SoleIn => true,
-    }
-}
-
-/// Whether a commodity is another than `own`, and not zero in the account.
-fn strays(book: &Book<'_>, reach: Reach, account: &str, own: Unit, limit: Until, unit: Unit) -> bool
-    ensures { result ≡ is_stray reach book.now account.now own limit unit }
-{
-    if unit.0 == own.0 {
-        return false;
-    }
-    let found = balance_over(book, reach, account, unit, limit);
-    found != 0
-}
-
-fn stray_legs(
-    book: &Book<'_>,
-    reach: Reach,
-    account: &str,
-    own: Unit,
-    limit: Until,
-    legs: &[Leg],
-    known: Option<Unit>,
-) -> Option<Unit>
-    ensures { result ≡ lower known (least_unit (is_stray reach book.now account.now own limit) legs.now) }
-{
-    let mut first = known;
-    for leg in legs {
-        let unit = leg.unit;
-        let one = if strays(book, reach, account, own, limit, unit) {
-            Some(unit)
-        } else {
-            None
-        };
-        first = lower_of(first, one);
-    }
-    first
-}
-
-fn stray_entries(
-    book: &Book<'_>,
-    reach: Reach,
-    account: &str,
-    own: Unit,
-    limit: Until,
-    scanned: &[Entry],
-    known: Option<Unit>,
-) -> Option<Unit>
-    ensures { result ≡ lower known (least_unit (is_stray reach book.now account.now own limit) (legs_of scanned.now)) }
-{
-    let mut first = known;
-    for entry in scanned {
-        first = stray_legs(book, reach, account, own, limit, entry.legs.items(), first);
-    }
-    first
-}
-
-/// The first other commodity of the account that is not zero.
-fn stray_over(book: &Book<'_>, reach: Reach, account: &str, own: Unit, limit: Until) -> Option<Unit>
-    ensures { result ≡ stray reach book.now account.now own limit }
-{
-    let first = stray_entries(book, reach, account, own, limit, book.old, None);
-    stray_entries(book, reach, account, own, limit, book.new, first)
-}
-
-/// Why a claim of entry `number` fails, if it does.
-fn fault_of(book: &Book<'_>, entry: &Entry, number: usize, placed: Placed) -> Option<Failure>
-    ensures { result ≡ fault book.now (record { place = record { day = entry.now.day; entry = number; leg = placed.leg }; account = account_at entry.now.legs placed.leg; claim = placed.claim }) }
-{
-    let place = Place {
-        day: entry.day,
-        entry: number,
-        leg: placed.leg,
-    };
-    let account = account_of(entry.legs.items(), placed.leg);
-    claim_fault(book, place, account, placed.claim)
-}
-
-/// Why a claim fails, if it does.
-pub fn claim_fault(book: &Book<'_>, place: Place, account: &str, claim: Claim) -> Option<Failure>
-    ensures { result ≡ fault book.now (record { place = place; account = account.now; claim = claim }) }
-{
-    let reach = reach_of_kind(claim.kind);
-    let limit = Until::At(place);
-    let found = balance_over(book, reach, account, claim.unit, limit);
-    if found != claim.qty {
-        return Some(Failure {
-            place,
-            unit: claim.unit,
-            asserted: claim.qty,
-            found,
-        });
-    }
-    if !is_sole_kind(claim.kind) {
-        return None;
-    }
-    match stray_over(book, reach, account, claim.unit, limit) {
-        None => None,
-        Some(unit) => {
-            let other = balance_over(book, reach, account, unit, limit);
-            Some(Failure {
-                place,
-                unit,
-                asserted: 0,
-                found: other,
-            })
-        }
     }
 }
 
@@ -212,6 +210,7 @@ pub fn scan_entries(
     first
 }
 
+/// The first failure by place in a book, each of its claims being counted.
 pub fn first_failure(book: &Book<'_>, count: &mut Count) -> Option<Failure>
     ensures first { result ≡ failure book.now }
     ensures count { count.new.claims ≡ counted count.old.claims (claims_of book.now) }

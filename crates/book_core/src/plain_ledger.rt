@@ -1,14 +1,16 @@
 //! The ledger that keeps the list of entries and adds it up at each question.
 
-ghost use Rattle.std.specs.Prelude.{◌≤◌, ◌++◌, List};
+ghost use Rattle.std.specs.Prelude.{◌≡◌, ◌≤◌, ◌++◌, List};
+ghost use Rattle.book_core.specs.Balance.{balance};
 ghost use Rattle.book_core.specs.Claim.{claims_of, counted};
 ghost use Rattle.book_core.specs.GoodBook.{IsWithin, Checks};
 ghost use Rattle.book_core.specs.declared.entry.Entry.{Entry as Line};
+ghost use Rattle.book_core.specs.declared.place.Until.TheVariants.{Through};
 
 use crate::account::Reach;
 use crate::account_list::{new_accounts, put_accounts};
 use crate::assertion::first_failure;
-use crate::balance::balance_over;
+use crate::balance::{Query, balance_over};
 use crate::book::Book;
 use crate::entry::Entry;
 use crate::ledger::Ledger;
@@ -70,6 +72,24 @@ pub fn check_lists(old: &[Entry], new: &[Entry], count: &mut Count) -> Result<()
     }
 }
 
+/// The balance of an account, or of it and its subaccounts, through a day.
+fn balance_through(entries: &[Entry], reach: Reach, account: &str, unit: Unit, day: Day) -> i64
+    requires { IsWithin entries.now }
+    ensures { result ≡ balance reach entries.now account.now unit (Through day) }
+{
+    let book = Book {
+        old: entries,
+        new: &[],
+    };
+    let query = Query {
+        reach,
+        account,
+        unit,
+        limit: Until::Through(day),
+    };
+    balance_over(&book, &query)
+}
+
 impl Ledger for PlainLedger {
     ghost book = { λ b. b };
 
@@ -85,19 +105,11 @@ impl Ledger for PlainLedger {
     }
 
     fn balance(&self, account: &str, unit: Unit, day: Day) -> i64 {
-        let book = Book {
-            old: &self.entries,
-            new: &[],
-        };
-        balance_over(&book, Reach::Own, account, unit, Until::Through(day))
+        balance_through(&self.entries, Reach::Own, account, unit, day)
     }
 
     fn balance_in(&self, account: &str, unit: Unit, day: Day) -> i64 {
-        let book = Book {
-            old: &self.entries,
-            new: &[],
-        };
-        balance_over(&book, Reach::Inside, account, unit, Until::Through(day))
+        balance_through(&self.entries, Reach::Inside, account, unit, day)
     }
 
     fn accounts(&self) -> &[Text] {

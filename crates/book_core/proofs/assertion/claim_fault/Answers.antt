@@ -17,7 +17,7 @@ returns-then-found-claim c =
     let qty : to_z w64 (of_z w64 c.args.claim.qty) ≡ c.args.claim.qty = to_z-of_z w64 c.args.claim.qty fits in
     rw (found, qty)
     (fault_wrong b x c.balance_over-found.result
-    (c.balance_over-found.ensures ∙ ap (λ (r : Reach). balance r b c.args.account.now c.args.claim.unit (At c.args.place)) c.reach_of_kind-reach.ensures)
+    (c.balance_over-found.ensures ∙ ap (λ (r : Reach). balance r b c.args.account.now c.args.claim.unit (At c.args.place)) c.reach_of_kind.ensures)
     (λ e. c.if-found-claim.true (ap (of_z w64) e)))
 
 pub returns-then-not-is_sole_kind : goal.returns-then-not-is_sole_kind
@@ -26,7 +26,7 @@ returns-then-not-is_sole_kind c =
     let x : Asserted = record { place = c.args.place; account = c.args.account.now; claim = c.args.claim } in
     let same : c.balance_over-found.result ≡ c.args.claim.qty = sym (to_z-of_z w64 c.balance_over-found.result (search rules)) ∙ ap (to_z w64) c.if-found-claim.false ∙ to_z-of_z w64 c.args.claim.qty (search rules) in
     fault_plain b x c.balance_over-found.result
-    (c.balance_over-found.ensures ∙ ap (λ (r : Reach). balance r b c.args.account.now c.args.claim.unit (At c.args.place)) c.reach_of_kind-reach.ensures)
+    (c.balance_over-found.ensures ∙ ap (λ (r : Reach). balance r b c.args.account.now c.args.claim.unit (At c.args.place)) c.reach_of_kind.ensures)
     same (sym c.is_sole_kind.ensures ∙ c.if-not-is_sole_kind.true)
 
 pub returns-in-None : goal.returns-in-None
@@ -35,9 +35,9 @@ returns-in-None c =
     let x : Asserted = record { place = c.args.place; account = c.args.account.now; claim = c.args.claim } in
     let same : c.balance_over-found.result ≡ c.args.claim.qty = sym (to_z-of_z w64 c.balance_over-found.result (search rules)) ∙ ap (to_z w64) c.if-found-claim.false ∙ to_z-of_z w64 c.args.claim.qty (search rules) in
     fault_alone b x c.balance_over-found.result
-    (c.balance_over-found.ensures ∙ ap (λ (r : Reach). balance r b c.args.account.now c.args.claim.unit (At c.args.place)) c.reach_of_kind-reach.ensures)
+    (c.balance_over-found.ensures ∙ ap (λ (r : Reach). balance r b c.args.account.now c.args.claim.unit (At c.args.place)) c.reach_of_kind.ensures)
     same
-    (ap (λ (r : Reach). stray r b c.args.account.now c.args.claim.unit (At c.args.place)) (sym c.reach_of_kind-reach.ensures) ∙ sym c.stray_over.ensures ∙ c.in-None.is)
+    (ap (λ (r : Reach). stray r b c.args.account.now c.args.claim.unit (At c.args.place)) (sym c.reach_of_kind.ensures) ∙ sym c.stray_over.ensures ∙ c.in-None.is)
 
 pub returns-in-Some : goal.returns-in-Some
 returns-in-Some c =
@@ -47,7 +47,7 @@ returns-in-Some c =
     let other : to_z w64 (of_z w64 c.balance_over-other.result) ≡ c.balance_over-other.result = to_z-of_z w64 c.balance_over-other.result (search rules) in
     rw other
     (fault_stray b x c.balance_over-found.result c.in-Some.unit c.balance_over-other.result
-    (c.balance_over-found.ensures ∙ ap (λ (r : Reach). balance r b c.args.account.now c.args.claim.unit (At c.args.place)) c.reach_of_kind-reach.ensures)
+    (c.balance_over-found.ensures ∙ ap (λ (r : Reach). balance r b c.args.account.now c.args.claim.unit (At c.args.place)) c.reach_of_kind.ensures)
     same (sym c.is_sole_kind.ensures ∙ c.if-not-is_sole_kind.false)
-    (ap (λ (r : Reach). stray r b c.args.account.now c.args.claim.unit (At c.args.place)) (sym c.reach_of_kind-reach.ensures) ∙ sym c.stray_over.ensures ∙ c.in-Some.is)
-    (c.balance_over-other.ensures ∙ ap (λ (r : Reach). balance r b c.args.account.now c.in-Some.unit (At c.args.place)) c.reach_of_kind-reach.ensures))
+    (ap (λ (r : Reach). stray r b c.args.account.now c.args.claim.unit (At c.args.place)) (sym c.reach_of_kind.ensures) ∙ sym c.stray_over.ensures ∙ c.in-Some.is)
+    (c.balance_over-other.ensures ∙ ap (λ (r : Reach). balance r b c.args.account.now c.in-Some.unit (At c.args.place)) c.reach_of_kind.ensures))
