@@ -117,7 +117,7 @@ fn year_number(text: &[u8]) -> Option<u16>
     }
 }
 
-/// Whether the day is one of the years 1 to 9999.
+/// Whether the day is one of the years 1 to 9999, from 0001-01-01 to 9999-12-31.
 pub fn is_day_number(day: Day) -> bool
     ensures { IsTrue result ↔ IsDayNumber day }
 {
