@@ -15,12 +15,13 @@ use Rattle.money_core.specs.declared.class.Class.{Class}
 use Rattle.money_core.specs.declared.class.Class.TheVariants.{Blank, Symbol, Number}
 use Rattle.money_core.specs.declared.amount.Sign.{Sign}
 use Rattle.money_core.specs.declared.amount.Sign.TheVariants.{Absent, Plus, Minus}
-use Rattle.money_core.specs.Class.{has, end_of, skip_blanks, IsBlanks}
+use Rattle.money_core.specs.Blank.{IsBlanks}
+use Rattle.money_core.specs.Class.{has}
 use Rattle.money_core.specs.Mark.{decimal_byte, group_byte}
 use Rattle.money_core.specs.Number.{is_group, is_whole, is_number, whole_part, fraction_part}
 use Rattle.money_core.specs.Symbol.{is_short, is_bare, is_symbol, is_quoted_byte, no_double, in_quotes, WritesSymbol}
 use Rattle.money_core.specs.Amount.{Parts, WritesSign, IsLeftAmount, IsRightAmount, IsAmount}
-use Rattle.money_core.specs.Cutting.{Cut, cut_quoted, cut_bare, cut_symbol, sign_of, unsigned, left_number, left_parts, right_symbol, right_parts, amount_parts}
+use Rattle.money_core.specs.Cutting.{end_of, skip_blanks, Cut, cut_quoted, cut_bare, cut_symbol, sign_of, unsigned, left_number, left_parts, right_symbol, right_parts, amount_parts}
 use Rattle.money_core.proofs.RoundTrip.{before_mark, split_some}
 use Rattle.money_core.proofs.ClassLemmas.{all_weaker, all_joined, first_passes, EndsClass, class_end, digit_number, symbol_no_quote, symbol_no_minus, symbol_no_plus, symbol_no_number, symbol_no_blank, number_no_symbol, number_no_quote, number_no_minus, number_no_plus, number_no_blank, blank_no_symbol, blank_no_number}
 

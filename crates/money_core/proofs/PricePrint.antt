@@ -9,12 +9,12 @@ use Rattle.money_core.specs.declared.unit.Unit.{Unit as Commodity}
 use Rattle.money_core.specs.declared.price.Price.{Price}
 use Rattle.money_core.specs.declared.price.Price.TheVariants.{Each, Total}
 use Rattle.money_core.specs.declared.cause.Cause.TheVariants.{Amount, Cost}
-use Rattle.money_core.specs.Class.{has, skip_blanks}
+use Rattle.money_core.specs.Class.{has}
 use Rattle.money_core.specs.Number.{is_number, fits_decimals, fraction_part, quantity}
 use Rattle.money_core.specs.Printed.{printed_number}
 use Rattle.money_core.specs.Symbol.{is_symbol}
 use Rattle.money_core.specs.Amount.{Parts, limit, place_of}
-use Rattle.money_core.specs.Cutting.{amount_parts}
+use Rattle.money_core.specs.Cutting.{skip_blanks, amount_parts}
 use Rattle.money_core.specs.Style.{AreStyles}
 use Rattle.money_core.specs.AmountText.{printed_with}
 use Rattle.money_core.specs.Price.{unit_limit, is_negative, cost_unit, is_cost, is_price}

@@ -1,8 +1,9 @@
 -- What an amount is printed as (own rule), and what such a text has wherever it stands.
 use Rattle.std.specs.Prelude.{◌≡◌, ℕ, ℤ, pos, negsuc, unsigned_abs, ◌-◌, ◌==◌, ◌≤◌, ◌<◌, List, [], ◌∷◌, ◌++◌, length, slice_get, slice_index, Bool, true, false, ◌&&◌, ◌||◌, not, if◌then◌else◌, Option, Some, None, Ok}
-use Rattle.money_core.specs.declared.class.Class.TheVariants.{Blank, Symbol, Number}
+use Rattle.money_core.specs.declared.class.Class.TheVariants.{Symbol, Number}
 use Rattle.money_core.specs.declared.style.Style.{Style}
 use Rattle.money_core.specs.declared.unit.Unit.{Unit as Commodity}
+use Rattle.money_core.specs.Blank.{is_blank}
 use Rattle.money_core.specs.Class.{has}
 use Rattle.money_core.specs.Symbol.{is_bare, is_quoted_byte, in_quotes}
 use Rattle.money_core.specs.Amount.{limit}
@@ -57,8 +58,8 @@ pub record IsAmountText (styles : List Style) (unit : Commodity) (quantity : ℤ
   pub reads : amount styles text ≡ Ok (unit, quantity)
   pub form : is_amount_text false text ≡ true
   pub some : 0 < length text
-  pub first : has Blank (slice_index text 0) ≡ false
-  pub last : has Blank (slice_index text (length text - 1)) ≡ false
+  pub first : is_blank (slice_index text 0) ≡ false
+  pub last : is_blank (slice_index text (length text - 1)) ≡ false
   pub short : length text ≤ 64
 
 -- a declared commodity, and a quantity within the limit

@@ -1,10 +1,9 @@
 -- What a price is printed as (own rule), and what such a text has wherever it stands.
 use Rattle.std.specs.Prelude.{◌≡◌, ◌≤◌, ℕ, pos, ◌-◌, List, [], ◌∷◌, ◌++◌, length, slice_index, slice_get, true, false, Option, Some, None, Ok}
-use Rattle.money_core.specs.declared.class.Class.TheVariants.{Blank}
 use Rattle.money_core.specs.declared.style.Style.{Style}
 use Rattle.money_core.specs.declared.price.Price.{Price}
 use Rattle.money_core.specs.declared.price.Price.TheVariants.{Each, Total}
-use Rattle.money_core.specs.Class.{has}
+use Rattle.money_core.specs.Blank.{is_blank}
 use Rattle.money_core.specs.AmountText.{printed_with, is_amount_text}
 use Rattle.money_core.specs.Price.{cost_unit, is_price}
 use Rattle.money_core.specs.PriceReading.{price}
@@ -30,8 +29,8 @@ pub record IsPriceText (styles : List Style) (p : Price) (text : List ℕ) : Typ
   pub rest : List ℕ
   pub whole : text ≡ price_sign p ++ rest
   pub form : is_amount_text false rest ≡ true
-  pub first : has Blank (slice_index rest 0) ≡ false
-  pub last : has Blank (slice_index text (length text - 1)) ≡ false
+  pub first : is_blank (slice_index rest 0) ≡ false
+  pub last : is_blank (slice_index text (length text - 1)) ≡ false
   pub short : length text ≤ 70
 
 -- Each price of these styles is printed as a text that reads as it.
