@@ -38,6 +38,10 @@ cut_bare text =
 unfoldable pub cut_symbol : List ℕ → Option Cut
 cut_symbol text = if slice_index text 0 == 34 then cut_quoted (drop 1 text) else cut_bare text
 
+-- the symbol that a whole text is, with its quotes or without
+unfoldable pub symbol_of : List ℕ → Option (List ℕ)
+symbol_of text = option_and_then (λ cut. if length cut.rest == 0 then Some cut.symbol else None) (cut_symbol text)
+
 -- the sign that a byte is
 abbrev pub sign_of : ℕ → Sign
 sign_of b = if b == 45 then Minus else if b == 43 then Plus else Absent
