@@ -4,6 +4,7 @@ pub mod RoundTrip
 pub mod ClassLemmas
 pub mod StyleLemmas
 pub mod NumberLength
+pub mod LengthLemmas
 pub mod SymbolText
 pub mod Utf8Lemmas
 pub mod AmountParts

@@ -10,6 +10,7 @@ mod day;
 #[cfg(test)]
 mod fixture;
 mod items;
+mod length;
 mod mark;
 mod number;
 mod price;
@@ -28,6 +29,7 @@ pub use cause::{Cause, Fault};
 pub use cost::cost_of;
 pub use day::Day;
 pub use items::{Copied, Items};
+pub use length::{amount_len, price_len};
 pub use mark::Mark;
 pub use price::{Price, is_price};
 pub use price_text::{prices_bound, prices_print, print_price, read_price};
