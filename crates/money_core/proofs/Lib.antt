@@ -22,3 +22,4 @@ pub mod PricePrint
 pub mod PriceGrammar
 pub mod WorkedPrices
 pub mod PositionLemmas
+pub mod GrowthLemmas

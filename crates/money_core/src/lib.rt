@@ -9,6 +9,7 @@ mod cost;
 mod day;
 #[cfg(test)]
 mod fixture;
+mod growth;
 mod items;
 mod length;
 mod mark;
@@ -28,6 +29,7 @@ pub use amount_text::{amounts_bound, amounts_print, is_declared, print_amount};
 pub use cause::{Cause, Fault};
 pub use cost::cost_of;
 pub use day::Day;
+pub use growth::growth_law;
 pub use items::{Copied, Items};
 pub use length::{amount_len, price_len};
 pub use mark::Mark;
