@@ -147,7 +147,7 @@ symbol_ends : (symbol : List ℕ) → is_short symbol ≡ true → SymbolEnds (p
 unfolding printed_symbol
 symbol_ends symbol h =
     let some = short_some symbol h in
-    let few = ltb-true (length symbol) 25 (and_parts (nat_lt 0 (length symbol)) _ h).1 in
+    let few = leb-true (length symbol) 24 (and_parts (nat_lt 0 (length symbol)) _ h).1 in
     elim (cases_Bool (is_bare symbol)) [
       | inl bare ↦ rw bare (record { some = some; few = omega (arith, few); last = symbol_no_blank (slice_index symbol (length symbol - 1)) (last_passes (has Symbol) symbol (bare_facts symbol bare).bytes some) })
       | inr quoted ↦ rw quoted (record { some = omega arith; few = omega (arith, few, length-append symbol (34 ∷ [])); last = ap (has Blank) (last_of (34 ∷ symbol) (34 ∷ []) (lit< tt)) })

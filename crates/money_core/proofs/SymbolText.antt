@@ -1,6 +1,6 @@
 -- What is known of a symbol, and how it is printed.
-use Rattle.std.proofs.Common.{◌≡◌, ◌<◌, ◌-◌, ℕ, List, [], ◌∷◌, Bool, true, false, ◌&&◌, length, slice_index, nat_lt, arith, refl, inl, inr}
-use Rattle.std.proofs.lemmas.Bool.{cases_Bool, and_parts, and_from, ltb-true, cond-true, cond-false, not_from_false}
+use Rattle.std.proofs.Common.{◌≡◌, ◌<◌, ◌-◌, ℕ, List, [], ◌∷◌, Bool, true, false, ◌&&◌, ◌==◌, not, length, slice_index, nat_lt, arith, refl, inl, inr}
+use Rattle.std.proofs.lemmas.Bool.{cases_Bool, and_parts, and_from, ltb-true, leb-true, cond-true, cond-false, not_from_false, not-true}
 use Rattle.std.proofs.lemmas.List.Sums.{AllPass-from_list_all}
 use Rattle.std.proofs.lemmas.Grind.{common_steps}
 use Rattle.std.specs.List.{list_all}
@@ -8,6 +8,7 @@ use Rattle.std.specs.Str.{is_utf8}
 use Rattle.money_core.specs.declared.class.Class.TheVariants.{Symbol}
 use Rattle.money_core.specs.Class.{has}
 use Rattle.money_core.specs.Symbol.{is_short, is_bare, is_dense, is_quoted_byte, no_double, has_no_outer_space, is_symbol, WritesSymbol}
+use Rattle.money_core.specs.NamePart.{is_part_byte, SymbolsAreNameParts}
 use Rattle.money_core.specs.AmountText.{printed_symbol}
 use Rattle.money_core.proofs.ClassLemmas.{all_weaker, symbol_no_space}
 
@@ -75,3 +76,22 @@ printed_symbol_writes symbol h =
       | inl bare ↦ inl (bare, cond-true (is_bare symbol) _ _ bare)
       | inr quoted ↦ inr (h, cond-false (is_bare symbol) _ _ quoted)
     ]
+
+-- a byte that may stand in quotes may stand in an account name
+quoted_part : (b : ℕ) → is_quoted_byte b ≡ true → is_part_byte b ≡ true
+quoted_part b h = grind (arith, common_steps)
+
+pub name_parts : SymbolsAreNameParts
+name_parts symbol h =
+    let f = symbol_facts symbol h in
+    let size = and_parts (nat_lt 0 (length symbol)) _ f.short in
+    let ends = and_parts (not (slice_index symbol 0 == 32)) _ f.ends in
+    record {
+      some = short_some symbol f.short;
+      short = omega (arith, leb-true (length symbol) 24 size.1);
+      utf8 = f.utf8;
+      good = all_weaker is_quoted_byte is_part_byte symbol quoted_part f.bytes;
+      single = f.single;
+      first = not-true _ ends.0;
+      last = not-true _ ends.1;
+    }

@@ -54,8 +54,12 @@ is_amount_text quoted (b ∷ bs) =
     if b == 34 then is_amount_text (not quoted) bs
     else (if quoted then is_quoted_byte b else is_amount_byte b) && is_amount_text quoted bs
 
+-- the greatest length of a printed amount, in bytes
+abbrev pub longest_amount : ℕ
+longest_amount = 64
+
 -- The text is that quantity of that commodity wherever it stands: it reads as it, is UTF-8, has only bytes of an amount,
--- no blank at an end, and at most 64 bytes.
+-- no blank at an end, and is not too long.
 pub record IsAmountText (styles : List Style) (unit : Commodity) (quantity : ℤ) (text : List ℕ) : Type 0 where
   pub reads : amount styles text ≡ Ok (unit, quantity)
   pub utf8 : is_utf8 text ≡ true
@@ -63,7 +67,7 @@ pub record IsAmountText (styles : List Style) (unit : Commodity) (quantity : ℤ
   pub some : 0 < length text
   pub first : is_blank (slice_index text 0) ≡ false
   pub last : is_blank (slice_index text (length text - 1)) ≡ false
-  pub short : length text ≤ 64
+  pub short : length text ≤ longest_amount
 
 -- a declared commodity, and a quantity within the limit
 pub record IsDeclared (styles : List Style) (unit : Commodity) (quantity : ℤ) : Type 0 where
@@ -72,7 +76,8 @@ pub record IsDeclared (styles : List Style) (unit : Commodity) (quantity : ℤ) 
 
 -- Each amount of these styles is printed as a text that reads as it.
 abbrev pub AmountsPrint : List Style → Type 0
-AmountsPrint styles = (unit : Commodity) (quantity : ℤ) → IsDeclared styles unit quantity → IsAmountText styles unit quantity (printed_in styles unit quantity)
+AmountsPrint styles =
+    (unit : Commodity) (quantity : ℤ) → IsDeclared styles unit quantity → IsAmountText styles unit quantity (printed_in styles unit quantity)
 
 -- What is read is of a declared commodity and within the limit.
 abbrev pub AmountsBound : List Style → Type 0

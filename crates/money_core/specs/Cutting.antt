@@ -61,7 +61,13 @@ abbrev pub left_number : Sign → List ℕ → List ℕ → Parts
 left_number sign symbol rest =
     if is_signed sign
     then record { sign = sign; left = true; spaced = not (end_of Blank rest == 0); symbol = symbol; number = skip_blanks rest }
-    else record { sign = sign_of (slice_index (skip_blanks rest) 0); left = true; spaced = not (end_of Blank rest == 0); symbol = symbol; number = unsigned (skip_blanks rest) }
+    else record {
+      sign = sign_of (slice_index (skip_blanks rest) 0);
+      left = true;
+      spaced = not (end_of Blank rest == 0);
+      symbol = symbol;
+      number = unsigned (skip_blanks rest);
+    }
 
 -- a symbol, then a number
 unfoldable pub left_parts : Sign → List ℕ → Option Parts
@@ -70,7 +76,9 @@ left_parts sign text = option_and_then (λ cut. Some (left_number sign cut.symbo
 -- behind a number: blanks, then a symbol
 unfoldable pub right_symbol : Sign → List ℕ → List ℕ → Option Parts
 right_symbol sign number rest = option_and_then (λ cut.
-    if length cut.rest == 0 then Some (record { sign = sign; left = false; spaced = not (end_of Blank rest == 0); symbol = cut.symbol; number = number }) else None)
+    if length cut.rest == 0
+    then Some (record { sign = sign; left = false; spaced = not (end_of Blank rest == 0); symbol = cut.symbol; number = number })
+    else None)
     (cut_symbol (skip_blanks rest))
 
 -- a number, then a symbol

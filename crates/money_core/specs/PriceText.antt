@@ -24,8 +24,12 @@ abbrev pub price_sign : Price → List ℕ
 price_sign (Each unit digits decimals) = 64 ∷ 32 ∷ []
 price_sign (Total unit quantity) = 64 ∷ 64 ∷ 32 ∷ []
 
+-- the greatest length of a printed price, in bytes
+abbrev pub longest_price : ℕ
+longest_price = 70
+
 -- The text is that price wherever it stands: it reads as it, is UTF-8, goes on behind `@ ` or `@@ ` with only bytes of an
--- amount, has no blank at its end, and at most 70 bytes.
+-- amount, has no blank at its end, and is not too long.
 pub record IsPriceText (styles : List Style) (p : Price) (text : List ℕ) : Type 0 where
   pub reads : price styles text ≡ Ok p
   pub utf8 : is_utf8 text ≡ true
@@ -34,7 +38,7 @@ pub record IsPriceText (styles : List Style) (p : Price) (text : List ℕ) : Typ
   pub form : is_amount_text false rest ≡ true
   pub first : is_blank (slice_index rest 0) ≡ false
   pub last : is_blank (slice_index text (length text - 1)) ≡ false
-  pub short : length text ≤ 70
+  pub short : length text ≤ longest_price
 
 -- Each price of these styles is printed as a text that reads as it.
 abbrev pub PricesPrint : List Style → Type 0

@@ -6,6 +6,7 @@ ghost use Rattle.money_core.specs.AmountText.{minus, gap, printed_symbol, printe
 
 use crate::cause::Cause;
 use crate::number::LIMIT;
+use crate::price::MAX_COST_DECIMALS;
 use crate::printing::print_number;
 use crate::style::Style;
 use crate::styles::Styles;
@@ -66,7 +67,7 @@ fn push_signed(
     decimals: u8,
     quantity: i64,
 ) -> Result<(), AllocError>
-    requires { decimals ≤ 12 }
+    requires { decimals ≤ MAX_COST_DECIMALS }
     ensures ok { OnOk result (out.new.items ≡ out.old.items ++ printed_signed style.now decimals quantity) }
     ensures err { OnErr result (take (length out.old.items) out.new.items ≡ out.old.items) }
 {
@@ -91,7 +92,7 @@ pub(crate) fn push_amount(
     decimals: u8,
     quantity: i64,
 ) -> Result<(), AllocError>
-    requires { decimals ≤ 12 }
+    requires { decimals ≤ MAX_COST_DECIMALS }
     ensures ok { OnOk result (out.new.items ≡ out.old.items ++ printed_with style.now decimals quantity) }
     ensures err { OnErr result (take (length out.old.items) out.new.items ≡ out.old.items) }
 {

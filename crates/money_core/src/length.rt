@@ -9,12 +9,18 @@ ghost use Rattle.money_core.specs.Price.{is_cost, is_price};
 ghost use Rattle.money_core.specs.PriceText.{printed_cost, printed_price};
 
 use crate::number::LIMIT;
-use crate::price::Price;
+use crate::price::{MAX_COST_DECIMALS, Price};
 use crate::printing::power_of_ten;
-use crate::style::Style;
+use crate::style::{MAX_DECIMALS, Style};
 use crate::styles::Styles;
 use crate::symbol::is_bare;
 use crate::unit::Unit;
+
+/// The greatest length of a printed amount, in bytes.
+pub const MAX_AMOUNT_LEN: usize = 64;
+
+/// The greatest length of a printed price, in bytes.
+pub const MAX_PRICE_LEN: usize = 70;
 
 /// How many digits the number has.
 #[tactic(auto, using(crate::proofs::LengthLemmas::length_of_digit, crate::proofs::LengthLemmas::length_of_decimal))]
@@ -52,7 +58,7 @@ fn whole_len(n: u64, groups: bool) -> usize
 /// How long it is what follows the whole part.
 #[tactic(auto, using(crate::proofs::LengthLemmas::length_of_fraction))]
 fn fraction_len(quantity: u64, groups: bool, decimals: u8) -> usize
-    requires { decimals ≤ 12 }
+    requires { decimals ≤ MAX_COST_DECIMALS }
     ensures value { (mark : Separator) → result ≡ length (printed_fraction mark groups decimals quantity) }
     ensures bound { result ≤ 13 }
 {
@@ -68,7 +74,7 @@ fn fraction_len(quantity: u64, groups: bool, decimals: u8) -> usize
 /// How long the quantity of smallest units is as a number.
 fn number_len(quantity: u64, groups: bool, decimals: u8) -> usize
     requires size { quantity ≤ LIMIT }
-    requires few { decimals ≤ 12 }
+    requires few { decimals ≤ MAX_COST_DECIMALS }
     ensures value { (mark : Separator) → result ≡ length (printed_number mark groups decimals quantity) }
     ensures bound { result ≤ LIMIT + 16 }
 {
@@ -109,7 +115,7 @@ fn minus_len(quantity: i64) -> usize
 /// How long the amount of that quantity is, in units of so many decimals.
 fn amount_len_with(style: &Style, decimals: u8, quantity: i64) -> usize
     requires symbol { is_symbol style.now.symbol ≡ true }
-    requires few { decimals ≤ 12 }
+    requires few { decimals ≤ MAX_COST_DECIMALS }
     requires size { unsigned_abs quantity ≤ LIMIT }
     ensures value { result ≡ length (printed_with style.now decimals quantity) }
     ensures bound { result ≤ decimals + 53 }
@@ -123,7 +129,7 @@ fn amount_len_with(style: &Style, decimals: u8, quantity: i64) -> usize
 pub fn amount_len(unit: Unit, qty: i64, styles: &Styles) -> usize
     requires { IsDeclared styles.now unit qty }
     ensures value { result ≡ length (printed_in styles.now unit qty) }
-    ensures short { result ≤ 64 }
+    ensures short { result ≤ MAX_AMOUNT_LEN }
 {
     styles.are_styles();
     let style = styles.style(unit).unwrap();
@@ -134,9 +140,9 @@ pub fn amount_len(unit: Unit, qty: i64, styles: &Styles) -> usize
 fn cost_len(style: &Style, price: &Price) -> usize
     requires cost { is_cost (Some style.now) price.now ≡ true }
     requires symbol { is_symbol style.now.symbol ≡ true }
-    requires few { style.now.decimals ≤ 6 }
+    requires few { style.now.decimals ≤ MAX_DECIMALS }
     ensures value { result ≡ length (printed_cost (Some style.now) price.now) }
-    ensures bound { result ≤ 70 }
+    ensures bound { result ≤ MAX_PRICE_LEN }
 {
     match *price {
         Price::Each {
@@ -153,7 +159,7 @@ fn cost_len(style: &Style, price: &Price) -> usize
 pub fn price_len(price: &Price, styles: &Styles) -> usize
     requires { is_price styles.now price.now ≡ true }
     ensures value { result ≡ length (printed_price styles.now price.now) }
-    ensures short { result ≤ 70 }
+    ensures short { result ≤ MAX_PRICE_LEN }
 {
     styles.are_styles();
     let style = styles.style(price.unit()).unwrap();

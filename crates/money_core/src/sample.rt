@@ -6,8 +6,8 @@ ghost use Rattle.std.specs.Option.{option_map, ok_or};
 ghost use Rattle.std.specs.Result.{IsOkUnless};
 ghost use Rattle.std.specs.Str.{is_utf8};
 ghost use Rattle.money_core.specs.declared.style.Style.{Style};
-ghost use Rattle.money_core.specs.AmountViews.{parts_view};
-ghost use Rattle.money_core.specs.Sampling.{shows, shown_mark, style_of_parts, style_of, spelled_view};
+ghost use Rattle.money_core.specs.Views.{parts_view, spelled_view};
+ghost use Rattle.money_core.specs.Sampling.{shows, shown_mark, style_of_parts, style_of};
 ghost use Rattle.money_core.specs.Number.{is_number};
 ghost use Rattle.money_core.specs.Style.{is_style, IsSample};
 

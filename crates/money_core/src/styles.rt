@@ -75,6 +75,14 @@ impl Styles {
         }
     }
 
+    /// How many commodities are declared.
+    pub fn len(&self) -> usize
+        ensures count { result ≡ length self.now }
+        ensures few { result ≤ MAX_COMMODITIES }
+    {
+        self.list.len()
+    }
+
     /// The commodity of a symbol, which is given without quotes.
     pub fn find(&self, symbol: &str) -> Option<Unit>
         ensures { result ≡ unit_of self.now symbol.now }

@@ -9,16 +9,21 @@ ghost use Rattle.money_core.specs.declared.class.Class.TheVariants.{Symbol as Of
 ghost use Rattle.money_core.specs.Class.{has};
 ghost use Rattle.money_core.specs.Symbol.{is_short, is_dense, is_bare, is_quoted_byte, no_double, has_no_outer_space, is_symbol, WritesSymbol};
 ghost use Rattle.money_core.specs.Cutting.{cut_quoted, cut_bare, cut_symbol, symbol_of};
-ghost use Rattle.money_core.specs.AmountViews.{cut_view};
+ghost use Rattle.money_core.specs.NamePart.{SymbolsAreNameParts};
+ghost use Rattle.money_core.specs.Views.{cut_view};
 
-use crate::class::{Class, behind, end_of, first_byte};
+use crate::bytes::{behind, find, first_byte, last_byte};
+use crate::class::{Class, end_of};
 use crate::text::text_of;
 
-/// Whether it has 1 to 24 bytes.
+/// The greatest length of a symbol, in bytes.
+pub const MAX_SYMBOL_LEN: usize = 24;
+
+/// Whether it has some bytes, and not too many.
 fn is_short(symbol: &[u8]) -> bool
     ensures { result ≡ is_short symbol.now }
 {
-    0 < symbol.len() && symbol.len() < 25
+    0 < symbol.len() && symbol.len() <= MAX_SYMBOL_LEN
 }
 
 /// Whether a character of the text is white space.
@@ -90,17 +95,6 @@ fn no_double(text: &[u8]) -> bool
     true
 }
 
-/// The last byte, or zero.
-fn last_byte(text: &[u8]) -> u8
-    ensures { result ≡ slice_index text.now (length text.now - 1) }
-{
-    if text.is_empty() {
-        0
-    } else {
-        text[text.len() - 1]
-    }
-}
-
 /// Whether no space stands at an end.
 fn has_no_outer_space(symbol: &[u8]) -> bool
     ensures { result ≡ has_no_outer_space symbol.now }
@@ -141,17 +135,10 @@ fn cut_bare(text: &[u8]) -> Option<Cut<'_>>
     }
 }
 
-/// Where the closing quote stands.
-fn find_quote(text: &[u8]) -> Option<usize>
-    ensures { result ≡ position (λ b. b == 34) text.now }
-{
-    text.iter().position(|b| *b == b'"')
-}
-
 fn cut_quoted(text: &[u8]) -> Option<Cut<'_>>
     ensures { option_map cut_view result ≡ cut_quoted text.now }
 {
-    match find_quote(text) {
+    match find(text, b'"') {
         None => None,
         Some(end) => {
             let symbol = &text[..end];
@@ -204,3 +191,8 @@ pub fn read_symbol(text: &str) -> Option<&str>
         None => None,
     }
 }
+
+/// Each symbol can stand in an account name, as in those of conversion accounts, between bytes that are no spaces.
+pub fn name_part_law()
+    ensures { SymbolsAreNameParts }
+{}

@@ -1,6 +1,7 @@
 use Rattle.std.proofs.Common.{◌≡◌, sym, refl, Some, None, Err}
 use Rattle.money_core.specs.declared.cause.Cause.TheVariants.{Amount}
-use Rattle.money_core.specs.Sampling.{style_of, spelled_view}
+use Rattle.money_core.specs.Sampling.{style_of}
+use Rattle.money_core.specs.Views.{spelled_view}
 use Rattle.money_core.proofs.SampleLemmas.{found_utf8, found_ok, found_declarable, found_only, found_answer, found_none, lacks_all, lacks_answer, lacks_none}
 use Rattle.money_core.proofs.sample.read_style.Goals as goal
 use Rattle.money_core.proofs.sample.read_style.Goals.{In-Some, In-None}

@@ -3,7 +3,7 @@ use Rattle.std.specs.List.{position_or_len}
 use Rattle.std.proofs.lemmas.Bool.{ltb-false}
 use Rattle.std.proofs.lemmas.List.Sums.{prefix_len-le-length}
 use lib.Dec.{ltb}
-use Rattle.money_core.proofs.number.first_place.Goals as goal
+use Rattle.money_core.proofs.bytes.first_place.Goals as goal
 
 no_place : (b : Bool) (n : ℕ) → None ≡ cond b (Some n) None → b ≡ false
 no_place true n h = cc
