@@ -7,3 +7,6 @@ ghost use Rattle.money_core.specs.Growth.{StylesGrow};
 pub fn growth_law()
     ensures { StylesGrow }
 {}
+
+#[cfg(test)]
+mod tests;

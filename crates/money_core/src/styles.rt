@@ -125,6 +125,8 @@ impl Styles {
     }
 
     /// Declares a commodity by its style, which has to be one that a sample has, as `judge` answers.
+    ///
+    /// Where memory is refused (40), the styles stay as they are, and the style is lost.
     pub fn declare(&mut self, style: Style) -> Result<Declared, Cause>
         requires { is_style style ≡ true }
         ensures answer { (result ≡ declared self.old style) ⊎ (result ≡ Err Cause.OutOfMemory) }

@@ -196,3 +196,6 @@ pub fn read_symbol(text: &str) -> Option<&str>
 pub fn name_part_law()
     ensures { SymbolsAreNameParts }
 {}
+
+#[cfg(test)]
+mod tests;

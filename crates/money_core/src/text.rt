@@ -23,7 +23,7 @@ impl Model for Text {
 }
 
 impl Text {
-    /// A text of the same bytes.
+    /// A text of the same bytes. Where memory for them is refused, it answers 40.
     pub fn of(alloc: Global, text: &str) -> Result<Self, Cause>
         ensures equal { IfOk result (λ t. t ≡ text.now) }
         ensures memory { IsOkUnless result Cause.OutOfMemory }
