@@ -5,7 +5,7 @@ use Rattle.std.specs.Prelude.{unsigned_abs}
 use Rattle.money_core.specs.declared.amount.Sign.{Sign}
 use Rattle.money_core.specs.declared.amount.Sign.TheVariants.{Absent, Minus}
 use Rattle.money_core.specs.declared.style.Style.{Style}
-use Rattle.money_core.specs.Class.{IsBlanks}
+use Rattle.money_core.specs.Blank.{IsBlanks}
 use Rattle.money_core.specs.Symbol.{is_symbol}
 use Rattle.money_core.specs.Amount.{Parts, WritesSign, IsAmount, limit}
 use Rattle.money_core.specs.Cutting.{amount_parts}
@@ -28,11 +28,11 @@ minus_writes : (q : ℤ) → WritesSign (sign_printed q) (minus q)
 minus_writes (pos n) = refl
 minus_writes (negsuc n) = ([], (refl, refl))
 
-gap_blanks : (spaced : Bool) → IsBlanks (gap spaced)
+pub gap_blanks : (spaced : Bool) → IsBlanks (gap spaced)
 gap_blanks true = refl
 gap_blanks false = refl
 
-gap_seen : (spaced : Bool) → spaced ≡ not (length (gap spaced) == 0)
+pub gap_seen : (spaced : Bool) → spaced ≡ not (length (gap spaced) == 0)
 gap_seen true = refl
 gap_seen false = refl
 
