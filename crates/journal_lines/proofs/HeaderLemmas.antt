@@ -11,13 +11,14 @@ use Rattle.journal_lines.specs.declared.header.Status.{Status}
 use Rattle.journal_lines.specs.declared.header.Status.TheVariants.{Pending, Cleared}
 use Rattle.journal_lines.specs.Blank.{is_blank, first_word, trim_start, trim_end, trim, is_trimmed}
 use Rattle.journal_lines.specs.Comment.{has_no, front_of, comment_of}
-use Rattle.journal_lines.specs.Date.{date_of, printed_date, IsDateText, IsDayNumber}
+use Rattle.journal_lines.specs.Date.{printed_date, IsDateText, IsDayNumber}
+use Rattle.journal_lines.specs.DateReading.{date_of}
 use Rattle.journal_lines.specs.Header.{code_limit, description_limit, comment_limit, status_at, behind_status, HeaderParts, length_of}
 use Rattle.journal_lines.specs.HeaderReading.{Coded, code_at, behind_date, cut_header, is_coded_long, judged_header, dated_header, closed_header, header_of}
 use Rattle.journal_lines.specs.Printed.{is_clean, indent, header_status, header_code, header_line, spaced_text, comment_line, is_comment, is_code, is_description, HeaderOk, PrintsBack}
 use Rattle.journal_lines.specs.HeaderForm.{starts_so}
 use Rattle.journal_lines.proofs.CutLemmas.{before_mark, no_mark, trim_start_behind, trim_start_same, trim_end_same, trim_inside, trim_same, front_whole, no_comment, comment_behind, all_weaker, all_joined, all_take, all_drop, all_trim_start, all_trim_end, first_trimmed, trim_start_first, trim_end_trimmed, trim_trimmed, before_none}
-use Rattle.journal_lines.proofs.DateLemmas.{dates_print, dates_bound}
+use Rattle.journal_lines.proofs.DateLemmas.{dates_print, dates_bound, date_reads}
 
 -- comment lines
 spaced_trimmed : (text : List ℕ) → is_trimmed text ≡ true → trim (spaced_text text) ≡ text
@@ -190,7 +191,7 @@ header_reads day status code text h =
     let date = dates_print day h.number in
     let d = description_parts status code text h.description_ok in
     let text_end = description_end text d.trimmed in
-    rw (header_cut day status code text date h.code_ok d, short_code code h.code_ok, text_end, le-ltb 500 (length text) (omega (arith, leb-true (length text) 500 d.short)), date.reads) (rw text_end refl)
+    rw (header_cut day status code text date h.code_ok d, short_code code h.code_ok, text_end, le-ltb 500 (length text) (omega (arith, leb-true (length text) 500 d.short)), date_reads (printed_date day) day date.reads) (rw text_end refl)
   where
     short_code : (c : Option (List ℕ)) → is_code c ≡ true → nat_lt 100 (length_of c) ≡ false
     short_code None k = refl

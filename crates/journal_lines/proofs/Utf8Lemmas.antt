@@ -15,7 +15,8 @@ use Rattle.journal_lines.specs.declared.header.Status.{Status}
 use Rattle.journal_lines.specs.declared.header.Status.TheVariants.{Pending, Cleared}
 use Rattle.journal_lines.specs.Blank.{is_blank, first_word, first_solid, trim_start, trim_end, trim}
 use Rattle.journal_lines.specs.Comment.{front_of, comment_of}
-use Rattle.journal_lines.specs.Date.{date_of, printed_date, IsDateText}
+use Rattle.journal_lines.specs.Date.{printed_date, IsDateText}
+use Rattle.journal_lines.specs.DateReading.{date_of}
 use Rattle.journal_lines.specs.Header.{behind_status, HeaderParts, length_of, status_at}
 use Rattle.journal_lines.specs.HeaderReading.{Coded, closed_code, code_at, behind_date, cut_header, judged_header, dated_header, closed_header, is_coded_long, header_of}
 use Rattle.journal_lines.specs.Utf8.{is_utf8_or_none, IsUtf8Header}

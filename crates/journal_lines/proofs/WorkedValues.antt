@@ -15,7 +15,8 @@ use Rattle.jiff_core.proofs.MarchLemmas.{day_count-early}
 use Rattle.journal_lines.proofs.DateLemmas.{printed_date_is}
 use Rattle.journal_lines.specs.Tag.{tags_of, first_tag, starts_tag, tag_at}
 use Rattle.journal_lines.specs.AccountName.{is_account}
-use Rattle.journal_lines.specs.Date.{is_date, day_of, date_of, printed_date}
+use Rattle.journal_lines.specs.Date.{printed_date}
+use Rattle.journal_lines.specs.DateReading.{is_date, day_of, date_of}
 
 -- one CR before LF belongs to the line's end, a lone CR does not, and an empty rest is no line
 pub cr_lf : lines (codes "a\r\nb\rc\n") ≡ codes "a" ∷ codes "b\rc" ∷ []

@@ -6,7 +6,7 @@ use Rattle.journal_lines.specs.declared.header.Status.{Status}
 use Rattle.journal_lines.specs.declared.header.Status.TheVariants.{Cleared, Pending}
 use Rattle.journal_lines.specs.Blank.{is_blank, is_trimmed}
 use Rattle.journal_lines.specs.Comment.{has_no}
-use Rattle.journal_lines.specs.Date.{IsDate, day_of}
+use Rattle.journal_lines.specs.Date.{IsDate}
 use Rattle.journal_lines.specs.Header.{code_limit, description_limit, comment_limit, HeaderParts, length_of}
 
 -- a status as it is written
@@ -53,8 +53,7 @@ pub record Reads (line : List ℕ) (parts : HeaderParts) : Type 0 where
   pub end_gap : List ℕ
   pub remark : List ℕ
   pub written : line ≡ date ++ (gap ++ (status_text parts.status ++ (status_gap ++ (code_text parts.code ++ (code_gap ++ (parts.description ++ (end_gap ++ remark)))))))
-  pub is_date : IsDate date
-  pub names_day : day_of date ≡ parts.day
+  pub is_date : IsDate date parts.day
   pub blanks : list_all is_blank (gap ++ (status_gap ++ (code_gap ++ end_gap))) ≡ true
   -- behind a date without a blank nothing stands but the comment
   pub apart : gap ≡ [] → (parts.status ≡ None) × (parts.code ≡ None) × (parts.description ≡ [])

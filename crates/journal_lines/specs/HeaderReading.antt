@@ -7,7 +7,7 @@ use Rattle.money_core.specs.declared.cause.Cause.TheVariants.{TooLong, Date as N
 use Rattle.journal_lines.specs.declared.header.Status.{Status}
 use Rattle.journal_lines.specs.Blank.{is_blank, first_word, trim_start, trim_end}
 use Rattle.journal_lines.specs.Comment.{front_of, comment_of}
-use Rattle.journal_lines.specs.Date.{date_of}
+use Rattle.journal_lines.specs.DateReading.{date_of}
 use Rattle.journal_lines.specs.Header.{code_limit, description_limit, comment_limit, HeaderParts, length_of, status_at, behind_status}
 
 -- a code, if there is one, and what follows it

@@ -14,5 +14,6 @@ pub mod AccountName
 pub mod Tag
 pub mod TagsLeft
 -- What mirrors code, for private clauses: nobody has to believe it
+pub mod DateReading
 pub mod HeaderReading
 pub mod HeaderCutView
