@@ -62,4 +62,5 @@ comment_parts comment = slice_split (λ b. b == 44) comment
 abbrev pub AreTagsOf : List (List ℕ) → List (List ℕ × List ℕ) → Type 0
 AreTagsOf [] tags = tags ≡ []
 AreTagsOf (part ∷ parts) tags =
-    (found : Option (List ℕ × List ℕ)) × ((rest : List (List ℕ × List ℕ)) × ((tags ≡ option_to_list found ++ rest) × (IsTagOf true part found × AreTagsOf parts rest)))
+    (found : Option (List ℕ × List ℕ)) × ((rest : List (List ℕ × List ℕ))
+    × ((tags ≡ option_to_list found ++ rest) × (IsTagOf true part found × AreTagsOf parts rest)))
