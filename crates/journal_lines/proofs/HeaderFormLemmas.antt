@@ -12,11 +12,13 @@ use Rattle.journal_lines.specs.declared.header.Status.{Status}
 use Rattle.journal_lines.specs.declared.header.Status.TheVariants.{Pending, Cleared}
 use Rattle.journal_lines.specs.Blank.{is_blank, first_word, first_solid, trim_start, trim_end, is_trimmed}
 use Rattle.journal_lines.specs.Comment.{has_no, front_of, comment_of}
-use Rattle.journal_lines.specs.Date.{behind_year, separator, month_part, day_part, is_separator, is_short, IsDate, date_of, day_of}
-use Rattle.journal_lines.specs.Header.{status_at, behind_status, Coded, closed_code, code_at, behind_date, cut_header, HeaderParts, is_coded_long, length_of, judged_header, dated_header, closed_header, header_of}
+use Rattle.journal_lines.specs.Date.{is_separator, is_short}
+use Rattle.journal_lines.specs.DateReading.{behind_year, separator, month_part, day_part, HasDateParts, date_of, day_of}
+use Rattle.journal_lines.specs.Header.{status_at, behind_status, HeaderParts, length_of}
+use Rattle.journal_lines.specs.HeaderReading.{Coded, closed_code, code_at, behind_date, cut_header, is_coded_long, judged_header, dated_header, closed_header, header_of}
 use Rattle.journal_lines.specs.HeaderForm.{status_text, code_text, is_closed, starts_so, IsRemark, Reads}
-use Rattle.journal_lines.proofs.CutLemmas.{before_mark, trim_start_behind, trim_start_same, trim_start_blanks, trim_end_same, trim_inside, all_trim_end, front_whole, no_comment, comment_behind, all_weaker, all_joined, trim_trimmed, trim_start_first, trim_end_trimmed}
-use Rattle.journal_lines.proofs.DateLemmas.{date_of_is, date_facts}
+use Rattle.journal_lines.proofs.CutLemmas.{before_mark, at_mark, trim_start_behind, trim_start_same, trim_start_blanks, trim_end_same, trim_inside, all_trim_end, front_whole, no_comment, comment_behind, all_weaker, all_joined, trim_trimmed, trim_start_first, trim_end_trimmed}
+use Rattle.journal_lines.proofs.DateLemmas.{parts_of_date, reads_date, date_reads}
 use Rattle.journal_lines.proofs.HeaderLemmas.{StartsBlank, date_ends, chosen, past, CodedOk, coded_ok, so_read, all_behind_date, all_behind_status, front_none, date_first, status_first}
 
 -- ---- what a date is made of
@@ -43,7 +45,7 @@ digit_byte b h = rw h refl
 short_digits : (part : List ℕ) → is_short part ≡ true → list_all is_date_byte part ≡ true
 short_digits part h = let parts = and_parts ((length part == 1) || (length part == 2)) _ h in all_weaker is_ascii_digit is_date_byte part digit_byte parts.1
 
-pub date_bytes : (text : List ℕ) → IsDate text → list_all is_date_byte text ≡ true
+pub date_bytes : (text : List ℕ) → HasDateParts text → list_all is_date_byte text ≡ true
 date_bytes text h =
     let mark : is_date_byte (separator text) ≡ true = or_right (is_ascii_digit (separator text)) (is_separator (separator text)) h.separated in
     let rest : list_all is_date_byte (behind_year text) ≡ true =
@@ -64,7 +66,7 @@ byte_no_semicolon b h = grind (arith, common_steps)
 
 -- ---- a line in the form of a header reads as its parts
 
-blank_no_semicolon : (b : ℕ) → is_blank b ≡ true → not (b == 59) ≡ true
+pub blank_no_semicolon : (b : ℕ) → is_blank b ≡ true → not (b == 59) ≡ true
 blank_no_semicolon b h = grind (arith, common_steps)
 
 -- the description behind blanks begins with its first byte
@@ -75,7 +77,7 @@ first_is (b ∷ text) end t h =
     ap (λ (xs : List ℕ). slice_index xs 0) (trim_start_same (b ∷ (text ++ end)) (not-true _ parts.0))
 
 -- a code and what follows it
-code_reads : (code : Option (List ℕ)) (gap text end : List ℕ) → is_closed code ≡ true → list_all is_blank gap ≡ true → list_all is_blank end ≡ true → is_trimmed text ≡ true
+pub code_reads : (code : Option (List ℕ)) (gap text end : List ℕ) → is_closed code ≡ true → list_all is_blank gap ≡ true → list_all is_blank end ≡ true → is_trimmed text ≡ true
     → (code ≡ None → (slice_index text 0 == 40) ≡ false) → code_at (trim_start (code_text code ++ (gap ++ (text ++ end)))) ≡ Some (record { code = code; rest = trim_start (text ++ end) })
 unfolding code_at
 code_reads None gap text end c g e t first =
@@ -96,7 +98,7 @@ no_sign n None gap text end z g e t first = ap (λ (xs : List ℕ). slice_index 
 no_sign n (Some code) gap text end z g e t first = ap (λ (xs : List ℕ). slice_index xs 0 == n) (trim_start_same (40 ∷ ((code ++ 41 ∷ []) ++ (gap ++ (text ++ end)))) refl) ∙ z
 
 -- a status and what follows it
-status_reads : (status : Option Status) (gap rest : List ℕ) → list_all is_blank gap ≡ true → (status ≡ None → ((slice_index (trim_start rest) 0 == 42) ≡ false) × ((slice_index (trim_start rest) 0 == 33) ≡ false))
+pub status_reads : (status : Option Status) (gap rest : List ℕ) → list_all is_blank gap ≡ true → (status ≡ None → ((slice_index (trim_start rest) 0 == 42) ≡ false) × ((slice_index (trim_start rest) 0 == 33) ≡ false))
     → (status_at (trim_start (status_text status ++ (gap ++ rest))) ≡ status) × (behind_status (trim_start (status_text status ++ (gap ++ rest))) ≡ trim_start rest)
 unfolding status_at behind_status
 status_reads None gap rest g first =
@@ -114,12 +116,12 @@ status_reads (Some Pending) gap rest g first =
 regroup : (a b c d e f g h i : List ℕ) → a ++ (b ++ (c ++ (d ++ (e ++ (f ++ (g ++ (h ++ i))))))) ≡ (a ++ (b ++ (c ++ (d ++ (e ++ (f ++ (g ++ h))))))) ++ i
 regroup a b c d e f g h i = simp append_assoc
 
-front_cut : (front rest : List ℕ) → has_no 59 front ≡ true → front_of (front ++ 59 ∷ rest) ≡ front
+pub front_cut : (front rest : List ℕ) → has_no 59 front ≡ true → front_of (front ++ 59 ∷ rest) ≡ front
 unfolding front_of
 front_cut front rest h = rw (before_mark (λ b. b == 59) front rest 59 h refl) (take-append_seam front (59 ∷ rest))
 
 -- the comment of a line
-remark_reads : (front remark : List ℕ) (comment : Option (List ℕ)) → has_no 59 front ≡ true → IsRemark comment remark → (front_of (front ++ remark) ≡ front) × (comment_of (front ++ remark) ≡ comment)
+pub remark_reads : (front remark : List ℕ) (comment : Option (List ℕ)) → has_no 59 front ≡ true → IsRemark comment remark → (front_of (front ++ remark) ≡ front) × (comment_of (front ++ remark) ≡ comment)
 remark_reads front remark None h none = subst (λ (r : List ℕ). (front_of (front ++ r) ≡ front) × (comment_of (front ++ r) ≡ None)) (sym none)
     (subst (λ (l : List ℕ). (front_of l ≡ front) × (comment_of l ≡ None)) (sym (append-nil front)) (front_whole front h, no_comment front h))
 remark_reads front remark (Some text) h w =
@@ -134,7 +136,7 @@ remark_reads front remark (Some text) h w =
     apart_blanks (x ∷ a) b h = let parts = and_parts (is_blank x) _ h in let rest = apart_blanks a b parts.1 in (and_from (is_blank x) _ parts.0 rest.0, rest.1)
 
 -- blanks in one row
-in_row : (a b : List ℕ) → list_all is_blank (a ++ b) ≡ true → (list_all is_blank a ≡ true) × (list_all is_blank b ≡ true)
+pub in_row : (a b : List ℕ) → list_all is_blank (a ++ b) ≡ true → (list_all is_blank a ≡ true) × (list_all is_blank b ≡ true)
 in_row [] b h = (refl, h)
 in_row (x ∷ a) b h = let parts = and_parts (is_blank x) _ h in let rest = in_row a b parts.1 in (and_from (is_blank x) _ parts.0 rest.0, rest.1)
 
@@ -153,7 +155,7 @@ gap_starts [] status code a b text end g rest none =
     starts (x ∷ xs) h = (and_parts (is_blank x) _ h).0
 
 -- no `;` stands before the comment
-status_no_semicolon : (status : Option Status) → has_no 59 (status_text status) ≡ true
+pub status_no_semicolon : (status : Option Status) → has_no 59 (status_text status) ≡ true
 status_no_semicolon None = refl
 status_no_semicolon (Some Cleared) = refl
 status_no_semicolon (Some Pending) = refl
@@ -183,7 +185,7 @@ cut_is line parts r =
     let behind = code_text parts.code ++ (r.code_gap ++ (parts.description ++ r.end_gap)) in
     let rest = status_text parts.status ++ (r.status_gap ++ behind) in
     let front = r.date ++ (r.gap ++ rest) in
-    let bytes = date_bytes r.date r.is_date in
+    let bytes = date_bytes r.date (parts_of_date r.date parts.day r.is_date).0 in
     let no : list_all (λ b. not (b == 59)) front ≡ true =
     all_joined (λ b. not (b == 59)) r.date (r.gap ++ rest) (all_weaker is_date_byte (λ b. not (b == 59)) r.date byte_no_semicolon bytes)
     (all_joined (λ b. not (b == 59)) r.gap rest (all_weaker is_blank (λ b. not (b == 59)) r.gap blank_no_semicolon gaps.0)
@@ -218,12 +220,12 @@ form_reads line parts r =
     let later = in_row r.status_gap (r.code_gap ++ r.end_gap) gaps.1 in
     let last = in_row r.code_gap r.end_gap later.1 in
     let description : trim_end (trim_start (parts.description ++ r.end_gap)) ≡ parts.description = trim_inside [] parts.description r.end_gap refl last.1 r.trimmed in
-    let day : date_of r.date ≡ Some parts.day = sym (date_of_is r.date (Some (day_of r.date)) (r.is_date, refl)) ∙ ap (λ (d : Day). Some d) r.names_day in
+    let day : date_of r.date ≡ Some parts.day = date_reads r.date parts.day r.is_date in
     rw (cut_is line parts r) (rw (short_code parts.code r.short_code, description, le-ltb 500 (length parts.description) r.short_description, le-ltb 900 (length_of parts.comment) r.short_comment, day) (rw description refl))
 
 -- ---- a line that reads has the form
 
-blanks_front : (xs : List ℕ) → list_all is_blank (take (first_solid xs) xs) ≡ true
+pub blanks_front : (xs : List ℕ) → list_all is_blank (take (first_solid xs) xs) ≡ true
 blanks_front [] = refl
 blanks_front (x ∷ xs) = elim (cases_Bool (is_blank x)) [
   | inl blank ↦ (let n : 1 + first_solid xs ≡ suc (first_solid xs) = omega arith in rw (blank, n) (rw blank (blanks_front xs)))
@@ -235,14 +237,14 @@ unfolding trim_start
 split_start xs = sym (take-append-drop (first_solid xs) xs)
 
 -- the blanks that were cut off at the end
-abbrev end_blanks : List ℕ → List ℕ
+abbrev pub end_blanks : List ℕ → List ℕ
 end_blanks xs = drop (length xs - first_solid (reverse xs)) xs
 
-split_end : (xs : List ℕ) → xs ≡ trim_end xs ++ end_blanks xs
+pub split_end : (xs : List ℕ) → xs ≡ trim_end xs ++ end_blanks xs
 unfolding trim_end
 split_end xs = sym (take-append-drop (length xs - first_solid (reverse xs)) xs)
 
-blanks_end : (xs : List ℕ) → list_all is_blank (end_blanks xs) ≡ true
+pub blanks_end : (xs : List ℕ) → list_all is_blank (end_blanks xs) ≡ true
 blanks_end xs = list_all-from_AllPass is_blank (end_blanks xs) (λ k d l.
     let n = length xs - first_solid (reverse xs) in
     let inside : n + k < length xs = omega (arith, length-drop n xs, l) in
@@ -256,19 +258,13 @@ blanks_end xs = list_all-from_AllPass is_blank (end_blanks xs) (λ k d l.
     not-false true h = refl
     not-false false h = absurd cc
 
--- the first mark, with what stands before and behind it
-at_mark : (m : ℕ) (xs : List ℕ) → position_or_len (λ b. b == m) xs < length xs → xs ≡ before_first (λ b. b == m) xs ++ (m ∷ after_first (λ b. b == m) xs)
-at_mark m xs h =
-    let here : get_or xs (position_or_len (λ b. b == m) xs) 0 ≡ m = eqb-true _ m (passes_at_first (λ b. b == m) xs 0 h) in
-    split_at_first (λ b. b == m) xs 0 h ∙ ap (λ (b : ℕ). before_first (λ b. b == m) xs ++ (b ∷ after_first (λ b. b == m) xs)) here
-
 -- a status and the blanks behind it
-record StatusForm (text : List ℕ) (status : Option Status) (rest : List ℕ) : Type 0 where
-  gap : List ℕ
-  blanks : list_all is_blank gap ≡ true
-  written : text ≡ status_text status ++ (gap ++ rest)
+pub record StatusForm (text : List ℕ) (status : Option Status) (rest : List ℕ) : Type 0 where
+  pub gap : List ℕ
+  pub blanks : list_all is_blank gap ≡ true
+  pub written : text ≡ status_text status ++ (gap ++ rest)
 
-status_form : (text : List ℕ) → StatusForm text (status_at text) (behind_status text)
+pub status_form : (text : List ℕ) → StatusForm text (status_at text) (behind_status text)
 unfolding status_at behind_status
 status_form [] = record { gap = []; blanks = refl; written = refl }
 status_form (x ∷ xs) = elim (cases_Bool (x == 42)) [
@@ -280,12 +276,12 @@ status_form (x ∷ xs) = elim (cases_Bool (x == 42)) [
 ]
 
 -- a code and the blanks behind it
-record CodeForm (text : List ℕ) (coded : Coded) : Type 0 where
-  gap : List ℕ
-  blanks : list_all is_blank gap ≡ true
-  written : text ≡ code_text coded.code ++ (gap ++ coded.rest)
+pub record CodeForm (text : List ℕ) (coded : Coded) : Type 0 where
+  pub gap : List ℕ
+  pub blanks : list_all is_blank gap ≡ true
+  pub written : text ≡ code_text coded.code ++ (gap ++ coded.rest)
 
-code_form : (text : List ℕ) (coded : Coded) → code_at text ≡ Some coded → CodeForm text coded
+pub code_form : (text : List ℕ) (coded : Coded) → code_at text ≡ Some coded → CodeForm text coded
 unfolding code_at
 code_form text coded h =
     elim (chosen (slice_index text 0 == 40) (closed_code (drop 1 text)) (Some (record { code = None; rest = text })) (Some coded) h) [
@@ -314,15 +310,15 @@ code_form text coded h =
         }
 
 -- the comment of a line
-record RemarkForm (line front : List ℕ) (comment : Option (List ℕ)) : Type 0 where
-  remark : List ℕ
-  written : line ≡ front ++ remark
-  is : IsRemark comment remark
+pub record RemarkForm (line front : List ℕ) (comment : Option (List ℕ)) : Type 0 where
+  pub remark : List ℕ
+  pub written : line ≡ front ++ remark
+  pub is : IsRemark comment remark
 
-blanks_joined : (a b : List ℕ) → list_all is_blank a ≡ true → list_all is_blank b ≡ true → list_all is_blank (a ++ b) ≡ true
+pub blanks_joined : (a b : List ℕ) → list_all is_blank a ≡ true → list_all is_blank b ≡ true → list_all is_blank (a ++ b) ≡ true
 blanks_joined a b h k = all_joined is_blank a b h k
 
-remark_form : (line : List ℕ) → RemarkForm line (front_of line) (comment_of line)
+pub remark_form : (line : List ℕ) → RemarkForm line (front_of line) (comment_of line)
 unfolding front_of comment_of
 remark_form line =
     let after = after_first (λ b. b == 59) line in
@@ -358,7 +354,7 @@ blank_or_nothing front = elim (cases_lt (position_or_len is_blank front) (length
     drop_all : (n : ℕ) (xs : List ℕ) → length xs ≤ n → drop n xs ≡ []
     drop_all n xs h = grind (arith, common_steps)
 
-nothing_has_no_status : status_at [] ≡ None
+pub nothing_has_no_status : status_at [] ≡ None
 unfolding status_at
 nothing_has_no_status = refl
 
@@ -382,12 +378,12 @@ nothing_behind dated coded e h =
     of_nothing coded h = nothing_has_no_code coded h
 
 -- what follows the date, cut at its blanks
-date_split : (front : List ℕ) → front ≡ first_word front ++ (take (first_solid (drop (position_or_len is_blank front) front)) (drop (position_or_len is_blank front) front) ++ behind_date front)
+pub date_split : (front : List ℕ) → front ≡ first_word front ++ (take (first_solid (drop (position_or_len is_blank front) front)) (drop (position_or_len is_blank front) front) ++ behind_date front)
 unfolding first_word behind_date
 date_split front = sym (take-append-drop (position_or_len is_blank front) front) ∙ ap (λ (xs : List ℕ). before_first is_blank front ++ xs) (split_start (drop (position_or_len is_blank front) front))
 
 -- a date with no blank behind it has nothing there
-nothing_apart : (front : List ℕ) → take (first_solid (drop (position_or_len is_blank front) front)) (drop (position_or_len is_blank front) front) ≡ [] → behind_date front ≡ []
+pub nothing_apart : (front : List ℕ) → take (first_solid (drop (position_or_len is_blank front) front)) (drop (position_or_len is_blank front) front) ≡ [] → behind_date front ≡ []
 unfolding behind_date
 nothing_apart front none =
     let rest = drop (position_or_len is_blank front) front in
@@ -413,7 +409,6 @@ form_of_parts line day coded date code long short =
     let k = coded_ok text coded (status_first dated (date_first front)) code in
     let none = all_behind_status (λ b. not (b == 59)) dated (all_behind_date (λ b. not (b == 59)) front (front_none line)) in
     let sizes = or_parts (nat_lt 100 (length_of coded.code)) _ long in
-    let facts = date_facts (first_word front) day date in
     let inner : coded.rest ≡ trim_end coded.rest ++ end_blanks coded.rest = split_end coded.rest in
     let text_is : text ≡ code_text coded.code ++ (closing.gap ++ (trim_end coded.rest ++ end_blanks coded.rest)) = closing.written ∙ ap (λ (xs : List ℕ). code_text coded.code ++ (closing.gap ++ xs)) inner in
     let dated_is : dated ≡ status_text (status_at dated) ++ (status.gap ++ (code_text coded.code ++ (closing.gap ++ (trim_end coded.rest ++ end_blanks coded.rest)))) =
@@ -429,8 +424,7 @@ form_of_parts line day coded date code long short =
       remark = remark.remark;
       written = remark.written ∙ (ap (λ (xs : List ℕ). xs ++ remark.remark) front_is
           ∙ sym (regroup (first_word front) gap (status_text (status_at dated)) status.gap (code_text coded.code) closing.gap (trim_end coded.rest) (end_blanks coded.rest) remark.remark));
-      is_date = facts.0;
-      names_day = facts.1;
+      is_date = reads_date (first_word front) day date;
       blanks = blanks_joined gap (status.gap ++ (closing.gap ++ end_blanks coded.rest)) (blanks_front behind)
           (blanks_joined status.gap (closing.gap ++ end_blanks coded.rest) status.blanks (blanks_joined closing.gap (end_blanks coded.rest) closing.blanks (blanks_end coded.rest)));
       apart = λ no_gap. nothing_behind dated coded (nothing_apart front no_gap) code;

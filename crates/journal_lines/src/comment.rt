@@ -1,9 +1,10 @@
 //! The comment of a line, and its tags.
 
-ghost use Rattle.std.specs.Prelude.{◌≡◌, ℕ, List, true};
+ghost use Rattle.std.specs.Prelude.{◌≡◌, ℕ, List, true, IfSome};
+ghost use Rattle.std.specs.Str.{is_utf8};
 ghost use Rattle.std.specs.Option.{option_map};
 ghost use Rattle.journal_lines.specs.Comment.{front_of, comment_of};
-ghost use Rattle.journal_lines.specs.Tag.{first_tag, tags_of, IsTagOf};
+ghost use Rattle.journal_lines.specs.Tag.{tags_of, comment_parts, AreTagsOf};
 ghost use Rattle.journal_lines.specs.TagsLeft.{tags_left};
 
 use crate::blank::trim;
@@ -13,7 +14,8 @@ use crate::tag::Tags;
 /// What stands before the first `;`, or all.
 #[tactic(auto, unfolding(crate::specs::Comment::front_of))]
 pub fn front_of(line: &[u8]) -> &[u8]
-    ensures { result.now ≡ front_of line.now }
+    ensures value { result.now ≡ front_of line.now }
+    ensures utf8 { is_utf8 line.now ≡ true → is_utf8 result.now ≡ true }
 {
     match find(line, b';') {
         Some(at) => &line[..at],
@@ -24,7 +26,8 @@ pub fn front_of(line: &[u8]) -> &[u8]
 /// The text behind the first `;`, without blanks at its ends.
 #[tactic(auto, unfolding(crate::specs::Comment::comment_of))]
 pub fn comment_of(line: &[u8]) -> Option<&[u8]>
-    ensures { option_map (λ c. c.now) result ≡ comment_of line.now }
+    ensures value { option_map (λ c. c.now) result ≡ comment_of line.now }
+    ensures utf8 { is_utf8 line.now ≡ true → IfSome result (λ comment. is_utf8 comment.now ≡ true) }
 {
     match find(line, b';') {
         Some(at) => Some(trim(&line[at + 1..])),
@@ -37,8 +40,8 @@ pub fn comment_of(line: &[u8]) -> Option<&[u8]>
 pub fn tags(comment: &[u8]) -> Tags<'_>
     ensures list { tags_left result ≡ tags_of comment.entry.now }
 
-    // Of each part between commas it is the first tag, and there is one where the part holds one.
-    ensures rule { (part : List ℕ) → IsTagOf true part (first_tag true part) }
+    // They are the tags of this comment: of each part between commas the first, if it has one.
+    ensures rule { AreTagsOf (comment_parts comment.entry.now) (tags_left result) }
 {
     Tags::new(comment)
 }
