@@ -192,8 +192,8 @@ pub record Leads (b : List Entry) (xs : List Asserted) (f : Failure) : Type 0 wh
   pub fails : fault b assertion ≡ Some f
   pub before : (y : Asserted) → Contains xs y → place_le f.place y.place ≡ false → fault b y ≡ None
 
-pub contains_cons : (x y : Asserted) (xs : List Asserted) → Contains (x ∷ xs) y → (x ≡ y) ⊎ Contains xs y
-contains_cons x y xs h = split (Contains-append_cases (x ∷ []) xs y h)
+pub contains_cons : {X : Type 0} (x y : X) (xs : List X) → Contains (x ∷ xs) y → (x ≡ y) ⊎ Contains xs y
+contains_cons {X} x y xs h = split (Contains-append_cases (x ∷ []) xs y h)
   where
     one : Contains [] y ⊎ (x ≡ y) → (x ≡ y) ⊎ Contains xs y
     one (inl k) = absurd (omega (arith, k.1))

@@ -129,6 +129,33 @@ failure_named b room f h = named first.fails
           found = small f.unit k.found;
         }
 
+-- what holds of the commodity of each leg holds of each commodity of the legs
+each_unit : (P : Commodity → Type 0) (xs : List Leg) (v : Commodity) → ((x : Leg) → Contains xs x → P x.unit) → Contains (units_of xs) v → P v
+each_unit P [] v h k = absurd (Contains-none v k)
+each_unit P (x ∷ xs) v h k = by_case (contains_cons x.unit v (units_of xs) k) (each_unit P xs v (λ y l. h y (Contains-tail x y xs l)))
+  where
+    by_case : (x.unit ≡ v) ⊎ Contains (units_of xs) v → (Contains (units_of xs) v → P v) → P v
+    by_case (inl e) more = subst P e (h x (Contains-head x xs))
+    by_case (inr l) more = more l
+
+-- a leg of a book is one of an entry of it
+each_leg : (P : Commodity → Type 0) (b : List Entry) → ((e : Entry) → Contains b e → (x : Leg) → Contains e.legs x → P x.unit) → (x : Leg) → Contains (legs_of b) x → P x.unit
+each_leg P [] h x k = absurd (Contains-none x k)
+each_leg P (e ∷ es) h x k = by_case (Contains-append_cases e.legs (legs_of es) x k) (each_leg P es (λ f l. h f (Contains-tail e f es l)) x)
+  where
+    by_case : Contains e.legs x ⊎ Contains (legs_of es) x → (Contains (legs_of es) x → P x.unit) → P x.unit
+    by_case (inl l) more = h e (Contains-head e es) x l
+    by_case (inr l) more = more l
+
+-- what holds of the commodities of all legs and assertions, as that they are declared, holds of the one that is named
+pub named_unit : (P : Commodity → Type 0) (b : List Entry) (f : Failure) → IsOfBook b f → ((e : Entry) → Contains b e → (x : Leg) → Contains e.legs x → P x.unit) →
+    ((e : Entry) → Contains b e → (p : Placed) → Contains e.claims p → P p.claim.unit) → P f.unit
+named_unit P b f named legs claims = by_case named.names
+  where
+    by_case : ((f.unit ≡ named.assertion.claim.unit) × (f.asserted ≡ named.assertion.claim.qty)) ⊎ (Contains (units_of (legs_of b)) f.unit × (f.asserted ≡ pos 0)) → P f.unit
+    by_case (inl p) = subst P (sym p.0) (claims named.entry named.in_book named.assertion named.on_entry)
+    by_case (inr p) = each_unit P (legs_of b) f.unit (each_leg P b legs) p.0
+
 -- refusal 29 is the book's first failure, and the limits are kept
 pub failed_parts : (b : List Entry) (f : Failure) → verdict b ≡ Some (ClaimFailed f) → HasRoom b × (failure b ≡ Some f)
 unfolding verdict
