@@ -1,10 +1,10 @@
 //! The run over all lines of a reader.
 
-ghost use Rattle.std.specs.Prelude.{◌≡◌, ◌∷◌, ◌++◌, [], MatchResult};
+ghost use Rattle.std.specs.Prelude.{◌≡◌, ◌∷◌, ◌++◌, []};
 ghost use Rattle.std.specs.Str.Lines.{strip_carriage_return};
 ghost use Rattle.treasury.specs.Transcript.{is_blank, requests_among};
-ghost use Rattle.treasury.specs.RunEnd.{HasNoLineFeed, AnswersWhole, StopsBy, Finished, EndsBy};
-ghost use Rattle.treasury.specs.Served.{Served, FailsBy};
+ghost use Rattle.treasury.specs.RunEnd.{HasNoLineFeed, Ends};
+ghost use Rattle.treasury.specs.Served.{Serves, Feeds};
 
 use crate::lines::machine::Machine;
 use crate::lines::write::write_whole;
@@ -43,10 +43,7 @@ fn serve_line<W: Write, M: Machine>(
     writer: &mut W,
     machine: &mut M,
 ) -> Result<(), Cause>
-    ensures { MatchResult result
-        (λ _. Served M.step (W.contents writer.old) (W.contents writer.new) machine.old (requests_among (line.now ∷ [])) machine.new)
-        (λ cause. FailsBy cause M.step M.loses (W.contents writer.old) (W.contents writer.new) machine.old
-        (requests_among (line.now ∷ [])) machine.new) }
+    ensures { Serves result M.step M.loses (W.contents writer.old) (W.contents writer.new) machine.old (requests_among (line.now ∷ [])) machine.new }
 {
     if is_blank(line) {
         return Ok(());
@@ -71,11 +68,7 @@ fn feed<W: Write, M: Machine>(
     machine: &mut M,
 ) -> Result<(), Cause>
     requires { HasNoLineFeed line.old.items }
-    ensures { MatchResult result
-        (λ _. AnswersWhole M.step (W.contents writer.old) (W.contents writer.new) machine.old
-        (line.old.items ++ bytes.now) line.new.items machine.new)
-        (λ cause. StopsBy cause M.step M.loses ⊥ (W.contents writer.old) (W.contents writer.new) machine.old
-        (line.old.items ++ bytes.now) machine.new) }
+    ensures { Feeds result M.step M.loses (W.contents writer.old) (W.contents writer.new) machine.old (line.old.items ++ bytes.now) line.new.items machine.new }
 {
     'feeding: for byte in bytes {
         if *byte == b'\n' {
@@ -105,11 +98,7 @@ pub fn run_machine<R: Read, W: Write, M: Machine>(
     writer: &mut W,
     machine: &mut M,
 ) -> Result<(), Cause>
-    ensures { MatchResult result
-        (λ _. Finished M.step MAX_INPUT (R.remaining reader.old) (R.remaining reader.new)
-        (W.contents writer.old) (W.contents writer.new) machine.old machine.new)
-        (λ cause. EndsBy cause M.step M.loses MAX_INPUT (R.remaining reader.old) (R.remaining reader.new)
-        (W.contents writer.old) (W.contents writer.new) machine.old machine.new) }
+    ensures { Ends result M.step M.loses MAX_INPUT R.remaining reader.old reader.new W.contents writer.old writer.new machine.old machine.new }
 {
     let mut chunk = [0u8; CHUNK];
     let mut line = Vec::new(alloc);
