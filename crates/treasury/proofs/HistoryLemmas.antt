@@ -1,5 +1,5 @@
 -- What came into the books along a transcript: step by step, and what follows of balances and of a good state.
-use Rattle.std.proofs.Common.{◌≡◌, ◌<◌, ◌+◌, ◌++◌, ℕ, suc, List, [], ◌∷◌, Bool, true, false, not, cond, Option, Some, None, Result, Ok, Err, length, arith, refl, ap, ◌∙◌, sym, subst, inl, inr, append_assoc, append-nil, if◌then◌else◌, nat_lt, pos, ◌+ℤ◌}
+use Rattle.std.proofs.Common.{◌≡◌, ◌<◌, ◌+◌, ◌++◌, ℕ, suc, List, [], ◌∷◌, Bool, true, false, not, cond, Option, Some, None, Result, Ok, Err, length, arith, refl, ap, ◌∙◌, sym, subst, inl, inr, append_assoc, append-nil, slice_index, if◌then◌else◌, nat_lt, pos, ◌+ℤ◌}
 use Rattle.std.specs.List.{AllByRecursion, slice_get, prefix_len, position_or_len}
 use Rattle.std.specs.Str.{bytes_eq}
 use Rattle.std.proofs.lemmas.Bool.{cases_Bool, ltb-true}
@@ -283,13 +283,9 @@ left_step f (ForImport name journal) h = left_import f (import_decision f name j
 left_step f (ForBalance name day) h = refl
 
 -- the first byte tells a refusal or a repeat from what is done
-abbrev first_byte : List ℕ → ℕ
-first_byte [] = 0
-first_byte (b ∷ bs) = b
-
-says_no : (text : List ℕ) → IsRefusalOrRepeat text → first_byte text ≡ 114
-says_no text (inl refused) = ap first_byte refused.1
-says_no text (inr repeated) = ap first_byte repeated
+says_no : (text : List ℕ) → IsRefusalOrRepeat text → slice_index text 0 ≡ 114
+says_no text (inl refused) = ap (λ t. slice_index t 0) refused.1
+says_no text (inr repeated) = ap (λ t. slice_index t 0) repeated
 
 not_done : (styles : List Style) (r : Result Answer Refusal) → IsRefusalOrRepeat (answer_text styles r) → IsRefusedOrRepeated r
 unfolding answer_text

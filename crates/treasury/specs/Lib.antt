@@ -12,3 +12,4 @@ pub mod Step
 pub mod Entering
 pub mod History
 pub mod Words
+pub mod Echo
