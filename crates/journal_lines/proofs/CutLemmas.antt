@@ -1,9 +1,9 @@
 -- Laws of cutting texts at blanks and at a byte.
 use Rattle.std.proofs.Common.{◌≡◌, ◌≤◌, ◌<◌, ◌+◌, ◌-◌, ◌++◌, ◌==◌, ℕ, zero, suc, List, [], ◌∷◌, Bool, true, false, not, length, take, drop, reverse, get_or, slice_index, arith, refl, ap, ◌∙◌, append-nil, sym, subst, Some, None, inl, inr, length-append}
-use Rattle.std.proofs.lemmas.Bool.{cases_Bool, cases_lt, and_parts, and_from, not-true, not_from_false, lt-ltb, le-ltb}
-use Rattle.std.specs.List.{list_all, position_or_len}
+use Rattle.std.proofs.lemmas.Bool.{cases_Bool, cases_lt, and_parts, and_from, not-true, not_from_false, lt-ltb, le-ltb, eqb-true}
+use Rattle.std.specs.List.{list_all, position_or_len, before_first, after_first}
 use Rattle.std.proofs.lemmas.List.{get_or-reverse, length-reverse, reverse-append, reverse-reverse, take_at, take-append-le, get_or_at}
-use Rattle.std.proofs.lemmas.List.Sums.{AllPass-from_list_all, list_all-from_AllPass, prefix_len-drop_no}
+use Rattle.std.proofs.lemmas.List.Sums.{AllPass-from_list_all, list_all-from_AllPass, prefix_len-drop_no, passes_at_first, split_at_first}
 use Rattle.std.proofs.lemmas.List.Folds.{list_all-append}
 use Rattle.std.proofs.Math.Seq.{drop-append-add, take-length}
 use Rattle.journal_lines.specs.Blank.{is_blank, first_solid, trim_start, trim_end, trim, is_trimmed}
@@ -134,7 +134,7 @@ trim_start_first (x ∷ xs) = elim (cases_Bool (is_blank x)) [
 ]
 
 -- before blanks at the end
-trim_end_blank : (xs : List ℕ) (b : ℕ) → is_blank b ≡ true → trim_end (xs ++ b ∷ []) ≡ trim_end xs
+pub trim_end_blank : (xs : List ℕ) (b : ℕ) → is_blank b ≡ true → trim_end (xs ++ b ∷ []) ≡ trim_end xs
 unfolding trim_end
 trim_end_blank xs b h =
     let n : length xs + 1 - (1 + first_solid (reverse xs)) ≡ length xs - first_solid (reverse xs) = omega arith in
@@ -169,3 +169,9 @@ before_none p (x ∷ xs) = elim (cases_Bool (p x)) [
       let n : 1 + position_or_len p xs ≡ suc (position_or_len p xs) = omega arith in
       rw (other, n) (rw other (before_none p xs))
 ]
+
+-- the first mark, with what stands before and behind it
+pub at_mark : (m : ℕ) (xs : List ℕ) → position_or_len (λ b. b == m) xs < length xs → xs ≡ before_first (λ b. b == m) xs ++ (m ∷ after_first (λ b. b == m) xs)
+at_mark m xs h =
+    let here : get_or xs (position_or_len (λ b. b == m) xs) 0 ≡ m = eqb-true _ m (passes_at_first (λ b. b == m) xs 0 h) in
+    split_at_first (λ b. b == m) xs 0 h ∙ ap (λ (b : ℕ). before_first (λ b. b == m) xs ++ (b ∷ after_first (λ b. b == m) xs)) here

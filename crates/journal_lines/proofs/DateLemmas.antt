@@ -1,10 +1,13 @@
 -- What a date names, and that a printed date reads back.
-use Rattle.std.proofs.Common.{◌≡◌, ◌≤◌, ◌<◌, ◌+◌, ◌-◌, ◌*◌, ◌/◌, ◌%◌, ◌++◌, ◌==◌, ℕ, zero, suc, ℤ, pos, negsuc, neg_ℤ, ◌-ℤ◌, ◌≤ℤ◌, ◌<ℤ◌, int_le, unsigned_abs, List, [], ◌∷◌, true, false, ◌&&◌, ◌||◌, length, arith, refl, ap, ◌∙◌, sym, subst, Option, Some, None, nat_lt, nat_le, inl, inr, IfSome, unwrap_or}
+use Rattle.std.proofs.Common.{◌≡◌, ◌≤◌, ◌<◌, ◌↔◌, ◌+◌, ◌-◌, ◌*◌, ◌/◌, ◌%◌, ◌++◌, ◌==◌, ℕ, zero, suc, ℤ, pos, negsuc, neg_ℤ, ◌-ℤ◌, ◌≤ℤ◌, ◌<ℤ◌, int_le, unsigned_abs, List, [], ◌∷◌, true, false, not, ◌&&◌, ◌||◌, length, take, drop, min, arith, refl, ap, ◌∙◌, sym, subst, Option, Some, None, nat_lt, nat_le, inl, inr, IfSome, unwrap_or, length-append, take-append-drop}
 use Rattle.std.proofs.lemmas.Grind.{common_steps}
 use Rattle.std.proofs.lemmas.Int.{ints, by_lt_z}
-use Rattle.std.proofs.lemmas.Bool.{and_parts, and_from, ne_eqb, cases_lt, cases_Bool, lt-ltb, ltb-true}
+use Rattle.std.proofs.lemmas.Bool.{and_parts, and_from, ne_eqb, eq-eqb, cases_lt, cases_Bool, lt-ltb, ltb-true}
 use Rattle.std.specs.Option.{SomeIff}
-use Rattle.std.specs.List.{list_all}
+use Rattle.std.specs.List.{list_all, position_or_len, before_first, after_first}
+use Rattle.std.proofs.Math.Seq.{take-append_seam, drop-append-add, drop-cons}
+use Rattle.std.proofs.lemmas.List.{get_or_at, take_at, length-take, length-drop}
+use Rattle.journal_lines.proofs.CutLemmas.{before_mark, at_mark, all_weaker}
 use Rattle.std.specs.Char.{is_ascii_digit, digit_value}
 use Rattle.jiff_core.specs.Calendar.{days_from_civil, days_in_month, IsCivilDate, IsYear}
 use Rattle.jiff_core.proofs.SignedLemmas.{signed_arith}
@@ -12,7 +15,8 @@ use Rattle.jiff_core.proofs.CalendarLemmas.{days_from_civil-day_count, day_count
 use Rattle.jiff_core.proofs.MarchLemmas.{day_count-early}
 use Rattle.jiff_core.proofs.DateLemmas.{days_from_civil-max, days_from_civil-day, days_from_civil-next_month, days_from_civil-next_year}
 use Rattle.money_core.specs.declared.day.Day.{Day}
-use Rattle.journal_lines.specs.Date.{IsDay, IsDate, year_part, month_part, day_part, separator, is_separator, is_short, number_of, day_of, is_day, is_date, date_of, IsDayNumber, last_begun, year_of, month_of, day_of_month, two_digits, four_digits, printed_date, IsDateText}
+use Rattle.journal_lines.specs.Date.{IsDay, IsDate, is_separator, is_short, number_of, IsDayNumber, last_begun, year_of, month_of, day_of_month, two_digits, four_digits, printed_date, IsDateText}
+use Rattle.journal_lines.specs.DateReading.{HasDateParts, year_part, behind_year, month_part, day_part, separator, day_of, is_day, is_date, date_of}
 
 -- the number of the first day
 pub days_from_civil-first : days_from_civil (pos 1) 1 1 ≡ neg_ℤ (pos 719_162)
@@ -121,11 +125,11 @@ day_from_test y m d h =
     le a b h = grind arith
 
 -- the facts of a date, as a test
-pub date_test : (text : List ℕ) → IsDate text → is_date text ≡ true
+pub date_test : (text : List ℕ) → HasDateParts text → is_date text ≡ true
 date_test text h = and_from _ _ (and_from _ _ (and_from _ _ (and_from _ _ (and_from _ _ (lt-ltb 4 (length text) h.long) h.year) h.separated) h.month) h.day)
     (day_test (number_of (year_part text)) (number_of (month_part text)) (number_of (day_part text)) h.exists)
 
-pub date_from_test : (text : List ℕ) → is_date text ≡ true → IsDate text
+pub date_from_test : (text : List ℕ) → is_date text ≡ true → HasDateParts text
 date_from_test text h =
     let a = and_parts (nat_lt 4 (length text) && list_all is_ascii_digit (year_part text) && is_separator (separator text) && is_short (month_part text) && is_short (day_part text)) _ h in
     let b = and_parts (nat_lt 4 (length text) && list_all is_ascii_digit (year_part text) && is_separator (separator text) && is_short (month_part text)) _ a.0 in
@@ -142,7 +146,7 @@ date_from_test text h =
     }
 
 -- what a date names
-pub date_of_is : (text : List ℕ) (r : Option Day) → SomeIff r (IsDate text) (day_of text) → r ≡ date_of text
+pub date_of_is : (text : List ℕ) (r : Option Day) → SomeIff r (HasDateParts text) (day_of text) → r ≡ date_of text
 unfolding date_of
 date_of_is text None h = elim (cases_Bool (is_date text)) [
   | inl is ↦ absurd (h (date_from_test text is))
@@ -162,7 +166,7 @@ day_in_range y m d h = record { low = first; high = last }
     last : days_from_civil (pos y) m d ≤ℤ days_from_civil (pos 9999) 12 31
     last = rw days_from_civil-max (omega (arith, signed_arith, days_from_civil-day_count (pos y) m d, day_count_bounds (pos y) m d h.1))
 
-pub read_range : (text : List ℕ) (r : Option Day) → SomeIff r (IsDate text) (day_of text) → IfSome r IsDayNumber
+pub read_range : (text : List ℕ) (r : Option Day) → SomeIff r (HasDateParts text) (day_of text) → IfSome r IsDayNumber
 read_range text None h = tt
 read_range text (Some x) h = subst IsDayNumber (sym h.1) (day_in_range (number_of (year_part text)) (number_of (month_part text)) (number_of (day_part text)) h.0.exists)
 
@@ -172,35 +176,11 @@ digit n h = grind (arith, common_steps)
 value : (n : ℕ) → n < 10 → digit_value (48 + n) ≡ n
 value n h = grind (arith, common_steps)
 
-no_mark : (n : ℕ) → (48 + n == 45) ≡ false
-no_mark n = ne_eqb (48 + n) 45 (λ e. omega (arith, e))
-
 number_two : (a b : ℕ) → a < 10 → b < 10 → number_of ((48 + a) ∷ (48 + b) ∷ []) ≡ 10 * a + b
 number_two a b h k = rw (value a h, value b k) (omega arith)
 
 number_four : (a b c d : ℕ) → a < 10 → b < 10 → c < 10 → d < 10 → number_of ((48 + a) ∷ (48 + b) ∷ (48 + c) ∷ (48 + d) ∷ []) ≡ 1000 * a + 100 * b + 10 * c + d
 number_four a b c d h k l m = rw (value a h, value b k, value c l, value d m) (omega arith)
-
--- the text of a date, cell by cell
-abbrev pub cells : (a b c d e f g h : ℕ) → List ℕ
-cells a b c d e f g h = (48 + a) ∷ (48 + b) ∷ (48 + c) ∷ (48 + d) ∷ 45 ∷ (48 + e) ∷ (48 + f) ∷ 45 ∷ (48 + g) ∷ (48 + h) ∷ []
-
-month_is : (a b c d e f g h : ℕ) → month_part (cells a b c d e f g h) ≡ (48 + e) ∷ (48 + f) ∷ []
-month_is a b c d e f g h = rw (no_mark e, no_mark f) refl
-
-day_is : (a b c d e f g h : ℕ) → day_part (cells a b c d e f g h) ≡ (48 + g) ∷ (48 + h) ∷ []
-day_is a b c d e f g h = rw (no_mark e, no_mark f) refl
-
-pub cells_read : (a b c d e f g h : ℕ) → a < 10 → b < 10 → c < 10 → d < 10 → e < 10 → f < 10 → g < 10 → h < 10 → (y m n : ℕ) → 1000 * a + 100 * b + 10 * c + d ≡ y → 10 * e + f ≡ m → 10 * g + h ≡ n → is_day y m n ≡ true
-    → date_of (cells a b c d e f g h) ≡ Some (record { 0 = days_from_civil (pos y) m n })
-unfolding date_of
-cells_read a b c d e f g h la lb lc ld le lf lg lh y m n ey em en ok =
-    let month = month_is a b c d e f g h in
-    let day = day_is a b c d e f g h in
-    let ny : number_of ((48 + a) ∷ (48 + b) ∷ (48 + c) ∷ (48 + d) ∷ []) ≡ y = number_four a b c d la lb lc ld ∙ ey in
-    let nm : number_of ((48 + e) ∷ (48 + f) ∷ []) ≡ m = number_two e f le lf ∙ em in
-    let nd : number_of ((48 + g) ∷ (48 + h) ∷ []) ≡ n = number_two g h lg lh ∙ en in
-    rw (no_mark e, no_mark f, digit a la, digit b lb, digit c lc, digit d ld, digit e le, digit f lf, digit g lg, digit h lh) (rw (ny, nm, nd, ok) refl)
 
 -- the bytes of a date
 form_of : (n : ℕ) → n < 10 → (is_ascii_digit (48 + n) || (48 + n == 45)) ≡ true
@@ -220,9 +200,24 @@ civil_reads y m d h =
     let g : m % 10 < 10 = omega arith in
     let i : d / 10 % 10 < 10 = omega arith in
     let j : d % 10 < 10 = omega arith in
+    let ny : number_of (four_digits y) ≡ y = number_four (y / 1000 % 10) (y / 100 % 10) (y / 10 % 10) (y % 10) a b c e ∙ omega (arith, small_y) in
+    let nm : number_of (two_digits m) ≡ m = number_two (m / 10 % 10) (m % 10) f g ∙ omega (arith, small_m) in
+    let nd : number_of (two_digits d) ≡ d = number_two (d / 10 % 10) (d % 10) i j ∙ omega (arith, small_d) in
     record {
-      reads = cells_read (y / 1000 % 10) (y / 100 % 10) (y / 10 % 10) (y % 10) (m / 10 % 10) (m % 10) (d / 10 % 10) (d % 10) a b c e f g i j y m d
-          (omega (arith, small_y)) (omega (arith, small_m)) (omega (arith, small_d)) (day_test y m d h);
+      reads = record {
+        year = four_digits y;
+        separator = 45;
+        month = two_digits m;
+        place = two_digits d;
+        written = refl;
+        separated = refl;
+        four = refl;
+        year_digits = rw (digit (y / 1000 % 10) a, digit (y / 100 % 10) b, digit (y / 10 % 10) c, digit (y % 10) e) refl;
+        month_digits = rw (digit (m / 10 % 10) f, digit (m % 10) g) refl;
+        place_digits = rw (digit (d / 10 % 10) i, digit (d % 10) j) refl;
+        exists = rw (ny, nm, nd) h;
+        named = rw (ny, nm, nd) refl;
+      };
       form = rw (form_of (y / 1000 % 10) a, form_of (y / 100 % 10) b, form_of (y / 10 % 10) c, form_of (y % 10) e, form_of (m / 10 % 10) f, form_of (m % 10) g, form_of (d / 10 % 10) i, form_of (d % 10) j) refl;
       first = digit (y / 1000 % 10) a;
       ten = refl;
@@ -350,7 +345,7 @@ dates_bound text day e = elim (cases_Bool (is_date text)) [
     none_some b h = cc
 
 -- what is known of a text that names a day
-pub date_facts : (text : List ℕ) (day : Day) → date_of text ≡ Some day → IsDate text × (day_of text ≡ day)
+pub date_facts : (text : List ℕ) (day : Day) → date_of text ≡ Some day → HasDateParts text × (day_of text ≡ day)
 unfolding date_of
 date_facts text day e = elim (cases_Bool (is_date text)) [
   | inl is ↦ (let found : Some (day_of text) ≡ Some day = rw is at e in
@@ -360,3 +355,107 @@ date_facts text day e = elim (cases_Bool (is_date text)) [
   where
     none_some : (b : Day) → None ≡ Some b → ⊥
     none_some b h = cc
+
+-- ---- a date from left to right
+
+-- the first mark behind a text without it
+at_first_mark : (s : ℕ) (month place : List ℕ) → list_all (λ b. not (b == s)) month ≡ true → (before_first (λ b. b == s) (month ++ s ∷ place) ≡ month) × (after_first (λ b. b == s) (month ++ s ∷ place) ≡ place)
+at_first_mark s month place h =
+    let at = before_mark (λ b. b == s) month place s h (eq-eqb s s refl) in
+    (rw at (take-append_seam month (s ∷ place)), rw at (drop-append-add month (s ∷ place) 1))
+
+-- a digit is no separator
+no_separator : (s b : ℕ) → is_separator s ≡ true → is_ascii_digit b ≡ true → not (b == s) ≡ true
+no_separator s b h k = grind (arith, common_steps)
+
+-- the parts of a date by their places
+record IsFound (year month place : List ℕ) (s : ℕ) (text : List ℕ) : Type 0 where
+  year_is : year_part text ≡ year
+  mark : separator text ≡ s
+  month_is : month_part text ≡ month
+  place_is : day_part text ≡ place
+
+found_parts : (year month place : List ℕ) (s : ℕ) → length year ≡ 4 → is_separator s ≡ true → list_all is_ascii_digit month ≡ true → IsFound year month place s (year ++ (s ∷ (month ++ (s ∷ place))))
+found_parts year month place s four sep digits =
+    let rest = month ++ (s ∷ place) in
+    let text = year ++ (s ∷ rest) in
+    let marked : separator text ≡ s = get_or_at year s rest 0 4 (omega (arith, four)) in
+    let n : 5 ≡ length year + 1 = omega (arith, four) in
+    let behind : behind_year text ≡ rest = ap (λ (k : ℕ). drop k text) n ∙ drop-append-add year (s ∷ rest) 1 in
+    let cut = at_first_mark s month place (all_weaker is_ascii_digit (λ b. not (b == s)) month (λ b digit. no_separator s b sep digit) digits) in
+    record {
+      year_is = take_at year (s ∷ rest) 4 (omega (arith, four));
+      mark = marked;
+      month_is = ap (λ (x : ℕ). before_first (λ b. b == x) (behind_year text)) marked ∙ (ap (λ (xs : List ℕ). before_first (λ b. b == s) xs) behind ∙ cut.0);
+      place_is = ap (λ (x : ℕ). after_first (λ b. b == x) (behind_year text)) marked ∙ (ap (λ (xs : List ℕ). after_first (λ b. b == s) xs) behind ∙ cut.1);
+    }
+
+same_day : (y m d y' m' d' : ℕ) → y ≡ y' → m ≡ m' → d ≡ d' → IsDay y' m' d' → IsDay y m d
+same_day y m d y' m' d' ey em ed h = rw (ey, em, ed) h
+
+same_name : (y m d y' m' d' : ℕ) (day : Day) → y ≡ y' → m ≡ m' → d ≡ d' → day ≡ record { 0 = days_from_civil (pos y') m' d' } → record { 0 = days_from_civil (pos y) m d } ≡ day
+same_name y m d y' m' d' day ey em ed h = rw (ey, em, ed) (sym h)
+
+-- a date has its parts at their places
+pub parts_of_date : (text : List ℕ) (day : Day) → IsDate text day → HasDateParts text × (day_of text ≡ day)
+parts_of_date text day h =
+    subst (λ (t : List ℕ). HasDateParts t × (day_of t ≡ day)) (sym h.written) (
+      record {
+        long = omega (arith, h.four, length-append h.year (h.separator ∷ (h.month ++ (h.separator ∷ h.place))));
+        year = ap (list_all is_ascii_digit) f.year_is ∙ h.year_digits;
+        separated = ap is_separator f.mark ∙ h.separated;
+        month = ap is_short f.month_is ∙ h.month_digits;
+        day = ap is_short f.place_is ∙ h.place_digits;
+        exists = same_day _ _ _ _ _ _ (ap number_of f.year_is) (ap number_of f.month_is) (ap number_of f.place_is) h.exists;
+      },
+      same_name _ _ _ _ _ _ day (ap number_of f.year_is) (ap number_of f.month_is) (ap number_of f.place_is) h.named,
+    )
+  where
+    f : IsFound h.year h.month h.place h.separator (h.year ++ (h.separator ∷ (h.month ++ (h.separator ∷ h.place))))
+    f = found_parts h.year h.month h.place h.separator h.four h.separated (and_parts ((length h.month == 1) || (length h.month == 2)) _ h.month_digits).1
+
+-- parts at their places are a date
+pub date_from_parts : (text : List ℕ) → HasDateParts text → IsDate text (day_of text)
+date_from_parts text h = record {
+  year = year_part text;
+  separator = separator text;
+  month = month_part text;
+  place = day_part text;
+  written = sym (take-append-drop 4 text) ∙ ap (λ (xs : List ℕ). take 4 text ++ xs) (drop-cons text 4 0 h.long ∙ ap (λ (xs : List ℕ). separator text ∷ xs) rest);
+  separated = h.separated;
+  four = length-take 4 text ∙ four_of (length text) h.long;
+  year_digits = h.year;
+  month_digits = h.month;
+  place_digits = h.day;
+  exists = h.exists;
+  named = refl;
+}
+  where
+    four_of : (n : ℕ) → 4 < n → min 4 n ≡ 4
+    four_of n k = omega (arith, k)
+
+    some : 0 < length (day_part text)
+    some = short_some (day_part text) h.day
+      where
+        short_some : (xs : List ℕ) → is_short xs ≡ true → 0 < length xs
+        short_some [] k = absurd cc
+        short_some (x ∷ xs) k = omega arith
+
+    inside : position_or_len (λ b. b == separator text) (behind_year text) < length (behind_year text)
+    inside = elim (cases_lt (position_or_len (λ b. b == separator text) (behind_year text)) (length (behind_year text))) [
+      | inl found ↦ found
+      | inr none ↦ absurd (omega (arith, some, none, length-drop (position_or_len (λ b. b == separator text) (behind_year text) + 1) (behind_year text)))
+    ]
+
+    rest : behind_year text ≡ month_part text ++ (separator text ∷ day_part text)
+    rest = at_mark (separator text) (behind_year text) inside
+
+-- what a text names by the function, it names as a date
+pub reads_date : (text : List ℕ) (day : Day) → date_of text ≡ Some day → IsDate text day
+reads_date text day e = let facts = date_facts text day e in subst (IsDate text) facts.1 (date_from_parts text facts.0)
+
+pub date_reads : (text : List ℕ) (day : Day) → IsDate text day → date_of text ≡ Some day
+date_reads text day h = let facts = parts_of_date text day h in sym (date_of_is text (Some (day_of text)) (facts.0, refl)) ∙ ap (λ (d : Day). Some d) facts.1
+
+pub date_iff : (text : List ℕ) (r : Option Day) → SomeIff r (HasDateParts text) (day_of text) → (day : Day) → (r ≡ Some day) ↔ IsDate text day
+date_iff text r h day = let is = date_of_is text r h in (λ e. reads_date text day (sym is ∙ e), λ d. is ∙ date_reads text day d)

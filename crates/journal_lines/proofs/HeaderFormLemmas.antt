@@ -12,11 +12,13 @@ use Rattle.journal_lines.specs.declared.header.Status.{Status}
 use Rattle.journal_lines.specs.declared.header.Status.TheVariants.{Pending, Cleared}
 use Rattle.journal_lines.specs.Blank.{is_blank, first_word, first_solid, trim_start, trim_end, is_trimmed}
 use Rattle.journal_lines.specs.Comment.{has_no, front_of, comment_of}
-use Rattle.journal_lines.specs.Date.{behind_year, separator, month_part, day_part, is_separator, is_short, IsDate, date_of, day_of}
-use Rattle.journal_lines.specs.Header.{status_at, behind_status, Coded, closed_code, code_at, behind_date, cut_header, HeaderParts, is_coded_long, length_of, judged_header, dated_header, closed_header, header_of}
+use Rattle.journal_lines.specs.Date.{is_separator, is_short}
+use Rattle.journal_lines.specs.DateReading.{behind_year, separator, month_part, day_part, HasDateParts, date_of, day_of}
+use Rattle.journal_lines.specs.Header.{status_at, behind_status, HeaderParts, length_of}
+use Rattle.journal_lines.specs.HeaderReading.{Coded, closed_code, code_at, behind_date, cut_header, is_coded_long, judged_header, dated_header, closed_header, header_of}
 use Rattle.journal_lines.specs.HeaderForm.{status_text, code_text, is_closed, starts_so, IsRemark, Reads}
-use Rattle.journal_lines.proofs.CutLemmas.{before_mark, trim_start_behind, trim_start_same, trim_start_blanks, trim_end_same, trim_inside, all_trim_end, front_whole, no_comment, comment_behind, all_weaker, all_joined, trim_trimmed, trim_start_first, trim_end_trimmed}
-use Rattle.journal_lines.proofs.DateLemmas.{date_of_is, date_facts}
+use Rattle.journal_lines.proofs.CutLemmas.{before_mark, at_mark, trim_start_behind, trim_start_same, trim_start_blanks, trim_end_same, trim_inside, all_trim_end, front_whole, no_comment, comment_behind, all_weaker, all_joined, trim_trimmed, trim_start_first, trim_end_trimmed}
+use Rattle.journal_lines.proofs.DateLemmas.{parts_of_date, reads_date, date_reads}
 use Rattle.journal_lines.proofs.HeaderLemmas.{StartsBlank, date_ends, chosen, past, CodedOk, coded_ok, so_read, all_behind_date, all_behind_status, front_none, date_first, status_first}
 
 -- ---- what a date is made of
@@ -43,7 +45,7 @@ digit_byte b h = rw h refl
 short_digits : (part : List ℕ) → is_short part ≡ true → list_all is_date_byte part ≡ true
 short_digits part h = let parts = and_parts ((length part == 1) || (length part == 2)) _ h in all_weaker is_ascii_digit is_date_byte part digit_byte parts.1
 
-pub date_bytes : (text : List ℕ) → IsDate text → list_all is_date_byte text ≡ true
+pub date_bytes : (text : List ℕ) → HasDateParts text → list_all is_date_byte text ≡ true
 date_bytes text h =
     let mark : is_date_byte (separator text) ≡ true = or_right (is_ascii_digit (separator text)) (is_separator (separator text)) h.separated in
     let rest : list_all is_date_byte (behind_year text) ≡ true =
@@ -183,7 +185,7 @@ cut_is line parts r =
     let behind = code_text parts.code ++ (r.code_gap ++ (parts.description ++ r.end_gap)) in
     let rest = status_text parts.status ++ (r.status_gap ++ behind) in
     let front = r.date ++ (r.gap ++ rest) in
-    let bytes = date_bytes r.date r.is_date in
+    let bytes = date_bytes r.date (parts_of_date r.date parts.day r.is_date).0 in
     let no : list_all (λ b. not (b == 59)) front ≡ true =
     all_joined (λ b. not (b == 59)) r.date (r.gap ++ rest) (all_weaker is_date_byte (λ b. not (b == 59)) r.date byte_no_semicolon bytes)
     (all_joined (λ b. not (b == 59)) r.gap rest (all_weaker is_blank (λ b. not (b == 59)) r.gap blank_no_semicolon gaps.0)
@@ -218,7 +220,7 @@ form_reads line parts r =
     let later = in_row r.status_gap (r.code_gap ++ r.end_gap) gaps.1 in
     let last = in_row r.code_gap r.end_gap later.1 in
     let description : trim_end (trim_start (parts.description ++ r.end_gap)) ≡ parts.description = trim_inside [] parts.description r.end_gap refl last.1 r.trimmed in
-    let day : date_of r.date ≡ Some parts.day = sym (date_of_is r.date (Some (day_of r.date)) (r.is_date, refl)) ∙ ap (λ (d : Day). Some d) r.names_day in
+    let day : date_of r.date ≡ Some parts.day = date_reads r.date parts.day r.is_date in
     rw (cut_is line parts r) (rw (short_code parts.code r.short_code, description, le-ltb 500 (length parts.description) r.short_description, le-ltb 900 (length_of parts.comment) r.short_comment, day) (rw description refl))
 
 -- ---- a line that reads has the form
@@ -255,12 +257,6 @@ blanks_end xs = list_all-from_AllPass is_blank (end_blanks xs) (λ k d l.
     not-false : (b : Bool) → not b ≡ false → b ≡ true
     not-false true h = refl
     not-false false h = absurd cc
-
--- the first mark, with what stands before and behind it
-at_mark : (m : ℕ) (xs : List ℕ) → position_or_len (λ b. b == m) xs < length xs → xs ≡ before_first (λ b. b == m) xs ++ (m ∷ after_first (λ b. b == m) xs)
-at_mark m xs h =
-    let here : get_or xs (position_or_len (λ b. b == m) xs) 0 ≡ m = eqb-true _ m (passes_at_first (λ b. b == m) xs 0 h) in
-    split_at_first (λ b. b == m) xs 0 h ∙ ap (λ (b : ℕ). before_first (λ b. b == m) xs ++ (b ∷ after_first (λ b. b == m) xs)) here
 
 -- a status and the blanks behind it
 record StatusForm (text : List ℕ) (status : Option Status) (rest : List ℕ) : Type 0 where
@@ -413,7 +409,6 @@ form_of_parts line day coded date code long short =
     let k = coded_ok text coded (status_first dated (date_first front)) code in
     let none = all_behind_status (λ b. not (b == 59)) dated (all_behind_date (λ b. not (b == 59)) front (front_none line)) in
     let sizes = or_parts (nat_lt 100 (length_of coded.code)) _ long in
-    let facts = date_facts (first_word front) day date in
     let inner : coded.rest ≡ trim_end coded.rest ++ end_blanks coded.rest = split_end coded.rest in
     let text_is : text ≡ code_text coded.code ++ (closing.gap ++ (trim_end coded.rest ++ end_blanks coded.rest)) = closing.written ∙ ap (λ (xs : List ℕ). code_text coded.code ++ (closing.gap ++ xs)) inner in
     let dated_is : dated ≡ status_text (status_at dated) ++ (status.gap ++ (code_text coded.code ++ (closing.gap ++ (trim_end coded.rest ++ end_blanks coded.rest)))) =
@@ -429,8 +424,7 @@ form_of_parts line day coded date code long short =
       remark = remark.remark;
       written = remark.written ∙ (ap (λ (xs : List ℕ). xs ++ remark.remark) front_is
           ∙ sym (regroup (first_word front) gap (status_text (status_at dated)) status.gap (code_text coded.code) closing.gap (trim_end coded.rest) (end_blanks coded.rest) remark.remark));
-      is_date = facts.0;
-      names_day = facts.1;
+      is_date = reads_date (first_word front) day date;
       blanks = blanks_joined gap (status.gap ++ (closing.gap ++ end_blanks coded.rest)) (blanks_front behind)
           (blanks_joined status.gap (closing.gap ++ end_blanks coded.rest) status.blanks (blanks_joined closing.gap (end_blanks coded.rest) closing.blanks (blanks_end coded.rest)));
       apart = λ no_gap. nothing_behind dated coded (nothing_apart front no_gap) code;

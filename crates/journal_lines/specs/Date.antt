@@ -1,10 +1,10 @@
 -- Dates of a journal (hledger manual, "Simple dates"), and which days they name. That the year has four digits,
 -- month and day one digit or two, and that both separators are the same, are own rules. The calendar is the kit's.
-use Rattle.std.specs.Prelude.{ℕ, ℤ, zero, suc, pos, ◌+◌, ◌/◌, ◌%◌, ◌==◌, ◌≡◌, ◌≤◌, ◌<◌, ◌-ℤ◌, ◌≤ℤ◌, int_le, unsigned_abs, nat_le, nat_lt, ◌&&◌, ◌||◌, Bool, true, if◌then◌else◌, List, [], ◌∷◌, ◌++◌, length, slice_index, take, drop, Option, Some, None}
+use Rattle.std.specs.Prelude.{ℕ, ℤ, zero, suc, pos, ◌+◌, ◌/◌, ◌%◌, ◌==◌, ◌≡◌, ◌≤◌, ◌-ℤ◌, ◌≤ℤ◌, int_le, unsigned_abs, ◌&&◌, ◌||◌, Bool, true, if◌then◌else◌, List, [], ◌∷◌, ◌++◌, length, slice_index}
 use Rattle.std.specs.Char.{is_ascii_digit}
-use Rattle.std.specs.List.{list_all, before_first, after_first}
+use Rattle.std.specs.List.{list_all}
 use Rattle.std.specs.Str.Parse.{digits_value}
-use Rattle.jiff_core.specs.Calendar.{IsCivilDate, days_in_month, days_from_civil}
+use Rattle.jiff_core.specs.Calendar.{IsCivilDate, days_from_civil}
 use Rattle.money_core.specs.declared.day.Day.{Day}
 
 -- the calendar has the day, in a year from 1 to 9999
@@ -15,26 +15,6 @@ IsDay year month day = (1 ≤ year) × IsCivilDate (pos year) month day
 abbrev pub is_separator : ℕ → Bool
 is_separator b = (b == 45) || (b == 47) || (b == 46)
 
--- the four bytes of the year
-abbrev pub year_part : List ℕ → List ℕ
-year_part text = take 4 text
-
--- the byte that follows the year
-abbrev pub separator : List ℕ → ℕ
-separator text = slice_index text 4
-
--- what follows the year and its separator
-abbrev pub behind_year : List ℕ → List ℕ
-behind_year text = drop 5 text
-
--- from there up to the same separator again
-abbrev pub month_part : List ℕ → List ℕ
-month_part text = before_first (λ b. b == separator text) (behind_year text)
-
--- what follows it
-abbrev pub day_part : List ℕ → List ℕ
-day_part text = after_first (λ b. b == separator text) (behind_year text)
-
 -- a month or a day: one digit or two
 abbrev pub is_short : List ℕ → Bool
 is_short part = ((length part == 1) || (length part == 2)) && list_all is_ascii_digit part
@@ -43,32 +23,20 @@ is_short part = ((length part == 1) || (length part == 2)) && list_all is_ascii_
 abbrev pub number_of : List ℕ → ℕ
 number_of part = digits_value 10 part
 
--- the text is a date: four digits, a separator, a month, the same separator, a day, and the calendar has that day
-pub record IsDate (text : List ℕ) : Type 0 where
-  pub long : 4 < length text
-  pub year : list_all is_ascii_digit (year_part text) ≡ true
-  pub separated : is_separator (separator text) ≡ true
-  pub month : is_short (month_part text) ≡ true
-  pub day : is_short (day_part text) ≡ true
-  pub exists : IsDay (number_of (year_part text)) (number_of (month_part text)) (number_of (day_part text))
-
--- the day that a date names
-abbrev pub day_of : List ℕ → Day
-day_of text = record { 0 = days_from_civil (pos (number_of (year_part text))) (number_of (month_part text)) (number_of (day_part text)) }
-
--- the calendar has the day, in a year from 1 to 9999
-abbrev pub is_day : ℕ → ℕ → ℕ → Bool
-is_day y m d = nat_le 1 y && nat_le y 9999 && nat_le 1 m && nat_le m 12 && nat_le 1 d && nat_le d (days_in_month (pos y) m)
-
--- whether the text is a date
-abbrev pub is_date : List ℕ → Bool
-is_date text =
-    nat_lt 4 (length text) && list_all is_ascii_digit (year_part text) && is_separator (separator text) && is_short (month_part text) && is_short (day_part text)
-    && is_day (number_of (year_part text)) (number_of (month_part text)) (number_of (day_part text))
-
--- the day that a text names, if it is a date
-unfoldable pub date_of : List ℕ → Option Day
-date_of text = if is_date text then Some (day_of text) else None
+-- the text is a date of that day: four digits, a separator, a month, the same separator, a day of the month, and the calendar has it
+pub record IsDate (text : List ℕ) (day : Day) : Type 0 where
+  pub year : List ℕ
+  pub separator : ℕ
+  pub month : List ℕ
+  pub place : List ℕ
+  pub written : text ≡ year ++ (separator ∷ (month ++ (separator ∷ place)))
+  pub separated : is_separator separator ≡ true
+  pub four : length year ≡ 4
+  pub year_digits : list_all is_ascii_digit year ≡ true
+  pub month_digits : is_short month ≡ true
+  pub place_digits : is_short place ≡ true
+  pub exists : IsDay (number_of year) (number_of month) (number_of place)
+  pub named : day ≡ record { 0 = days_from_civil (pos (number_of year)) (number_of month) (number_of place) }
 
 -- a day of the years 1 to 9999
 pub record IsDayNumber (day : Day) : Type 0 where
@@ -106,7 +74,7 @@ printed_date day = four_digits (year_of day) ++ (45 ∷ (two_digits (month_of da
 
 -- the text is the date of that day wherever it stands: it reads as the day, and is ten digits and `-`, a digit first
 pub record IsDateText (day : Day) (text : List ℕ) : Type 0 where
-  pub reads : date_of text ≡ Some day
+  pub reads : IsDate text day
   pub form : list_all (λ b. is_ascii_digit b || (b == 45)) text ≡ true
   pub first : is_ascii_digit (slice_index text 0) ≡ true
   pub ten : length text ≡ 10

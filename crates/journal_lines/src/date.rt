@@ -1,13 +1,14 @@
 //! Dates as texts.
 
-ghost use Rattle.std.specs.Prelude.{◌≡◌, ℕ, ℤ, pos, ◌+◌, ◌%◌, ◌≤◌, ◌<◌, ◌^◌, ◌↔◌, ◌≤ℤ◌, ◌∷◌, [], ◌&&◌, ◌++◌, length, true, IfSome, OnOk, OnErr, IsOkUnless, IsTrue};
+ghost use Rattle.std.specs.Prelude.{◌≡◌, ℕ, ℤ, pos, ◌+◌, ◌%◌, ◌≤◌, ◌<◌, ◌^◌, ◌↔◌, ◌≤ℤ◌, ◌∷◌, [], ◌&&◌, ◌++◌, length, true, IfSome, OnOk, OnErr, IsOkUnless, IsTrue, Some};
 ghost use Rattle.std.specs.Option.{SomeIff};
 ghost use Rattle.std.specs.Char.{is_ascii_digit};
 ghost use Rattle.std.specs.List.{list_all};
 ghost use Rattle.jiff_core.specs.Calendar.{IsCivilDate, days_from_civil};
 ghost use Rattle.jiff_core.specs.Date.{epoch_day};
 ghost use Rattle.money_core.specs.declared.day.Day.{Day};
-ghost use Rattle.journal_lines.specs.Date.{IsDay, is_separator, is_short, number_of, IsDate, day_of, date_of, IsDayNumber, IsDateText, printed_date, two_digits, four_digits};
+ghost use Rattle.journal_lines.specs.Date.{IsDay, IsDate, is_separator, is_short, number_of, IsDayNumber, IsDateText, printed_date, two_digits, four_digits};
+ghost use Rattle.journal_lines.specs.DateReading.{HasDateParts, day_of, date_of};
 
 use crate::lines::{before, behind};
 use jiff_core::civil::Date;
@@ -18,8 +19,10 @@ use std::alloc::Global;
 ///
 /// A date is `YYYY-MM-DD`, `YYYY/MM/DD` or `YYYY.MM.DD`, with one digit or two for month and day.
 pub fn read_date(text: &[u8]) -> Option<Day>
-    ensures exact { SomeIff result (IsDate text.now) (day_of text.now) }
+    ensures reads { (day : Day) → (result ≡ Some day) ↔ IsDate text.now day }
     ensures range { IfSome result IsDayNumber }
+
+    // The same by a function, for the laws of the crates above.
     ensures value { result ≡ date_of text.now }
 {
     day_of_date(text)
@@ -27,7 +30,7 @@ pub fn read_date(text: &[u8]) -> Option<Day>
 
 /// The day of a date, by its parts from left to right.
 fn day_of_date(text: &[u8]) -> Option<Day>
-    ensures { SomeIff result (IsDate text.now) (day_of text.now) }
+    ensures { SomeIff result (HasDateParts text.now) (day_of text.now) }
 {
     if text.len() <= 4 {
         return None;
@@ -139,7 +142,7 @@ pub fn print_date(_alloc: Global, day: Day, out: &mut Vec<u8>) -> Result<(), Cau
 }
 
 /// The ten bytes of the date of the day.
-fn date_text(day: Day) -> [u8; 10]
+pub(crate) fn date_text(day: Day) -> [u8; 10]
     requires { IsDayNumber day }
     ensures value { result ≡ printed_date day }
     ensures reads { IsDateText day (printed_date day) }

@@ -20,8 +20,9 @@ impl<'a> Lines<'a> {
     pub fn new(text: &'a [u8]) -> Self
         ensures list { lines_left result ≡ numbered 1 text.entry.now }
 
-        // The lines, each with its end, are the text.
+        // The lines, each with its end, are the text, and no others are.
         ensures rule { MakeUp (lines text.entry.now) text.entry.now }
+        ensures only { (ls : List (List ℕ)) → MakeUp ls text.entry.now → ls ≡ lines text.entry.now }
     {
         Lines {
             rest: text,

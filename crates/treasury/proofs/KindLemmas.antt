@@ -13,7 +13,7 @@ use Rattle.std.proofs.lemmas.Bool.Decides.{Decides-eqb}
 use Rattle.money_core.specs.declared.day.Day.{Day}
 use Rattle.journal_lines.specs.Blank.{is_blank}
 use Rattle.journal_lines.specs.AccountName.{is_name_byte, is_gap, has_gap, bars_start, is_account, IsAccount}
-use Rattle.journal_lines.specs.Date.{is_date, day_of, date_of}
+use Rattle.journal_lines.specs.DateReading.{is_date, day_of, date_of}
 use Rattle.treasury.specs.SmallJournal.{is_blank_text, cut_at_gap, Kind, Blank, Header, Posting, Other, header_day, behind_indent, posting_cut, posting_behind, dated_or_posting, kind_of_text, IsHeader, IsPosting, IsOfKind, KindsAreFound}
 use Rattle.treasury.proofs.LineKindLemmas.{gap, starts_not, kind_of-utf8}
 

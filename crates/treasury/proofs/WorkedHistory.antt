@@ -5,7 +5,7 @@ use Rattle.std.specs.Str.{is_utf8, chars}
 use Rattle.book_core.specs.declared.entry.Entry.{Entry}
 use Rattle.book_core.specs.GoodBook.{verdict}
 use Rattle.book_core.specs.Claim.{failure}
-use Rattle.journal_lines.specs.Date.{date_of, day_of}
+use Rattle.journal_lines.specs.DateReading.{date_of, day_of}
 use Rattle.treasury.specs.declared.branch.Branch.{Branch}
 use Rattle.treasury.specs.declared.request.Request.TheVariants.{Branch as ForBranch, Import as ForImport}
 use Rattle.treasury.specs.SmallJournal.{journal_of, kind_of, kind_of_text, header_day, behind_indent}

@@ -6,7 +6,8 @@ use Rattle.serde_json.specs.Data.{Data, null, boolean, number, string, array, ob
 use Rattle.serde_json.specs.Find.{get, as_str}
 use Rattle.serde_json.specs.Read.{read}
 use Rattle.money_core.specs.declared.day.Day.{Day}
-use Rattle.journal_lines.specs.Date.{date_of, IsDayNumber}
+use Rattle.journal_lines.specs.Date.{IsDayNumber}
+use Rattle.journal_lines.specs.DateReading.{date_of}
 use Rattle.treasury.specs.declared.request.Request.{Request}
 use Rattle.treasury.specs.declared.request.Request.TheVariants.{Branch, Commodity, Import, Balance}
 

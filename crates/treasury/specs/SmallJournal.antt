@@ -11,7 +11,7 @@ use Rattle.money_core.specs.declared.cause.Fault.{Fault}
 use Rattle.money_core.specs.Reading.{amount}
 use Rattle.money_core.specs.AmountText.{IsDeclared}
 use Rattle.journal_lines.specs.Blank.{is_blank}
-use Rattle.journal_lines.specs.Date.{separator, date_of}
+use Rattle.journal_lines.specs.DateReading.{separator, date_of}
 use Rattle.journal_lines.specs.Lines.{numbered}
 use Rattle.journal_lines.specs.AccountName.{is_account, IsAccount}
 use Rattle.book_core.specs.declared.leg.Leg.{Leg}

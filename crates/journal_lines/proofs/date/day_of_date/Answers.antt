@@ -4,7 +4,8 @@ use Rattle.std.specs.Char.{is_ascii_digit}
 use Rattle.std.specs.List.{list_all}
 use Rattle.jiff_core.specs.Calendar.{days_from_civil}
 use Rattle.money_core.specs.declared.day.Day.{Day}
-use Rattle.journal_lines.specs.Date.{IsDate, IsDay, day_of, is_short, number_of, month_part, day_part, year_part, is_separator, separator}
+use Rattle.journal_lines.specs.Date.{IsDay, is_short, number_of, is_separator}
+use Rattle.journal_lines.specs.DateReading.{HasDateParts, day_of, month_part, day_part, year_part, separator}
 use Rattle.journal_lines.proofs.LineSteps.{whole_rest}
 use Rattle.journal_lines.proofs.date.day_of_date.Goals as goal
 
@@ -13,10 +14,10 @@ whole : (text : List ℕ) (r : Option Day) (y m d : ℕ) → 4 < length text →
     → (list_all is_ascii_digit (year_part text) ≡ true) × (y ≡ number_of (year_part text))
     → (is_short (month_part text) ≡ true) × (m ≡ number_of (month_part text))
     → (is_short (day_part text) ≡ true) × (d ≡ number_of (day_part text))
-    → SomeIff r (IsDay y m d) (record { 0 = days_from_civil (pos y) m d }) → SomeIff r (IsDate text) (day_of text)
+    → SomeIff r (IsDay y m d) (record { 0 = days_from_civil (pos y) m d }) → SomeIff r (HasDateParts text) (day_of text)
 whole text r y m d long sep year month day h =
     let parts : SomeIff r (IsDay (number_of (year_part text)) (number_of (month_part text)) (number_of (day_part text))) (day_of text) = rw (← year.1, ← month.1, ← day.1) h in
-    elim r as (λ s. SomeIff s (IsDay (number_of (year_part text)) (number_of (month_part text)) (number_of (day_part text))) (day_of text) → SomeIff s (IsDate text) (day_of text)) [
+    elim r as (λ s. SomeIff s (IsDay (number_of (year_part text)) (number_of (month_part text)) (number_of (day_part text))) (day_of text) → SomeIff s (HasDateParts text) (day_of text)) [
       | None ↦ λ none is. none is.exists
       | Some x ↦ λ some. (record { long = long; year = year.0; separated = sep; month = month.0; day = day.0; exists = some.0 }, some.1)
     ] parts
