@@ -2,12 +2,13 @@
 
 ghost use Rattle.std.specs.Prelude.{◌≡◌, ◌∷◌, ◌++◌, []};
 ghost use Rattle.std.specs.Str.Lines.{strip_carriage_return};
-ghost use Rattle.treasury.specs.Transcript.{is_blank, requests_among};
+ghost use Rattle.treasury.specs.Transcript.{is_blank_text, requests_among};
 ghost use Rattle.treasury.specs.RunEnd.{HasNoLineFeed, Ends};
 ghost use Rattle.treasury.specs.Served.{Serves, Feeds};
 
 use crate::lines::machine::Machine;
 use crate::lines::write::write_whole;
+use journal_lines::is_blank;
 use money_core::Cause;
 use std::alloc::Global;
 use std::io::{Read, Write};
@@ -18,11 +19,11 @@ pub const MAX_INPUT: usize = 64 * 1024 * 1024;
 /// How many bytes are read at once.
 const CHUNK: usize = 4096;
 
-/// Whether the line is spaces and tabs, or empty.
-fn is_blank(line: &[u8]) -> bool
-    ensures { result ≡ is_blank line.now }
+/// Whether the text is blanks alone, or empty.
+pub fn is_blank_text(text: &[u8]) -> bool
+    ensures { result ≡ is_blank_text text.now }
 {
-    line.iter().all(|byte| *byte == b' ' || *byte == b'\t')
+    text.iter().all(|byte| is_blank(*byte))
 }
 
 /// The line without the carriage return at its end.
@@ -45,7 +46,7 @@ fn serve_line<W: Write, M: Machine>(
 ) -> Result<(), Cause>
     ensures { Serves result M.step M.loses (W.contents writer.old) (W.contents writer.new) machine.old (requests_among (line.now ∷ [])) machine.new }
 {
-    if is_blank(line) {
+    if is_blank_text(line) {
         return Ok(());
     }
     let mut text = Vec::new(alloc);
@@ -90,8 +91,9 @@ fn feed<W: Write, M: Machine>(
 
 /// Answers each request that the reader gives, of at most `MAX_INPUT` bytes in all.
 ///
-/// Each answer is one text that is written at once. `ReadFault` comes where a read fails, whatever its error, or where
-/// the input goes on past the bound; `WriteFault` where a write fails or takes nothing.
+/// Each answer is one text that is written at once. 45 comes where a read fails, whatever its error, or where the input
+/// goes on past the bound; 46 where a write fails or takes nothing. 40 comes where memory is refused, and only then the
+/// machine's state may be lost, at a request that says so.
 pub fn run_machine<R: Read, W: Write, M: Machine>(
     alloc: Global,
     reader: &mut R,
