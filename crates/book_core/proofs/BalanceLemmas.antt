@@ -11,7 +11,7 @@ use Rattle.book_core.specs.declared.place.Until.{Until}
 use Rattle.book_core.specs.declared.place.Until.TheVariants.{Through}
 use Rattle.book_core.specs.Account.{reaches}
 use Rattle.book_core.specs.Book.{posted, posted_from, posted_legs}
-use Rattle.book_core.specs.Balance.{balance, counts, total, turnover}
+use Rattle.book_core.specs.Balance.{balance, counts, total, sum_in, turnover}
 use Rattle.book_core.specs.GoodBook.{HasRoom, most_turnover, verdict}
 use Rattle.book_core.proofs.SumLemmas.{Within, total-append, within_entries}
 use Rattle.book_core.proofs.BookLemmas.{posted_from-append}
@@ -53,11 +53,7 @@ pub balance-nil : (reach : Reach) (account : List ℕ) (unit : Commodity) (limit
 unfolding balance
 balance-nil reach account unit limit = refl
 
--- the sum of the quantities of the account's legs in the commodity
-abbrev pub sum_in : Reach → List ℕ → Commodity → List Leg → ℤ
-sum_in reach account unit [] = pos 0
-sum_in reach account unit (x ∷ xs) = (if nat_eq x.unit.0 unit.0 && reaches reach account x.account then x.qty else pos 0) +ℤ sum_in reach account unit xs
-
+-- through a day: the sum of the legs where the day is through
 total-sum_in : (reach : Reach) (account : List ℕ) (unit : Commodity) (day on : Day) (n k : ℕ) (legs : List Leg) →
     total (counts reach account unit (Through day)) (posted_legs on n k legs) ≡ (if int_le on.0 day.0 then sum_in reach account unit legs else pos 0)
 total-sum_in reach account unit day on n k legs = by_day (int_le on.0 day.0) refl

@@ -18,18 +18,18 @@ use Rattle.book_core.specs.declared.place.Until.TheVariants.{At}
 use Rattle.book_core.specs.Place.{place_le}
 use Rattle.book_core.specs.Book.{legs_of}
 use Rattle.book_core.specs.Balance.{balance, turnover}
-use Rattle.book_core.specs.Claim.{reach_of, is_sole, is_stray, least_unit, stray, judged, fault, earlier, first_fault, asserted_from, failure, Holds, FailsInOwn, FailsInOther, IsFirstFailure}
+use Rattle.book_core.specs.Claim.{reach_of, is_sole, differs, is_over_zero, is_stray, least_unit, stray, judged, fault, earlier, first_fault, asserted_from, failure, Holds, FailsInOwn, FailsInOther, IsFirstFailure}
 use Rattle.book_core.proofs.SumLemmas.{Within, within_entries}
 use Rattle.book_core.proofs.BookLemmas.{none_moves}
 use Rattle.book_core.proofs.CommodityLemmas.{passes_not, least_passes, least_le, has_leg}
-use Rattle.book_core.proofs.ClaimLemmas.{is_over_zero, differs, le_total, le_trans, fault_plain, fault_alone}
+use Rattle.book_core.proofs.ClaimLemmas.{le_total, le_trans, fault_plain, fault_alone}
 
 pub none_least : (test : Commodity → Bool) → ((v : Commodity) → test v ≡ false) → (xs : List Leg) → least_unit test xs ≡ None
 none_least test h [] = refl
 none_least test h (x ∷ xs) = rw (h x.unit, none_least test h xs) refl
 
 -- no legs in a commodity: its balance is zero
-no_legs : (reach : Reach) (b : List Entry) (account : List ℕ) (v : Commodity) (limit : Until) → list_any (λ (l : Leg). nat_eq l.unit.0 v.0) (legs_of b) ≡ false → balance reach b account v limit ≡ pos 0
+pub no_legs : (reach : Reach) (b : List Entry) (account : List ℕ) (v : Commodity) (limit : Until) → list_any (λ (l : Leg). nat_eq l.unit.0 v.0) (legs_of b) ≡ false → balance reach b account v limit ≡ pos 0
 unfolding balance
 no_legs reach b account v limit h =
     let test : Commodity → Bool = λ (u : Commodity). nat_eq u.0 v.0 in
@@ -163,7 +163,7 @@ stray_first reach b account own limit v h u k n = by_test (has_leg u (legs_of b)
     by_test false e s f = no_legs reach b account u limit e
 
 -- how a failing assertion reads
-fault_reads : (b : List Entry) (x : Asserted) (f : Failure) → fault b x ≡ Some f → (f.place ≡ x.place) × (FailsInOwn b x f ⊎ FailsInOther b x f)
+pub fault_reads : (b : List Entry) (x : Asserted) (f : Failure) → fault b x ≡ Some f → (f.place ≡ x.place) × (FailsInOwn b x f ⊎ FailsInOther b x f)
 unfolding fault
 fault_reads b x f h = read (judged_some x own other amounts f h)
   where
@@ -186,14 +186,14 @@ fault_reads b x f h = read (judged_some x own other amounts f h)
         (refl, inr (record { sole = p.1; same = p.0; other = s.0; asserted = refl; found = refl; not_zero = s.1; first = stray_first (reach_of x.claim.kind) b x.account x.claim.unit (At x.place) v p.2.1 }))
 
 -- the first failure leads the others
-record Leads (b : List Entry) (xs : List Asserted) (f : Failure) : Type 0 where
-  assertion : Asserted
-  in_list : Contains xs assertion
-  fails : fault b assertion ≡ Some f
-  before : (y : Asserted) → Contains xs y → place_le f.place y.place ≡ false → fault b y ≡ None
+pub record Leads (b : List Entry) (xs : List Asserted) (f : Failure) : Type 0 where
+  pub assertion : Asserted
+  pub in_list : Contains xs assertion
+  pub fails : fault b assertion ≡ Some f
+  pub before : (y : Asserted) → Contains xs y → place_le f.place y.place ≡ false → fault b y ≡ None
 
-contains_cons : (x y : Asserted) (xs : List Asserted) → Contains (x ∷ xs) y → (x ≡ y) ⊎ Contains xs y
-contains_cons x y xs h = split (Contains-append_cases (x ∷ []) xs y h)
+pub contains_cons : {X : Type 0} (x y : X) (xs : List X) → Contains (x ∷ xs) y → (x ≡ y) ⊎ Contains xs y
+contains_cons {X} x y xs h = split (Contains-append_cases (x ∷ []) xs y h)
   where
     one : Contains [] y ⊎ (x ≡ y) → (x ≡ y) ⊎ Contains xs y
     one (inl k) = absurd (omega (arith, k.1))
@@ -210,7 +210,7 @@ itself_le p = by_test (place_le p p) refl
     by_test true e = e
     by_test false e = le_total p p e
 
-leads : (b : List Entry) (xs : List Asserted) (f : Failure) → first_fault b xs ≡ Some f → Leads b xs f
+pub leads : (b : List Entry) (xs : List Asserted) (f : Failure) → first_fault b xs ≡ Some f → Leads b xs f
 leads b [] f h = absurd (cc)
 leads b (x ∷ xs) f h = by_first (fault b x) refl (first_fault b xs) refl h (λ g e. leads b xs g e) (λ e. all_hold b xs e)
   where

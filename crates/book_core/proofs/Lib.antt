@@ -8,6 +8,7 @@ pub mod ClaimLemmas
 pub mod HoldLemmas
 pub mod VerdictLemmas
 pub mod GoodBookLemmas
+pub mod NamedLemmas
 pub mod BalanceLemmas
 pub mod StrayLemmas
 mod WorkedValues

@@ -1,8 +1,11 @@
+-- What a reader has to believe, in reading order
 pub mod Place
 pub mod Account
 pub mod Book
 pub mod Balance
 pub mod Claim
-pub mod Query
 pub mod GoodBook
+pub mod Named
+-- What mirrors code, for private clauses: nobody has to believe it
+pub mod Query
 pub mod PlainLedger

@@ -1,20 +1,15 @@
 //! Assertions against the whole book, one after another.
 
 ghost use Rattle.std.specs.Prelude.{◌≡◌, ◌+◌, ◌<◌, ◌^◌, length};
-ghost use Rattle.book_core.specs.Book.{legs_of};
-ghost use Rattle.book_core.specs.Claim.{account_at, reach_of, is_sole, lower, least_unit, fault, earlier, first_fault, asserted_claims, asserted_from, failure, claims_of, counted};
-ghost use Rattle.book_core.specs.Query.{is_stray_for, stray_for};
+ghost use Rattle.book_core.specs.Claim.{account_at, fault, earlier, first_fault, asserted_on, asserted_claims, asserted_from, failure, claims_of, counted};
 
-use crate::account::Reach;
-use crate::balance::{Query, balance_over};
 use crate::book::Book;
-use crate::claim::{Claim, ClaimKind, Placed};
-use crate::commodity::lower_of;
+use crate::claim::Placed;
 use crate::entry::Entry;
+use crate::judging::claim_fault;
 use crate::leg::Leg;
-use crate::place::{Place, Until, is_at_most};
+use crate::place::{Place, is_at_most};
 use crate::refusal::{Count, Failure};
-use money_core::Unit;
 
 /// The account of a leg by its number from 1; the empty text where there is none.
 pub fn account_of(legs: &[Leg], number: usize) -> &str
@@ -29,117 +24,9 @@ pub fn account_of(legs: &[Leg], number: usize) -> &str
     legs[number - 1].account.as_str()
 }
 
-/// Which accounts an assertion of the kind looks at.
-pub fn reach_of_kind(kind: ClaimKind) -> Reach
-    ensures { result ≡ reach_of kind }
-{
-    match kind {
-        ClaimKind::Exact | ClaimKind::Sole => Reach::Own,
-        ClaimKind::ExactIn | ClaimKind::SoleIn => Reach::Inside,
-    }
-}
-
-/// Whether an assertion of the kind asks that every other commodity is zero.
-pub fn is_sole_kind(kind: ClaimKind) -> bool
-    ensures { result ≡ is_sole kind }
-{
-    match kind {
-        ClaimKind::Exact | ClaimKind::ExactIn => false,
-        ClaimKind::Sole | ClaimKind::SoleIn => true,
-    }
-}
-
-/// Whether a commodity is another than the one that is asked, and not zero in the account.
-fn strays(book: &Book<'_>, query: &Query<'_>, unit: Unit) -> bool
-    ensures { result ≡ is_stray_for query.now book.now unit }
-{
-    if unit.0 == query.unit.0 {
-        return false;
-    }
-    let found = balance_over(book, &Query { unit, ..*query });
-    found != 0
-}
-
-/// Of the legs' commodities that stray and one that is known, the one declared first.
-fn stray_legs(book: &Book<'_>, query: &Query<'_>, legs: &[Leg], known: Option<Unit>) -> Option<Unit>
-    ensures { result ≡ lower known (least_unit (is_stray_for query.now book.now) legs.now) }
-{
-    let mut first = known;
-    for leg in legs {
-        let unit = leg.unit;
-        let one = if strays(book, query, unit) {
-            Some(unit)
-        } else {
-            None
-        };
-        first = lower_of(first, one);
-    }
-    first
-}
-
-/// The same over the legs of several entries.
-fn stray_entries(
-    book: &Book<'_>,
-    query: &Query<'_>,
-    scanned: &[Entry],
-    known: Option<Unit>,
-) -> Option<Unit>
-    ensures { result ≡ lower known (least_unit (is_stray_for query.now book.now) (legs_of scanned.now)) }
-{
-    let mut first = known;
-    for entry in scanned {
-        first = stray_legs(book, query, entry.legs.items(), first);
-    }
-    first
-}
-
-/// The first other commodity of the account that is not zero.
-fn stray_over(book: &Book<'_>, query: &Query<'_>) -> Option<Unit>
-    ensures { result ≡ stray_for query.now book.now }
-{
-    let first = stray_entries(book, query, book.old, None);
-    stray_entries(book, query, book.new, first)
-}
-
-/// Why a claim fails, if it does.
-pub fn claim_fault(book: &Book<'_>, place: Place, account: &str, claim: Claim) -> Option<Failure>
-    ensures { result ≡ fault book.now (record { place = place; account = account.now; claim = claim }) }
-{
-    let query = Query {
-        reach: reach_of_kind(claim.kind),
-        account,
-        unit: claim.unit,
-        limit: Until::At(place),
-    };
-    let found = balance_over(book, &query);
-    if found != claim.qty {
-        return Some(Failure {
-            place,
-            unit: claim.unit,
-            asserted: claim.qty,
-            found,
-        });
-    }
-    if !is_sole_kind(claim.kind) {
-        return None;
-    }
-    match stray_over(book, &query) {
-        None => None,
-        Some(unit) => {
-            let other = balance_over(book, &Query { unit, ..query });
-            Some(Failure {
-                place,
-                unit,
-                asserted: 0,
-                found: other,
-            })
-        }
-    }
-}
-
 /// Why a claim of entry `number` fails, if it does.
 fn fault_of(book: &Book<'_>, entry: &Entry, number: usize, placed: Placed) -> Option<Failure>
-    ensures { result ≡ fault book.now (record { place = record { day = entry.now.day; entry = number; leg = placed.leg }; account = account_at entry.now.legs placed.leg; claim = placed.claim }) }
+    ensures { result ≡ fault book.now (asserted_on entry.now.day number entry.now.legs placed) }
 {
     let place = Place {
         day: entry.day,

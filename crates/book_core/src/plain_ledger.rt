@@ -1,10 +1,11 @@
 //! The ledger that keeps the list of entries and adds it up at each question.
 
-ghost use Rattle.std.specs.Prelude.{◌≡◌, ◌≤◌, ◌++◌, List};
+ghost use Rattle.std.specs.Prelude.{◌≡◌, ◌≢◌, ◌≤◌, ◌++◌, List, None, OnOk};
+ghost use Rattle.std.specs.List.{AllByRecursion};
 ghost use Rattle.book_core.specs.Balance.{balance};
-ghost use Rattle.book_core.specs.Claim.{claims_of, counted};
-ghost use Rattle.book_core.specs.GoodBook.{IsWithin, Checks};
-ghost use Rattle.book_core.specs.declared.entry.Entry.{Entry as Line};
+ghost use Rattle.book_core.specs.Claim.{failure, claims_of, counted};
+ghost use Rattle.book_core.specs.GoodBook.{IsWithin, IsFit, Checks};
+ghost use Rattle.book_core.specs.declared.entry.Entry.{Entry};
 ghost use Rattle.book_core.specs.declared.place.Until.TheVariants.{Through};
 
 use crate::account::Reach;
@@ -38,9 +39,9 @@ pub struct PlainLedger {
 
 impl Model for PlainLedger {
     ghost use Rattle.std.specs.Prelude.{List};
-    ghost use Rattle.book_core.specs.declared.entry.Entry.{Entry as Line};
+    ghost use Rattle.book_core.specs.declared.entry.Entry.{Entry};
 
-    ghost Value = { List Line };
+    ghost Value = { List Entry };
 
     ghost use Rattle.book_core.specs.PlainLedger.{IsKept};
 
@@ -55,6 +56,8 @@ impl Model for PlainLedger {
 pub fn check_lists(old: &[Entry], new: &[Entry], count: &mut Count) -> Result<(), Refusal>
     requires { IsWithin old.now }
     ensures checks { Checks (old.now ++ new.now) result }
+    ensures never { result ≢ Err (Refusal.Plain Cause.OutOfMemory) }
+    ensures exact { OnOk result (count.new.claims ≡ counted count.old.claims (claims_of (old.now ++ new.now))) }
     ensures least { count.old.claims ≤ count.new.claims }
     ensures most { count.new.claims ≤ counted count.old.claims (claims_of (old.now ++ new.now)) }
 {
@@ -116,7 +119,17 @@ impl Ledger for PlainLedger {
         self.accounts.as_slice()
     }
 
-    fn check(&self, new: &[Entry], count: &mut Count) -> Result<(), Refusal> {
+    /// The trait's clauses; and Ok has examined every assertion of the book and of the new entries, and 40 is never
+    /// answered, as it takes no memory.
+    fn check(&self, new: &[Entry], count: &mut Count) -> Result<(), Refusal>
+        requires fit { AllByRecursion IsFit new.now }
+        requires hold { failure self.now ≡ None }
+        ensures checks { Checks (self.now ++ new.now) result }
+        ensures never { result ≢ Err (Refusal.Plain Cause.OutOfMemory) }
+        ensures exact { OnOk result (count.new.claims ≡ counted count.old.claims (claims_of (self.now ++ new.now))) }
+        ensures least { count.old.claims ≤ count.new.claims }
+        ensures most { count.new.claims ≤ counted count.old.claims (claims_of (self.now ++ new.now)) }
+    {
         check_lists(&self.entries, new, count)
     }
 
