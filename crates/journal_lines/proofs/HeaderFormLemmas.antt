@@ -66,7 +66,7 @@ byte_no_semicolon b h = grind (arith, common_steps)
 
 -- ---- a line in the form of a header reads as its parts
 
-blank_no_semicolon : (b : ℕ) → is_blank b ≡ true → not (b == 59) ≡ true
+pub blank_no_semicolon : (b : ℕ) → is_blank b ≡ true → not (b == 59) ≡ true
 blank_no_semicolon b h = grind (arith, common_steps)
 
 -- the description behind blanks begins with its first byte
@@ -77,7 +77,7 @@ first_is (b ∷ text) end t h =
     ap (λ (xs : List ℕ). slice_index xs 0) (trim_start_same (b ∷ (text ++ end)) (not-true _ parts.0))
 
 -- a code and what follows it
-code_reads : (code : Option (List ℕ)) (gap text end : List ℕ) → is_closed code ≡ true → list_all is_blank gap ≡ true → list_all is_blank end ≡ true → is_trimmed text ≡ true
+pub code_reads : (code : Option (List ℕ)) (gap text end : List ℕ) → is_closed code ≡ true → list_all is_blank gap ≡ true → list_all is_blank end ≡ true → is_trimmed text ≡ true
     → (code ≡ None → (slice_index text 0 == 40) ≡ false) → code_at (trim_start (code_text code ++ (gap ++ (text ++ end)))) ≡ Some (record { code = code; rest = trim_start (text ++ end) })
 unfolding code_at
 code_reads None gap text end c g e t first =
@@ -98,7 +98,7 @@ no_sign n None gap text end z g e t first = ap (λ (xs : List ℕ). slice_index 
 no_sign n (Some code) gap text end z g e t first = ap (λ (xs : List ℕ). slice_index xs 0 == n) (trim_start_same (40 ∷ ((code ++ 41 ∷ []) ++ (gap ++ (text ++ end)))) refl) ∙ z
 
 -- a status and what follows it
-status_reads : (status : Option Status) (gap rest : List ℕ) → list_all is_blank gap ≡ true → (status ≡ None → ((slice_index (trim_start rest) 0 == 42) ≡ false) × ((slice_index (trim_start rest) 0 == 33) ≡ false))
+pub status_reads : (status : Option Status) (gap rest : List ℕ) → list_all is_blank gap ≡ true → (status ≡ None → ((slice_index (trim_start rest) 0 == 42) ≡ false) × ((slice_index (trim_start rest) 0 == 33) ≡ false))
     → (status_at (trim_start (status_text status ++ (gap ++ rest))) ≡ status) × (behind_status (trim_start (status_text status ++ (gap ++ rest))) ≡ trim_start rest)
 unfolding status_at behind_status
 status_reads None gap rest g first =
@@ -116,12 +116,12 @@ status_reads (Some Pending) gap rest g first =
 regroup : (a b c d e f g h i : List ℕ) → a ++ (b ++ (c ++ (d ++ (e ++ (f ++ (g ++ (h ++ i))))))) ≡ (a ++ (b ++ (c ++ (d ++ (e ++ (f ++ (g ++ h))))))) ++ i
 regroup a b c d e f g h i = simp append_assoc
 
-front_cut : (front rest : List ℕ) → has_no 59 front ≡ true → front_of (front ++ 59 ∷ rest) ≡ front
+pub front_cut : (front rest : List ℕ) → has_no 59 front ≡ true → front_of (front ++ 59 ∷ rest) ≡ front
 unfolding front_of
 front_cut front rest h = rw (before_mark (λ b. b == 59) front rest 59 h refl) (take-append_seam front (59 ∷ rest))
 
 -- the comment of a line
-remark_reads : (front remark : List ℕ) (comment : Option (List ℕ)) → has_no 59 front ≡ true → IsRemark comment remark → (front_of (front ++ remark) ≡ front) × (comment_of (front ++ remark) ≡ comment)
+pub remark_reads : (front remark : List ℕ) (comment : Option (List ℕ)) → has_no 59 front ≡ true → IsRemark comment remark → (front_of (front ++ remark) ≡ front) × (comment_of (front ++ remark) ≡ comment)
 remark_reads front remark None h none = subst (λ (r : List ℕ). (front_of (front ++ r) ≡ front) × (comment_of (front ++ r) ≡ None)) (sym none)
     (subst (λ (l : List ℕ). (front_of l ≡ front) × (comment_of l ≡ None)) (sym (append-nil front)) (front_whole front h, no_comment front h))
 remark_reads front remark (Some text) h w =
@@ -136,7 +136,7 @@ remark_reads front remark (Some text) h w =
     apart_blanks (x ∷ a) b h = let parts = and_parts (is_blank x) _ h in let rest = apart_blanks a b parts.1 in (and_from (is_blank x) _ parts.0 rest.0, rest.1)
 
 -- blanks in one row
-in_row : (a b : List ℕ) → list_all is_blank (a ++ b) ≡ true → (list_all is_blank a ≡ true) × (list_all is_blank b ≡ true)
+pub in_row : (a b : List ℕ) → list_all is_blank (a ++ b) ≡ true → (list_all is_blank a ≡ true) × (list_all is_blank b ≡ true)
 in_row [] b h = (refl, h)
 in_row (x ∷ a) b h = let parts = and_parts (is_blank x) _ h in let rest = in_row a b parts.1 in (and_from (is_blank x) _ parts.0 rest.0, rest.1)
 
@@ -155,7 +155,7 @@ gap_starts [] status code a b text end g rest none =
     starts (x ∷ xs) h = (and_parts (is_blank x) _ h).0
 
 -- no `;` stands before the comment
-status_no_semicolon : (status : Option Status) → has_no 59 (status_text status) ≡ true
+pub status_no_semicolon : (status : Option Status) → has_no 59 (status_text status) ≡ true
 status_no_semicolon None = refl
 status_no_semicolon (Some Cleared) = refl
 status_no_semicolon (Some Pending) = refl
@@ -225,7 +225,7 @@ form_reads line parts r =
 
 -- ---- a line that reads has the form
 
-blanks_front : (xs : List ℕ) → list_all is_blank (take (first_solid xs) xs) ≡ true
+pub blanks_front : (xs : List ℕ) → list_all is_blank (take (first_solid xs) xs) ≡ true
 blanks_front [] = refl
 blanks_front (x ∷ xs) = elim (cases_Bool (is_blank x)) [
   | inl blank ↦ (let n : 1 + first_solid xs ≡ suc (first_solid xs) = omega arith in rw (blank, n) (rw blank (blanks_front xs)))
@@ -237,14 +237,14 @@ unfolding trim_start
 split_start xs = sym (take-append-drop (first_solid xs) xs)
 
 -- the blanks that were cut off at the end
-abbrev end_blanks : List ℕ → List ℕ
+abbrev pub end_blanks : List ℕ → List ℕ
 end_blanks xs = drop (length xs - first_solid (reverse xs)) xs
 
-split_end : (xs : List ℕ) → xs ≡ trim_end xs ++ end_blanks xs
+pub split_end : (xs : List ℕ) → xs ≡ trim_end xs ++ end_blanks xs
 unfolding trim_end
 split_end xs = sym (take-append-drop (length xs - first_solid (reverse xs)) xs)
 
-blanks_end : (xs : List ℕ) → list_all is_blank (end_blanks xs) ≡ true
+pub blanks_end : (xs : List ℕ) → list_all is_blank (end_blanks xs) ≡ true
 blanks_end xs = list_all-from_AllPass is_blank (end_blanks xs) (λ k d l.
     let n = length xs - first_solid (reverse xs) in
     let inside : n + k < length xs = omega (arith, length-drop n xs, l) in
@@ -259,12 +259,12 @@ blanks_end xs = list_all-from_AllPass is_blank (end_blanks xs) (λ k d l.
     not-false false h = absurd cc
 
 -- a status and the blanks behind it
-record StatusForm (text : List ℕ) (status : Option Status) (rest : List ℕ) : Type 0 where
-  gap : List ℕ
-  blanks : list_all is_blank gap ≡ true
-  written : text ≡ status_text status ++ (gap ++ rest)
+pub record StatusForm (text : List ℕ) (status : Option Status) (rest : List ℕ) : Type 0 where
+  pub gap : List ℕ
+  pub blanks : list_all is_blank gap ≡ true
+  pub written : text ≡ status_text status ++ (gap ++ rest)
 
-status_form : (text : List ℕ) → StatusForm text (status_at text) (behind_status text)
+pub status_form : (text : List ℕ) → StatusForm text (status_at text) (behind_status text)
 unfolding status_at behind_status
 status_form [] = record { gap = []; blanks = refl; written = refl }
 status_form (x ∷ xs) = elim (cases_Bool (x == 42)) [
@@ -276,12 +276,12 @@ status_form (x ∷ xs) = elim (cases_Bool (x == 42)) [
 ]
 
 -- a code and the blanks behind it
-record CodeForm (text : List ℕ) (coded : Coded) : Type 0 where
-  gap : List ℕ
-  blanks : list_all is_blank gap ≡ true
-  written : text ≡ code_text coded.code ++ (gap ++ coded.rest)
+pub record CodeForm (text : List ℕ) (coded : Coded) : Type 0 where
+  pub gap : List ℕ
+  pub blanks : list_all is_blank gap ≡ true
+  pub written : text ≡ code_text coded.code ++ (gap ++ coded.rest)
 
-code_form : (text : List ℕ) (coded : Coded) → code_at text ≡ Some coded → CodeForm text coded
+pub code_form : (text : List ℕ) (coded : Coded) → code_at text ≡ Some coded → CodeForm text coded
 unfolding code_at
 code_form text coded h =
     elim (chosen (slice_index text 0 == 40) (closed_code (drop 1 text)) (Some (record { code = None; rest = text })) (Some coded) h) [
@@ -310,15 +310,15 @@ code_form text coded h =
         }
 
 -- the comment of a line
-record RemarkForm (line front : List ℕ) (comment : Option (List ℕ)) : Type 0 where
-  remark : List ℕ
-  written : line ≡ front ++ remark
-  is : IsRemark comment remark
+pub record RemarkForm (line front : List ℕ) (comment : Option (List ℕ)) : Type 0 where
+  pub remark : List ℕ
+  pub written : line ≡ front ++ remark
+  pub is : IsRemark comment remark
 
-blanks_joined : (a b : List ℕ) → list_all is_blank a ≡ true → list_all is_blank b ≡ true → list_all is_blank (a ++ b) ≡ true
+pub blanks_joined : (a b : List ℕ) → list_all is_blank a ≡ true → list_all is_blank b ≡ true → list_all is_blank (a ++ b) ≡ true
 blanks_joined a b h k = all_joined is_blank a b h k
 
-remark_form : (line : List ℕ) → RemarkForm line (front_of line) (comment_of line)
+pub remark_form : (line : List ℕ) → RemarkForm line (front_of line) (comment_of line)
 unfolding front_of comment_of
 remark_form line =
     let after = after_first (λ b. b == 59) line in
@@ -354,7 +354,7 @@ blank_or_nothing front = elim (cases_lt (position_or_len is_blank front) (length
     drop_all : (n : ℕ) (xs : List ℕ) → length xs ≤ n → drop n xs ≡ []
     drop_all n xs h = grind (arith, common_steps)
 
-nothing_has_no_status : status_at [] ≡ None
+pub nothing_has_no_status : status_at [] ≡ None
 unfolding status_at
 nothing_has_no_status = refl
 
@@ -378,12 +378,12 @@ nothing_behind dated coded e h =
     of_nothing coded h = nothing_has_no_code coded h
 
 -- what follows the date, cut at its blanks
-date_split : (front : List ℕ) → front ≡ first_word front ++ (take (first_solid (drop (position_or_len is_blank front) front)) (drop (position_or_len is_blank front) front) ++ behind_date front)
+pub date_split : (front : List ℕ) → front ≡ first_word front ++ (take (first_solid (drop (position_or_len is_blank front) front)) (drop (position_or_len is_blank front) front) ++ behind_date front)
 unfolding first_word behind_date
 date_split front = sym (take-append-drop (position_or_len is_blank front) front) ∙ ap (λ (xs : List ℕ). before_first is_blank front ++ xs) (split_start (drop (position_or_len is_blank front) front))
 
 -- a date with no blank behind it has nothing there
-nothing_apart : (front : List ℕ) → take (first_solid (drop (position_or_len is_blank front) front)) (drop (position_or_len is_blank front) front) ≡ [] → behind_date front ≡ []
+pub nothing_apart : (front : List ℕ) → take (first_solid (drop (position_or_len is_blank front) front)) (drop (position_or_len is_blank front) front) ≡ [] → behind_date front ≡ []
 unfolding behind_date
 nothing_apart front none =
     let rest = drop (position_or_len is_blank front) front in

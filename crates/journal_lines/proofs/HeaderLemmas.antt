@@ -307,7 +307,7 @@ status_first text h = elim (cases_Bool ((slice_index text 0 == 42) || (slice_ind
 ]
 
 -- where no status was read, none stands at the front of what follows
-no_status : (text : List ℕ) → status_at text ≡ None → ((slice_index (behind_status text) 0 == 42) ≡ false) × ((slice_index (behind_status text) 0 == 33) ≡ false)
+pub no_status : (text : List ℕ) → status_at text ≡ None → ((slice_index (behind_status text) 0 == 42) ≡ false) × ((slice_index (behind_status text) 0 == 33) ≡ false)
 unfolding status_at behind_status
 no_status text h =
     elim (cases_Bool (slice_index text 0 == 42)) [

@@ -7,6 +7,9 @@ use Rattle.journal_lines.specs.HeaderReading.{header_of}
 use Rattle.journal_lines.specs.HeaderForm.{Reads}
 use Rattle.journal_lines.specs.HeaderView.{parts_of, read_parts}
 use Rattle.std.specs.Str.{is_utf8}
+use Rattle.std.specs.List.{list_all}
+use Rattle.journal_lines.specs.Printed.{is_clean, PrintsBack}
+use Rattle.journal_lines.proofs.HeaderLemmas.{read_header}
 use Rattle.journal_lines.specs.Utf8.{IsUtf8Header}
 use Rattle.journal_lines.proofs.Utf8Lemmas.{header_utf8}
 use Rattle.journal_lines.proofs.HeaderFormLemmas.{form_reads, reads_form}
@@ -21,3 +24,7 @@ only_from line r e parts form = e ∙ form_reads line parts form
 pub utf8_from : (line : List ℕ) (r : Result read.Header Cause) → read_parts r ≡ header_of line → is_utf8 line ≡ true → IfOk r (λ header. IsUtf8Header (parts_of header))
 utf8_from line (Ok h) e u = header_utf8 line (parts_of h) u (sym e)
 utf8_from line (Err c) e u = tt
+
+pub prints_from : (line : List ℕ) (r : Result read.Header Cause) → read_parts r ≡ header_of line → list_all is_clean line ≡ true → IfOk r (λ header. PrintsBack (parts_of header))
+prints_from line (Ok h) e clean = read_header line (parts_of h) clean (sym e)
+prints_from line (Err c) e clean = tt

@@ -11,3 +11,4 @@ pub mod HeaderReadLemmas
 pub mod Utf8Lemmas
 pub mod KindLemmas
 pub mod PrintedLemmas
+pub mod HeaderFaultLemmas

@@ -8,6 +8,7 @@ pub mod Date
 pub mod Header
 pub mod HeaderView
 pub mod HeaderForm
+pub mod HeaderFaults
 pub mod Utf8
 pub mod Printed
 pub mod AccountName
