@@ -1,15 +1,16 @@
 -- The tags of a comment, part by part.
+use Rattle.std.specs.Prelude.{option_to_list}
 use Rattle.std.proofs.Common.{◌≡◌, ◌<◌, ◌≤◌, ◌+◌, ◌==◌, ℕ, List, [], ◌∷◌, Bool, true, false, length, take, drop, arith, refl, ap, ◌∙◌, sym, Option, Some, None, inl, inr, is_some, IfSome, not, ◌&&◌, ◌++◌, suc, slice_index, subst, nat_lt, take-append-drop}
 use Rattle.std.proofs.lemmas.Bool.{cases_lt, cases_Bool, and_parts, and_from, lt-ltb, ltb-true, eqb-true}
 use Rattle.std.proofs.lemmas.List.Splits.{slice_split_first, slice_split_none}
 use Rattle.std.proofs.lemmas.List.Sums.{fails_before_first}
 use Rattle.std.proofs.Math.Seq.{drop-cons}
 use Rattle.std.proofs.lemmas.List.{get_or_at, length-take}
-use Rattle.std.specs.List.{list_all, slice_split, position_or_len, before_first, after_first, cons_option}
+use Rattle.std.specs.List.{list_all, slice_split, position_or_len, before_first, after_first, cons_option, filter_map}
 use Rattle.std.specs.Option.{option_map}
 use Rattle.std.proofs.lemmas.Grind.{common_steps}
 use Rattle.journal_lines.specs.Blank.{is_blank}
-use Rattle.journal_lines.specs.Tag.{is_tag_byte, name_len, starts_tag, tag_at, first_tag, tags_of, may_begin, HasTag, IsFirstTag, IsTagOf}
+use Rattle.journal_lines.specs.Tag.{is_tag_byte, name_len, starts_tag, tag_at, first_tag, tags_of, may_begin, HasTag, IsFirstTag, IsTagOf, AreTagsOf}
 use Rattle.journal_lines.proofs.CutLemmas.{before_mark, all_weaker}
 
 -- a text without content has no tag
@@ -136,3 +137,12 @@ first_tag_is fresh (b ∷ rest) = elim (cases_Bool (fresh && starts_tag (b ∷ r
       has = record { front = b ∷ is.has.front; rest = is.has.rest; written = ap (λ (xs : List ℕ). b ∷ xs) is.has.written; begins = is.has.begins; name = is.has.name; named = is.has.named; value = is.has.value };
       first = λ other h. (let k = behind_first fresh b rest other absent h in omega (arith, is.first other k.0, k.1));
     }
+
+-- the tags of a comment are those of its parts
+pub are_tags_of : (parts : List (List ℕ)) → AreTagsOf parts (filter_map (first_tag true) parts)
+are_tags_of [] = refl
+are_tags_of (part ∷ parts) = (first_tag true part, (filter_map (first_tag true) parts, (joined (first_tag true part) (filter_map (first_tag true) parts), (first_tag_is true part, are_tags_of parts))))
+  where
+    joined : (found : Option (List ℕ × List ℕ)) (rest : List (List ℕ × List ℕ)) → cons_option found rest ≡ option_to_list found ++ rest
+    joined None rest = refl
+    joined (Some tag) rest = refl

@@ -42,7 +42,8 @@ pub record IsCoded (text : List ℕ) (code : Option (List ℕ)) (description : L
 -- the code or the description has too many bytes
 abbrev pub IsLongText : List ℕ → Type 0
 IsLongText text =
-    (code : Option (List ℕ)) × ((description : List ℕ) × (IsCoded text code description × ((code_limit < length_of code) ⊎ (description_limit < length description))))
+    (code : Option (List ℕ)) × ((description : List ℕ)
+    × (IsCoded text code description × ((code_limit < length_of code) ⊎ (description_limit < length description))))
 
 -- a part has too many bytes: the code, the description or the comment
 pub record HasLongPart (line : List ℕ) : Type 0 where

@@ -52,7 +52,8 @@ pub record Reads (line : List ℕ) (parts : HeaderParts) : Type 0 where
   pub code_gap : List ℕ
   pub end_gap : List ℕ
   pub remark : List ℕ
-  pub written : line ≡ date ++ (gap ++ (status_text parts.status ++ (status_gap ++ (code_text parts.code ++ (code_gap ++ (parts.description ++ (end_gap ++ remark)))))))
+  pub written : line
+      ≡ date ++ (gap ++ (status_text parts.status ++ (status_gap ++ (code_text parts.code ++ (code_gap ++ (parts.description ++ (end_gap ++ remark)))))))
   pub is_date : IsDate date parts.day
   pub blanks : list_all is_blank (gap ++ (status_gap ++ (code_gap ++ end_gap))) ≡ true
   -- behind a date without a blank nothing stands but the comment

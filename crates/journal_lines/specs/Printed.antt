@@ -84,11 +84,13 @@ pub record IsHeaderText (day : Day) (status : Option Status) (code : Option (Lis
 
 -- the header line of good parts is such a line
 abbrev pub HeaderReadsBack : Day → Option Status → Option (List ℕ) → List ℕ → Type 0
-HeaderReadsBack day status code description = HeaderOk day status code description → IsHeaderText day status code description (header_line day status code description)
+HeaderReadsBack day status code description =
+    HeaderOk day status code description → IsHeaderText day status code description (header_line day status code description)
 
 -- the header line of parts in UTF-8 is UTF-8
 abbrev pub HeaderIsUtf8 : Day → Option Status → Option (List ℕ) → List ℕ → Type 0
-HeaderIsUtf8 day status code description = is_utf8_or_none code ≡ true → is_utf8 description ≡ true → is_utf8 (header_line day status code description) ≡ true
+HeaderIsUtf8 day status code description =
+    is_utf8_or_none code ≡ true → is_utf8 description ≡ true → is_utf8 (header_line day status code description) ≡ true
 
 -- the line is the comment line of this text wherever it stands
 pub record IsCommentText (text line : List ℕ) : Type 0 where

@@ -1,5 +1,5 @@
 -- The tags of a comment (hledger manual, "Tags"). What a tag's name may hold, and that it follows the start, a blank or a comma, are own rules.
-use Rattle.std.specs.Prelude.{ℕ, ◌≡◌, ◌<◌, ◌≤◌, ◌+◌, ◌++◌, ◌==◌, nat_lt, List, [], ◌∷◌, length, slice_index, take, drop, Bool, true, ◌&&◌, ◌||◌, not, if◌then◌else◌, Option, Some, None}
+use Rattle.std.specs.Prelude.{ℕ, ◌≡◌, ◌<◌, ◌≤◌, ◌+◌, ◌++◌, ◌==◌, nat_lt, List, [], ◌∷◌, length, slice_index, take, drop, Bool, true, ◌&&◌, ◌||◌, not, if◌then◌else◌, Option, Some, None, option_to_list}
 use Rattle.std.specs.Char.{is_ascii_digit, is_ascii_alphabetic}
 use Rattle.std.specs.List.{list_all, position_or_len, slice_split, filter_map}
 use Rattle.journal_lines.specs.Blank.{is_blank, trim}
@@ -53,3 +53,14 @@ pub record IsFirstTag (fresh : Bool) (text : List ℕ) (tag : List ℕ × List �
 abbrev pub IsTagOf : Bool → List ℕ → Option (List ℕ × List ℕ) → Type 0
 IsTagOf fresh text None = (tag : List ℕ × List ℕ) → ¬ (HasTag fresh text tag)
 IsTagOf fresh text (Some tag) = IsFirstTag fresh text tag
+
+-- the parts of a comment between its commas
+abbrev pub comment_parts : List ℕ → List (List ℕ)
+comment_parts comment = slice_split (λ b. b == 44) comment
+
+-- the tags of these parts in order: of each the first, if it has one
+abbrev pub AreTagsOf : List (List ℕ) → List (List ℕ × List ℕ) → Type 0
+AreTagsOf [] tags = tags ≡ []
+AreTagsOf (part ∷ parts) tags =
+    (found : Option (List ℕ × List ℕ)) × ((rest : List (List ℕ × List ℕ))
+    × ((tags ≡ option_to_list found ++ rest) × (IsTagOf true part found × AreTagsOf parts rest)))

@@ -3,9 +3,12 @@
 ghost use Rattle.std.specs.Prelude.{◌≡◌, ◌↔◌, ◌==◌, IsTrue, true, not, slice_index, ◌+◌, ◌≤◌, length, drop};
 ghost use Rattle.std.specs.List.{list_all};
 ghost use Rattle.std.specs.Str.{is_utf8, IsCharBoundary};
-ghost use Rattle.journal_lines.specs.AccountName.{is_name_byte, is_part, parts, is_gap, has_gap, bars_start, IsAccount, is_account, ends_name, name_end, IsReserved};
+ghost use Rattle.journal_lines.specs.AccountName.{is_name_byte, is_part, parts, is_gap, has_gap, bars_start, IsAccount, is_account, ends_name, name_end, IsReserved, IsWholeName};
 
 use crate::blank::is_blank;
+
+/// The most bytes that an account name has.
+pub const MAX_NAME: usize = 200;
 
 /// Whether the text is a well-formed account name.
 ///
@@ -15,8 +18,11 @@ use crate::blank::is_blank;
 pub fn is_account(text: &[u8]) -> bool
     ensures rule { IsTrue result ↔ IsAccount text.now }
     ensures value { result ≡ is_account text.now }
+
+    // It stands whole at the front of a line's text.
+    ensures whole { IsTrue result → IsWholeName text.now }
 {
-    text.len() <= 200
+    text.len() <= MAX_NAME
         && all_parts(text)
         && all_name_bytes(text)
         && !has_gap(text)

@@ -4,7 +4,7 @@ ghost use Rattle.std.specs.Prelude.{◌≡◌, ℕ, List, true, IfSome};
 ghost use Rattle.std.specs.Str.{is_utf8};
 ghost use Rattle.std.specs.Option.{option_map};
 ghost use Rattle.journal_lines.specs.Comment.{front_of, comment_of};
-ghost use Rattle.journal_lines.specs.Tag.{first_tag, tags_of, IsTagOf};
+ghost use Rattle.journal_lines.specs.Tag.{tags_of, comment_parts, AreTagsOf};
 ghost use Rattle.journal_lines.specs.TagsLeft.{tags_left};
 
 use crate::blank::trim;
@@ -40,8 +40,8 @@ pub fn comment_of(line: &[u8]) -> Option<&[u8]>
 pub fn tags(comment: &[u8]) -> Tags<'_>
     ensures list { tags_left result ≡ tags_of comment.entry.now }
 
-    // Of each part between commas it is the first tag, and there is one where the part holds one.
-    ensures rule { (part : List ℕ) → IsTagOf true part (first_tag true part) }
+    // They are the tags of this comment: of each part between commas the first, if it has one.
+    ensures rule { AreTagsOf (comment_parts comment.entry.now) (tags_left result) }
 {
     Tags::new(comment)
 }

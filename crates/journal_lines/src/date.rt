@@ -128,6 +128,8 @@ pub fn is_day_number(day: Day) -> bool
 }
 
 /// Appends the date of the day, `YYYY-MM-DD`, which reads as that day.
+///
+/// Answers 40 for want of memory, and `out` is as it was.
 pub fn print_date(_alloc: Global, day: Day, out: &mut Vec<u8>) -> Result<(), Cause>
     requires { IsDayNumber day }
     ensures ok { OnOk result (out.new.items ≡ out.old.items ++ printed_date day) }

@@ -13,7 +13,7 @@ mod tag;
 #[cfg(test)]
 mod tests;
 
-pub use account::{is_account, is_reserved, name_end};
+pub use account::{MAX_NAME, is_account, is_reserved, name_end};
 pub use blank::{first_word, is_blank, trim, trim_end, trim_start};
 pub use comment::{comment_of, front_of, tags};
 pub use date::{is_day_number, print_date, read_date};

@@ -1,8 +1,9 @@
 //! Tables of lines, dates, headers, account names and tags.
 
 use crate::{
-    Cause, Day, Header, LineKind, Lines, Status, is_account, is_block_end, is_day_number,
-    is_reserved, kind, print_date, read_date, read_header, tags,
+    Cause, Day, Header, LineKind, Lines, Status, comment_len, comment_of, header_len, is_account,
+    is_block_end, is_clean, is_code, is_comment, is_day_number, is_description, is_remark,
+    is_reserved, kind, print_comment, print_date, print_header, read_date, read_header, tags,
 };
 use std::test::Fail;
 
@@ -281,5 +282,99 @@ fn a_tag_is_a_word_before_a_colon(rt: HostRuntime) -> Result<(), Fail> {
         }
         assert_eq!(rt; seen.as_slice(), expected.as_bytes(), "{comment:?}");
     }
+    Ok(())
+}
+
+#[test]
+fn an_indented_line_is_a_comment_line_by_its_first_byte(rt: HostRuntime) {
+    let rows = [
+        ("    ; x", true),
+        ("\t;", true),
+        ("    a:b  1 EUR ; x", false),
+        ("    * a:b", false),
+    ];
+    for (line, expected) in rows {
+        assert_eq!(rt; is_remark(line.as_bytes()), expected, "{line:?}");
+    }
+}
+
+#[test]
+fn a_header_is_printed_as_it_reads(rt: HostRuntime) -> Result<(), Fail> {
+    let rows = [
+        (None, None, "", "2024-01-05"),
+        (Some(Status::Cleared), None, "hall", "2024-01-05 * hall"),
+        (
+            Some(Status::Pending),
+            Some("17"),
+            "rent of May",
+            "2024-01-05 ! (17) rent of May",
+        ),
+        (None, Some(""), "", "2024-01-05 ()"),
+        (None, Some("a"), "* x", "2024-01-05 (a) * x"),
+    ];
+    for (status, code, description, expected) in rows {
+        let parts = header(status, code, description, None);
+        let mut out = Vec::from_slice(rt.alloc(), b">")?;
+        let printed = print_header(
+            parts.day,
+            parts.status,
+            parts.code,
+            parts.description,
+            &mut out,
+        );
+        assert!(rt; printed == Ok(()));
+        assert_eq!(rt; &out.as_slice()[1..], expected.as_bytes());
+        assert_eq!(rt;
+            header_len(parts.status, parts.code, parts.description),
+            expected.len()
+        );
+        assert_eq!(rt; read_header(expected.as_bytes()), Ok(parts));
+    }
+    Ok(())
+}
+
+#[test]
+fn a_comment_is_printed_as_it_reads(rt: HostRuntime) -> Result<(), Fail> {
+    let rows = [
+        ("", "    ;"),
+        ("x", "    ; x"),
+        ("a ; b:c", "    ; a ; b:c"),
+    ];
+    for (text, expected) in rows {
+        let mut out = Vec::from_slice(rt.alloc(), b">")?;
+        let printed = print_comment(text.as_bytes(), &mut out);
+        assert!(rt; printed == Ok(()));
+        assert_eq!(rt; &out.as_slice()[1..], expected.as_bytes());
+        assert_eq!(rt; comment_len(text.as_bytes()), expected.len());
+        assert_eq!(rt; comment_of(expected.as_bytes()), Some(text.as_bytes()));
+    }
+    Ok(())
+}
+
+#[test]
+fn texts_that_read_back_pass_their_tests(rt: HostRuntime) -> Result<(), Fail> {
+    let rows = [
+        ("", true, true, true),
+        ("x y", true, true, true),
+        ("x ", false, true, false),
+        ("x;y", true, false, false),
+        ("x)", true, false, true),
+        ("(x", true, true, false),
+        ("* x", true, true, false),
+        ("x\ty", true, true, true),
+        ("x\u{7f}", false, false, false),
+    ];
+    for (text, comment, code, description) in rows {
+        let bytes = text.as_bytes();
+        assert_eq!(rt; is_comment(bytes), comment, "{text:?}");
+        assert_eq!(rt; is_code(Some(bytes)), code, "{text:?}");
+        assert_eq!(rt; is_description(None, None, bytes), description, "{text:?}");
+    }
+    assert!(rt; is_description(Some(Status::Cleared), None, b"* x"));
+    assert!(rt; is_description(None, Some(b"a"), b"(x"));
+    assert!(rt; is_clean(b"a\tb"));
+    assert!(rt; !is_clean(b"a\rb"));
+    assert!(rt; is_comment(vec![in rt.alloc(); b'a'; 900]?.as_slice()));
+    assert!(rt; !is_comment(vec![in rt.alloc(); b'a'; 901]?.as_slice()));
     Ok(())
 }
