@@ -1,5 +1,5 @@
 -- What came into the books along a transcript: step by step, and what follows of balances and of a good state.
-use Rattle.std.proofs.Common.{◌≡◌, ◌<◌, ◌+◌, ◌++◌, ℕ, suc, List, [], ◌∷◌, Bool, true, false, not, cond, Option, Some, None, Result, Ok, Err, length, arith, refl, ap, ◌∙◌, sym, subst, inl, inr, append_assoc, append-nil, if◌then◌else◌, nat_lt, pos, ◌+ℤ◌}
+use Rattle.std.proofs.Common.{◌≡◌, ◌<◌, ◌+◌, ◌++◌, ℕ, suc, List, [], ◌∷◌, Bool, true, false, not, cond, Option, Some, None, Result, Ok, Err, length, arith, refl, ap, ◌∙◌, sym, subst, inl, inr, append_assoc, append-nil, slice_index, if◌then◌else◌, nat_lt, pos, ◌+ℤ◌}
 use Rattle.std.specs.List.{AllByRecursion, slice_get, prefix_len, position_or_len}
 use Rattle.std.specs.Str.{bytes_eq}
 use Rattle.std.proofs.lemmas.Bool.{cases_Bool, ltb-true}
@@ -38,7 +38,7 @@ use Rattle.treasury.specs.Federation.{Federation, branch_place, IsGoodBranch, Is
 use Rattle.treasury.specs.Step.{branch_answer, after_branch, entered_at, commodity_answer, declaration_answer, after_commodity, checked, judged, into_branch, into_place, import_read, import_decision, import_answer, after_import, unbalanced_line, step, Answers}
 use Rattle.treasury.specs.Answer.{answer_text}
 use Rattle.treasury.specs.Transcript.{requests_in, AnswersInTurn, IsTranscript}
-use Rattle.treasury.specs.History.{book_of, Imported, entered_into, imported_if, import_in, import_answered, imports_in_turn, history, IsBalancedFederation, IsRefusedOrRepeated, LeavesState, IsRefusalOrRepeat}
+use Rattle.treasury.specs.History.{book_of, Imported, entered_into, imported_if, import_in, import_answered, imports_in_turn, history, IsBalancedFederation, IsRefusedOrRepeated, LeavesState, IsRefusalOrRepeat, RefusalsLeaveInTurn, RefusalsLeave}
 use Rattle.treasury.proofs.DecisionLemmas.{taken, taken_within}
 use Rattle.treasury.proofs.FederationLemmas.{new_branch, IsGoodFederation-with_branch, IsGoodFederation-entered, IsGoodFederation-after}
 
@@ -222,7 +222,7 @@ good_after_step f (ForCommodity sample) ok = good_after_commodity f sample (styl
 good_after_step f (ForImport name journal) ok = good_after_import f name journal (import_decision f name journal) refl ok
 good_after_step f (ForBalance name day) ok = ok
 
-good_answered : (f : Federation) (line text : List ℕ) (g : Federation) → Answers f line text g → IsGoodFederation f → IsGoodFederation g
+pub good_answered : (f : Federation) (line text : List ℕ) (g : Federation) → Answers f line text g → IsGoodFederation f → IsGoodFederation g
 good_answered f line text g (inl (request, answered)) ok = subst IsGoodFederation (sym answered.2) (good_after_step f request ok)
 good_answered f line text g (inr (inl none)) ok = subst IsGoodFederation (sym none.2) ok
 good_answered f line text g (inr (inr memory)) ok = subst IsGoodFederation (sym memory.1) ok
@@ -248,8 +248,11 @@ balanced_branches : (styles : List Style) (bs : List Branch) → AllByRecursion 
 balanced_branches styles [] h = tt
 balanced_branches styles (b ∷ bs) h = ((λ unit. value-fit unit b.book h.0.book.fit), balanced_branches styles bs h.1)
 
+pub balanced_good : (f : Federation) → IsGoodFederation f → IsBalancedFederation f
+balanced_good f ok = balanced_branches f.styles f.branches ok.good
+
 pub balanced_along : (start : Federation) (input output : List ℕ) (end : Federation) → IsTranscript Answers start input output end → IsGoodFederation start → IsBalancedFederation end
-balanced_along start input output end t ok = balanced_branches end.styles end.branches (good_along start input output end t ok).good
+balanced_along start input output end t ok = balanced_good end (good_along start input output end t ok)
 
 -- ---- a refusal, a repeat and a report leave the state
 
@@ -280,13 +283,9 @@ left_step f (ForImport name journal) h = left_import f (import_decision f name j
 left_step f (ForBalance name day) h = refl
 
 -- the first byte tells a refusal or a repeat from what is done
-abbrev first_byte : List ℕ → ℕ
-first_byte [] = 0
-first_byte (b ∷ bs) = b
-
-says_no : (text : List ℕ) → IsRefusalOrRepeat text → first_byte text ≡ 114
-says_no text (inl refused) = ap first_byte refused.1
-says_no text (inr repeated) = ap first_byte repeated
+says_no : (text : List ℕ) → IsRefusalOrRepeat text → slice_index text 0 ≡ 114
+says_no text (inl refused) = ap (λ t. slice_index t 0) refused.1
+says_no text (inr repeated) = ap (λ t. slice_index t 0) repeated
 
 not_done : (styles : List Style) (r : Result Answer Refusal) → IsRefusalOrRepeat (answer_text styles r) → IsRefusedOrRepeated r
 unfolding answer_text
@@ -306,3 +305,11 @@ pub left_answered : (f : Federation) (line text : List ℕ) (g : Federation) →
 left_answered f line text g (inl (request, answered)) h = answered.2 ∙ left_told f request (subst IsRefusalOrRepeat answered.1 h)
 left_answered f line text g (inr (inl none)) h = none.2
 left_answered f line text g (inr (inr memory)) h = memory.1
+
+left_in_turn : (start : Federation) (requests : List (List ℕ)) (output : List ℕ) (end : Federation) (t : AnswersInTurn Answers start requests output end)
+    → RefusalsLeaveInTurn start requests output end t
+left_in_turn start [] output end t = tt
+left_in_turn start (request ∷ requests) output end t = (left_answered start request t.1 t.0 t.3.0, left_in_turn t.0 requests t.2 end t.3.1)
+
+pub left_along : (start : Federation) (input output : List ℕ) (end : Federation) (t : IsTranscript Answers start input output end) → RefusalsLeave start input output end t
+left_along start input output end t = left_in_turn start (requests_in input) output end t

@@ -14,7 +14,9 @@ use Rattle.money_core.specs.declared.day.Day.{Day}
 use Rattle.journal_lines.specs.Blank.{is_blank}
 use Rattle.journal_lines.specs.AccountName.{is_name_byte, is_gap, has_gap, bars_start, is_account, IsAccount}
 use Rattle.journal_lines.specs.DateReading.{is_date, day_of, date_of}
-use Rattle.treasury.specs.SmallJournal.{is_blank_text, cut_at_gap, Kind, Blank, Header, Posting, Other, header_day, behind_indent, posting_cut, posting_behind, dated_or_posting, kind_of_text, IsHeader, IsPosting, IsOfKind, KindsAreFound}
+use Rattle.money_core.proofs.GrammarLemmas.{some_same}
+use Rattle.treasury.specs.Transcript.{is_blank_text}
+use Rattle.treasury.specs.SmallJournal.{cut_at_gap, Kind, Blank, Header, Posting, Other, header_day, behind_indent, posting_cut, posting_behind, dated_or_posting, kind_of_text, IsHeader, IsPosting, IsOfKind, KindsAreFound}
 use Rattle.treasury.proofs.LineKindLemmas.{gap, starts_not, kind_of-utf8}
 
 -- both tests hold
@@ -119,14 +121,11 @@ solid_date (b ∷ date) rest day reads ten blank = no_blank_digit b (both_hold _
 abbrev both_of : List ℕ → List ℕ → Option (List ℕ × List ℕ)
 both_of front back = Some (front, back)
 
-same_value : {T : Type 0} (x y : T) → Some x ≡ Some y → x ≡ y
-same_value x y e = cc
-
 both_same : (a b c d : List ℕ) → both_of a b ≡ both_of c d → (a ≡ c) × (b ≡ d)
 both_same a b c d e =
     let left : List ℕ × List ℕ = (a, b) in
     let right : List ℕ × List ℕ = (c, d) in
-    let same : left ≡ right = same_value left right e in
+    let same : left ≡ right = some_same left right e in
     (ap (λ (x : List ℕ × List ℕ). x.0) same, ap (λ (x : List ℕ × List ℕ). x.1) same)
 
 abbrev cut_of : Bool → List ℕ → ℕ → Option (List ℕ × List ℕ) → Option (List ℕ × List ℕ)

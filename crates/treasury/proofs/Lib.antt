@@ -19,6 +19,7 @@ pub mod EnteringLemmas
 pub mod DecisionLemmas
 pub mod EnterLemmas
 pub mod HistoryLemmas
+pub mod CutLemmas
 pub mod WorkedHistory
 pub mod WordLemmas
 pub mod WorkedWords

@@ -9,7 +9,7 @@ use Rattle.std.specs.Prelude.{◌==◌, not, All, if◌then◌else◌}
 use Rattle.std.specs.List.{slice_split, onto_first}
 use Rattle.std.specs.Str.Lines.{lines, lines_of_parts, strip_carriage_return}
 use Rattle.std.proofs.Common.{arith}
-use Rattle.treasury.specs.Transcript.{is_blank, requests_among, requests_in, AnswersInTurn, IsTranscript}
+use Rattle.treasury.specs.Transcript.{is_blank_text, requests_among, requests_in, AnswersInTurn, IsTranscript}
 use Rattle.treasury.specs.RunEnd.{IsWholeLines, HasNoLineFeed}
 
 abbrev parts : List ℕ → List (List ℕ)
@@ -73,7 +73,7 @@ lines_last line part = ap lines_of_parts (slice_split_none (λ b. b == 10) line 
 
 pub requests-append : (whole text : List ℕ) → IsWholeLines whole → requests_in (whole ++ text) ≡ requests_in whole ++ requests_in text
 requests-append whole text complete =
-    ap requests_among (lines-append whole text complete) ∙ filter-append (λ line. not (is_blank line)) (lines whole) (lines text)
+    ap requests_among (lines-append whole text complete) ∙ filter-append (λ line. not (is_blank_text line)) (lines whole) (lines text)
 
 pub requests_one : (line : List ℕ) → HasNoLineFeed line → requests_in (line ++ (10 ∷ [])) ≡ requests_among (strip_carriage_return line ∷ [])
 requests_one line part = ap requests_among (lines_one line part)

@@ -14,20 +14,8 @@ use Rattle.journal_lines.specs.Lines.{lines, numbered}
 use Rattle.treasury.specs.declared.small_journal.Written.{Written}
 use Rattle.treasury.specs.declared.small_journal.Reading.{Reading}
 use Rattle.treasury.specs.SmallJournal.{Kind, Blank, Header, Posting, Other, kind_of_text, kind_of, all_of, begun_at, with_leg, posted, posting_read, line_read, unless_faulty, lines_read, nothing_read, journal_of, IsReadLeg, IsReadEntry}
+use Rattle.treasury.proofs.BookLemmas.{all-append, all-front, all-back}
 use Rattle.treasury.proofs.KindLemmas.{kind_found}
-
--- what holds of each element of two lists, and of each element of one behind the other
-each-append : {X : Type 0} (P : X → Type 0) (xs ys : List X) → AllByRecursion P xs → AllByRecursion P ys → AllByRecursion P (xs ++ ys)
-each-append P [] ys h k = k
-each-append P (x ∷ xs) ys h k = (h.0, each-append P xs ys h.1 k)
-
-each-front : {X : Type 0} (P : X → Type 0) (xs ys : List X) → AllByRecursion P (xs ++ ys) → AllByRecursion P xs
-each-front P [] ys h = tt
-each-front P (x ∷ xs) ys h = (h.0, each-front P xs ys h.1)
-
-each-back : {X : Type 0} (P : X → Type 0) (xs ys : List X) → AllByRecursion P (xs ++ ys) → AllByRecursion P ys
-each-back P [] ys h = h
-each-back P (x ∷ xs) ys h = each-back P xs ys h.1
 
 -- the account of a posting is well formed
 of_text : (t : Bool) (kind : Kind) (account text : List ℕ) → (if t then kind else Other) ≡ Posting account text → kind ≡ Posting account text
@@ -48,17 +36,17 @@ posted-read : (styles : List Style) → AmountsBound styles → (complete : List
     → posted (record { complete = complete; begun = Some written }) written line account found ≡ Ok next → AreRead styles next
 posted-read styles bound complete written line account text (Err cause) next a named h e = cc
 posted-read styles bound complete written line account text (Ok (unit, qty)) next a named h e =
-    let front = each-front (IsReadEntry styles) complete (written ∷ []) h in
-    let last = (each-back (IsReadEntry styles) complete (written ∷ []) h).0 in
+    let front = all-front (IsReadEntry styles) complete (written ∷ []) h in
+    let last = (all-back (IsReadEntry styles) complete (written ∷ []) h).0 in
     let leg : IsReadLeg styles (record { account = account; unit = unit; qty = qty }) = record { account = named; amount = bound text unit qty a } in
     let more : IsReadEntry styles (with_leg written account unit qty) = record {
       numbered = last.numbered;
       unclaimed = last.unclaimed;
-      legs = each-append (IsReadLeg styles) written.entry.legs ((record { account = account; unit = unit; qty = qty }) ∷ []) last.legs (leg, tt);
+      legs = all-append (IsReadLeg styles) written.entry.legs ((record { account = account; unit = unit; qty = qty }) ∷ []) last.legs (leg, tt);
     } in
     let same : Reading = record { complete = complete; begun = Some (with_leg written account unit qty) } in
     let is : same ≡ next = cc in
-    subst (AreRead styles) is (each-append (IsReadEntry styles) complete (with_leg written account unit qty ∷ []) front (more, tt))
+    subst (AreRead styles) is (all-append (IsReadEntry styles) complete (with_leg written account unit qty ∷ []) front (more, tt))
 
 posting-read : (styles : List Style) → AmountsBound styles → (complete : List Written) (begun : Option Written) (line : ℕ) (account text : List ℕ) (next : Reading)
     → IsAccount account → AreRead styles (record { complete = complete; begun = begun })
@@ -73,12 +61,12 @@ line-read : (styles : List Style) → AmountsBound styles → (reading : Reading
 line-read styles bound reading line Blank next low named h e =
     let same : Reading = record { complete = all_of reading; begun = None } in
     let is : same ≡ next = cc in
-    subst (AreRead styles) is (each-append (IsReadEntry styles) (all_of reading) [] h tt)
+    subst (AreRead styles) is (all-append (IsReadEntry styles) (all_of reading) [] h tt)
 line-read styles bound reading line (Header day) next low named h e =
     let same : Reading = record { complete = all_of reading; begun = Some (begun_at line day) } in
     let is : same ≡ next = cc in
     let first : IsReadEntry styles (begun_at line day) = record { numbered = low; unclaimed = refl; legs = tt } in
-    subst (AreRead styles) is (each-append (IsReadEntry styles) (all_of reading) (begun_at line day ∷ []) h (first, tt))
+    subst (AreRead styles) is (all-append (IsReadEntry styles) (all_of reading) (begun_at line day ∷ []) h (first, tt))
 line-read styles bound reading line (Posting account text) next low named h e =
     posting-read styles bound reading.complete reading.begun line account text next (named account text refl) h e
 line-read styles bound reading line Other next low named h e = cc

@@ -16,6 +16,7 @@ use Rattle.book_core.specs.GoodBook.{AreApart, IsFit}
 use Rattle.treasury.specs.declared.small_journal.Written.{Written}
 use Rattle.treasury.specs.SmallJournal.{entries_of}
 use Rattle.treasury.specs.Step.{is_balanced, unbalanced_line}
+use Rattle.treasury.proofs.FederationLemmas.{not_false}
 
 -- two commodities of one number are the same
 same_unit : (u v : Commodity) → u.0 ≡ v.0 → u ≡ v
@@ -80,16 +81,12 @@ line_none : (o : Option Written) → option_map (λ (t : Written). t.line) o ≡
 line_none None h = refl
 line_none (Some t) h = absurd cc
 
-not_unbalanced : (b : Bool) → not b ≡ false → b ≡ true
-not_unbalanced true h = refl
-not_unbalanced false h = absurd cc
-
 fit_list : (list : List Written) → AllByRecursion (λ (t : Written). t.entry.claims ≡ []) list
     → find (λ (t : Written). not (is_balanced t.entry.legs)) list ≡ None → AllByRecursion IsFit (entries_of list)
 fit_list [] u h = tt
 fit_list (t ∷ ts) u h =
     let parts = find_none (λ (t : Written). not (is_balanced t.entry.legs)) t ts h in
-    (IsFit-unclaimed t.entry u.0 (IsBalanced-from_test t.entry.legs (not_unbalanced (is_balanced t.entry.legs) parts.0)), fit_list ts u.1 parts.1)
+    (IsFit-unclaimed t.entry u.0 (IsBalanced-from_test t.entry.legs (not_false (is_balanced t.entry.legs) parts.0)), fit_list ts u.1 parts.1)
 
 -- transactions without assertions, none of which is unbalanced, are entries that a ledger takes
 pub IsFit-entries_of : (list : List Written) → AllByRecursion (λ (t : Written). t.entry.claims ≡ []) list → unbalanced_line list ≡ None → AllByRecursion IsFit (entries_of list)

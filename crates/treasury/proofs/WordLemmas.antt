@@ -1,10 +1,11 @@
 -- What the answer of `clap` says of the words.
-use Rattle.std.proofs.Common.{◌≡◌, ℕ, true, List, [], ap, refl, sym, ◌∙◌, subst, inl, inr, ◌⊎◌}
+use Rattle.std.proofs.Common.{◌≡◌, ◌≢◌, ℕ, true, List, [], Result, Ok, Err, IfErr, MatchResult, ap, refl, sym, ◌∙◌, subst, inl, inr, ◌⊎◌}
+use Rattle.money_core.specs.declared.cause.Cause.{Cause}
 use Rattle.clap.specs.Simple.{App}
 use Rattle.clap.specs.Kinds.{IsAmong}
 use Rattle.clap.specs.Faults.{fault_of, is_simple_and_free}
 use Rattle.clap.specs.declared.error.kind.ErrorKind.{ErrorKind}
-use Rattle.clap.specs.declared.error.kind.ErrorKind.TheVariants.{OutOfMemory, DisplayHelp}
+use Rattle.clap.specs.declared.error.kind.ErrorKind.TheVariants.{OutOfMemory, DisplayHelp, DisplayVersion}
 use Rattle.clap.proofs.OnLiterals.{clap_on_literals}
 use Rattle.treasury.specs.Words.{known, objections, AskForRun, MayAskForHelp}
 
@@ -29,7 +30,25 @@ pub run_fails : (words : List (List ℕ)) (kind : ErrorKind) → (kind ≡ OutOf
 run_fails words kind (inl memory) asks = memory
 run_fails words kind (inr among) asks = absurd (subst (IsAmong kind) asks among)
 
--- help is shown only to words that may ask for it
-pub help_shown : (words : List (List ℕ)) (kind : ErrorKind) → (kind ≡ OutOfMemory) ⊎ IsAmong kind (objections words) → kind ≡ DisplayHelp → MayAskForHelp words
-help_shown words kind (inl memory) shown = absurd (let clash : DisplayHelp ≡ OutOfMemory = sym shown ∙ memory in cc)
-help_shown words kind (inr among) shown = subst (λ k. IsAmong k (objections words)) shown among
+-- the kinds whose text is written to the output
+abbrev pub IsShown : ErrorKind → Type 0
+IsShown kind = (kind ≡ DisplayHelp) ⊎ (kind ≡ DisplayVersion)
+
+shown_is_no_want : (kind : ErrorKind) → IsShown kind → kind ≡ OutOfMemory → ⊥
+shown_is_no_want kind (inl help) memory = let clash : DisplayHelp ≡ OutOfMemory = sym help ∙ memory in absurd cc
+shown_is_no_want kind (inr version) memory = let clash : DisplayVersion ≡ OutOfMemory = sym version ∙ memory in absurd cc
+
+-- help and the version are shown only to words that may ask for them
+pub help_shown : (words : List (List ℕ)) (kind : ErrorKind) → (kind ≡ OutOfMemory) ⊎ IsAmong kind (objections words) → IsShown kind → MayAskForHelp words
+help_shown words kind (inl memory) shown = absurd (shown_is_no_want kind shown memory)
+help_shown words kind (inr among) (inl help) = inl (subst (λ k. IsAmong k (objections words)) help among)
+help_shown words kind (inr among) (inr version) = inr (subst (λ k. IsAmong k (objections words)) version among)
+
+-- and never to words that ask for a run
+pub run_shows_none : (words : List (List ℕ)) (kind : ErrorKind) → (kind ≡ OutOfMemory) ⊎ IsAmong kind (objections words) → IsShown kind → AskForRun words → ⊥
+run_shows_none words kind fails shown asks = shown_is_no_want kind shown (run_fails words kind fails asks)
+
+-- the status of a run that is cut off
+pub cut_off_status : {T : Type 0} (result : Result T Cause) (status : ℕ) (P : Cause → Type 0) → MatchResult result (λ _. status ≡ 0) (λ _. status ≡ 1) → IfErr result P → status ≢ 0 → (status ≡ 1) × ((cause : Cause) × P cause)
+cut_off_status (Ok x) status P is cut other = absurd (other is)
+cut_off_status (Err cause) status P is cut other = (is, (cause, cut))

@@ -1,6 +1,6 @@
 -- What words ask for, worked out by hand, whatever name the program is called by.
 use Rattle.std.specs.Prelude.{◌≡◌, ℕ, List, [], ◌∷◌, codes, refl}
-use Rattle.clap.specs.declared.error.kind.ErrorKind.TheVariants.{UnknownArgument, InvalidSubcommand, DisplayHelp, DisplayHelpOnMissingArgumentOrSubcommand}
+use Rattle.clap.specs.declared.error.kind.ErrorKind.TheVariants.{UnknownArgument, InvalidSubcommand, DisplayHelp, DisplayVersion, DisplayHelpOnMissingArgumentOrSubcommand}
 use Rattle.clap.proofs.OnLiterals.{clap_on_literals}
 use Rattle.treasury.specs.Words.{objections}
 
@@ -27,3 +27,7 @@ further_word name = refl
 pub help_is_asked_for : (name : List ℕ) → objections (name ∷ codes "--help" ∷ []) ≡ DisplayHelp ∷ []
 unfolding clap_on_literals objections
 help_is_asked_for name = refl
+
+pub version_is_asked_for : (name : List ℕ) → objections (name ∷ codes "--version" ∷ []) ≡ DisplayVersion ∷ []
+unfolding clap_on_literals objections
+version_is_asked_for name = refl

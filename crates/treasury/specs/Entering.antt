@@ -1,4 +1,4 @@
--- Entries on their way into a book.
+-- Mirrors code: entries on their way into a book.
 use Rattle.std.specs.Prelude.{◌≡◌, List, ◌++◌}
 use Rattle.book_core.specs.declared.entry.Entry.{Entry}
 

@@ -19,9 +19,17 @@ pub record Federation : Type 0 where
 abbrev pub is_name_byte : ℕ → Bool
 is_name_byte b = is_ascii_lowercase b || is_ascii_digit b || (b == 45)
 
+-- the greatest number of bytes of a branch's name
+abbrev pub most_name_bytes : ℕ
+most_name_bytes = 32
+
 -- a branch's name: a lower-case ASCII letter, then 0 to 31 lower-case letters, digits or `-`
 abbrev pub is_branch_name : List ℕ → Bool
-is_branch_name name = is_ascii_lowercase (slice_index name 0) && list_all is_name_byte name && nat_le (length name) 32
+is_branch_name name = is_ascii_lowercase (slice_index name 0) && list_all is_name_byte name && nat_le (length name) most_name_bytes
+
+-- the greatest number of branches
+abbrev pub most_branches : ℕ
+most_branches = 32
 
 -- where the branch of that name stands, from 0
 abbrev pub branch_place : List Branch → List ℕ → Option ℕ
@@ -41,6 +49,6 @@ pub record IsGoodBranch (styles : List Style) (branch : Branch) : Type 0 where
 -- a good state: good commodities, at most 32 branches, each good and the one that its name finds
 pub record IsGoodFederation (f : Federation) : Type 0 where
   pub styles : AreStyles f.styles
-  pub few : length f.branches ≤ 32
+  pub few : length f.branches ≤ most_branches
   pub good : AllByRecursion (IsGoodBranch f.styles) f.branches
   pub found : (i : ℕ) (branch : Branch) → slice_get f.branches i ≡ Some branch → branch_place f.branches branch.name ≡ Some i

@@ -1,4 +1,4 @@
--- The request that a form is, for private clauses.
+-- Mirrors code: the request that a form is.
 use Rattle.treasury.specs.declared.request.Request.{Request}
 use Rattle.treasury.specs.declared.request.Request.TheVariants.{Branch, Commodity, Import, Balance}
 use Rattle.treasury.specs.declared.request.form.Form.{Form}

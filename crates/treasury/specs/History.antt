@@ -1,12 +1,17 @@
 -- What came into the books along a transcript, and which answers leave the state (own rules; docs/RULES.md, "Books", "Orders").
-use Rattle.std.specs.Prelude.{◌≡◌, ℕ, if◌then◌else◌, List, [], ◌∷◌, ◌++◌, ◌⊎◌, ⊤, codes, Result, Ok, Err}
+use Rattle.std.specs.Prelude.{◌≡◌, ℕ, if◌then◌else◌, List, [], ◌∷◌, ◌++◌, ◌+ℤ◌, ◌⊎◌, ⊤, codes, Result, Ok, Err}
 use Rattle.std.proofs.Common.{inl, inr}
 use Rattle.std.specs.List.{AllByRecursion}
 use Rattle.std.specs.Str.{bytes_eq}
 use Rattle.money_core.specs.Sampling.{style_of}
+use Rattle.money_core.specs.declared.unit.Unit.{Unit as Commodity}
+use Rattle.money_core.specs.declared.day.Day.{Day}
+use Rattle.book_core.specs.declared.account.Reach.{Reach}
+use Rattle.book_core.specs.declared.place.Until.TheVariants.{Through}
 use Rattle.book_core.specs.declared.entry.Entry.{Entry}
 use Rattle.book_core.specs.declared.refusal.Refusal.{Refusal}
 use Rattle.book_core.specs.Book.{legs_of}
+use Rattle.book_core.specs.Balance.{balance}
 use Rattle.book_core.specs.GoodBook.{IsBalanced}
 use Rattle.treasury.specs.declared.branch.Branch.{Branch}
 use Rattle.treasury.specs.declared.import.Accepted.{Accepted}
@@ -60,6 +65,26 @@ imports_in_turn start (request ∷ requests) output end (mid, answer, rest, (ans
 abbrev pub history : (start : Federation) (input output : List ℕ) (end : Federation) → IsTranscript Answers start input output end → List Imported
 history start input output end transcript = imports_in_turn start (requests_in input) output end transcript
 
+-- what may hold of a transcript
+abbrev pub OfTranscript : Type 1
+OfTranscript = (start : Federation) (input output : List ℕ) (end : Federation) → IsTranscript Answers start input output end → Type 0
+
+-- it holds of every transcript
+abbrev pub OfEvery : OfTranscript → Type 0
+OfEvery Law = (start : Federation) (input output : List ℕ) (end : Federation) (transcript : IsTranscript Answers start input output end) → Law start input output end transcript
+
+-- each book is the old one, followed by the entries of the accepted imports into its branch, in order
+abbrev pub BooksGrow : OfTranscript
+BooksGrow start input output end transcript = (name : List ℕ)
+    → book_of end.branches name ≡ book_of start.branches name ++ entered_into name (history start input output end transcript)
+
+-- each account's balance through each day, with its subaccounts or without, has moved by that of the entries of the accepted imports into its branch
+abbrev pub BalancesMove : OfTranscript
+BalancesMove start input output end transcript = (name : List ℕ) (reach : Reach) (account : List ℕ) (unit : Commodity) (day : Day)
+    → balance reach (book_of end.branches name) account unit (Through day)
+    ≡ balance reach (book_of start.branches name) account unit (Through day)
+    +ℤ balance reach (entered_into name (history start input output end transcript)) account unit (Through day)
+
 -- in each branch every commodity sums to zero
 abbrev pub IsBalancedFederation : Federation → Type 0
 IsBalancedFederation f = AllByRecursion (λ (branch : Branch). IsBalanced (legs_of branch.book)) f.branches
@@ -81,3 +106,13 @@ LeavesState f (ForBalance name day) = ⊤
 -- the line of a refusal, or of `repeated`
 abbrev pub IsRefusalOrRepeat : List ℕ → Type 0
 IsRefusalOrRepeat text = ((rest : List ℕ) × (text ≡ codes "refused " ++ rest)) ⊎ (text ≡ codes "repeated\n")
+
+-- of requests that are answered in turn, each whose answer is a refusal or `repeated` left the state as it was
+abbrev pub RefusalsLeaveInTurn : (start : Federation) (requests : List (List ℕ)) (output : List ℕ) (end : Federation) → AnswersInTurn Answers start requests output end → Type 0
+RefusalsLeaveInTurn start [] output end ended = ⊤
+RefusalsLeaveInTurn start (request ∷ requests) output end (mid, answer, rest, (answered, later, joined)) =
+    (IsRefusalOrRepeat answer → mid ≡ start) × RefusalsLeaveInTurn mid requests rest end later
+
+-- the same of a transcript
+abbrev pub RefusalsLeave : OfTranscript
+RefusalsLeave start input output end transcript = RefusalsLeaveInTurn start (requests_in input) output end transcript

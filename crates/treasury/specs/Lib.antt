@@ -1,14 +1,17 @@
+-- What a reader has to believe, in reading order
 pub mod Request
-pub mod Form
 pub mod Transcript
 pub mod RunEnd
-pub mod Served
+pub mod Federation
 pub mod SmallJournal
-pub mod LineView
+pub mod Step
 pub mod Answer
 pub mod BalanceReport
-pub mod Federation
-pub mod Step
-pub mod Entering
 pub mod History
 pub mod Words
+-- What mirrors code, for private clauses: nobody has to believe it
+pub mod Entering
+pub mod Form
+pub mod LineView
+pub mod Served
+pub mod Echo

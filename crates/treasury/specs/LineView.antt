@@ -1,4 +1,4 @@
--- The kind of a line that the code has found, for private clauses.
+-- Mirrors code: the kind of a line that was found, its texts as bytes.
 use Rattle.treasury.specs.declared.small_journal.line_kind.LineKind.{LineKind}
 use Rattle.treasury.specs.declared.small_journal.line_kind.LineKind.TheVariants.{Blank as BlankLine, Header as HeaderLine, Posting as PostingLine, Other as OtherLine}
 use Rattle.treasury.specs.SmallJournal.{Kind, Blank, Header, Posting, Other}

@@ -1,7 +1,7 @@
 -- How a run over the lines of a reader ends (own rule; docs/RULES.md, "Runs"): with `Ok`, or with the refusal 40, 45 or 46.
 -- `r0` and `r1` are the bytes that the reader has left before and after the run, `w0` and `w1` those that the writer holds,
 -- where they are known, as those of readers and writers over memory are. `Step` is a step of a transcript.
-use Rattle.std.specs.Prelude.{◌≡◌, ◌≢◌, ◌≤◌, ℕ, List, [], ◌∷◌, ◌++◌, ◌⊎◌, Option, take, length, All}
+use Rattle.std.specs.Prelude.{◌≡◌, ◌≢◌, ◌≤◌, ℕ, List, [], ◌∷◌, ◌++◌, ◌⊎◌, Option, take, length, All, Result, MatchResult}
 use Rattle.std.specs.Io.KnownBytes.{Appends, Consumes, IsAtEnd}
 use Rattle.money_core.specs.declared.cause.Cause.{Cause}
 use Rattle.money_core.specs.declared.cause.Cause.TheVariants.{OutOfMemory, ReadFault, WriteFault}
@@ -37,6 +37,10 @@ pub record GoesOn (AtEnd : Type 0) (text request : List ℕ) : Type 0 where
   pub one : requests_in line ≡ request ∷ []
   pub ended : IsWholeLines line ⊎ ((rest ≡ []) × AtEnd)
 
+-- the state may be lost at the request that stands behind the lines that are answered
+abbrev pub MayLoseNext : {S : Type 0} → (S → List ℕ → Type 0) → Type 0 → S → List ℕ → Type 0
+MayLoseNext Loses AtEnd mid further = (request : List ℕ) × (GoesOn AtEnd further request × Loses mid request)
+
 -- 40: the lines `whole` are answered by what was written; the state at the end is `mid`, the one after them, or it is lost at the
 -- request that stands behind them
 pub record GaveUp {S : Type 0} (Step : S → List ℕ → List ℕ → S → Type 0) (Loses : S → List ℕ → Type 0) (AtEnd : Type 0) (w0 w1 : Option (List ℕ)) (start : S) (seen : List ℕ) (end : S) : Type 0 where
@@ -48,7 +52,7 @@ pub record GaveUp {S : Type 0} (Step : S → List ℕ → List ℕ → S → Typ
   pub complete : IsWholeLines whole
   pub transcript : IsTranscript Step start whole written mid
   pub appended : Appends w0 w1 written
-  pub left : (end ≡ mid) ⊎ ((request : List ℕ) × (GoesOn AtEnd further request × Loses mid request))
+  pub left : (end ≡ mid) ⊎ MayLoseNext Loses AtEnd mid further
 
 -- 46: the lines `whole` are answered, and of the answer to the request behind them the first `taken` bytes were written; the state at
 -- the end is the one after that request
@@ -106,3 +110,16 @@ EndsBy OutOfMemory Step Loses most r0 r1 w0 w1 start end = Stopped OutOfMemory S
 EndsBy ReadFault Step Loses most r0 r1 w0 w1 start end = Broken Step most r0 r1 w0 w1 start end
 EndsBy WriteFault Step Loses most r0 r1 w0 w1 start end = Stopped WriteFault Step Loses most r0 r1 w0 w1 start end
 EndsBy _ Step Loses most r0 r1 w0 w1 start end = ⊥
+
+-- how a run ends, by its result; `remaining` and `contents` are what a reader has left and what a writer holds, where they are known
+abbrev pub Ends : {T S R W : Type 0} → Result T Cause → (S → List ℕ → List ℕ → S → Type 0) → (S → List ℕ → Type 0) → ℕ
+    → (R → Option (List ℕ)) → R → R → (W → Option (List ℕ)) → W → W → S → S → Type 0
+Ends result Step Loses most remaining r0 r1 contents w0 w1 start end = MatchResult result
+    (λ _. Finished Step most (remaining r0) (remaining r1) (contents w0) (contents w1) start end)
+    (λ cause. EndsBy cause Step Loses most (remaining r0) (remaining r1) (contents w0) (contents w1) start end)
+
+-- the state is lost where a run ends: memory was refused at a request that may lose it
+abbrev pub IsLost : {S : Type 0} (cause : Cause) (Step : S → List ℕ → List ℕ → S → Type 0) (Loses : S → List ℕ → Type 0) (most : ℕ) (r0 r1 w0 w1 : Option (List ℕ)) (start end : S)
+    → EndsBy cause Step Loses most r0 r1 w0 w1 start end → Type 0
+IsLost OutOfMemory Step Loses most r0 r1 w0 w1 start end ends = MayLoseNext Loses (IsAtEnd r1) ends.stops.mid ends.stops.further
+IsLost _ Step Loses most r0 r1 w0 w1 start end ends = ⊥

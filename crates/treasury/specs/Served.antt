@@ -1,9 +1,10 @@
--- One line that is served, for private clauses.
-use Rattle.std.specs.Prelude.{◌≡◌, ℕ, List, [], ◌∷◌, ◌⊎◌, Option, take}
+-- Mirrors code: one line that is served, and further bytes of an input.
+use Rattle.std.specs.Prelude.{◌≡◌, ℕ, List, [], ◌∷◌, ◌⊎◌, Option, take, Result, MatchResult}
 use Rattle.std.specs.Io.KnownBytes.{Appends}
 use Rattle.money_core.specs.declared.cause.Cause.{Cause}
 use Rattle.money_core.specs.declared.cause.Cause.TheVariants.{OutOfMemory, WriteFault}
 use Rattle.treasury.specs.Transcript.{AnswersInTurn}
+use Rattle.treasury.specs.RunEnd.{AnswersWhole, StopsBy}
 
 -- the writer got the answers to these requests
 pub record Served {S : Type 0} (Step : S → List ℕ → List ℕ → S → Type 0) (w0 w1 : Option (List ℕ)) (start : S) (requests : List (List ℕ)) (end : S) : Type 0 where
@@ -32,3 +33,15 @@ abbrev pub FailsBy : {S : Type 0} → Cause → (S → List ℕ → List ℕ →
 FailsBy OutOfMemory Step Loses w0 w1 start requests end = Unserved Loses w0 w1 start requests end
 FailsBy WriteFault Step Loses w0 w1 start requests end = HalfServed Step w0 w1 start requests end
 FailsBy _ Step Loses w0 w1 start requests end = ⊥
+
+-- the requests are served, or not, by the result
+abbrev pub Serves : {T S : Type 0} → Result T Cause → (S → List ℕ → List ℕ → S → Type 0) → (S → List ℕ → Type 0) → Option (List ℕ) → Option (List ℕ) → S → List (List ℕ) → S → Type 0
+Serves result Step Loses w0 w1 start requests end = MatchResult result
+    (λ _. Served Step w0 w1 start requests end)
+    (λ cause. FailsBy cause Step Loses w0 w1 start requests end)
+
+-- the complete lines of what was seen are answered, or the answers stop, by the result
+abbrev pub Feeds : {T S : Type 0} → Result T Cause → (S → List ℕ → List ℕ → S → Type 0) → (S → List ℕ → Type 0) → Option (List ℕ) → Option (List ℕ) → S → List ℕ → List ℕ → S → Type 0
+Feeds result Step Loses w0 w1 start seen begun end = MatchResult result
+    (λ _. AnswersWhole Step w0 w1 start seen begun end)
+    (λ cause. StopsBy cause Step Loses ⊥ w0 w1 start seen end)

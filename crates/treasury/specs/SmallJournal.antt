@@ -1,6 +1,6 @@
 -- A journal of dated entries (hledger manual, "Transactions", "Postings"). Which lines it may have for now is an own rule (docs/FORMATS.md, "Journals").
 use Rattle.std.specs.Prelude.{ℕ, ℤ, ◌==◌, ◌≤◌, ◌&&◌, ◌≡◌, ◌↔◌, ◌⊎◌, nat_eq, Bool, true, false, not, if◌then◌else◌, List, [], ◌∷◌, ◌++◌, length, slice_index, take, drop, map, codes, Option, Some, None, option_map, option_to_list, Result, Ok, Err}
-use Rattle.std.specs.List.{list_all, starts_with, AllByRecursion}
+use Rattle.std.specs.List.{starts_with, AllByRecursion}
 use Rattle.std.specs.Str.{is_utf8, IsUtf8}
 use Rattle.money_core.specs.declared.day.Day.{Day}
 use Rattle.money_core.specs.declared.unit.Unit.{Unit as Commodity}
@@ -10,18 +10,14 @@ use Rattle.money_core.specs.declared.cause.Cause.TheVariants.{Directive, Amount,
 use Rattle.money_core.specs.declared.cause.Fault.{Fault}
 use Rattle.money_core.specs.Reading.{amount}
 use Rattle.money_core.specs.AmountText.{IsDeclared}
-use Rattle.journal_lines.specs.Blank.{is_blank}
 use Rattle.journal_lines.specs.DateReading.{separator, date_of}
 use Rattle.journal_lines.specs.Lines.{numbered}
 use Rattle.journal_lines.specs.AccountName.{is_account, IsAccount}
 use Rattle.book_core.specs.declared.leg.Leg.{Leg}
 use Rattle.book_core.specs.declared.entry.Entry.{Entry}
+use Rattle.treasury.specs.Transcript.{is_blank_text}
 use Rattle.treasury.specs.declared.small_journal.Written.{Written}
 use Rattle.treasury.specs.declared.small_journal.Reading.{Reading}
-
--- nothing but blanks
-abbrev pub is_blank_text : List ℕ → Bool
-is_blank_text text = list_all is_blank text
 
 -- the text before the first two spaces that stand together, and the text behind them
 abbrev pub cut_at_gap : List ℕ → Option (List ℕ × List ℕ)

@@ -24,7 +24,7 @@ use Rattle.treasury.specs.declared.answers.Answer.TheVariants.{Done, Entered, Re
 use Rattle.treasury.specs.declared.request.Request.{Request}
 use Rattle.treasury.specs.declared.request.Request.TheVariants.{Branch as ForBranch, Commodity as ForCommodity, Import as ForImport, Balance as ForBalance}
 use Rattle.treasury.specs.Request.{spelled}
-use Rattle.treasury.specs.Federation.{Federation, is_branch_name, branch_place}
+use Rattle.treasury.specs.Federation.{Federation, most_branches, is_branch_name, branch_place}
 use Rattle.treasury.specs.declared.small_journal.Written.{Written}
 use Rattle.treasury.specs.SmallJournal.{journal_of, entries_of}
 use Rattle.treasury.specs.Answer.{answer_text}
@@ -35,7 +35,7 @@ abbrev pub branch_answer : Federation → List ℕ → Result Answer Refusal
 branch_answer f name =
     if not (is_branch_name name) then Err (Plain BranchName)
     else if is_some (branch_place f.branches name) then Ok Repeated
-    else if nat_le 32 (length f.branches) then Err (Plain Full)
+    else if nat_le most_branches (length f.branches) then Err (Plain Full)
     else Ok Done
 
 -- the branches with one more, whose book is empty

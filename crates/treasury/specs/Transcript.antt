@@ -1,16 +1,17 @@
 -- An input of requests and the answers to it (own rule; docs/FORMATS.md, "Requests"). A request stands on a line of its own.
 -- LF or CR LF ends a line, the last line may lack its end, and a line of blanks alone is skipped.
-use Rattle.std.specs.Prelude.{◌≡◌, ℕ, ◌==◌, ◌||◌, Bool, not, List, [], ◌∷◌, ◌++◌, filter}
+use Rattle.std.specs.Prelude.{◌≡◌, ℕ, Bool, not, List, [], ◌∷◌, ◌++◌, filter}
 use Rattle.std.specs.List.{list_all}
 use Rattle.std.specs.Str.Lines.{lines}
+use Rattle.money_core.specs.Blank.{is_blank}
 
--- a line of blanks alone: spaces and tabs, or nothing
-abbrev pub is_blank : List ℕ → Bool
-is_blank line = list_all (λ b. (b == 32) || (b == 9)) line
+-- blanks alone, or nothing
+abbrev pub is_blank_text : List ℕ → Bool
+is_blank_text text = list_all is_blank text
 
 -- the lines that are requests
 abbrev pub requests_among : List (List ℕ) → List (List ℕ)
-requests_among lines = filter (λ line. not (is_blank line)) lines
+requests_among lines = filter (λ line. not (is_blank_text line)) lines
 
 -- the requests of an input, each as the bytes of its line without the line's end
 abbrev pub requests_in : List ℕ → List (List ℕ)

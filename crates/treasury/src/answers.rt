@@ -179,7 +179,8 @@ fn line_of(
     Ok(line)
 }
 
-/// Appends the line of an answer, which a line feed ends; where memory is refused, the vector is as it was.
+/// Appends the line of an answer, which a line feed ends. Where memory is refused, it answers 40, and the vector is as it
+/// was.
 ///
 /// A text fault names its line, but for want of memory, and a failed assertion its place, and the amounts that it states
 /// and finds.

@@ -92,7 +92,7 @@ fn push_account<L: Ledger>(
 }
 
 /// Appends the balances through the day that are not zero: a line for each account, without its subaccounts, and
-/// commodity. Where memory is refused, the vector is as it was.
+/// commodity. Where memory is refused, it answers 40, and the vector is as it was.
 ///
 /// Costs one pass over the book for each account and commodity.
 pub fn balance_report<L: Ledger>(

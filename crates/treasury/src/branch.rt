@@ -33,18 +33,15 @@ fn has_name_bytes(name: &[u8]) -> bool
     name.iter().all(|b| is_name_byte(*b))
 }
 
-/// The first byte, or zero.
-fn first_byte(name: &[u8]) -> u8
-    ensures { result ≡ slice_index name.now 0 }
-{
-    if name.is_empty() { 0 } else { name[0] }
-}
-
 /// Whether the name is a branch's: a lower-case ASCII letter, then 0 to 31 lower-case letters, digits or `-`.
 pub fn is_branch_name(name: &[u8]) -> bool
     ensures { result ≡ is_branch_name name.now }
 {
-    first_byte(name).is_ascii_lowercase() && has_name_bytes(name) && name.len() <= MAX_NAME
+    let begins = match name.first() {
+        Some(first) => first.is_ascii_lowercase(),
+        None => false,
+    };
+    begins && has_name_bytes(name) && name.len() <= MAX_NAME
 }
 
 /// Where the branch of that name stands.

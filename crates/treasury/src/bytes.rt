@@ -20,7 +20,7 @@ impl Model for Bytes {
 }
 
 impl Bytes {
-    /// The same bytes.
+    /// The same bytes, or 40 where there is no memory for them.
     pub fn of(alloc: Global, bytes: &[u8]) -> Result<Self, Cause>
         ensures equal { IfOk result (λ b. b ≡ bytes.now) }
         ensures memory { IsOkUnless result Cause.OutOfMemory }

@@ -302,7 +302,8 @@ impl Desk {
         }
     }
 
-    /// Answers a request. Where memory is refused before it is decided, nothing has changed.
+    /// Appends the answer to a request. Where memory is refused, it says whether nothing has changed, or the state is lost,
+    /// as it is only while the entries of an accepted import are added.
     pub fn perform(
         &mut self,
         alloc: Global,
@@ -332,7 +333,7 @@ impl Desk {
         }
     }
 
-    /// Answers with a refusal.
+    /// Appends the line of a refusal. Where memory is refused, nothing has changed.
     pub fn refuse(&self, alloc: Global, cause: Cause, out: &mut Vec<u8>) -> Result<(), Shortage>
         ensures ok { OnOk result (out.new.items ≡ out.old.items ++ answer_text self.now.styles (Err (Refusal.Plain cause))) }
         ensures err { OnErr result (result ≡ Err Shortage.Kept) }

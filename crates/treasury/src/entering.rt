@@ -17,7 +17,8 @@ fn reversed(mut entries: Vec<Entry>) -> Vec<Entry>
     entries
 }
 
-/// Adds the entries in order. Where memory is refused, the first of them stay in the book.
+/// Adds the entries in order. Where memory is refused, it answers 40: the first of them stay in the book, and the rest is
+/// lost.
 pub fn enter_all(book: &mut PlainLedger, new: Vec<Entry>) -> Result<(), Cause>
     requires fit { AllByRecursion IsFit new.items }
     requires room { IsWithin (book.old ++ new.items) }

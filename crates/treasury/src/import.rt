@@ -88,7 +88,8 @@ fn checked(
 
 /// What is decided of the transactions of a journal, for the book of the branch at that place.
 ///
-/// 18 where one does not sum to zero, with its line; then what a check of the book with all of them says.
+/// 18 where one does not sum to zero, with its line; then what a check of the book with all of them says. Where memory is
+/// refused, it answers 40, and the transactions are lost.
 pub fn judged(
     alloc: Global,
     place: usize,

@@ -7,4 +7,4 @@ mod tests;
 mod write;
 
 pub use machine::{Machine, Shortage};
-pub use run::{MAX_INPUT, run_machine};
+pub use run::{MAX_INPUT, is_blank_text, run_machine};

@@ -1,7 +1,6 @@
 //! The run of a desk over the lines of a reader.
 
-ghost use Rattle.std.specs.Prelude.{◌≡◌, ◌++◌, ◌⊎◌, MatchResult, OnOk, IsErrOf};
-ghost use Rattle.treasury.specs.RunEnd.{most_input, Finished, EndsBy};
+ghost use Rattle.treasury.specs.RunEnd.{most_input, Ends};
 ghost use Rattle.treasury.specs.Step.{Answers, Loses};
 
 use crate::desk::Desk;
@@ -41,11 +40,7 @@ pub fn run_lines<R: Read, W: Write>(
     writer: &mut W,
     desk: &mut Desk,
 ) -> Result<(), Cause>
-    ensures { MatchResult result
-        (λ _. Finished Answers most_input (R.remaining reader.old) (R.remaining reader.new)
-        (W.contents writer.old) (W.contents writer.new) desk.old desk.new)
-        (λ cause. EndsBy cause Answers Loses most_input (R.remaining reader.old) (R.remaining reader.new)
-        (W.contents writer.old) (W.contents writer.new) desk.old desk.new) }
+    ensures { Ends result Answers Loses most_input R.remaining reader.old reader.new W.contents writer.old writer.new desk.old desk.new }
 {
     run_machine(alloc, reader, writer, desk)
 }

@@ -1,20 +1,24 @@
 //! The words of the command line, and what they do.
 
-ghost use Rattle.std.specs.Prelude.{◌≡◌, ◌⊎◌, ◌≢◌, ◌<◌, map, IfOk};
+ghost use Rattle.std.specs.Prelude.{◌≡◌, ◌⊎◌, ◌≢◌, map, IfOk, OnOk, IfErr, MatchResult};
 ghost use Rattle.std.specs.String.{string_bytes};
 ghost use Rattle.clap.specs.Simple.{app_of};
-ghost use Rattle.treasury.specs.Words.{known, AskForRun, MayAskForHelp, AnswersAll, IsCutOff};
+ghost use Rattle.treasury.specs.Words.{known, AskForRun, MayAskForHelp, AnswersAll, IsCutOffBy, IsCutOff};
 
 #[cfg(test)]
 mod tests;
 
 use crate::desk::Desk;
-use crate::laws::{books_law, good_law};
+use crate::laws::{balances_law, books_law, good_law, refusal_law};
 use crate::running::run_lines;
 use clap::error::ErrorKind;
 use clap::{Command, Error};
+use money_core::Cause;
 use std::alloc::{AllocError, Global};
 use std::io::{Read, Write};
+
+/// The version that `--version` shows.
+const VERSION: &str = "0.1.0";
 
 /// What the program is for, and an example.
 const ABOUT: &str = "Keeps the books of a federation of branches: requests in, answers out.";
@@ -52,6 +56,7 @@ fn known_words<'a>(alloc: Global) -> Result<Command<'a>, AllocError>
         .about(ABOUT_RUN)
         .after_help(EXAMPLE_RUN);
     Command::new(alloc, "treasury")
+        .version(VERSION)
         .about(ABOUT)
         .after_help(EXAMPLE)
         .arg_required_else_help(true)
@@ -59,66 +64,88 @@ fn known_words<'a>(alloc: Global) -> Result<Command<'a>, AllocError>
         .subcommand(run)
 }
 
-/// Runs from the input to the output, over a federation that has nothing yet.
-fn run<R: Read, W: Write>(alloc: Global, input: &mut R, output: &mut W) -> u8
-    ensures done { result ≡ 0 → AnswersAll (R.remaining input.old) (R.remaining input.new) (W.contents output.old) (W.contents output.new) }
-    ensures cut_off { result ≢ 0 → (result ≡ 1) × IsCutOff (R.remaining input.old) (R.remaining input.new) (W.contents output.old) (W.contents output.new) }
-{
-    let mut desk = Desk::empty(alloc);
-    books_law();
-    good_law();
-    match run_lines(alloc, input, output, &mut desk) {
-        Ok(()) => 0,
-        Err(_) => 1,
+/// What it means that something is cut off by this cause, which is 40, 45 or 46.
+fn meaning(cause: Cause) -> &'static str {
+    match cause {
+        Cause::OutOfMemory => "there is no memory to go on; the requests before that are answered",
+        Cause::ReadFault =>
+            "the input could not be read to its end, or is over 64 MiB; the complete lines before that are answered",
+        _ => "the output could not be written to its end; the last answer may be cut off",
     }
 }
 
-/// Shows the help on the output.
-fn show<W: Write>(alloc: Global, help: &Error, output: &mut W) -> u8
-    ensures { result < 2 }
+/// The exit status of what was done: 0, or 1 where it was cut off, which is said on standard error.
+fn status<H: Eprint>(rt: &H, done: Result<(), Cause>) -> u8
+    ensures { MatchResult done (λ _. result ≡ 0) (λ _. result ≡ 1) }
 {
-    let Ok(text) = help.to_string(alloc) else {
-        return 1;
-    };
-    if output.write_all(text.as_bytes()).is_ok() {
-        0
-    } else {
-        1
+    match done {
+        Ok(()) => 0,
+        Err(cause) => {
+            let nr = cause.nr();
+            let name = cause.name();
+            let meaning = meaning(cause);
+            let _ = eprintln!(rt; "refused {nr} {name}: {meaning}");
+            1
+        }
+    }
+}
+
+/// Runs from the input to the output, over a federation that has nothing yet.
+fn run<R: Read, W: Write>(alloc: Global, input: &mut R, output: &mut W) -> Result<(), Cause>
+    ensures done { OnOk result (AnswersAll R.remaining input.old input.new W.contents output.old output.new) }
+    ensures cut_off { IfErr result (λ cause. IsCutOffBy cause R.remaining input.old input.new W.contents output.old output.new) }
+{
+    let mut desk = Desk::empty(alloc);
+    books_law();
+    balances_law();
+    good_law();
+    refusal_law();
+    run_lines(alloc, input, output, &mut desk)
+}
+
+/// Writes the text of help or of the version to the output.
+fn show<W: Write>(alloc: Global, text: &Error, output: &mut W) -> Result<(), Cause> {
+    let text = text.to_string(alloc)?;
+    match output.write_all(text.as_bytes()) {
+        Ok(()) => Ok(()),
+        Err(_) => Err(Cause::WriteFault),
     }
 }
 
 /// Does what the words say, and answers the exit status.
 ///
 /// The words begin with the program's name. 0: done, whatever was refused. 1: cut off, because memory was refused, the
-/// input broke or a write failed. 2: words that say nothing to do, with the reason and the usage on standard error.
-/// `--help` is written to the output.
+/// input broke or a write failed, with the refusal and its meaning on standard error. 2: words that say nothing to do,
+/// with the reason and the usage on standard error. `--help` and `--version` are written to the output.
 pub fn run_words<H, R, W>(rt: &H, words: &[String], input: &mut R, output: &mut W) -> u8
 where
     H: Eprint + AllocGlobal,
     R: Read,
     W: Write,
     // Words that ask for a run have one, unless there is no memory to read them.
-    ensures done { AskForRun (map string_bytes words.now) → result ≡ 0 → AnswersAll (R.remaining input.old) (R.remaining input.new)
-        (W.contents output.old) (W.contents output.new) }
-    ensures cut_off { AskForRun (map string_bytes words.now) → result ≢ 0 → (result ≡ 1)
-        × (((input.new ≡ input.old) × (output.new ≡ output.old))
-        ⊎ IsCutOff (R.remaining input.old) (R.remaining input.new) (W.contents output.old) (W.contents output.new)) }
+    ensures done { AskForRun (map string_bytes words.now) → result ≡ 0
+        → AnswersAll R.remaining input.old input.new W.contents output.old output.new }
+    ensures cut_off { AskForRun (map string_bytes words.now) → result ≢ 0
+        → (result ≡ 1) × IsCutOff R.remaining input.old input.new W.contents output.old output.new }
 
-    // Others have none, and all but those that may ask for help are answered 2.
+    // Others have none, and all but those that may ask for help or for the version are answered 2.
     ensures other { (AskForRun (map string_bytes words.now) → ⊥) → input.new ≡ input.old }
     ensures wrong { (AskForRun (map string_bytes words.now) → ⊥) → (MayAskForHelp (map string_bytes words.now) → ⊥)
         → ((result ≡ 2) ⊎ (result ≡ 1)) × (output.new ≡ output.old) }
     ensures usage { result ≡ 2 → (input.new ≡ input.old) × (output.new ≡ output.old) }
 {
     let alloc = rt.alloc();
-    let Ok(known) = known_words(alloc) else {
-        return 1;
+    let known = match known_words(alloc) {
+        Ok(known) => known,
+        Err(_) => return status(rt, Err(Cause::OutOfMemory)),
     };
     match known.try_get_matches_from(words) {
-        Ok(_) => run(alloc, input, output),
+        Ok(_) => status(rt, run(alloc, input, output)),
         Err(error) => match error.kind() {
-            ErrorKind::OutOfMemory => 1,
-            ErrorKind::DisplayHelp => show(alloc, &error, output),
+            ErrorKind::OutOfMemory => status(rt, Err(Cause::OutOfMemory)),
+            ErrorKind::DisplayHelp | ErrorKind::DisplayVersion => {
+                status(rt, show(alloc, &error, output))
+            }
             _ => {
                 let _ = rt.eprint(&error);
                 2

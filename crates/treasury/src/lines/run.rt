@@ -1,13 +1,14 @@
 //! The run over all lines of a reader.
 
-ghost use Rattle.std.specs.Prelude.{◌≡◌, ◌∷◌, ◌++◌, [], MatchResult};
+ghost use Rattle.std.specs.Prelude.{◌≡◌, ◌∷◌, ◌++◌, []};
 ghost use Rattle.std.specs.Str.Lines.{strip_carriage_return};
-ghost use Rattle.treasury.specs.Transcript.{is_blank, requests_among};
-ghost use Rattle.treasury.specs.RunEnd.{HasNoLineFeed, AnswersWhole, StopsBy, Finished, EndsBy};
-ghost use Rattle.treasury.specs.Served.{Served, FailsBy};
+ghost use Rattle.treasury.specs.Transcript.{is_blank_text, requests_among};
+ghost use Rattle.treasury.specs.RunEnd.{HasNoLineFeed, Ends};
+ghost use Rattle.treasury.specs.Served.{Serves, Feeds};
 
 use crate::lines::machine::Machine;
 use crate::lines::write::write_whole;
+use journal_lines::is_blank;
 use money_core::Cause;
 use std::alloc::Global;
 use std::io::{Read, Write};
@@ -18,11 +19,11 @@ pub const MAX_INPUT: usize = 64 * 1024 * 1024;
 /// How many bytes are read at once.
 const CHUNK: usize = 4096;
 
-/// Whether the line is spaces and tabs, or empty.
-fn is_blank(line: &[u8]) -> bool
-    ensures { result ≡ is_blank line.now }
+/// Whether the text is blanks alone, or empty.
+pub fn is_blank_text(text: &[u8]) -> bool
+    ensures { result ≡ is_blank_text text.now }
 {
-    line.iter().all(|byte| *byte == b' ' || *byte == b'\t')
+    text.iter().all(|byte| is_blank(*byte))
 }
 
 /// The line without the carriage return at its end.
@@ -43,12 +44,9 @@ fn serve_line<W: Write, M: Machine>(
     writer: &mut W,
     machine: &mut M,
 ) -> Result<(), Cause>
-    ensures { MatchResult result
-        (λ _. Served M.step (W.contents writer.old) (W.contents writer.new) machine.old (requests_among (line.now ∷ [])) machine.new)
-        (λ cause. FailsBy cause M.step M.loses (W.contents writer.old) (W.contents writer.new) machine.old
-        (requests_among (line.now ∷ [])) machine.new) }
+    ensures { Serves result M.step M.loses (W.contents writer.old) (W.contents writer.new) machine.old (requests_among (line.now ∷ [])) machine.new }
 {
-    if is_blank(line) {
+    if is_blank_text(line) {
         return Ok(());
     }
     let mut text = Vec::new(alloc);
@@ -71,11 +69,7 @@ fn feed<W: Write, M: Machine>(
     machine: &mut M,
 ) -> Result<(), Cause>
     requires { HasNoLineFeed line.old.items }
-    ensures { MatchResult result
-        (λ _. AnswersWhole M.step (W.contents writer.old) (W.contents writer.new) machine.old
-        (line.old.items ++ bytes.now) line.new.items machine.new)
-        (λ cause. StopsBy cause M.step M.loses ⊥ (W.contents writer.old) (W.contents writer.new) machine.old
-        (line.old.items ++ bytes.now) machine.new) }
+    ensures { Feeds result M.step M.loses (W.contents writer.old) (W.contents writer.new) machine.old (line.old.items ++ bytes.now) line.new.items machine.new }
 {
     'feeding: for byte in bytes {
         if *byte == b'\n' {
@@ -97,19 +91,16 @@ fn feed<W: Write, M: Machine>(
 
 /// Answers each request that the reader gives, of at most `MAX_INPUT` bytes in all.
 ///
-/// Each answer is one text that is written at once. `ReadFault` comes where a read fails, whatever its error, or where
-/// the input goes on past the bound; `WriteFault` where a write fails or takes nothing.
+/// Each answer is one text that is written at once. 45 comes where a read fails, whatever its error, or where the input
+/// goes on past the bound; 46 where a write fails or takes nothing. 40 comes where memory is refused, and only then the
+/// machine's state may be lost, at a request that says so.
 pub fn run_machine<R: Read, W: Write, M: Machine>(
     alloc: Global,
     reader: &mut R,
     writer: &mut W,
     machine: &mut M,
 ) -> Result<(), Cause>
-    ensures { MatchResult result
-        (λ _. Finished M.step MAX_INPUT (R.remaining reader.old) (R.remaining reader.new)
-        (W.contents writer.old) (W.contents writer.new) machine.old machine.new)
-        (λ cause. EndsBy cause M.step M.loses MAX_INPUT (R.remaining reader.old) (R.remaining reader.new)
-        (W.contents writer.old) (W.contents writer.new) machine.old machine.new) }
+    ensures { Ends result M.step M.loses MAX_INPUT R.remaining reader.old reader.new W.contents writer.old writer.new machine.old machine.new }
 {
     let mut chunk = [0u8; CHUNK];
     let mut line = Vec::new(alloc);

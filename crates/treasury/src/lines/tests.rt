@@ -1,7 +1,7 @@
 //! The run, over a machine that answers each request with itself.
 
-ghost use Rattle.std.specs.Prelude.{◌≡◌, ◌∷◌, ◌++◌, [], codes, MatchResult};
-ghost use Rattle.treasury.specs.RunEnd.{Finished, EndsBy};
+ghost use Rattle.treasury.specs.RunEnd.{Ends};
+ghost use Rattle.treasury.specs.Echo.{Echoes, LosesAtWord};
 
 use crate::lines::{MAX_INPUT, Machine, Shortage, run_machine};
 use money_core::Cause;
@@ -16,9 +16,9 @@ struct Echo {
 }
 
 impl Machine for Echo {
-    ghost step = { λ _ request answer _. answer ≡ request ++ 10 ∷ [] };
+    ghost step = { Echoes };
 
-    ghost loses = { λ _ request. request ≡ codes "lost" };
+    ghost loses = { LosesAtWord };
 
     fn answer(
         &mut self,
@@ -41,20 +41,25 @@ impl Machine for Echo {
     }
 }
 
-/// A reader that gives at most so many bytes at once, and fails once its text is read where it is told to.
+/// A reader that gives at most so many bytes at once. Where it is told to, it fails once, before that byte, and then goes on.
 #[derive(Drop)]
 struct Slow<'a> {
     text: &'a [u8],
     at_once: usize,
-    fails: bool,
+    fails: Option<(usize, io::ErrorKind)>,
 }
 
 impl Read for Slow<'_> {
     fn read(&mut self, buf: &mut [u8]) -> io::Result<usize> {
-        if self.text.is_empty() && self.fails {
-            return Err(io::Error::from(io::ErrorKind::Interrupted));
+        let mut most = buf.len().min(self.at_once);
+        if let Some((before, kind)) = self.fails {
+            if before == 0 {
+                self.fails = None;
+                return Err(io::Error::from(kind));
+            }
+            most = most.min(before);
+            self.fails = Some((before - most, kind));
         }
-        let most = buf.len().min(self.at_once);
         self.text.read(&mut buf[..most])
     }
 }
@@ -77,19 +82,24 @@ impl Read for Blanks {
     }
 }
 
-/// A writer that takes at most so many bytes at once, and none once it is full.
+/// A writer that takes at most so many bytes at once. Once it is full, it fails once, by an error or by taking nothing, and
+/// then goes on.
 #[derive(Drop)]
 struct Narrow {
     taken: Vec<u8>,
     at_once: usize,
     room: usize,
-    fails: bool,
+    fails: Option<io::ErrorKind>,
 }
 
 impl Write for Narrow {
     fn write(&mut self, buf: &[u8]) -> io::Result<usize> {
-        if self.room == 0 && self.fails {
-            return Err(io::Error::from(io::ErrorKind::BrokenPipe));
+        if self.room == 0 {
+            self.room = usize::MAX;
+            return match self.fails {
+                Some(kind) => Err(io::Error::from(kind)),
+                None => Ok(0),
+            };
         }
         let count = buf.len().min(self.at_once).min(self.room);
         self.taken.extend_from_slice(&buf[..count])?;
@@ -109,11 +119,7 @@ fn run_echo<R: Read, W: Write>(
     writer: &mut W,
     echo: &mut Echo,
 ) -> Result<(), Cause>
-    ensures { MatchResult result
-        (λ _. Finished (λ _ request answer _. answer ≡ request ++ 10 ∷ []) MAX_INPUT (R.remaining reader.old) (R.remaining reader.new)
-        (W.contents writer.old) (W.contents writer.new) echo.old echo.new)
-        (λ cause. EndsBy cause (λ _ request answer _. answer ≡ request ++ 10 ∷ []) (λ _ request. request ≡ codes "lost") MAX_INPUT (R.remaining reader.old) (R.remaining reader.new)
-        (W.contents writer.old) (W.contents writer.new) echo.old echo.new) }
+    ensures { Ends result Echoes LosesAtWord MAX_INPUT R.remaining reader.old reader.new W.contents writer.old writer.new echo.old echo.new }
 {
     run_machine(alloc, reader, writer, echo)
 }
@@ -167,13 +173,13 @@ fn a_line_may_come_in_parts(rt: HostRuntime) -> Result<(), Fail> {
         let mut reader = Slow {
             text: long.as_slice(),
             at_once,
-            fails: false,
+            fails: None,
         };
         let mut writer = Narrow {
             taken: Vec::new(rt.alloc()),
             at_once: 1000,
             room: 100_000,
-            fails: false,
+            fails: None,
         };
         let mut echo = Echo { answered: 0 };
         let ended = run_echo(rt.alloc(), &mut reader, &mut writer, &mut echo);
@@ -184,44 +190,60 @@ fn a_line_may_come_in_parts(rt: HostRuntime) -> Result<(), Fail> {
     Ok(())
 }
 
+/// A body that reads again behind a failed read would answer more, or end otherwise.
 #[test]
 fn a_read_that_fails_leaves_the_complete_lines_answered(rt: HostRuntime) -> Result<(), Fail> {
-    let rows: [(&[u8], &[u8], u64); 5] = [
-        (b"", b"", 0),
-        (b"a", b"", 0),
-        (b"a\n", b"a\n", 1),
-        (b"a\nb", b"a\n", 1),
-        (b"a\n\nb\r\nc\r", b"a\nb\n", 2),
+    let rows: [(&[u8], usize, io::ErrorKind, &[u8], u64); 10] = [
+        (b"", 0, io::ErrorKind::Interrupted, b"", 0),
+        (b"a", 1, io::ErrorKind::Interrupted, b"", 0),
+        (b"a\n", 2, io::ErrorKind::Interrupted, b"a\n", 1),
+        (b"a\nb", 3, io::ErrorKind::Interrupted, b"a\n", 1),
+        (
+            b"a\n\nb\r\nc\r",
+            8,
+            io::ErrorKind::Interrupted,
+            b"a\nb\n",
+            2,
+        ),
+        (b"a\nb\n", 0, io::ErrorKind::Interrupted, b"", 0),
+        (b"a\nb\nc\n", 2, io::ErrorKind::Interrupted, b"a\n", 1),
+        (b"a\nb\nc\n", 3, io::ErrorKind::WouldBlock, b"a\n", 1),
+        (b"a\nb\nc\n", 4, io::ErrorKind::TimedOut, b"a\nb\n", 2),
+        (b"a\nb\nc\n", 5, io::ErrorKind::BrokenPipe, b"a\nb\n", 2),
     ];
-    for (input, want, count) in rows {
+    for (input, before, kind, want, count) in rows {
         let mut reader = Slow {
             text: input,
             at_once: 3,
-            fails: true,
+            fails: Some((before, kind)),
         };
         let mut writer = Vec::new(rt.alloc());
         let mut echo = Echo { answered: 0 };
         let ended = run_echo(rt.alloc(), &mut reader, &mut writer, &mut echo);
         assert!(rt; ended == Err(Cause::ReadFault));
+        assert!(rt; reader.text == &input[before..]);
         assert_eq!(rt; writer.as_slice(), want);
         assert_eq!(rt; echo.answered, count);
     }
     Ok(())
 }
 
+/// A body that writes again behind a failed write would write more, or end otherwise.
 #[test]
 fn a_write_that_fails_or_takes_nothing_ends_the_run(rt: HostRuntime) -> Result<(), Fail> {
-    let rows: [(usize, &[u8], u64, bool); 8] = [
-        (0, b"", 1, true),
-        (1, b"a", 1, false),
-        (2, b"ab", 1, true),
-        (3, b"ab\n", 2, false),
-        (4, b"ab\nc", 2, true),
-        (5, b"ab\nc\n", 3, false),
-        (6, b"ab\nc\nd", 3, true),
-        (7, b"ab\nc\nd\n", 3, false),
+    let rows: [(usize, Option<io::ErrorKind>, &[u8], u64); 10] = [
+        (0, Some(io::ErrorKind::Interrupted), b"", 1),
+        (0, None, b"", 1),
+        (1, None, b"a", 1),
+        (1, Some(io::ErrorKind::Interrupted), b"a", 1),
+        (2, Some(io::ErrorKind::BrokenPipe), b"ab", 1),
+        (3, None, b"ab\n", 2),
+        (3, Some(io::ErrorKind::WouldBlock), b"ab\n", 2),
+        (4, Some(io::ErrorKind::TimedOut), b"ab\nc", 2),
+        (5, None, b"ab\nc\n", 3),
+        (6, Some(io::ErrorKind::Interrupted), b"ab\nc\nd", 3),
     ];
-    for (room, want, count, fails) in rows {
+    for (room, fails, want, count) in rows {
         let mut reader: &[u8] = b"ab\nc\n\nd";
         let mut writer = Narrow {
             taken: Vec::new(rt.alloc()),
@@ -231,11 +253,7 @@ fn a_write_that_fails_or_takes_nothing_ends_the_run(rt: HostRuntime) -> Result<(
         };
         let mut echo = Echo { answered: 0 };
         let ended = run_echo(rt.alloc(), &mut reader, &mut writer, &mut echo);
-        if room < 7 {
-            assert!(rt; ended == Err(Cause::WriteFault));
-        } else {
-            assert!(rt; ended.is_ok());
-        }
+        assert!(rt; ended == Err(Cause::WriteFault));
         assert_eq!(rt; writer.taken.as_slice(), want);
         assert_eq!(rt; echo.answered, count);
     }

@@ -40,8 +40,7 @@ fn owned(alloc: Global, form: Form) -> Result<Request, Cause>
 
 /// The request that a text spells.
 ///
-/// `Request` comes where the text is no JSON object of a request's form, and where it is none only
-/// `Request` or `OutOfMemory` comes.
+/// 44 comes only where the text is no JSON object of a request's form, and 40 where there is no memory to read it.
 #[tactic(auto, unfolding(crate::specs::Request::spelled))]
 pub fn read_command(alloc: Global, text: &str) -> Result<Request, Cause>
     ensures ok { IfOk result (λ request. spelled text.now ≡ Some request) }
@@ -69,7 +68,8 @@ pub fn read_command(alloc: Global, text: &str) -> Result<Request, Cause>
     }
 }
 
-/// The request that the bytes of a line spell, as `read_command` reads it; bytes that are not UTF-8 spell none.
+/// The request that the bytes of a line spell, as `read_command` reads it; bytes that are not UTF-8 spell none. Answers 40
+/// as it does.
 pub fn read_line(alloc: Global, line: &[u8]) -> Result<Request, Cause>
     ensures ok { IfOk result (λ request. spelled line.now ≡ Some request) }
     ensures days { IfOk result HasDayNumbers }

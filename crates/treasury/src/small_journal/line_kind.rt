@@ -1,10 +1,11 @@
 //! The lines of a journal by their kind.
 
 ghost use Rattle.std.specs.Prelude.{◌≡◌, option_map};
-ghost use Rattle.treasury.specs.SmallJournal.{is_blank_text, cut_at_gap, header_day, behind_indent, posting_behind, kind_of_text, kind_of};
+ghost use Rattle.treasury.specs.SmallJournal.{cut_at_gap, header_day, behind_indent, posting_behind, kind_of_text, kind_of};
 ghost use Rattle.treasury.specs.LineView.{shown};
 
-use journal_lines::{is_account, is_blank, read_date};
+use crate::lines::is_blank_text;
+use journal_lines::{is_account, read_date};
 use money_core::Day;
 
 /// A line of a journal by its kind.
@@ -18,13 +19,6 @@ pub enum LineKind<'a> {
     Posting { account: &'a str, amount: &'a str },
     /// None of these.
     Other,
-}
-
-/// Whether there is nothing but blanks.
-fn is_blank_text(text: &[u8]) -> bool
-    ensures { result ≡ is_blank_text text.now }
-{
-    text.iter().all(|b| is_blank(*b))
 }
 
 /// The text before the first two spaces that stand together, and the text behind them.

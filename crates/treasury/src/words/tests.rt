@@ -38,22 +38,28 @@ fn joined(alloc: Global, texts: &[&str]) -> Result<Vec<u8>, AllocError> {
     Ok(all)
 }
 
-/// A reader that fails once its text is read.
+/// A reader that fails once its first text is read, and then goes on with the second.
 #[derive(Drop)]
 struct Broken<'a> {
-    text: &'a [u8],
+    first: &'a [u8],
+    second: &'a [u8],
+    fails: bool,
 }
 
 impl Read for Broken<'_> {
     fn read(&mut self, buf: &mut [u8]) -> io::Result<usize> {
-        if self.text.is_empty() {
-            return Err(io::Error::from(io::ErrorKind::BrokenPipe));
+        if !self.first.is_empty() {
+            return self.first.read(buf);
         }
-        self.text.read(buf)
+        if self.fails {
+            self.fails = false;
+            return Err(io::Error::from(io::ErrorKind::Interrupted));
+        }
+        self.second.read(buf)
     }
 }
 
-/// A writer that has room for so many bytes more, and keeps what it takes.
+/// A writer that has room for so many bytes, takes nothing once where it is full, and then goes on. It keeps what it takes.
 #[derive(Drop)]
 struct Kept {
     taken: Vec<u8>,
@@ -62,6 +68,10 @@ struct Kept {
 
 impl Write for Kept {
     fn write(&mut self, buf: &[u8]) -> io::Result<usize> {
+        if self.room == 0 {
+            self.room = usize::MAX;
+            return Ok(0);
+        }
         let count = buf.len().min(self.room);
         self.taken.extend_from_slice(&buf[..count])?;
         self.room -= count;
@@ -83,13 +93,20 @@ fn writer_of(alloc: Global, room: usize) -> Kept {
 
 #[test]
 fn words_say_what_is_done(rt: HostRuntime) -> Result<(), Fail> {
-    let rows: [(&[&str], u8, &str, &str); 9] = [
+    let rows: [(&[&str], u8, &str, &str); 11] = [
         (&["treasury", "run"], 0, "", ""),
         (&["treasury"], 2, "", ""),
         (&[], 2, "", ""),
         (&["treasury", "fly"], 2, "", ""),
         (&["treasury", "run", "fast"], 2, "", ""),
         (&["treasury", "--db", "x"], 2, "", ""),
+        (&["treasury", "run", "--version"], 2, "", ""),
+        (
+            &["treasury", "--version"],
+            0,
+            "treasury 0.1.0\n",
+            "treasury 0.1.0\n",
+        ),
         (
             &["treasury", "--help"],
             0,
@@ -310,22 +327,28 @@ fn postings_are_summed_in_128_bits(rt: HostRuntime) -> Result<(), Fail> {
 fn a_broken_reader_and_a_full_writer_end_with_1(rt: HostRuntime) -> Result<(), Fail> {
     let line = command_line(rt.alloc(), &["treasury", "run"])?;
     let mut reader = Broken {
-        text: b"{\"do\":\"branch\",\"name\":\"north\"}\n{\"do\"",
+        first: b"{\"do\":\"branch\",\"name\":\"north\"}\n{\"do\"",
+        second: b":\"branch\",\"name\":\"south\"}\n",
+        fails: true,
     };
     let mut writer = writer_of(rt.alloc(), 4096);
     let ended = run_words(&rt, line.as_slice(), &mut reader, &mut writer);
     assert_eq!(rt; ended, 1);
     assert!(rt; writer.taken.as_slice() == b"ok\n".as_slice());
+    assert!(rt; !reader.fails && !reader.second.is_empty());
     let mut whole = OPENING.as_bytes();
     let mut full = writer_of(rt.alloc(), 5);
     let ended = run_words(&rt, line.as_slice(), &mut whole, &mut full);
     assert_eq!(rt; ended, 1);
     assert!(rt; full.taken.as_slice() == b"ok\nok".as_slice());
-    let help = command_line(rt.alloc(), &["treasury", "--help"])?;
-    let mut nothing: &[u8] = b"";
-    let mut none = writer_of(rt.alloc(), 0);
-    let ended = run_words(&rt, help.as_slice(), &mut nothing, &mut none);
-    assert_eq!(rt; ended, 1);
+    for word in ["--help", "--version"] {
+        let shown = command_line(rt.alloc(), &["treasury", word])?;
+        let mut nothing: &[u8] = b"";
+        let mut short = writer_of(rt.alloc(), 5);
+        let ended = run_words(&rt, shown.as_slice(), &mut nothing, &mut short);
+        assert_eq!(rt; ended, 1);
+        assert_eq!(rt; short.taken.len(), 5);
+    }
     Ok(())
 }
 

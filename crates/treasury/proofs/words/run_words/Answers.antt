@@ -1,7 +1,12 @@
-use Rattle.std.proofs.Common.{◌≡◌, refl, sym, ◌∙◌, inl}
-use Rattle.clap.specs.declared.error.kind.ErrorKind.TheVariants.{OutOfMemory, DisplayHelp}
-use Rattle.treasury.proofs.WordLemmas.{taken, fails_by, run_fails, help_shown}
+use Rattle.std.proofs.Common.{◌≡◌, refl, sym, ◌∙◌, inl, inr}
+use Rattle.treasury.proofs.WordLemmas.{taken, fails_by, run_fails, help_shown, run_shows_none, cut_off_status}
 use Rattle.treasury.proofs.words.run_words.Goals as goal
+
+pub returns-in-Ok-try_get_matches_from-clause-cut_off :
+    goal.returns-in-Ok-try_get_matches_from-clause-cut_off
+returns-in-Ok-try_get_matches_from-clause-cut_off g c =
+    λ _ other. let cut = cut_off_status c.run.result _ _ c.status-in-Ok-try_get_matches_from.ensures c.run.ensures.cut_off other in
+    (cut.0, inr cut.1)
 
 pub returns-in-Ok-try_get_matches_from-clause-other :
     goal.returns-in-Ok-try_get_matches_from-clause-other
@@ -15,22 +20,20 @@ returns-in-Ok-try_get_matches_from-clause-wrong g c =
 
 pub returns-in-DisplayHelp-clause-done : goal.returns-in-DisplayHelp-clause-done
 returns-in-DisplayHelp-clause-done g c =
-    λ asks _. let memory = run_fails _ _ (fails_by _ _ _ c.in-Ok.ensures c.in-Err.ensures.kinds) asks in
-    let clash : DisplayHelp ≡ OutOfMemory = c.in-DisplayHelp.ensures ∙ memory in cc
+    λ asks _. absurd (run_shows_none _ _ (fails_by _ _ _ c.in-Ok.ensures c.in-Err-try_get_matches_from.ensures.kinds) (rw c.kind.ensures at c.in-DisplayHelp.is) asks)
 
 pub returns-in-DisplayHelp-clause-cut_off : goal.returns-in-DisplayHelp-clause-cut_off
 returns-in-DisplayHelp-clause-cut_off g c =
-    λ asks _. let memory = run_fails _ _ (fails_by _ _ _ c.in-Ok.ensures c.in-Err.ensures.kinds) asks in
-    let clash : DisplayHelp ≡ OutOfMemory = c.in-DisplayHelp.ensures ∙ memory in cc
+    λ asks _. absurd (run_shows_none _ _ (fails_by _ _ _ c.in-Ok.ensures c.in-Err-try_get_matches_from.ensures.kinds) (rw c.kind.ensures at c.in-DisplayHelp.is) asks)
 
 pub returns-in-DisplayHelp-clause-wrong : goal.returns-in-DisplayHelp-clause-wrong
 returns-in-DisplayHelp-clause-wrong g c =
-    λ _ helpless. absurd (helpless (help_shown _ _ (fails_by _ _ _ c.in-Ok.ensures c.in-Err.ensures.kinds) (sym c.in-DisplayHelp.ensures)))
+    λ _ helpless. absurd (helpless (help_shown _ _ (fails_by _ _ _ c.in-Ok.ensures c.in-Err-try_get_matches_from.ensures.kinds) (rw c.kind.ensures at c.in-DisplayHelp.is)))
 
 pub returns : goal.returns
 returns g c = record {
   done = λ _ zero. cc;
-  cut_off = λ asks _. absurd (c.in_default-kind.not-OutOfMemory (c.kind.ensures ∙ run_fails _ _ (fails_by _ _ _ c.in-Ok.ensures c.in-Err.ensures.kinds) asks));
+  cut_off = λ asks _. absurd (c.in_default.not-OutOfMemory (c.kind.ensures ∙ run_fails _ _ (fails_by _ _ _ c.in-Ok.ensures c.in-Err-try_get_matches_from.ensures.kinds) asks));
   other = λ _. refl;
   wrong = λ _ _. (inl refl, refl);
   usage = λ _. (refl, refl);

@@ -1,3 +1,4 @@
+use Rattle.treasury.specs.RunEnd.{most_input}
 use Rattle.treasury.proofs.RunLemmas.{Passed}
 use Rattle.treasury.proofs.lines.run.run_machine.Given as goal
 
@@ -5,7 +6,7 @@ use Rattle.treasury.proofs.lines.run.run_machine.Given as goal
 abbrev pub invariant-reading : goal.invariant-reading
 invariant-reading g l =
     Passed g.M.Machine.step (g.R.Read.remaining l.initial.reader) (g.R.Read.remaining l.reader) (g.W.Write.contents l.initial.writer) (g.W.Write.contents l.writer)
-    l.initial.machine l.machine l.line.items l.left 67108864
+    l.initial.machine l.machine l.line.items l.left most_input
 
 abbrev pub decreases-reading : goal.decreases-reading
 decreases-reading g l = l.left

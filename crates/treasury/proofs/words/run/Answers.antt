@@ -1,0 +1,7 @@
+use Rattle.treasury.proofs.CutLemmas.{cut_off}
+use Rattle.treasury.proofs.words.run.Goals as goal
+
+pub returns-clause-cut_off : goal.returns-clause-cut_off
+returns-clause-cut_off g c =
+    cut_off c.run_lines.result g.R.Read.remaining _ _ g.W.Write.contents _ _ c.run_lines.new.desk
+    (rw c.empty-desk.ensures at c.run_lines.ensures)
