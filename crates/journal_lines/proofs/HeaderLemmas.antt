@@ -1,7 +1,7 @@
 -- A printed comment line and a printed header line read back as their parts, and what is read prints so.
-use Rattle.std.proofs.Common.{◌≡◌, ◌≤◌, ◌<◌, ◌+◌, ◌++◌, ◌==◌, ℕ, List, [], ◌∷◌, Bool, true, false, cond, not, ◌&&◌, ◌||◌, length, drop, slice_index, arith, refl, ap, ◌∙◌, append-nil, append_assoc, sym, subst, Option, Some, None, Result, Ok, Err, inl, inr, ◌⊎◌, length-append, nat_lt}
+use Rattle.std.proofs.Common.{◌≡◌, ◌≤◌, ◌<◌, ◌+◌, ◌++◌, ◌==◌, ℕ, List, [], ◌∷◌, Bool, true, false, cond, not, ◌&&◌, ◌||◌, length, drop, slice_index, arith, refl, ap, ◌∙◌, append-nil, append_assoc, sym, subst, Option, Some, None, Result, Ok, Err, inl, inr, ◌⊎◌, length-append, nat_lt, nat_le}
 use Rattle.std.proofs.lemmas.Grind.{common_steps}
-use Rattle.std.proofs.lemmas.Bool.{cases_Bool, and_parts, and_from, or_parts, not-true, not_from_false, lt-ltb, le-ltb, ltb-true, ltb-false}
+use Rattle.std.proofs.lemmas.Bool.{cases_Bool, and_parts, and_from, or_parts, not-true, not_from_false, lt-ltb, le-ltb, le-leb, leb-true, ltb-true, ltb-false}
 use Rattle.std.specs.List.{list_all, position_or_len, before_first, after_first}
 use Rattle.std.specs.Char.{is_ascii_digit}
 use Rattle.std.proofs.lemmas.List.{drop_at}
@@ -12,7 +12,8 @@ use Rattle.journal_lines.specs.declared.header.Status.TheVariants.{Pending, Clea
 use Rattle.journal_lines.specs.Blank.{is_blank, first_word, trim_start, trim_end, trim, is_trimmed}
 use Rattle.journal_lines.specs.Comment.{has_no, front_of, comment_of}
 use Rattle.journal_lines.specs.Date.{date_of, printed_date, IsDateText, IsDayNumber}
-use Rattle.journal_lines.specs.Header.{status_at, behind_status, Coded, code_at, behind_date, cut_header, HeaderParts, is_coded_long, length_of, judged_header, dated_header, closed_header, header_of}
+use Rattle.journal_lines.specs.Header.{code_limit, description_limit, comment_limit, status_at, behind_status, HeaderParts, length_of}
+use Rattle.journal_lines.specs.HeaderReading.{Coded, code_at, behind_date, cut_header, is_coded_long, judged_header, dated_header, closed_header, header_of}
 use Rattle.journal_lines.specs.Printed.{is_clean, indent, header_status, header_code, header_description, header_line, spaced_text, comment_line, is_comment, is_code, is_description, HeaderOk}
 use Rattle.journal_lines.specs.HeaderForm.{starts_so}
 use Rattle.journal_lines.proofs.CutLemmas.{before_mark, no_mark, trim_start_behind, trim_start_same, trim_end_same, trim_inside, trim_same, front_whole, no_comment, comment_behind, all_weaker, all_joined, all_take, all_drop, all_trim_start, all_trim_end, first_trimmed, trim_start_first, trim_end_trimmed, trim_trimmed, before_none}
@@ -39,14 +40,14 @@ pub record DescriptionOk (status : Option Status) (code : Option (List ℕ)) (te
   pub trimmed : is_trimmed text ≡ true
   pub no_semicolon : has_no 59 text ≡ true
   pub clean : list_all is_clean text ≡ true
-  pub short : nat_lt (length text) 501 ≡ true
+  pub short : nat_le (length text) description_limit ≡ true
   pub so : starts_so status code (slice_index text 0) ≡ true
 
 pub description_parts : (status : Option Status) (code : Option (List ℕ)) (text : List ℕ) → is_description status code text ≡ true → DescriptionOk status code text
 description_parts status code text h =
-    let a = and_parts (is_trimmed text && list_all (λ b. not (b == 59)) text && list_all is_clean text && nat_lt (length text) 501) _ h in
-    let b = and_parts (is_trimmed text && list_all (λ b. not (b == 59)) text && list_all is_clean text) _ a.0 in
-    let c = and_parts (is_trimmed text && list_all (λ b. not (b == 59)) text) _ b.0 in
+    let a = and_parts (is_trimmed text && has_no 59 text && list_all is_clean text && nat_le (length text) description_limit) _ h in
+    let b = and_parts (is_trimmed text && has_no 59 text && list_all is_clean text) _ a.0 in
+    let c = and_parts (is_trimmed text && has_no 59 text) _ b.0 in
     let d = and_parts (is_trimmed text) _ c.0 in
     record { trimmed = d.0; no_semicolon = d.1; clean = c.1; short = b.1; so = a.1 }
 
@@ -54,13 +55,13 @@ pub record CodeOk (code : List ℕ) : Type 0 where
   pub open_end : has_no 41 code ≡ true
   pub no_semicolon : has_no 59 code ≡ true
   pub clean : list_all is_clean code ≡ true
-  pub short : nat_lt (length code) 101 ≡ true
+  pub short : nat_le (length code) code_limit ≡ true
 
 pub code_parts : (code : List ℕ) → is_code (Some code) ≡ true → CodeOk code
 code_parts code h =
-    let a = and_parts (list_all (λ b. not (b == 41)) code && list_all (λ b. not (b == 59)) code && list_all is_clean code) _ h in
-    let b = and_parts (list_all (λ b. not (b == 41)) code && list_all (λ b. not (b == 59)) code) _ a.0 in
-    let c = and_parts (list_all (λ b. not (b == 41)) code) _ b.0 in
+    let a = and_parts (has_no 41 code && has_no 59 code && list_all is_clean code) _ h in
+    let b = and_parts (has_no 41 code && has_no 59 code) _ a.0 in
+    let c = and_parts (has_no 41 code) _ b.0 in
     record { open_end = c.0; no_semicolon = c.1; clean = b.1; short = a.1 }
 
 -- the description behind its space
@@ -189,11 +190,11 @@ header_reads day status code text h =
     let date = dates_print day h.number in
     let d = description_parts status code text h.description_ok in
     let text_end = description_end text d.trimmed in
-    rw (header_cut day status code text date h.code_ok d, short_code code h.code_ok, text_end, le-ltb 500 (length text) (omega (arith, ltb-true (length text) 501 d.short)), date.reads) (rw text_end refl)
+    rw (header_cut day status code text date h.code_ok d, short_code code h.code_ok, text_end, le-ltb 500 (length text) (omega (arith, leb-true (length text) 500 d.short)), date.reads) (rw text_end refl)
   where
     short_code : (c : Option (List ℕ)) → is_code c ≡ true → nat_lt 100 (length_of c) ≡ false
     short_code None k = refl
-    short_code (Some c) k = le-ltb 100 (length c) (omega (arith, ltb-true (length c) 101 (code_parts c k).short))
+    short_code (Some c) k = le-ltb 100 (length c) (omega (arith, leb-true (length c) 100 (code_parts c k).short))
 
 date_clean : (b : ℕ) → (is_ascii_digit b || (b == 45)) ≡ true → is_clean b ≡ true
 date_clean b h = grind (arith, common_steps)
@@ -232,7 +233,7 @@ header_short day status code text date k d =
       of_status status,
       of_code code k,
       of_text text,
-      ltb-true (length text) 501 d.short,
+      leb-true (length text) 500 d.short,
       length-append (printed_date day) (header_status status ++ (header_code code ++ header_description text)),
       length-append (header_status status) (header_code code ++ header_description text),
       length-append (header_code code) (header_description text),
@@ -245,7 +246,7 @@ header_short day status code text date k d =
 
     of_code : (c : Option (List ℕ)) → is_code c ≡ true → length (header_code c) ≤ 103
     of_code None h = omega arith
-    of_code (Some c) h = omega (arith, length-append c (41 ∷ []), ltb-true (length c) 101 (code_parts c h).short)
+    of_code (Some c) h = omega (arith, length-append c (41 ∷ []), leb-true (length c) 100 (code_parts c h).short)
 
     of_text : (t : List ℕ) → length (header_description t) ≤ length t + 1
     of_text [] = omega arith
@@ -265,7 +266,7 @@ read_comment line text clean e short =
           let q : trim (after_first (λ b. b == 59) line) ≡ text = (let found_is = found.1 in cc) in
           let ends : is_trimmed text ≡ true = ap is_trimmed (sym q) ∙ trim_trimmed (after_first (λ b. b == 59) line) in
           let good : list_all is_clean text ≡ true = ap (λ (t : List ℕ). list_all is_clean t) (sym q) ∙ all_trim_end is_clean _ (all_trim_start is_clean _ (all_drop is_clean (position_or_len (λ b. b == 59) line + 1) line clean)) in
-          and_from _ _ (and_from _ _ ends good) (lt-ltb (length text) 901 (omega (arith, ltb-false 900 (length text) short)))
+          and_from _ _ (and_from _ _ ends good) (le-leb (length text) 900 (ltb-false 900 (length text) short))
       | inr none ↦ absurd (let none_is = none.1 in cc)
     ]
 
@@ -366,7 +367,7 @@ code_read text coded k none clean short = at coded.code refl
     at None e = refl
     at (Some code) e =
         let size = ltb-false 100 (length code) (ap (λ (o : Option (List ℕ)). nat_lt 100 (length_of o)) (sym e) ∙ short) in
-        and_from _ _ (and_from _ _ (and_from _ _ (k.open_end code e) (k.within (λ b. not (b == 59)) code e none)) (k.within is_clean code e clean)) (lt-ltb (length code) 101 (omega (arith, size)))
+        and_from _ _ (and_from _ _ (and_from _ _ (k.open_end code e) (k.within (λ b. not (b == 59)) code e none)) (k.within is_clean code e clean)) (le-leb (length code) 100 size)
 
 pub so_read : (status : Option Status) (dated : List ℕ) (coded : Coded) → CodedOk (behind_status dated) coded → status_at dated ≡ status → starts_so status coded.code (slice_index (trim_end coded.rest) 0) ≡ true
 so_read status dated coded k e = at coded.code refl status e
@@ -413,7 +414,7 @@ read_header line h clean e =
             number = number;
             code_ok = code_read text coded k none good sizes.0;
             description_ok = and_from _ _ (and_from _ _ (and_from _ _ (and_from _ _ (trim_end_trimmed coded.rest k.first) (all_trim_end (λ b. not (b == 59)) coded.rest (k.inside (λ b. not (b == 59)) none)))
-                (all_trim_end is_clean coded.rest (k.inside is_clean good))) (lt-ltb (length (trim_end coded.rest)) 501 (omega (arith, size)))) (so_read (status_at dated) dated coded k refl);
+                (all_trim_end is_clean coded.rest (k.inside is_clean good))) (le-leb (length (trim_end coded.rest)) 500 size)) (so_read (status_at dated) dated coded k refl);
           };
           comment = λ t is. read_comment line t clean is (ap (λ (o : Option (List ℕ)). nat_lt 900 (length_of o)) (sym is) ∙ short);
         })

@@ -8,3 +8,5 @@ pub mod HeaderLemmas
 pub mod WorkedValues
 pub mod HeaderFormLemmas
 pub mod HeaderReadLemmas
+pub mod Utf8Lemmas
+pub mod KindLemmas

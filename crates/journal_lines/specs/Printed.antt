@@ -1,11 +1,13 @@
 -- The lines of an entry that this crate can read, as they are printed (own rule: one canonical form), and which parts print so that they
 -- read back.
-use Rattle.std.specs.Prelude.{◌≡◌, ℕ, ◌==◌, nat_lt, nat_le, List, [], ◌∷◌, ◌++◌, length, slice_index, Bool, true, ◌&&◌, ◌||◌, not, Option, Some, None}
+use Rattle.std.specs.Prelude.{◌≡◌, ℕ, ◌==◌, nat_le, List, [], ◌∷◌, ◌++◌, length, slice_index, Bool, true, ◌&&◌, ◌||◌, not, Option, Some, None}
 use Rattle.std.specs.List.{list_all, flat_map}
 use Rattle.money_core.specs.declared.day.Day.{Day}
 use Rattle.journal_lines.specs.declared.header.Status.{Status}
 use Rattle.journal_lines.specs.declared.header.Status.TheVariants.{Cleared, Pending}
 use Rattle.journal_lines.specs.Blank.{is_trimmed}
+use Rattle.journal_lines.specs.Comment.{has_no}
+use Rattle.journal_lines.specs.Header.{code_limit, description_limit, comment_limit}
 use Rattle.journal_lines.specs.HeaderForm.{starts_so}
 use Rattle.journal_lines.specs.Date.{printed_date, IsDayNumber}
 
@@ -50,19 +52,19 @@ spaced_text (b ∷ bs) = 32 ∷ b ∷ bs
 unfoldable pub comment_line : List ℕ → List ℕ
 comment_line text = indent ++ (59 ∷ spaced_text text)
 
--- a comment that reads back: no blank at an end, no control character but the tab, at most 900 bytes
+-- a comment that reads back: no blank at an end, no control character but the tab, within the limit of bytes
 abbrev pub is_comment : List ℕ → Bool
-is_comment text = is_trimmed text && list_all is_clean text && nat_lt (length text) 901
+is_comment text = is_trimmed text && list_all is_clean text && nat_le (length text) comment_limit
 
--- a code that reads back: no `)`, no `;`, no control character but the tab, at most 100 bytes
+-- a code that reads back: no `)`, no `;`, no control character but the tab, within the limit of bytes
 abbrev pub is_code : Option (List ℕ) → Bool
 is_code None = true
-is_code (Some code) = list_all (λ b. not (b == 41)) code && list_all (λ b. not (b == 59)) code && list_all is_clean code && nat_lt (length code) 101
+is_code (Some code) = has_no 41 code && has_no 59 code && list_all is_clean code && nat_le (length code) code_limit
 
 -- a description that reads back behind that status and that code
 abbrev pub is_description : Option Status → Option (List ℕ) → List ℕ → Bool
 is_description status code text =
-    is_trimmed text && list_all (λ b. not (b == 59)) text && list_all is_clean text && nat_lt (length text) 501 && starts_so status code (slice_index text 0)
+    is_trimmed text && has_no 59 text && list_all is_clean text && nat_le (length text) description_limit && starts_so status code (slice_index text 0)
 
 -- the parts of a header that reads back
 pub record HeaderOk (day : Day) (status : Option Status) (code : Option (List ℕ)) (description : List ℕ) : Type 0 where

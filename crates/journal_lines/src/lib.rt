@@ -17,7 +17,7 @@ pub use blank::{first_word, is_blank, trim, trim_end, trim_start};
 pub use comment::{comment_of, front_of, tags};
 pub use date::{is_day_number, print_date, read_date};
 pub use header::{Header, MAX_COMMENT, Status, behind_status, read_header, status_at};
-pub use line_kind::{LineKind, is_block_end, kind};
+pub use line_kind::{LineKind, is_block_end, is_remark, kind};
 pub use lines::Lines;
 pub use money_core::{Cause, Day};
 pub use tag::Tags;
