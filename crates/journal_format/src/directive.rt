@@ -3,14 +3,12 @@
 ghost use Rattle.std.specs.Prelude.{◌≡◌, ◌⊎◌, true, length, slice_get, Some};
 ghost use Rattle.std.specs.Str.{is_utf8};
 ghost use Rattle.money_core.specs.Sampling.{style_of};
-ghost use Rattle.journal_format.specs.Directive.{symbol_of};
+ghost use Rattle.money_core.specs.Cutting.{symbol_of};
 ghost use Rattle.journal_format.specs.Directive.{behind_word, shows_digit, agrees, sampled, named, commodity_of, sample_fault, is_format, format_fault};
 ghost use Rattle.journal_format.specs.PostingRead.{IsUnlessMemory};
 
 use journal_lines::{first_word, front_of, trim, trim_start};
-use crate::lengths::{read_style, read_symbol};
-use crate::posting_line::text_of;
-use money_core::{Cause, Style, Styles, Unit};
+use money_core::{Cause, Style, Styles, Unit, read_style, read_symbol, text_of};
 use std::alloc::Global;
 
 /// What follows the first word, without blanks at its ends.
