@@ -13,7 +13,8 @@ use Rattle.journal_lines.specs.declared.header.Status.TheVariants.{Pending, Clea
 use Rattle.journal_lines.specs.Blank.{is_blank, first_word, first_solid, trim_start, trim_end, is_trimmed}
 use Rattle.journal_lines.specs.Comment.{has_no, front_of, comment_of}
 use Rattle.journal_lines.specs.Date.{behind_year, separator, month_part, day_part, is_separator, is_short, IsDate, date_of, day_of}
-use Rattle.journal_lines.specs.Header.{status_at, behind_status, Coded, closed_code, code_at, behind_date, cut_header, HeaderParts, is_coded_long, length_of, judged_header, dated_header, closed_header, header_of}
+use Rattle.journal_lines.specs.Header.{status_at, behind_status, HeaderParts, length_of}
+use Rattle.journal_lines.specs.HeaderReading.{Coded, closed_code, code_at, behind_date, cut_header, is_coded_long, judged_header, dated_header, closed_header, header_of}
 use Rattle.journal_lines.specs.HeaderForm.{status_text, code_text, is_closed, starts_so, IsRemark, Reads}
 use Rattle.journal_lines.proofs.CutLemmas.{before_mark, trim_start_behind, trim_start_same, trim_start_blanks, trim_end_same, trim_inside, all_trim_end, front_whole, no_comment, comment_behind, all_weaker, all_joined, trim_trimmed, trim_start_first, trim_end_trimmed}
 use Rattle.journal_lines.proofs.DateLemmas.{date_of_is, date_facts}

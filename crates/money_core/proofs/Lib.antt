@@ -5,6 +5,7 @@ pub mod ClassLemmas
 pub mod StyleLemmas
 pub mod NumberLength
 pub mod SymbolText
+pub mod Utf8Lemmas
 pub mod AmountParts
 pub mod AmountPrint
 pub mod Appends

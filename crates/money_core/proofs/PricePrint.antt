@@ -9,17 +9,18 @@ use Rattle.money_core.specs.declared.unit.Unit.{Unit as Commodity}
 use Rattle.money_core.specs.declared.price.Price.{Price}
 use Rattle.money_core.specs.declared.price.Price.TheVariants.{Each, Total}
 use Rattle.money_core.specs.declared.cause.Cause.TheVariants.{Amount, Cost}
-use Rattle.money_core.specs.Class.{has, skip_blanks}
+use Rattle.money_core.specs.Class.{has}
 use Rattle.money_core.specs.Number.{is_number, fits_decimals, fraction_part, quantity}
 use Rattle.money_core.specs.Printed.{printed_number}
 use Rattle.money_core.specs.Symbol.{is_symbol}
 use Rattle.money_core.specs.Amount.{Parts, limit, place_of}
-use Rattle.money_core.specs.Cutting.{amount_parts}
+use Rattle.money_core.specs.Cutting.{skip_blanks, amount_parts}
 use Rattle.money_core.specs.Style.{AreStyles}
 use Rattle.money_core.specs.AmountText.{printed_with}
 use Rattle.money_core.specs.Price.{unit_limit, is_negative, cost_unit, is_cost, is_price}
 use Rattle.money_core.specs.PriceReading.{kept_decimals, unit_cost, total_cost, price_in, price_at, price_of_parts, price}
 use Rattle.money_core.specs.PriceText.{printed_cost, printed_price, IsPriceText, PricesPrint, PricesBound}
+use Rattle.money_core.proofs.Utf8Lemmas.{utf8_joined, utf8_low}
 use Rattle.money_core.proofs.RoundTrip.{printed_reads}
 use Rattle.money_core.proofs.AmountParts.{printed_parts}
 use Rattle.money_core.proofs.GrammarLemmas.{blanks_skipped}
@@ -71,6 +72,7 @@ price_text_is styles (Each unit digits decimals) style ok at h =
     let rest = printed_with style decimals (pos digits) in
     let ends = amount_ends style decimals (pos digits) (declared_style styles unit.0 style ok at).symbolic (omega (arith, facts.small)) in
     record {
+      utf8 = utf8_joined (64 ∷ 32 ∷ []) rest (utf8_low (64 ∷ 32 ∷ []) refl) ends.utf8;
       reads = behind_one styles rest ends.first ∙ each_reads styles unit digits decimals style ok at facts;
       rest = rest;
       whole = refl;
@@ -85,6 +87,7 @@ price_text_is styles (Total unit q) style ok at h =
     let known = declared_style styles unit.0 style ok at in
     let ends = amount_ends style style.decimals (pos q) known.symbolic l in
     record {
+      utf8 = utf8_joined (64 ∷ 64 ∷ 32 ∷ []) rest (utf8_low (64 ∷ 64 ∷ 32 ∷ []) refl) ends.utf8;
       reads = behind_two styles rest ends.first ∙ total_reads styles unit q style ok at l;
       rest = rest;
       whole = refl;

@@ -1,4 +1,5 @@
 pub mod Cause
+pub mod Blank
 pub mod Class
 pub mod Mark
 pub mod Number

@@ -35,5 +35,6 @@ pub use reading::read_amount;
 pub use sample::read_style;
 pub use style::{Style, is_style};
 pub use styles::Styles;
-pub use text::Text;
+pub use symbol::read_symbol;
+pub use text::{Text, text_of};
 pub use unit::{Declared, Unit};
