@@ -14,7 +14,7 @@ use Rattle.journal_lines.specs.Blank.{is_blank, first_solid, trim_start, trim_en
 use Rattle.journal_lines.specs.Comment.{comment_of}
 use Rattle.journal_lines.specs.LineKind.{kind_of, is_blank_line, is_block_start, is_comment_sign, is_remark}
 use Rattle.journal_lines.specs.Date.{printed_date, IsDateText}
-use Rattle.journal_lines.specs.Printed.{header_status, header_code, header_description, header_line, spaced_text, comment_line}
+use Rattle.journal_lines.specs.Printed.{header_status, header_code, header_line, spaced_text, comment_line}
 use Rattle.journal_lines.proofs.CutLemmas.{before_none, all_trim_start, trim_start_blanks}
 use Rattle.journal_lines.proofs.HeaderLemmas.{comment_shows}
 
@@ -60,7 +60,7 @@ kind_header (b ∷ bs) h = rw (solid b h, no_sign b h, no_block b bs (no_c b h) 
 pub header_kind : (day : Day) (status : Option Status) (code : Option (List ℕ)) (text : List ℕ) → IsDateText day (printed_date day) → kind_of (header_line day status code text) ≡ kind.Header
 unfolding header_line
 header_kind day status code text date =
-    let rest = header_status status ++ (header_code code ++ header_description text) in
+    let rest = header_status status ++ (header_code code ++ spaced_text text) in
     kind_header (printed_date day ++ rest) (ap is_ascii_digit (get_or_append_left (printed_date day) rest 0 0 (omega (arith, date.ten))) ∙ date.first)
 
 -- a printed comment line

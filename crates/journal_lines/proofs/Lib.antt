@@ -10,3 +10,4 @@ pub mod HeaderFormLemmas
 pub mod HeaderReadLemmas
 pub mod Utf8Lemmas
 pub mod KindLemmas
+pub mod PrintedLemmas

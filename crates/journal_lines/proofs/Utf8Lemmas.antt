@@ -19,7 +19,7 @@ use Rattle.journal_lines.specs.Date.{date_of, printed_date, IsDateText}
 use Rattle.journal_lines.specs.Header.{behind_status, HeaderParts, length_of, status_at}
 use Rattle.journal_lines.specs.HeaderReading.{Coded, closed_code, code_at, behind_date, cut_header, judged_header, dated_header, closed_header, is_coded_long, header_of}
 use Rattle.journal_lines.specs.Utf8.{is_utf8_or_none, IsUtf8Header}
-use Rattle.journal_lines.specs.Printed.{indent, header_status, header_code, header_description, header_line, spaced_text, comment_line}
+use Rattle.journal_lines.specs.Printed.{indent, header_status, header_code, header_line, spaced_text, comment_line}
 use Rattle.journal_lines.specs.AccountName.{ends_name, name_end}
 use Rattle.journal_lines.proofs.CutLemmas.{trim_start_behind, trim_start_same, trim_end_same, trim_end_blank, all_weaker}
 use Rattle.journal_lines.proofs.HeaderLemmas.{past, chosen}
@@ -227,7 +227,7 @@ pub header_line_utf8 : (day : Day) (status : Option Status) (code : Option (List
 unfolding header_line
 header_line_utf8 day status code text date c d =
     utf8_joined (printed_date day) _ (utf8_low (printed_date day) (all_weaker (λ b. is_ascii_digit b || (b == 45)) is_low (printed_date day) date_low date.form))
-    (utf8_joined (header_status status) _ (of_status status) (utf8_joined (header_code code) (header_description text) (of_code code c) (of_text text d)))
+    (utf8_joined (header_status status) _ (of_status status) (utf8_joined (header_code code) (spaced_text text) (of_code code c) (of_text text d)))
   where
     of_status : (s : Option Status) → is_utf8 (header_status s) ≡ true
     of_status None = utf8_low [] refl
@@ -238,7 +238,7 @@ header_line_utf8 day status code text date c d =
     of_code None h = utf8_low [] refl
     of_code (Some c) h = utf8_joined (32 ∷ 40 ∷ []) (c ++ 41 ∷ []) (utf8_low (32 ∷ 40 ∷ []) refl) (utf8_joined c (41 ∷ []) h (utf8_low (41 ∷ []) refl))
 
-    of_text : (t : List ℕ) → is_utf8 t ≡ true → is_utf8 (header_description t) ≡ true
+    of_text : (t : List ℕ) → is_utf8 t ≡ true → is_utf8 (spaced_text t) ≡ true
     of_text [] h = utf8_low [] refl
     of_text (b ∷ bs) h = utf8_joined (32 ∷ []) (b ∷ bs) (utf8_low (32 ∷ []) refl) h
 

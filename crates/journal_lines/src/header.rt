@@ -36,10 +36,10 @@ pub struct Header<'a> {
 }
 
 /// The most bytes that a code has.
-const MAX_CODE: usize = 100;
+pub const MAX_CODE: usize = 100;
 
 /// The most bytes that a description has.
-const MAX_DESCRIPTION: usize = 500;
+pub const MAX_DESCRIPTION: usize = 500;
 
 /// The most bytes that a comment has.
 pub const MAX_COMMENT: usize = 900;
