@@ -1,7 +1,9 @@
 //! Whole journals and their answers, row by row.
 
+use crate::posting::Posting;
 use crate::reading::read_journal;
-use money_core::{Styles, read_style};
+use journal_lines::Status;
+use money_core::{Styles, Text, read_style};
 use std::alloc::Global;
 use std::process::Abort;
 use std::test::Fail;
@@ -68,6 +70,74 @@ fn assert_repeated(
             *wanted,
             "{front:?} {part:?} {count} {back:?}"
         );
+    }
+    Ok(())
+}
+
+/// Each transaction by its header's line and its parts, the mark in `<>`, comments in `[]`; then its postings, each with
+/// its quantity, `@` for a price and `=` for an assertion.
+fn shown(alloc: Global, text: &[u8], styles: &Styles) -> Result<Vec<u8>, Fail> {
+    let mut out = Vec::new(alloc);
+    if let Ok(list) = read_journal(alloc, text, styles) {
+        for item in &list {
+            out.extend_from_slice(item.line.to_string(alloc)?.as_bytes())?;
+            push_status(&mut out, item.txn.status)?;
+            push_between(&mut out, " (", item.txn.code.as_ref(), ")")?;
+            push_between(&mut out, " ", Some(&item.txn.description), "")?;
+            push_between(&mut out, " <", item.txn.mark.as_ref(), ">")?;
+            push_comments(&mut out, item.txn.comments.items())?;
+            for posting in item.txn.postings.items() {
+                push_posting(alloc, &mut out, posting)?;
+            }
+            out.push(b'\n')?;
+        }
+    }
+    Ok(out)
+}
+
+fn push_posting(alloc: Global, out: &mut Vec<u8>, posting: &Posting) -> Result<(), Fail> {
+    out.extend_from_slice(b" /")?;
+    push_status(out, posting.status)?;
+    push_between(out, " ", Some(&posting.account), "")?;
+    if let Some((_, qty)) = posting.amount {
+        out.push(b' ')?;
+        out.extend_from_slice(qty.to_string(alloc)?.as_bytes())?;
+    }
+    if posting.price.is_some() {
+        out.extend_from_slice(b" @")?;
+    }
+    if posting.claim.is_some() {
+        out.extend_from_slice(b" =")?;
+    }
+    push_comments(out, posting.comments.items())
+}
+
+fn push_status(out: &mut Vec<u8>, status: Option<Status>) -> Result<(), Fail> {
+    match status {
+        Some(Status::Cleared) => out.extend_from_slice(b" *")?,
+        Some(Status::Pending) => out.extend_from_slice(b" !")?,
+        None => {}
+    }
+    Ok(())
+}
+
+fn push_between(
+    out: &mut Vec<u8>,
+    front: &str,
+    text: Option<&Text>,
+    back: &str,
+) -> Result<(), Fail> {
+    if let Some(text) = text {
+        out.extend_from_slice(front.as_bytes())?;
+        out.extend_from_slice(text.as_str().as_bytes())?;
+        out.extend_from_slice(back.as_bytes())?;
+    }
+    Ok(())
+}
+
+fn push_comments(out: &mut Vec<u8>, comments: &[Text]) -> Result<(), Fail> {
+    for comment in comments {
+        push_between(out, " [", Some(comment), "]")?;
     }
     Ok(())
 }
@@ -396,4 +466,42 @@ fn a_byte_that_is_no_text_is_1(rt: HostRuntime) {
     let styles = declared_styles(&rt, alloc);
     assert_eq!(rt; answer(alloc, b"\xff".as_slice(), &styles), (1, 1));
     assert_eq!(rt; answer(alloc, b"comment\n\xff".as_slice(), &styles), (2, 1));
+}
+
+// hledger manual, "Comments", "Status", "Code", "Directives"; marks are an own rule.
+#[test]
+fn a_journal_has_its_transactions(rt: HostRuntime) -> Result<(), Fail> {
+    let alloc = rt.alloc();
+    let styles = declared_styles(&rt, alloc);
+    let rows = [
+        ("2024-01-05 * (17) hall ; paid\n", "1 * (17) hall [paid]\n"),
+        ("2024-01-05 x ;", "1 x []\n"),
+        ("2024-01-05 !()x", "1 ! () x\n"),
+        (
+            "2024-01-05 x\n  ; bookid: r-1\n  ;\n  a:x\n",
+            "1 x <r-1> [] / a:x\n",
+        ),
+        ("2024-01-05 x ; bookid:a b\n", "1 x [bookid:a b]\n"),
+        (
+            "2024-01-05 x\n ; of x\n a:x  1.00 EUR;of a\n ; bookid:b\n !a:y  1 EUR @ $2=$3\n",
+            "1 x [of x] / a:x 100 [of a] [bookid:b] / ! a:y 100 @ =\n",
+        ),
+        (
+            "account a:x\n  x y\ncomment\n2024-13-01\nend comment\r\n\r\n2024-01-05 a\r\n    a:x  1.00 EUR\r\nP x\npayee y\ntag z\n2024-01-06 b",
+            "7 a / a:x 100\n12 b\n",
+        ),
+        (
+            "2024-01-05 a\n    a:x  1.00 EUR\n2024-01-06 b",
+            "1 a / a:x 100\n3 b\n",
+        ),
+        (
+            "2024-01-05 x\n * a:x;y  1 EUR\n a b = 5 EUR\n",
+            "1 x / * a:x [y  1 EUR] / a b = 5 EUR\n",
+        ),
+    ];
+    for (text, wanted) in rows {
+        let found = shown(alloc, text.as_bytes(), &styles)?;
+        assert_eq!(rt; found.as_slice(), wanted.as_bytes(), "{text:?}");
+    }
+    Ok(())
 }
