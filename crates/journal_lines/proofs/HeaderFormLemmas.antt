@@ -113,7 +113,7 @@ status_reads (Some Pending) gap rest g first =
     (rw start refl, rw start (trim_start_behind gap rest g))
 
 -- the line before its comment
-regroup : (a b c d e f g h i : List ℕ) → a ++ (b ++ (c ++ (d ++ (e ++ (f ++ (g ++ (h ++ i))))))) ≡ (a ++ (b ++ (c ++ (d ++ (e ++ (f ++ (g ++ h))))))) ++ i
+pub regroup : (a b c d e f g h i : List ℕ) → a ++ (b ++ (c ++ (d ++ (e ++ (f ++ (g ++ (h ++ i))))))) ≡ (a ++ (b ++ (c ++ (d ++ (e ++ (f ++ (g ++ h))))))) ++ i
 regroup a b c d e f g h i = simp append_assoc
 
 pub front_cut : (front rest : List ℕ) → has_no 59 front ≡ true → front_of (front ++ 59 ∷ rest) ≡ front
@@ -232,7 +232,7 @@ blanks_front (x ∷ xs) = elim (cases_Bool (is_blank x)) [
   | inr solid ↦ rw solid refl
 ]
 
-split_start : (xs : List ℕ) → xs ≡ take (first_solid xs) xs ++ trim_start xs
+pub split_start : (xs : List ℕ) → xs ≡ take (first_solid xs) xs ++ trim_start xs
 unfolding trim_start
 split_start xs = sym (take-append-drop (first_solid xs) xs)
 
