@@ -1,0 +1,281 @@
+//! Transactions printed as their canonical texts.
+
+ghost use Rattle.std.specs.Prelude.{◌≡◌, ◌++◌, ◌∷◌, [], take, length, true, OnOk, OnErr};
+ghost use Rattle.std.specs.Result.{IsOkUnless};
+ghost use Rattle.std.specs.List.{list_all};
+ghost use Rattle.journal_lines.specs.Date.{IsDayNumber};
+ghost use Rattle.journal_lines.specs.Printed.{header_status, header_code, spaced_text};
+ghost use Rattle.journal_format.specs.Posting.{claim_sign};
+ghost use Rattle.journal_format.specs.CanonicalText.{posting_status, price_text, claim_text, amount_text, txn_text, body_text};
+ghost use Rattle.journal_format.specs.Printable.{is_value, is_price_or_none, is_claim_or_none, is_posting};
+ghost use Rattle.journal_format.specs.PrintedParts.{header_part, mark_part, comment_part, comments_part, posting_part, postings_part, rest_part};
+
+use crate::posting::Posting;
+use crate::txn::Txn;
+use book_core::{Claim, ClaimKind};
+use journal_lines::{Status, print_date};
+use money_core::{Cause, Price, Styles, Text, Unit, print_amount, print_price};
+use std::alloc::{AllocError, Global};
+
+/// Appends a header's status behind a space.
+fn push_header_status(out: &mut Vec<u8>, status: Option<Status>) -> Result<(), AllocError>
+    ensures ok { OnOk result (out.new.items ≡ out.old.items ++ header_status status) }
+    ensures err { OnErr result (take (length out.old.items) out.new.items ≡ out.old.items) }
+{
+    match status {
+        None => Ok(()),
+        Some(Status::Pending) => out.extend_from_slice(b" !"),
+        Some(Status::Cleared) => out.extend_from_slice(b" *"),
+    }
+}
+
+/// Appends a code in parentheses behind a space.
+fn push_code(out: &mut Vec<u8>, code: &Option<Text>) -> Result<(), AllocError>
+    ensures ok { OnOk result (out.new.items ≡ out.old.items ++ header_code code.now) }
+    ensures err { OnErr result (take (length out.old.items) out.new.items ≡ out.old.items) }
+{
+    match code {
+        Some(code) => {
+            out.extend_from_slice(b" (")?;
+            out.extend_from_slice(code.as_str().as_bytes())?;
+            out.push(b')')?;
+            Ok(())
+        }
+        None => Ok(()),
+    }
+}
+
+/// Appends a text behind a space, if there is some.
+fn push_spaced(out: &mut Vec<u8>, text: &[u8]) -> Result<(), AllocError>
+    ensures ok { OnOk result (out.new.items ≡ out.old.items ++ spaced_text text.now) }
+    ensures err { OnErr result (take (length out.old.items) out.new.items ≡ out.old.items) }
+{
+    match text {
+        [] => Ok(()),
+        [_, ..] => {
+            out.push(b' ')?;
+            out.extend_from_slice(text)
+        }
+    }
+}
+
+/// Appends a header line.
+fn push_header(alloc: Global, txn: &Txn, out: &mut Vec<u8>) -> Result<(), Cause>
+    requires { IsDayNumber txn.now.day }
+    ensures ok { OnOk result (out.new.items ≡ out.old.items ++ header_part txn.now) }
+    ensures err { OnErr result (take (length out.old.items) out.new.items ≡ out.old.items) }
+    ensures memory { IsOkUnless result Cause.OutOfMemory }
+{
+    print_date(alloc, txn.day, out)?;
+    push_header_status(out, txn.status)?;
+    push_code(out, &txn.code)?;
+    push_spaced(out, txn.description.as_str().as_bytes())?;
+    out.push(b'\n')?;
+    Ok(())
+}
+
+/// Appends a comment line.
+fn push_comment(out: &mut Vec<u8>, text: &[u8]) -> Result<(), AllocError>
+    ensures ok { OnOk result (out.new.items ≡ out.old.items ++ comment_part text.now) }
+    ensures err { OnErr result (take (length out.old.items) out.new.items ≡ out.old.items) }
+{
+    out.extend_from_slice(b"    ;")?;
+    push_spaced(out, text)?;
+    out.push(b'\n')?;
+    Ok(())
+}
+
+/// Appends comment lines.
+fn push_comments(out: &mut Vec<u8>, comments: &[Text]) -> Result<(), AllocError>
+    ensures ok { OnOk result (out.new.items ≡ out.old.items ++ comments_part comments.now) }
+    ensures err { OnErr result (take (length out.old.items) out.new.items ≡ out.old.items) }
+{
+    'comments: for comment in comments {
+        push_comment(out, comment.as_str().as_bytes())?;
+    }
+    Ok(())
+}
+
+/// Appends the line of a mark, if there is one.
+fn push_mark(out: &mut Vec<u8>, mark: &Option<Text>) -> Result<(), AllocError>
+    ensures ok { OnOk result (out.new.items ≡ out.old.items ++ mark_part mark.now) }
+    ensures err { OnErr result (take (length out.old.items) out.new.items ≡ out.old.items) }
+{
+    match mark {
+        Some(mark) => {
+            out.extend_from_slice(b"    ; bookid:")?;
+            out.extend_from_slice(mark.as_str().as_bytes())?;
+            out.push(b'\n')?;
+            Ok(())
+        }
+        None => Ok(()),
+    }
+}
+
+/// Appends a posting's status before a space.
+fn push_posting_status(out: &mut Vec<u8>, status: Option<Status>) -> Result<(), AllocError>
+    ensures ok { OnOk result (out.new.items ≡ out.old.items ++ posting_status status) }
+    ensures err { OnErr result (take (length out.old.items) out.new.items ≡ out.old.items) }
+{
+    match status {
+        None => Ok(()),
+        Some(Status::Pending) => out.extend_from_slice(b"! "),
+        Some(Status::Cleared) => out.extend_from_slice(b"* "),
+    }
+}
+
+/// Appends an assertion's sign.
+fn push_sign(out: &mut Vec<u8>, kind: ClaimKind) -> Result<(), AllocError>
+    ensures ok { OnOk result (out.new.items ≡ out.old.items ++ claim_sign kind) }
+    ensures err { OnErr result (take (length out.old.items) out.new.items ≡ out.old.items) }
+{
+    match kind {
+        ClaimKind::Exact => out.extend_from_slice(b"="),
+        ClaimKind::Sole => out.extend_from_slice(b"=="),
+        ClaimKind::ExactIn => out.extend_from_slice(b"=*"),
+        ClaimKind::SoleIn => out.extend_from_slice(b"==*"),
+    }
+}
+
+/// Appends a price behind a space.
+fn push_price(
+    alloc: Global,
+    price: &Option<Price>,
+    styles: &Styles,
+    out: &mut Vec<u8>,
+) -> Result<(), Cause>
+    requires { is_price_or_none styles.now price.now ≡ true }
+    ensures ok { OnOk result (out.new.items ≡ out.old.items ++ price_text styles.now price.now) }
+    ensures err { OnErr result (take (length out.old.items) out.new.items ≡ out.old.items) }
+    ensures memory { IsOkUnless result Cause.OutOfMemory }
+{
+    match price {
+        Some(price) => {
+            out.push(b' ')?;
+            print_price(alloc, price, styles, out)
+        }
+        None => Ok(()),
+    }
+}
+
+/// Appends an assertion behind a space.
+fn push_claim(
+    alloc: Global,
+    claim: Option<Claim>,
+    styles: &Styles,
+    out: &mut Vec<u8>,
+) -> Result<(), Cause>
+    requires { is_claim_or_none styles.now claim ≡ true }
+    ensures ok { OnOk result (out.new.items ≡ out.old.items ++ claim_text styles.now claim) }
+    ensures err { OnErr result (take (length out.old.items) out.new.items ≡ out.old.items) }
+    ensures memory { IsOkUnless result Cause.OutOfMemory }
+{
+    match claim {
+        Some(claim) => {
+            out.push(b' ')?;
+            push_sign(out, claim.kind)?;
+            out.push(b' ')?;
+            print_amount(alloc, claim.unit, claim.qty, styles, out)
+        }
+        None => Ok(()),
+    }
+}
+
+/// Appends the amount of a posting, its price and its assertion.
+fn push_value(
+    alloc: Global,
+    posting: &Posting,
+    styles: &Styles,
+    out: &mut Vec<u8>,
+) -> Result<(), Cause>
+    requires { is_value styles.now posting.now.amount posting.now.price posting.now.claim ≡ true }
+    ensures ok { OnOk result (out.new.items ≡ out.old.items ++ amount_text styles.now posting.now.amount posting.now.price posting.now.claim) }
+    ensures err { OnErr result (take (length out.old.items) out.new.items ≡ out.old.items) }
+    ensures memory { IsOkUnless result Cause.OutOfMemory }
+{
+    match posting.amount {
+        Some((unit, qty)) => {
+            out.extend_from_slice(b"  ")?;
+            print_amount(alloc, unit, qty, styles, out)?;
+            push_price(alloc, &posting.price, styles, out)?;
+            push_claim(alloc, posting.claim, styles, out)
+        }
+        None => Ok(()),
+    }
+}
+
+/// Appends a posting and its comments.
+#[tactic(auto, unfolding(crate::specs::CanonicalText::posting_line))]
+fn push_posting(
+    alloc: Global,
+    posting: &Posting,
+    styles: &Styles,
+    out: &mut Vec<u8>,
+) -> Result<(), Cause>
+    requires { is_value styles.now posting.now.amount posting.now.price posting.now.claim ≡ true }
+    ensures ok { OnOk result (out.new.items ≡ out.old.items ++ posting_part styles.now posting.now) }
+    ensures err { OnErr result (take (length out.old.items) out.new.items ≡ out.old.items) }
+    ensures memory { IsOkUnless result Cause.OutOfMemory }
+{
+    out.extend_from_slice(b"    ")?;
+    push_posting_status(out, posting.status)?;
+    out.extend_from_slice(posting.account.as_str().as_bytes())?;
+    push_value(alloc, posting, styles, out)?;
+    out.push(b'\n')?;
+    push_comments(out, posting.comments.items())?;
+    Ok(())
+}
+
+/// Appends postings and their comments.
+fn push_postings(
+    alloc: Global,
+    postings: &[Posting],
+    styles: &Styles,
+    out: &mut Vec<u8>,
+) -> Result<(), Cause>
+    requires { list_all (is_posting styles.now) postings.now ≡ true }
+    ensures ok { OnOk result (out.new.items ≡ out.old.items ++ postings_part styles.now postings.now) }
+    ensures err { OnErr result (take (length out.old.items) out.new.items ≡ out.old.items) }
+    ensures memory { IsOkUnless result Cause.OutOfMemory }
+{
+    'postings: for posting in postings {
+        push_posting(alloc, posting, styles, out)?;
+    }
+    Ok(())
+}
+
+/// Appends what stands below header and mark.
+fn push_rest(alloc: Global, txn: &Txn, styles: &Styles, out: &mut Vec<u8>) -> Result<(), Cause>
+    requires { list_all (is_posting styles.now) txn.now.postings ≡ true }
+    ensures ok { OnOk result (out.new.items ≡ out.old.items ++ rest_part styles.now txn.now) }
+    ensures err { OnErr result (take (length out.old.items) out.new.items ≡ out.old.items) }
+    ensures memory { IsOkUnless result Cause.OutOfMemory }
+{
+    push_comments(out, txn.comments.items())?;
+    push_postings(alloc, txn.postings.items(), styles, out)
+}
+
+/// Appends a body.
+fn push_body(alloc: Global, txn: &Txn, styles: &Styles, out: &mut Vec<u8>) -> Result<(), Cause>
+    requires day { IsDayNumber txn.now.day }
+    requires postings { list_all (is_posting styles.now) txn.now.postings ≡ true }
+    ensures ok { OnOk result (out.new.items ≡ out.old.items ++ body_text styles.now txn.now) }
+    ensures err { OnErr result (take (length out.old.items) out.new.items ≡ out.old.items) }
+    ensures memory { IsOkUnless result Cause.OutOfMemory }
+{
+    push_header(alloc, txn, out)?;
+    push_rest(alloc, txn, styles, out)
+}
+
+/// Appends a transaction's text.
+fn push_txn(alloc: Global, txn: &Txn, styles: &Styles, out: &mut Vec<u8>) -> Result<(), Cause>
+    requires day { IsDayNumber txn.now.day }
+    requires postings { list_all (is_posting styles.now) txn.now.postings ≡ true }
+    ensures ok { OnOk result (out.new.items ≡ out.old.items ++ txn_text styles.now txn.now) }
+    ensures err { OnErr result (take (length out.old.items) out.new.items ≡ out.old.items) }
+    ensures memory { IsOkUnless result Cause.OutOfMemory }
+{
+    push_header(alloc, txn, out)?;
+    push_mark(out, &txn.mark)?;
+    push_rest(alloc, txn, styles, out)
+}
