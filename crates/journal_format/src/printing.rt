@@ -1,13 +1,14 @@
 //! Transactions printed as their canonical texts.
 
-ghost use Rattle.std.specs.Prelude.{◌≡◌, ◌++◌, ◌∷◌, [], take, length, true, OnOk, OnErr};
+ghost use Rattle.std.specs.Prelude.{◌≡◌, ℕ, List, Option, ◌++◌, ◌∷◌, [], take, length, true, OnOk, OnErr};
 ghost use Rattle.std.specs.Result.{IsOkUnless};
-ghost use Rattle.std.specs.List.{list_all};
+ghost use Rattle.std.specs.List.{list_all, AllByRecursion};
 ghost use Rattle.journal_lines.specs.Date.{IsDayNumber};
 ghost use Rattle.journal_lines.specs.Printed.{header_status, header_code, spaced_text};
 ghost use Rattle.journal_format.specs.Posting.{claim_sign};
-ghost use Rattle.journal_format.specs.CanonicalText.{posting_status, price_text, claim_text, amount_text, txn_text, body_text};
-ghost use Rattle.journal_format.specs.Printable.{is_value, is_price_or_none, is_claim_or_none, is_posting};
+ghost use Rattle.journal_format.specs.CanonicalText.{posting_status, price_text, claim_text, amount_text, marked, txn_text, body_text, journal_text};
+ghost use Rattle.journal_format.specs.Pieces.{Reads};
+ghost use Rattle.journal_format.specs.Printable.{is_value, is_price_or_none, is_claim_or_none, is_posting, IsPrintable, ReadsBack, FitsText, located_from};
 ghost use Rattle.journal_format.specs.PrintedParts.{header_part, mark_part, comment_part, comments_part, posting_part, postings_part, rest_part};
 
 use crate::posting::Posting;
@@ -278,4 +279,87 @@ fn push_txn(alloc: Global, txn: &Txn, styles: &Styles, out: &mut Vec<u8>) -> Res
     push_header(alloc, txn, out)?;
     push_mark(out, &txn.mark)?;
     push_rest(alloc, txn, styles, out)
+}
+
+/// Appends the texts of transactions, each with an empty line behind it.
+fn push_journal(
+    alloc: Global,
+    txns: &[Txn],
+    styles: &Styles,
+    out: &mut Vec<u8>,
+) -> Result<(), Cause>
+    requires { AllByRecursion (IsPrintable styles.now) txns.now }
+    ensures ok { OnOk result (out.new.items ≡ out.old.items ++ journal_text styles.now txns.now) }
+    ensures err { OnErr result (take (length out.old.items) out.new.items ≡ out.old.items) }
+    ensures memory { IsOkUnless result Cause.OutOfMemory }
+{
+    'txns: for txn in txns {
+        push_txn(alloc, txn, styles, out)?;
+        out.push(b'\n')?;
+    }
+    Ok(())
+}
+
+/// Appends the body of a transaction: its canonical text without the line of its mark.
+///
+/// Where memory is refused (40), the vector is as it was.
+pub fn body(alloc: Global, txn: &Txn, styles: &Styles, out: &mut Vec<u8>) -> Result<(), Cause>
+    requires { IsPrintable styles.now txn.now }
+    ensures ok { OnOk result (out.new.items ≡ out.old.items ++ body_text styles.now txn.now) }
+    // The mark is not read: whatever it is, the body is the same.
+    ensures unmarked { (mark : Option (List ℕ)) → body_text styles.now (marked txn.now mark) ≡ body_text styles.now txn.now }
+    ensures err { OnErr result (out.new.items ≡ out.old.items) }
+    ensures memory { IsOkUnless result Cause.OutOfMemory }
+{
+    let before = out.len();
+    let done = push_body(alloc, txn, styles, out);
+    if done.is_err() {
+        out.truncate(before);
+    }
+    done
+}
+
+/// Appends the canonical text of a transaction.
+///
+/// Where memory is refused (40), the vector is as it was.
+pub fn print_txn(alloc: Global, txn: &Txn, styles: &Styles, out: &mut Vec<u8>) -> Result<(), Cause>
+    requires { IsPrintable styles.now txn.now }
+    ensures ok { OnOk result (out.new.items ≡ out.old.items ++ txn_text styles.now txn.now) }
+    // What is appended reads as the transaction.
+    ensures again { ReadsBack styles.now txn.now }
+    ensures err { OnErr result (out.new.items ≡ out.old.items) }
+    ensures memory { IsOkUnless result Cause.OutOfMemory }
+{
+    styles.are_styles();
+    let before = out.len();
+    let done = push_txn(alloc, txn, styles, out);
+    if done.is_err() {
+        out.truncate(before);
+    }
+    done
+}
+
+/// Appends the canonical texts of the transactions in order, an empty line behind each.
+///
+/// Where memory is refused (40), the vector is as it was.
+pub fn print_journal(
+    alloc: Global,
+    txns: &[Txn],
+    styles: &Styles,
+    out: &mut Vec<u8>,
+) -> Result<(), Cause>
+    requires { AllByRecursion (IsPrintable styles.now) txns.now }
+    ensures ok { OnOk result (out.new.items ≡ out.old.items ++ journal_text styles.now txns.now) }
+    // What is appended reads as the transactions, each header at its line, if it keeps to the limits of a text.
+    ensures again { FitsText styles.now txns.now → Reads styles.now (journal_text styles.now txns.now) (located_from styles.now 1 txns.now) }
+    ensures err { OnErr result (out.new.items ≡ out.old.items) }
+    ensures memory { IsOkUnless result Cause.OutOfMemory }
+{
+    styles.are_styles();
+    let before = out.len();
+    let done = push_journal(alloc, txns, styles, out);
+    if done.is_err() {
+        out.truncate(before);
+    }
+    done
 }

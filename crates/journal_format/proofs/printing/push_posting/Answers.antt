@@ -1,4 +1,4 @@
-use Rattle.money_core.proofs.PrintedLemmas.{on_err, appended_twice}
+use Rattle.money_core.proofs.PrintedLemmas.{on_err}
 use Rattle.money_core.proofs.Appends.{kept_behind, appended_thrice}
 use Rattle.journal_format.proofs.printing.push_posting.Goals as goal
 
