@@ -1,12 +1,21 @@
 -- How an amount is cut into its parts from the left; that these are the parts of `Amount`, and the only ones, stands behind the clauses of `read_amount`.
 use Rattle.std.specs.Prelude.{ℕ, ◌==◌, List, length, take, drop, slice_index, nat_lt, Bool, true, false, ◌&&◌, ◌||◌, not, if◌then◌else◌, Option, Some, None, option_and_then}
 use Rattle.std.specs.List.{position_or_len, before_first, after_first}
+use Rattle.money_core.specs.declared.class.Class.{Class}
 use Rattle.money_core.specs.declared.class.Class.TheVariants.{Blank, Symbol, Number}
 use Rattle.money_core.specs.declared.amount.Sign.{Sign}
 use Rattle.money_core.specs.declared.amount.Sign.TheVariants.{Absent, Plus, Minus}
-use Rattle.money_core.specs.Class.{has, end_of, skip_blanks}
+use Rattle.money_core.specs.Class.{has}
 use Rattle.money_core.specs.Symbol.{is_bare, is_symbol}
 use Rattle.money_core.specs.Amount.{Parts}
+
+-- where the longest front of that class ends
+abbrev pub end_of : Class → List ℕ → ℕ
+end_of class text = position_or_len (λ b. not (has class b)) text
+
+-- the text behind the blanks at its front
+abbrev pub skip_blanks : List ℕ → List ℕ
+skip_blanks text = drop (end_of Blank text) text
 
 -- a symbol and what follows it
 pub record Cut : Type 0 where
@@ -28,6 +37,10 @@ cut_bare text =
 -- the symbol at the front, with its quotes or without
 unfoldable pub cut_symbol : List ℕ → Option Cut
 cut_symbol text = if slice_index text 0 == 34 then cut_quoted (drop 1 text) else cut_bare text
+
+-- the symbol that a whole text is, with its quotes or without
+unfoldable pub symbol_of : List ℕ → Option (List ℕ)
+symbol_of text = option_and_then (λ cut. if length cut.rest == 0 then Some cut.symbol else None) (cut_symbol text)
 
 -- the sign that a byte is
 abbrev pub sign_of : ℕ → Sign

@@ -1,4 +1,5 @@
 pub mod Cause
+pub mod Blank
 pub mod Class
 pub mod Mark
 pub mod Number
@@ -15,3 +16,4 @@ pub mod Price
 pub mod PriceReading
 pub mod PriceText
 pub mod Cost
+pub mod Growth

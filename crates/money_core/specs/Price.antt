@@ -6,7 +6,7 @@ use Rattle.money_core.specs.declared.style.Style.{Style}
 use Rattle.money_core.specs.declared.unit.Unit.{Unit as Commodity}
 use Rattle.money_core.specs.declared.price.Price.{Price}
 use Rattle.money_core.specs.declared.price.Price.TheVariants.{Each, Total}
-use Rattle.money_core.specs.Class.{IsBlanks}
+use Rattle.money_core.specs.Blank.{IsBlanks}
 use Rattle.money_core.specs.Number.{fraction_part, fits_decimals, quantity}
 use Rattle.money_core.specs.Amount.{Parts, IsAmount, limit, place_of, HasNoForm, NamesUndeclared}
 

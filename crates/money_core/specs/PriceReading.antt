@@ -7,10 +7,9 @@ use Rattle.money_core.specs.declared.price.Price.{Price}
 use Rattle.money_core.specs.declared.price.Price.TheVariants.{Each, Total}
 use Rattle.money_core.specs.declared.cause.Cause.{Cause}
 use Rattle.money_core.specs.declared.cause.Cause.TheVariants.{Amount, Cost}
-use Rattle.money_core.specs.Class.{skip_blanks}
 use Rattle.money_core.specs.Number.{is_number, fraction_part, fits_decimals, quantity}
 use Rattle.money_core.specs.Amount.{Parts, limit, place_of}
-use Rattle.money_core.specs.Cutting.{amount_parts}
+use Rattle.money_core.specs.Cutting.{skip_blanks, amount_parts}
 use Rattle.money_core.specs.Reading.{undeclared}
 use Rattle.money_core.specs.Price.{unit_limit, is_negative}
 

@@ -15,7 +15,7 @@ use std::alloc::{AllocError, Global};
 
 /// Whether the commodity is declared, and the quantity at most 10^16 with either sign: the amounts that are printed, and
 /// that have a cost.
-pub fn is_declared(styles: &Styles, unit: Unit, qty: i64) -> bool
+pub fn is_declared(unit: Unit, qty: i64, styles: &Styles) -> bool
     ensures { IsTrue result ↔ IsDeclared styles.now unit qty }
 {
     styles.style(unit).is_some() && qty.unsigned_abs() <= LIMIT

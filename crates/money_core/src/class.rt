@@ -1,7 +1,8 @@
 //! The classes of bytes in an amount.
 
 ghost use Rattle.std.specs.Prelude.{◌≡◌, ◌==◌, ◌≤◌, not, drop, length, position, slice_index};
-ghost use Rattle.money_core.specs.Class.{has, end_of, skip_blanks};
+ghost use Rattle.money_core.specs.Class.{has};
+ghost use Rattle.money_core.specs.Cutting.{end_of, skip_blanks};
 
 /// A class of bytes.
 #[derive(Clone, Copy)]

@@ -1,17 +1,18 @@
 //! The symbols of commodities, bare and in quotes.
 
-ghost use Rattle.std.specs.Prelude.{◌≡◌, ◌==◌, ◌-◌, ◌<◌, ◌&&◌, not, true, drop, take, length, position, slice_index};
+ghost use Rattle.std.specs.Prelude.{◌≡◌, ◌↔◌, ℕ, List, Some, ◌==◌, ◌-◌, ◌<◌, ◌&&◌, not, true, drop, take, length, position, slice_index};
 ghost use Rattle.std.specs.List.{list_all, list_any};
 ghost use Rattle.std.specs.Char.{is_whitespace};
 ghost use Rattle.std.specs.Str.{chars, is_utf8};
 ghost use Rattle.std.specs.Option.{option_map};
 ghost use Rattle.money_core.specs.declared.class.Class.TheVariants.{Symbol as OfSymbol};
 ghost use Rattle.money_core.specs.Class.{has};
-ghost use Rattle.money_core.specs.Symbol.{is_short, is_dense, is_bare, is_quoted_byte, no_double, has_no_outer_space, is_symbol};
-ghost use Rattle.money_core.specs.Cutting.{cut_quoted, cut_bare, cut_symbol};
+ghost use Rattle.money_core.specs.Symbol.{is_short, is_dense, is_bare, is_quoted_byte, no_double, has_no_outer_space, is_symbol, WritesSymbol};
+ghost use Rattle.money_core.specs.Cutting.{cut_quoted, cut_bare, cut_symbol, symbol_of};
 ghost use Rattle.money_core.specs.AmountViews.{cut_view};
 
 use crate::class::{Class, behind, end_of, first_byte};
+use crate::text::text_of;
 
 /// Whether it has 1 to 24 bytes.
 fn is_short(symbol: &[u8]) -> bool
@@ -28,7 +29,7 @@ fn has_white_space(text: &str) -> bool
 }
 
 /// Whether the bytes are a text.
-fn is_text(bytes: &[u8]) -> bool
+fn is_utf8(bytes: &[u8]) -> bool
     ensures { result ≡ is_utf8 bytes.now }
 {
     match std::str::from_utf8(bytes) {
@@ -112,7 +113,7 @@ pub fn is_symbol(symbol: &[u8]) -> bool
     ensures { result ≡ is_symbol symbol.now }
 {
     is_short(symbol)
-        && is_text(symbol)
+        && is_utf8(symbol)
         && has_quoted_bytes(symbol)
         && no_double(symbol)
         && has_no_outer_space(symbol)
@@ -175,5 +176,31 @@ pub fn cut_symbol(text: &[u8]) -> Option<Cut<'_>>
         cut_quoted(behind(text, 1))
     } else {
         cut_bare(text)
+    }
+}
+
+/// The symbol that the whole text is.
+#[tactic(auto, unfolding(crate::specs::Cutting::symbol_of))]
+fn symbol_of(text: &[u8]) -> Option<&[u8]>
+    ensures { option_map (λ s. s.now) result ≡ symbol_of text.now }
+{
+    let cut = cut_symbol(text)?;
+    if cut.rest.is_empty() {
+        Some(cut.symbol)
+    } else {
+        None
+    }
+}
+
+/// The symbol that the whole text writes, bare or in quotes, without its quotes (hledger manual, "Commodity").
+pub fn read_symbol(text: &str) -> Option<&str>
+    ensures reads { (symbol : List ℕ) → (option_map (λ s. s.now) result ≡ Some symbol) ↔ WritesSymbol symbol text.now }
+
+    // The same by a function, for laws.
+    ensures answer { option_map (λ s. s.now) result ≡ symbol_of text.now }
+{
+    match symbol_of(text.as_bytes()) {
+        Some(symbol) => Some(text_of(symbol)),
+        None => None,
     }
 }

@@ -73,7 +73,7 @@ fn a_declared_amount_is_within_the_limit(rt: HostRuntime) {
     ];
     for (unit, quantity, wanted) in rows {
         assert!(rt;
-            is_declared(&styles, Unit(unit), quantity) == wanted,
+            is_declared(Unit(unit), quantity, &styles) == wanted,
             "{unit} {quantity}"
         );
     }
