@@ -9,6 +9,10 @@ use Rattle.journal_lines.specs.Printed.{is_clean}
 abbrev pub max_line : ℕ
 max_line = 1000
 
+-- the most bytes of a comment's text, in an entry
+abbrev pub max_comment : ℕ
+max_comment = 900
+
 -- UTF-8 without ASCII control characters other than the tab
 abbrev pub is_text : List ℕ → Bool
 is_text line = is_utf8 line && list_all is_clean line
