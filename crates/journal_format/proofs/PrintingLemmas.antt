@@ -17,11 +17,6 @@ use Rattle.journal_format.specs.CanonicalText.{posting_line, posting_lines, mark
 use Rattle.journal_format.specs.Printable.{is_value, is_posting}
 use Rattle.journal_format.specs.PrintedParts.{whole_line, header_part, mark_part, comment_part, comments_part, posting_part, postings_part, rest_part}
 
--- a description stands behind a space as a comment's text does
-pub description_spaced : (text : List ℕ) → spaced_text text ≡ header_description text
-description_spaced [] = refl
-description_spaced (b ∷ bs) = refl
-
 -- a step that fails behind one that did not leaves the front
 pub err_behind : {T E : Type 0} (r : Result T E) (a b d x : List ℕ) → b ≡ a ++ x → OnErr r (take (length b) d ≡ b) → OnErr r (take (length a) d ≡ a)
 err_behind (Ok y) a b d x e h = tt
@@ -42,12 +37,12 @@ posting_value styles p h =
     (and_parts (is_account p.account && is_utf8 p.account) _ (and_parts (is_account p.account && is_utf8 p.account && is_value styles p.amount p.price p.claim) _ h).0).1
 
 -- the lines of comments
-comments_parts : (texts : List (List ℕ)) → ended (map comment_line texts) ≡ comments_part texts
+pub comments_parts : (texts : List (List ℕ)) → ended (map comment_line texts) ≡ comments_part texts
 comments_parts [] = refl
 comments_parts (text ∷ texts) = ap (λ (xs : List ℕ). comment_part text ++ xs) (comments_parts texts)
 
 -- the lines of postings
-postings_parts : (styles : List Style) (ps : List Posting) → ended (flat_map (posting_lines styles) ps) ≡ postings_part styles ps
+pub postings_parts : (styles : List Style) (ps : List Posting) → ended (flat_map (posting_lines styles) ps) ≡ postings_part styles ps
 postings_parts styles [] = refl
 postings_parts styles (p ∷ ps) =
     ended-append (posting_lines styles p) (flat_map (posting_lines styles) ps)

@@ -4,8 +4,8 @@ ghost use Rattle.std.specs.Prelude.{◌≡◌, ℕ, List, Option, ◌++◌, ◌�
 ghost use Rattle.std.specs.Result.{IsOkUnless};
 ghost use Rattle.std.specs.List.{list_all, AllByRecursion};
 ghost use Rattle.journal_lines.specs.Date.{IsDayNumber};
-ghost use Rattle.journal_lines.specs.Printed.{header_status, header_code, spaced_text};
-ghost use Rattle.journal_format.specs.Posting.{claim_sign};
+ghost use Rattle.journal_lines.specs.HeaderView.{text_of};
+ghost use Rattle.journal_format.specs.PostingForm.{claim_sign};
 ghost use Rattle.journal_format.specs.CanonicalText.{posting_status, price_text, claim_text, amount_text, marked, txn_text, body_text, journal_text};
 ghost use Rattle.journal_format.specs.Pieces.{Reads};
 ghost use Rattle.journal_format.specs.Printable.{is_value, is_price_or_none, is_claim_or_none, is_posting, IsPrintable, ReadsBack, FitsText, located_from};
@@ -14,91 +14,58 @@ ghost use Rattle.journal_format.specs.PrintedParts.{header_part, mark_part, comm
 use crate::posting::Posting;
 use crate::txn::Txn;
 use book_core::{Claim, ClaimKind};
-use journal_lines::{Status, print_date};
+use journal_lines::{Status, print_comment, print_header};
 use money_core::{Cause, Price, Styles, Text, Unit, print_amount, print_price};
 use std::alloc::{AllocError, Global};
 
-/// Appends a header's status behind a space.
-fn push_header_status(out: &mut Vec<u8>, status: Option<Status>) -> Result<(), AllocError>
-    ensures ok { OnOk result (out.new.items ≡ out.old.items ++ header_status status) }
-    ensures err { OnErr result (take (length out.old.items) out.new.items ≡ out.old.items) }
-{
-    match status {
-        None => Ok(()),
-        Some(Status::Pending) => out.extend_from_slice(b" !"),
-        Some(Status::Cleared) => out.extend_from_slice(b" *"),
-    }
-}
-
-/// Appends a code in parentheses behind a space.
-fn push_code(out: &mut Vec<u8>, code: &Option<Text>) -> Result<(), AllocError>
-    ensures ok { OnOk result (out.new.items ≡ out.old.items ++ header_code code.now) }
-    ensures err { OnErr result (take (length out.old.items) out.new.items ≡ out.old.items) }
-{
-    match code {
-        Some(code) => {
-            out.extend_from_slice(b" (")?;
-            out.extend_from_slice(code.as_str().as_bytes())?;
-            out.push(b')')?;
-            Ok(())
-        }
-        None => Ok(()),
-    }
-}
-
-/// Appends a text behind a space, if there is some.
-fn push_spaced(out: &mut Vec<u8>, text: &[u8]) -> Result<(), AllocError>
-    ensures ok { OnOk result (out.new.items ≡ out.old.items ++ spaced_text text.now) }
-    ensures err { OnErr result (take (length out.old.items) out.new.items ≡ out.old.items) }
+/// The bytes of a text, if there is one.
+pub(crate) fn bytes_of(text: &Option<Text>) -> Option<&[u8]>
+    ensures { text_of result ≡ text.now }
 {
     match text {
-        [] => Ok(()),
-        [_, ..] => {
-            out.push(b' ')?;
-            out.extend_from_slice(text)
-        }
+        Some(text) => Some(text.as_str().as_bytes()),
+        None => None,
     }
 }
 
 /// Appends a header line.
-fn push_header(alloc: Global, txn: &Txn, out: &mut Vec<u8>) -> Result<(), Cause>
+fn push_header(txn: &Txn, out: &mut Vec<u8>) -> Result<(), Cause>
     requires { IsDayNumber txn.now.day }
     ensures ok { OnOk result (out.new.items ≡ out.old.items ++ header_part txn.now) }
     ensures err { OnErr result (take (length out.old.items) out.new.items ≡ out.old.items) }
     ensures memory { IsOkUnless result Cause.OutOfMemory }
 {
-    print_date(alloc, txn.day, out)?;
-    push_header_status(out, txn.status)?;
-    push_code(out, &txn.code)?;
-    push_spaced(out, txn.description.as_str().as_bytes())?;
+    let description = txn.description.as_str().as_bytes();
+    print_header(txn.day, txn.status, bytes_of(&txn.code), description, out)?;
     out.push(b'\n')?;
     Ok(())
 }
 
 /// Appends a comment line.
-fn push_comment(out: &mut Vec<u8>, text: &[u8]) -> Result<(), AllocError>
+fn push_comment(text: &[u8], out: &mut Vec<u8>) -> Result<(), Cause>
     ensures ok { OnOk result (out.new.items ≡ out.old.items ++ comment_part text.now) }
     ensures err { OnErr result (take (length out.old.items) out.new.items ≡ out.old.items) }
+    ensures memory { IsOkUnless result Cause.OutOfMemory }
 {
-    out.extend_from_slice(b"    ;")?;
-    push_spaced(out, text)?;
+    print_comment(text, out)?;
     out.push(b'\n')?;
     Ok(())
 }
 
 /// Appends comment lines.
-fn push_comments(out: &mut Vec<u8>, comments: &[Text]) -> Result<(), AllocError>
+fn push_comments(comments: &[Text], out: &mut Vec<u8>) -> Result<(), Cause>
     ensures ok { OnOk result (out.new.items ≡ out.old.items ++ comments_part comments.now) }
     ensures err { OnErr result (take (length out.old.items) out.new.items ≡ out.old.items) }
+    ensures memory { IsOkUnless result Cause.OutOfMemory }
 {
     'comments: for comment in comments {
-        push_comment(out, comment.as_str().as_bytes())?;
+        push_comment(comment.as_str().as_bytes(), out)?;
     }
     Ok(())
 }
 
 /// Appends the line of a mark, if there is one.
-fn push_mark(out: &mut Vec<u8>, mark: &Option<Text>) -> Result<(), AllocError>
+fn push_mark(mark: &Option<Text>, out: &mut Vec<u8>) -> Result<(), AllocError>
     ensures ok { OnOk result (out.new.items ≡ out.old.items ++ mark_part mark.now) }
     ensures err { OnErr result (take (length out.old.items) out.new.items ≡ out.old.items) }
 {
@@ -114,7 +81,7 @@ fn push_mark(out: &mut Vec<u8>, mark: &Option<Text>) -> Result<(), AllocError>
 }
 
 /// Appends a posting's status before a space.
-fn push_posting_status(out: &mut Vec<u8>, status: Option<Status>) -> Result<(), AllocError>
+fn push_status(status: Option<Status>, out: &mut Vec<u8>) -> Result<(), AllocError>
     ensures ok { OnOk result (out.new.items ≡ out.old.items ++ posting_status status) }
     ensures err { OnErr result (take (length out.old.items) out.new.items ≡ out.old.items) }
 {
@@ -126,7 +93,7 @@ fn push_posting_status(out: &mut Vec<u8>, status: Option<Status>) -> Result<(), 
 }
 
 /// Appends an assertion's sign.
-fn push_sign(out: &mut Vec<u8>, kind: ClaimKind) -> Result<(), AllocError>
+fn push_sign(kind: ClaimKind, out: &mut Vec<u8>) -> Result<(), AllocError>
     ensures ok { OnOk result (out.new.items ≡ out.old.items ++ claim_sign kind) }
     ensures err { OnErr result (take (length out.old.items) out.new.items ≡ out.old.items) }
 {
@@ -174,7 +141,7 @@ fn push_claim(
     match claim {
         Some(claim) => {
             out.push(b' ')?;
-            push_sign(out, claim.kind)?;
+            push_sign(claim.kind, out)?;
             out.push(b' ')?;
             print_amount(alloc, claim.unit, claim.qty, styles, out)
         }
@@ -219,11 +186,11 @@ fn push_posting(
     ensures memory { IsOkUnless result Cause.OutOfMemory }
 {
     out.extend_from_slice(b"    ")?;
-    push_posting_status(out, posting.status)?;
+    push_status(posting.status, out)?;
     out.extend_from_slice(posting.account.as_str().as_bytes())?;
     push_value(alloc, posting, styles, out)?;
     out.push(b'\n')?;
-    push_comments(out, posting.comments.items())?;
+    push_comments(posting.comments.items(), out)?;
     Ok(())
 }
 
@@ -252,7 +219,7 @@ fn push_rest(alloc: Global, txn: &Txn, styles: &Styles, out: &mut Vec<u8>) -> Re
     ensures err { OnErr result (take (length out.old.items) out.new.items ≡ out.old.items) }
     ensures memory { IsOkUnless result Cause.OutOfMemory }
 {
-    push_comments(out, txn.comments.items())?;
+    push_comments(txn.comments.items(), out)?;
     push_postings(alloc, txn.postings.items(), styles, out)
 }
 
@@ -264,7 +231,7 @@ fn push_body(alloc: Global, txn: &Txn, styles: &Styles, out: &mut Vec<u8>) -> Re
     ensures err { OnErr result (take (length out.old.items) out.new.items ≡ out.old.items) }
     ensures memory { IsOkUnless result Cause.OutOfMemory }
 {
-    push_header(alloc, txn, out)?;
+    push_header(txn, out)?;
     push_rest(alloc, txn, styles, out)
 }
 
@@ -276,8 +243,8 @@ fn push_txn(alloc: Global, txn: &Txn, styles: &Styles, out: &mut Vec<u8>) -> Res
     ensures err { OnErr result (take (length out.old.items) out.new.items ≡ out.old.items) }
     ensures memory { IsOkUnless result Cause.OutOfMemory }
 {
-    push_header(alloc, txn, out)?;
-    push_mark(out, &txn.mark)?;
+    push_header(txn, out)?;
+    push_mark(&txn.mark, out)?;
     push_rest(alloc, txn, styles, out)
 }
 
