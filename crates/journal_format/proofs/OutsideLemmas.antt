@@ -11,14 +11,16 @@ use Rattle.money_core.specs.declared.amount.Sign.{Sign}
 use Rattle.money_core.specs.declared.amount.Sign.TheVariants.{Absent, Plus, Minus}
 use Rattle.money_core.specs.declared.style.Style.{Style}
 use Rattle.money_core.specs.declared.price.Price.{Price}
-use Rattle.money_core.specs.Class.{has, IsBlanks}
+use Rattle.money_core.specs.Blank.{IsBlanks}
+use Rattle.money_core.specs.Class.{has}
 use Rattle.money_core.specs.Number.{is_number}
 use Rattle.money_core.specs.Symbol.{is_quoted_byte, in_quotes, WritesSymbol}
 use Rattle.money_core.specs.Amount.{Parts, WritesSign, IsAmount, WritesAmount}
 use Rattle.money_core.specs.Price.{price_mark, is_total, WritesPrice}
 use Rattle.money_core.proofs.AmountPrint.{last_of}
 use Rattle.money_core.proofs.ClassLemmas.{all_weaker, all_joined, first_passes, symbol_no_blank, symbol_no_quote, number_no_blank, number_no_quote}
-use Rattle.money_core.proofs.GrammarLemmas.{number_text, first_number, NumberText, short_some, bare_short, bare_bytes, symbol_bytes}
+use Rattle.money_core.proofs.GrammarLemmas.{number_text, first_number, NumberText}
+use Rattle.money_core.proofs.SymbolText.{symbol_facts, bare_facts, short_some}
 use Rattle.journal_lines.specs.Blank.{is_blank}
 use Rattle.journal_format.specs.Posting.{outside}
 
@@ -75,10 +77,10 @@ passed_sign p f Minus xs h = subst (IsPassed p) (sym h.1.1) (passed_joined p (45
 pub passed_symbol : (p : ℕ → Bool) → IsFree p → (symbol written : List ℕ) → WritesSymbol symbol written → IsPassed p written
 unfolding outside
 passed_symbol p f symbol written (inl h) =
-    let bytes = bare_bytes symbol h.0 in
+    let bytes = (bare_facts symbol h.0).bytes in
     subst (IsPassed p) (sym h.1) (passed_bytes p symbol (all_weaker (has Symbol) (λ b. not (p b)) symbol (λ b k. not_from_false _ (f.symbol b k)) bytes)
     (all_weaker (has Symbol) (λ b. not (b == 34)) symbol (λ b k. not_from_false _ (symbol_no_quote b k)) bytes))
-passed_symbol p f symbol written (inr h) = subst (IsPassed p) (sym h.1) (quoted symbol (all_weaker is_quoted_byte (λ b. not (b == 34)) symbol no_quote (symbol_bytes symbol h.0)))
+passed_symbol p f symbol written (inr h) = subst (IsPassed p) (sym h.1) (quoted symbol (all_weaker is_quoted_byte (λ b. not (b == 34)) symbol no_quote (symbol_facts symbol h.0).bytes))
   where
     no_quote : (b : ℕ) → is_quoted_byte b ≡ true → not (b == 34) ≡ true
     no_quote b h = grind (arith, common_steps)
@@ -151,8 +153,8 @@ solid_number number h = record { some = h.some; last = number_no_blank (slice_in
 
 solid_symbol : (symbol written : List ℕ) → WritesSymbol symbol written → IsSolid written
 solid_symbol symbol written (inl h) =
-    let some = short_some symbol (bare_short symbol h.0) in
-    subst IsSolid (sym h.1) (record { some = some; last = symbol_no_blank (slice_index symbol (length symbol - 1)) (AllPass-from_list_all (has Symbol) symbol (bare_bytes symbol h.0) (length symbol - 1) 0 (omega (arith, some))) })
+    let some = short_some symbol (bare_facts symbol h.0).short in
+    subst IsSolid (sym h.1) (record { some = some; last = symbol_no_blank (slice_index symbol (length symbol - 1)) (AllPass-from_list_all (has Symbol) symbol (bare_facts symbol h.0).bytes (length symbol - 1) 0 (omega (arith, some))) })
 solid_symbol symbol written (inr h) =
     subst IsSolid (sym h.1) (solid_behind (34 ∷ symbol) (34 ∷ []) (record { some = omega arith; last = refl }))
 
@@ -181,7 +183,7 @@ first_amount q f mark text parts a = elim a.form [
     behind_sign Minus outer rest h k = rw h.1.1 f.signs.1
 
     at_symbol : (symbol rest : List ℕ) → WritesSymbol parts.symbol symbol → q (slice_index (symbol ++ rest) 0) ≡ false
-    at_symbol symbol rest (inl h) = rw h.1 (f.symbol (slice_index (parts.symbol ++ rest) 0) (first_passes (has Symbol) parts.symbol rest (bare_bytes parts.symbol h.0) (short_some parts.symbol (bare_short parts.symbol h.0))))
+    at_symbol symbol rest (inl h) = rw h.1 (f.symbol (slice_index (parts.symbol ++ rest) 0) (first_passes (has Symbol) parts.symbol rest (bare_facts parts.symbol h.0).bytes (short_some parts.symbol (bare_facts parts.symbol h.0).short)))
     at_symbol symbol rest (inr h) = rw h.1 f.quote
 
     at_number : (rest : List ℕ) → q (slice_index (parts.number ++ rest) 0) ≡ false
@@ -226,5 +228,5 @@ bytes_amount q f mark text parts a = elim a.form [
     signed outer inner (inr h) = (rw h.0 refl, sign parts.sign inner h.1)
 
     symbol : (written : List ℕ) → WritesSymbol parts.symbol written → list_all q written ≡ true
-    symbol written (inl h) = rw h.1 (all_weaker (has Symbol) q parts.symbol f.symbol (bare_bytes parts.symbol h.0))
-    symbol written (inr h) = rw h.1 (and_from (q 34) _ f.quote (all_joined q parts.symbol (34 ∷ []) (all_weaker is_quoted_byte q parts.symbol f.quoted (symbol_bytes parts.symbol h.0)) (and_from (q 34) _ f.quote refl)))
+    symbol written (inl h) = rw h.1 (all_weaker (has Symbol) q parts.symbol f.symbol (bare_facts parts.symbol h.0).bytes)
+    symbol written (inr h) = rw h.1 (and_from (q 34) _ f.quote (all_joined q parts.symbol (34 ∷ []) (all_weaker is_quoted_byte q parts.symbol f.quoted (symbol_facts parts.symbol h.0).bytes) (and_from (q 34) _ f.quote refl)))

@@ -12,10 +12,9 @@ use Rattle.book_core.specs.declared.claim.ClaimKind.{ClaimKind}
 use Rattle.book_core.specs.declared.claim.ClaimKind.TheVariants.{Exact, Sole, ExactIn, SoleIn}
 use Rattle.journal_lines.specs.Blank.{is_blank}
 use Rattle.journal_lines.specs.AccountName.{is_account}
-use Rattle.journal_lines.specs.Header.{length_of}
+use Rattle.journal_lines.specs.Header.{length_of, comment_limit}
 use Rattle.journal_lines.specs.HeaderForm.{status_text, IsRemark}
 use Rattle.journal_format.specs.declared.posting.Posting.{Posting}
-use Rattle.journal_format.specs.Line.{max_comment}
 
 -- the sign of a balance assertion
 abbrev pub claim_sign : ClaimKind → List ℕ
@@ -84,4 +83,4 @@ pub record IsPostingText (styles : List Style) (line : List ℕ) (p : Posting) :
   pub comment : Option (List ℕ)
   pub commented : IsRemark comment remark
   pub comments : p.comments ≡ option_to_list comment
-  pub short : length_of comment ≤ max_comment
+  pub short : length_of comment ≤ comment_limit

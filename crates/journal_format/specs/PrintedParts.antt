@@ -1,12 +1,13 @@
 -- Mirrors code: the parts of a canonical text one after another, each with the ends of its lines.
-use Rattle.std.specs.Prelude.{ℕ, List, [], ◌∷◌, ◌++◌, Option, Some, None}
-use Rattle.std.specs.List.{flat_map}
+use Rattle.std.specs.Prelude.{ℕ, List, [], ◌∷◌, ◌++◌, length, nat_le, Bool, ◌&&◌, Option, Some, None}
+use Rattle.std.specs.List.{flat_map, list_all}
 use Rattle.money_core.specs.declared.style.Style.{Style}
 use Rattle.journal_lines.specs.Printed.{header_line, comment_line}
 use Rattle.journal_format.specs.declared.posting.Posting.{Posting}
 use Rattle.journal_format.specs.declared.txn.Txn.{Txn}
 use Rattle.journal_format.specs.CanonicalText.{posting_line}
 use Rattle.journal_format.specs.Mark.{bookid}
+use Rattle.journal_format.specs.Printable.{is_mark_or_none, is_note, is_posting}
 
 -- a line with its end
 abbrev pub whole_line : List ℕ → List ℕ
@@ -40,3 +41,7 @@ mark_part (Some mark) = whole_line (comment_line (bookid ++ mark))
 -- what stands below header and mark
 abbrev pub rest_part : List Style → Txn → List ℕ
 rest_part styles t = comments_part t.comments ++ postings_part styles t.postings
+
+-- what stands below a header is well formed
+abbrev pub has_good_lines : List Style → Txn → Bool
+has_good_lines styles t = is_mark_or_none t.mark && list_all is_note t.comments && list_all (is_posting styles) t.postings && nat_le (length t.postings) 1000

@@ -6,8 +6,8 @@ ghost use Rattle.std.specs.Str.{is_utf8};
 ghost use Rattle.journal_lines.specs.AccountName.{is_account};
 ghost use Rattle.journal_lines.specs.Printed.{HeaderOk};
 ghost use Rattle.journal_format.specs.CanonicalText.{body_text};
-ghost use Rattle.journal_format.specs.Printable.{is_remark_text, is_note, is_mark_or_none, is_amount, is_price_or_none, is_claim_or_none, is_value, is_posting, IsPrintable, ReadsBack};
-ghost use Rattle.journal_format.specs.PrintedParts.{comments_part, posting_part, postings_part};
+ghost use Rattle.journal_format.specs.Printable.{is_remark_text, is_note, is_mark_or_none, is_amount, is_price_or_none, is_claim_or_none, is_value, is_posting, is_text_or_none, IsPrintable, ReadsBack};
+ghost use Rattle.journal_format.specs.PrintedParts.{comments_part, posting_part, postings_part, has_good_lines};
 ghost use Rattle.journal_format.specs.Room.{room_behind};
 
 use crate::body_size::{MAX_BODY, head_size, line_size, remark_size};
@@ -55,17 +55,16 @@ fn is_mark_or_none(mark: &Option<Text>) -> bool
     }
 }
 
-/// Whether the parts of a header read back.
+/// Whether the parts of a header read back; they are UTF-8.
 fn is_header(txn: &Txn) -> bool
-    ensures { IsTrue result ↔ HeaderOk txn.now.day txn.now.status txn.now.code txn.now.description }
+    ensures parts { IsTrue result ↔ HeaderOk txn.now.day txn.now.status txn.now.code txn.now.description }
+    ensures code { is_text_or_none txn.now.code ≡ true }
+    ensures description { is_utf8 txn.now.description ≡ true }
 {
-    is_day_number(txn.day)
-        && is_code(bytes_of(&txn.code))
-        && is_description(
-            txn.status,
-            bytes_of(&txn.code),
-            txn.description.as_str().as_bytes(),
-        )
+    txn.description.is_text();
+    let code = bytes_of(&txn.code);
+    let description = txn.description.as_str().as_bytes();
+    is_day_number(txn.day) && is_code(code) && is_description(txn.status, code, description)
 }
 
 fn is_amount(styles: &Styles, unit: Unit, qty: i64) -> bool
@@ -181,6 +180,29 @@ fn has_small_body(txn: &Txn, styles: &Styles) -> bool
     }
 }
 
+/// Whether what stands below a header is well formed.
+fn has_good_lines(txn: &Txn, styles: &Styles) -> bool
+    ensures { result ≡ has_good_lines styles.now txn.now }
+{
+    is_mark_or_none(&txn.mark)
+        && are_notes(txn.comments.items())
+        && are_postings(styles, txn.postings.items())
+        && txn.postings.items().len() <= MAX_POSTINGS
+}
+
+/// Whether all parts are well formed and within their limits.
+fn has_good_parts(txn: &Txn, styles: &Styles) -> bool
+    ensures { IsTrue result ↔ IsPrintable styles.now txn.now }
+{
+    if !is_header(txn) {
+        return false;
+    }
+    if !has_good_lines(txn, styles) {
+        return false;
+    }
+    has_small_body(txn, styles)
+}
+
 /// Whether the transaction can be printed: each part is well formed and within its limits, and the commodities are
 /// declared. It takes no memory, and is linear in the transaction.
 pub fn is_printable(txn: &Txn, styles: &Styles) -> bool
@@ -189,10 +211,5 @@ pub fn is_printable(txn: &Txn, styles: &Styles) -> bool
     ensures reads { IsTrue result ↔ ReadsBack styles.now txn.now }
 {
     styles.are_styles();
-    is_header(txn)
-        && is_mark_or_none(&txn.mark)
-        && are_notes(txn.comments.items())
-        && are_postings(styles, txn.postings.items())
-        && txn.postings.items().len() <= MAX_POSTINGS
-        && has_small_body(txn, styles)
+    has_good_parts(txn, styles)
 }

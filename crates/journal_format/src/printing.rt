@@ -8,7 +8,7 @@ ghost use Rattle.journal_lines.specs.HeaderView.{text_of};
 ghost use Rattle.journal_format.specs.PostingForm.{claim_sign};
 ghost use Rattle.journal_format.specs.CanonicalText.{posting_status, price_text, claim_text, amount_text, marked, txn_text, body_text, journal_text};
 ghost use Rattle.journal_format.specs.Pieces.{Reads};
-ghost use Rattle.journal_format.specs.Printable.{is_value, is_price_or_none, is_claim_or_none, is_posting, IsPrintable, ReadsBack, FitsText, located_from};
+ghost use Rattle.journal_format.specs.Printable.{is_value, is_price_or_none, is_claim_or_none, is_posting, IsPrintable, ReadsBack, FitsText, located_from, is_text_or_none};
 ghost use Rattle.journal_format.specs.PrintedParts.{header_part, mark_part, comment_part, comments_part, posting_part, postings_part, rest_part};
 
 use crate::posting::Posting;
@@ -20,10 +20,14 @@ use std::alloc::{AllocError, Global};
 
 /// The bytes of a text, if there is one.
 pub(crate) fn bytes_of(text: &Option<Text>) -> Option<&[u8]>
-    ensures { text_of result ≡ text.now }
+    ensures value { text_of result ≡ text.now }
+    ensures utf8 { is_text_or_none text.now ≡ true }
 {
     match text {
-        Some(text) => Some(text.as_str().as_bytes()),
+        Some(text) => {
+            text.is_text();
+            Some(text.as_str().as_bytes())
+        }
         None => None,
     }
 }
