@@ -9,7 +9,7 @@ use Rattle.money_core.specs.declared.style.Style.{Style}
 use Rattle.money_core.proofs.PrintedLemmas.{appended_twice}
 use Rattle.money_core.proofs.Appends.{kept_behind}
 use Rattle.journal_lines.specs.AccountName.{is_account}
-use Rattle.journal_lines.specs.Printed.{ended, header_description, spaced_text, comment_line}
+use Rattle.journal_lines.specs.Printed.{ended, comment_line}
 use Rattle.journal_lines.proofs.LineLemmas.{ended-append}
 use Rattle.journal_format.specs.declared.posting.Posting.{Posting}
 use Rattle.journal_format.specs.declared.txn.Txn.{Txn}

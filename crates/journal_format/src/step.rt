@@ -9,10 +9,10 @@ ghost use Rattle.journal_format.specs.PostingRead.{IsUnlessMemory, first_of};
 
 use crate::body_size::MAX_BODY;
 use crate::directive::{commodity_of, format_fault};
-use crate::entry::{begun, entry_line, is_remark};
+use crate::entry::{begun, entry_line};
 use crate::limit::{MAX_TXNS, breaks_limit, in_block, is_text};
 use crate::state::{Context, State};
-use journal_lines::{LineKind, is_block_end, kind};
+use journal_lines::{LineKind, is_block_end, is_remark, kind};
 use money_core::{Cause, Fault, Styles};
 use std::alloc::Global;
 

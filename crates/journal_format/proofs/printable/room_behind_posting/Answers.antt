@@ -17,7 +17,7 @@ returns-then-size-room c =
     let styles = c.args.styles.now in
     let p = c.args.posting.now in
     let both = length-append (whole_line (posting_line styles p)) (comments_part p.comments) in
-    room_none c.args.room (length (posting_part styles p)) (omega (arith, c.if-size-room.true, c.line_size-size.ensures.size, line_is styles p, both))
+    sym (room_none c.args.room (length (posting_part styles p)) (omega (arith, c.if-size-room.true, c.line_size-size.ensures.size, line_is styles p, both)))
 
 pub returns : goal.returns
 returns c =

@@ -21,7 +21,7 @@ returns-in-None c =
     let over = room_missed c.postings.left (length (f x)) (sym c.room_behind_posting.ensures ∙ c.in-None.is) in
     let all = length-flat_map-take f xs c.postings.posting-index x c.postings-test.true in
     let same = ap (λ (p : Posting). length (f p)) c.posting-item.is in
-    room_none c.args.room (length (postings_part c.args.styles.now xs)) (omega (arith, c.postings.invariant, over, all, same))
+    sym (room_none c.args.room (length (postings_part c.args.styles.now xs)) (omega (arith, c.postings.invariant, over, all, same)))
 
 pub postings-preserved : goal.postings-preserved
 postings-preserved c =

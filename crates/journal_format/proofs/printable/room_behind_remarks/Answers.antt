@@ -19,7 +19,7 @@ returns-then-size-left c =
     let next = parts_next comment_part xs i x c.comments-test.true c.comment-item.is in
     let all = length-flat_map-take comment_part xs i x c.comments-test.true in
     let same = ap (λ (t : List ℕ). length (comment_part t)) c.comment-item.is in
-    room_none c.args.room (length (comments_part xs)) (omega (arith, c.comments.invariant, c.if-size-left.true, size, all, same))
+    sym (room_none c.args.room (length (comments_part xs)) (omega (arith, c.comments.invariant, c.if-size-left.true, size, all, same)))
 
 pub comments-preserved : goal.comments-preserved
 comments-preserved c =
