@@ -1,65 +1,26 @@
 //! How long the body of a transaction is, line by line.
 
 ghost use Rattle.std.specs.Prelude.{◌≡◌, ◌+◌, ◌≤◌, [], ◌∷◌, true, length};
-ghost use Rattle.journal_lines.specs.Printed.{HeaderOk, header_status, header_code, spaced_text};
-ghost use Rattle.journal_format.specs.CanonicalText.{posting_status, price_text, claim_text, amount_text};
 ghost use Rattle.std.specs.List.{list_all};
+ghost use Rattle.journal_format.specs.CanonicalText.{posting_status, price_text, claim_text, amount_text};
 ghost use Rattle.journal_format.specs.Printable.{is_remark_text, is_posting, is_value, is_price_or_none, is_claim_or_none};
-ghost use Rattle.journal_format.specs.BodySize.{head_size, remarks_size, line_size, postings_size};
+ghost use Rattle.journal_format.specs.BodySize.{remarks_size, line_size, postings_size};
 
 use crate::posting::Posting;
 use crate::posting_line::sign_len;
-use crate::txn::Txn;
 use book_core::Claim;
-use journal_lines::Status;
-use crate::lengths::{amount_len, price_len};
-use money_core::{Price, Styles, Text};
+use journal_lines::{Status, comment_len};
+use money_core::{Price, Styles, Text, amount_len, price_len};
 
 /// The most bytes of a transaction's body.
 pub(crate) const MAX_BODY: usize = 1_000_000;
 
-fn header_status_len(status: Option<Status>) -> usize
-    ensures { result ≡ length (header_status status) }
-{
-    match status {
-        Some(Status::Pending) => 2,
-        Some(Status::Cleared) => 2,
-        None => 0,
-    }
-}
-
-fn code_len(code: &Option<Text>) -> usize
-    requires { length (header_code code.now) ≤ 200 }
-    ensures { result ≡ length (header_code code.now) }
-{
-    match code {
-        Some(code) => code.as_str().len() + 3,
-        None => 0,
-    }
-}
-
-fn spaced_len(text: &[u8]) -> usize
-    ensures { result ≡ length (spaced_text text.now) }
-{
-    if text.is_empty() { 0 } else { text.len() + 1 }
-}
-
-/// How many bytes the line of a transaction's header has, with its end.
-pub(crate) fn head_size(txn: &Txn) -> usize
-    requires { HeaderOk txn.now.day txn.now.status txn.now.code txn.now.description }
-    ensures size { result ≡ head_size txn.now }
-    ensures bound { result ≤ 1000 }
-{
-    11 + header_status_len(txn.status)
-        + code_len(&txn.code)
-        + spaced_len(txn.description.as_str().as_bytes())
-}
-
 /// How many bytes the line of a comment has, with its end.
 pub(crate) fn remark_size(text: &[u8]) -> usize
-    ensures { result ≡ remarks_size (text.now ∷ []) }
+    ensures size { result ≡ remarks_size (text.now ∷ []) }
+    ensures bound { result ≤ length text.now + 7 }
 {
-    6 + spaced_len(text)
+    comment_len(text) + 1
 }
 
 fn posting_status_len(status: Option<Status>) -> usize

@@ -1,37 +1,50 @@
 //! Directives `commodity`, which have to agree with the declared commodities.
 
-ghost use Rattle.std.specs.Prelude.{◌≡◌, ◌⊎◌, true, length, slice_get, Some};
+ghost use Rattle.std.specs.Prelude.{◌≡◌, ◌≤◌, ◌⊎◌, true, false, length, slice_get, Some};
+ghost use Rattle.std.specs.Char.{is_ascii_digit};
+ghost use Rattle.journal_format.specs.Posting.{outside};
 ghost use Rattle.std.specs.Str.{is_utf8};
 ghost use Rattle.money_core.specs.Sampling.{style_of};
 ghost use Rattle.money_core.specs.Cutting.{symbol_of};
 ghost use Rattle.journal_format.specs.Directive.{behind_word, shows_digit, agrees, sampled, named, commodity_of, sample_fault, is_format, format_fault};
 ghost use Rattle.journal_format.specs.PostingRead.{IsUnlessMemory};
 
+use crate::posting_line::behind;
 use journal_lines::{first_word, front_of, trim, trim_start};
 use money_core::{Cause, Style, Styles, Unit, read_style, read_symbol, text_of};
 use std::alloc::Global;
 
 /// What follows the first word, without blanks at its ends.
 fn behind_word(text: &[u8]) -> &[u8]
-    ensures { result.now ≡ behind_word text.now }
+    ensures value { result.now ≡ behind_word text.now }
+    ensures utf8 { is_utf8 text.now ≡ true → is_utf8 result.now ≡ true }
 {
-    trim(&text[first_word(text).len()..])
+    trim(behind(text, first_word(text).len()))
+}
+
+/// Where a digit first stands outside quotes, or the length.
+#[tactic(auto, unfolding(crate::specs::Posting::outside))]
+fn first_digit(text: &[u8]) -> usize
+    ensures place { result ≡ outside is_ascii_digit false text.now }
+    ensures bound { result ≤ length text.now }
+{
+    let mut quoted = false;
+    for (at, byte) in text.iter().enumerate() {
+        if byte.is_ascii_digit() && !quoted {
+            return at;
+        }
+        if *byte == b'"' {
+            quoted = !quoted;
+        }
+    }
+    text.len()
 }
 
 /// Whether a digit stands outside quotes.
 fn shows_digit(text: &[u8]) -> bool
     ensures { result ≡ shows_digit text.now }
 {
-    let mut quoted = false;
-    for byte in text {
-        if byte.is_ascii_digit() && !quoted {
-            return true;
-        }
-        if *byte == b'"' {
-            quoted = !quoted;
-        }
-    }
-    false
+    first_digit(text) < text.len()
 }
 
 /// Whether a sample has the decimal mark and the number of decimals of a declared commodity.
@@ -112,12 +125,7 @@ fn sample_fault(styles: &Styles, unit: Unit, sample: &Style) -> Option<Cause>
 
 /// The fault of an indented line of UTF-8 below a directive, if it has one: what is no `format` line is skipped.
 #[tactic(auto, unfolding(crate::specs::Directive::format_fault))]
-pub(crate) fn format_fault(
-    alloc: Global,
-    styles: &Styles,
-    unit: Unit,
-    line: &[u8],
-) -> Option<Cause>
+pub(crate) fn format_fault(alloc: Global, styles: &Styles, unit: Unit, line: &[u8]) -> Option<Cause>
     requires { is_utf8 line.now ≡ true }
     ensures { (result ≡ format_fault styles.now unit line.now) ⊎ (result ≡ Some Cause.OutOfMemory) }
 {

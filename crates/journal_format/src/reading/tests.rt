@@ -28,7 +28,11 @@ fn answer(alloc: Global, text: &[u8], styles: &Styles) -> (usize, usize) {
 fn assert_answers(rt: &impl Abort, alloc: Global, rows: &[(&str, (usize, usize))]) {
     let styles = declared_styles(rt, alloc);
     for (text, wanted) in rows {
-        assert_eq!(rt; answer(alloc, text.as_bytes(), &styles), *wanted, "{text:?}");
+        assert_eq!(rt;
+            answer(alloc, text.as_bytes(), &styles),
+            *wanted,
+            "{text:?}"
+        );
     }
 }
 
@@ -59,7 +63,11 @@ fn assert_repeated(
             text.extend_from_slice(part.as_bytes())?;
         }
         text.extend_from_slice(back.as_bytes())?;
-        assert_eq!(rt; answer(alloc, text.as_slice(), &styles), *wanted, "{front:?} {part:?} {count} {back:?}");
+        assert_eq!(rt;
+            answer(alloc, text.as_slice(), &styles),
+            *wanted,
+            "{front:?} {part:?} {count} {back:?}"
+        );
     }
     Ok(())
 }
@@ -207,7 +215,10 @@ fn other_lines_have_their_answers(rt: HostRuntime) {
         rt.alloc(),
         &[
             ("; x\n# x\n* x\n    ; x\n \t\n", (0, 0)),
-            ("account a:x  ; type:A\npayee y\ntag z\nP 2024-01-05 EUR $1.10", (0, 0)),
+            (
+                "account a:x  ; type:A\npayee y\ntag z\nP 2024-01-05 EUR $1.10",
+                (0, 0),
+            ),
             ("account\n    x (\n  ; y\npayee\ntag\nP\n  z", (0, 0)),
             ("alias a=b", (1, 5)),
             ("apply account x", (1, 5)),
@@ -286,8 +297,14 @@ fn a_transaction_has_one_mark_at_most(rt: HostRuntime) {
         &[
             ("2024-01-05 x ; bookid:a\n    ; bookid:a", (2, 16)),
             ("2024-01-05 x ; bookid: a\n    ; bookid:b", (2, 16)),
-            ("2024-01-05 x ; bookid:a\n    a:x  ; bookid:b\n    ; bookid:c", (0, 1)),
-            ("2024-01-05 x ; bookid:a\n    ; bookid:\n    ; bookid:a b\n    ; bookid:é", (0, 1)),
+            (
+                "2024-01-05 x ; bookid:a\n    a:x  ; bookid:b\n    ; bookid:c",
+                (0, 1),
+            ),
+            (
+                "2024-01-05 x ; bookid:a\n    ; bookid:\n    ; bookid:a b\n    ; bookid:é",
+                (0, 1),
+            ),
         ],
     );
 }
@@ -323,8 +340,20 @@ fn a_limit_is_passed_by_one_more(rt: HostRuntime) -> Result<(), Fail> {
             ("2024-01-05\n    ", "a", 200, "", (0, 1)),
             ("2024-01-05\n    ", "a", 201, "", (2, 7)),
             ("2024-01-05\n    (", "a", 201, ")", (2, 15)),
-            ("2024-01-05\n    ; bookid:", "a", 100, "\n    ; bookid:b", (3, 16)),
-            ("2024-01-05\n    ; bookid:", "a", 101, "\n    ; bookid:b", (0, 1)),
+            (
+                "2024-01-05\n    ; bookid:",
+                "a",
+                100,
+                "\n    ; bookid:b",
+                (3, 16),
+            ),
+            (
+                "2024-01-05\n    ; bookid:",
+                "a",
+                101,
+                "\n    ; bookid:b",
+                (0, 1),
+            ),
             ("2024-01-05\n", " a\n", 1000, "", (0, 1)),
             ("2024-01-05\n", " a\n", 1001, "", (1002, 2)),
             ("2024-01-05\n", " a\n", 1000, " ; c", (0, 1)),
