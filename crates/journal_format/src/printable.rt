@@ -1,23 +1,25 @@
 //! Which transactions can be printed, and read again.
 
-ghost use Rattle.std.specs.Prelude.{◌≡◌, ◌↔◌, ◌&&◌, nat_le, length, true, IsTrue};
+ghost use Rattle.std.specs.Prelude.{◌≡◌, ◌↔◌, ◌≤◌, ◌&&◌, nat_le, length, true, IsTrue};
 ghost use Rattle.std.specs.List.{list_all};
 ghost use Rattle.std.specs.Str.{is_utf8};
 ghost use Rattle.journal_lines.specs.AccountName.{is_account};
 ghost use Rattle.journal_lines.specs.Printed.{HeaderOk};
 ghost use Rattle.journal_format.specs.CanonicalText.{body_text};
 ghost use Rattle.journal_format.specs.Printable.{is_remark_text, is_note, is_mark_or_none, is_amount, is_price_or_none, is_claim_or_none, is_value, is_posting, is_text_or_none, IsPrintable, ReadsBack};
-ghost use Rattle.journal_format.specs.PrintedParts.{comments_part, posting_part, postings_part, has_good_lines};
+ghost use Rattle.journal_format.specs.PrintedParts.{header_part, comments_part, posting_part, postings_part, has_good_lines};
 ghost use Rattle.journal_format.specs.Room.{room_behind};
 
-use crate::body_size::{MAX_BODY, head_size, line_size, remark_size};
+use crate::body_size::{MAX_BODY, line_size, remark_size};
 use crate::entry::MAX_POSTINGS;
 use crate::posting::Posting;
 use crate::printing::bytes_of;
 use crate::remark::{is_mark, mark_of};
 use crate::txn::Txn;
 use book_core::Claim;
-use journal_lines::{is_account, is_code, is_comment, is_day_number, is_description};
+use journal_lines::{
+    header_len, is_account, is_code, is_comment, is_day_number, is_description,
+};
 use money_core::{Price, Styles, Text, Unit, is_declared, is_price};
 
 /// Whether the text of a comment reads back.
@@ -168,13 +170,23 @@ fn room_behind_postings(room: usize, styles: &Styles, postings: &[Posting]) -> O
     Some(left)
 }
 
+/// How many bytes the header line has, with its end.
+fn header_size(txn: &Txn) -> usize
+    requires { HeaderOk txn.now.day txn.now.status txn.now.code txn.now.description }
+    ensures size { result ≡ length (header_part txn.now) }
+    ensures bound { result ≤ 1001 }
+{
+    let description = txn.description.as_str().as_bytes();
+    header_len(txn.status, bytes_of(&txn.code), description) + 1
+}
+
 /// Whether the body has at most 1,000,000 bytes, counted without printing it.
 fn has_small_body(txn: &Txn, styles: &Styles) -> bool
     requires header { HeaderOk txn.now.day txn.now.status txn.now.code txn.now.description }
     requires postings { list_all (is_posting styles.now) txn.now.postings ≡ true }
     ensures { result ≡ nat_le (length (body_text styles.now txn.now)) MAX_BODY }
 {
-    match room_behind_remarks(MAX_BODY - head_size(txn), txn.comments.items()) {
+    match room_behind_remarks(MAX_BODY - header_size(txn), txn.comments.items()) {
         Some(room) => room_behind_postings(room, styles, txn.postings.items()).is_some(),
         None => false,
     }

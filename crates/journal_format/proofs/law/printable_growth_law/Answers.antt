@@ -1,4 +1,4 @@
-use Rattle.journal_format.proofs.GrowthLemmas.{printable_stays}
+use Rattle.journal_format.proofs.MoreStylesLemmas.{printable_stays}
 use Rattle.journal_format.proofs.law.printable_growth_law.Goals as goal
 
 pub returns : goal.returns

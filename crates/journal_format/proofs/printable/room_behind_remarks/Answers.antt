@@ -15,7 +15,7 @@ returns-then-size-left c =
     let xs = c.args.comments.now in
     let i = c.comments.comment-index in
     let x = c.comment-item.result in
-    let size : c.remark_size-size.result ≡ length (comment_part x) = c.remark_size-size.ensures ∙ (ap (λ (t : List ℕ). remarks_size (t ∷ [])) (c.as_bytes.ensures.value ∙ c.as_str.ensures) ∙ remark_is x) in
+    let size : c.remark_size-size.result ≡ length (comment_part x) = c.remark_size-size.ensures.size ∙ (ap (λ (t : List ℕ). remarks_size (t ∷ [])) (c.as_bytes.ensures.value ∙ c.as_str.ensures) ∙ remark_is x) in
     let next = parts_next comment_part xs i x c.comments-test.true c.comment-item.is in
     let all = length-flat_map-take comment_part xs i x c.comments-test.true in
     let same = ap (λ (t : List ℕ). length (comment_part t)) c.comment-item.is in
@@ -25,7 +25,7 @@ pub comments-preserved : goal.comments-preserved
 comments-preserved c =
     let xs = c.args.comments.now in
     let x = c.comment-item.result in
-    let size : c.remark_size-size.result ≡ length (comment_part x) = c.remark_size-size.ensures ∙ (ap (λ (t : List ℕ). remarks_size (t ∷ [])) (c.as_bytes.ensures.value ∙ c.as_str.ensures) ∙ remark_is x) in
+    let size : c.remark_size-size.result ≡ length (comment_part x) = c.remark_size-size.ensures.size ∙ (ap (λ (t : List ℕ). remarks_size (t ∷ [])) (c.as_bytes.ensures.value ∙ c.as_str.ensures) ∙ remark_is x) in
     let next = parts_next comment_part xs c.comments.comment-index x c.comments-test.true c.comment-item.is in
     omega (arith, c.comments.invariant, c.if-size-left.false, size, next)
 
