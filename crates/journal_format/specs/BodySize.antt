@@ -8,7 +8,7 @@ use Rattle.journal_format.specs.declared.txn.Txn.{Txn}
 use Rattle.journal_format.specs.CanonicalText.{posting_line, posting_lines}
 
 -- the header's line
-unfoldable pub head_size : Txn → ℕ
+abbrev pub head_size : Txn → ℕ
 head_size t = length (ended (header_line t.day t.status t.code t.description ∷ []))
 
 -- the lines of comments

@@ -1,10 +1,9 @@
 //! What one more line of a journal does, or its first fault.
 
-ghost use Rattle.std.specs.Prelude.{◌≡◌, ◌⊎◌, ◌≢◌, ◌≤◌, true, false, not, length, Ok, Err, IfOk, IfErr};
-ghost use Rattle.std.specs.Str.{is_utf8};
-ghost use Rattle.journal_lines.specs.declared.line_kind.LineKind.TheVariants.{Indented};
+ghost use Rattle.std.specs.Prelude.{◌≡◌, ◌≤◌, true, not, IfOk};
+ghost use Rattle.journal_lines.specs.LineKind.{is_block_end};
 ghost use Rattle.journal_format.specs.Line.{is_line};
-ghost use Rattle.journal_format.specs.Machine.{size_of, in_block, goes_on, opens, by_kind, moved, step, list_of, memory_fault};
+ghost use Rattle.journal_format.specs.Machine.{size_of, in_block, block_line, goes_on, opens, by_kind, moved, step};
 ghost use Rattle.journal_format.specs.PostingRead.{IsUnlessMemory, first_of};
 
 use crate::body_size::MAX_BODY;
