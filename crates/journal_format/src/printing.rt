@@ -334,3 +334,6 @@ pub fn print_journal(
     }
     done
 }
+
+#[cfg(test)]
+mod tests;
