@@ -48,7 +48,7 @@ room_missed room n h = elim (cases_Bool (nat_le n room)) [
 pub room_twice : (room n m : ℕ) → n ≤ room → room_behind (room - n) m ≡ room_behind room (n + m)
 room_twice room n m h = elim (cases_Bool (nat_le m (room - n))) [
   | inl fits ↦ (let k = leb-true m (room - n) fits in
-    room_some (room - n) m ((room - n) - m) (omega (arith, k)) ∙ sym (room_some room (n + m) ((room - n) - m) (omega (arith, k, h))))
+      room_some (room - n) m ((room - n) - m) (omega (arith, k)) ∙ sym (room_some room (n + m) ((room - n) - m) (omega (arith, k, h))))
   | inr over ↦ (let k = leb-false m (room - n) over in room_none (room - n) m k ∙ sym (room_none room (n + m) (omega (arith, k, h))))
 ]
 

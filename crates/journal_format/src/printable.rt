@@ -17,9 +17,7 @@ use crate::printing::bytes_of;
 use crate::remark::{is_mark, mark_of};
 use crate::txn::Txn;
 use book_core::Claim;
-use journal_lines::{
-    header_len, is_account, is_code, is_comment, is_day_number, is_description,
-};
+use journal_lines::{header_len, is_account, is_code, is_comment, is_day_number, is_description};
 use money_core::{Price, Styles, Text, Unit, is_declared, is_price};
 
 /// Whether the text of a comment reads back.
@@ -45,7 +43,9 @@ fn are_notes(comments: &[Text]) -> bool
 fn are_remark_texts(comments: &[Text]) -> bool
     ensures { result ≡ list_all is_remark_text comments.now }
 {
-    comments.iter().all(|comment| is_remark_text(comment.as_str()))
+    comments
+        .iter()
+        .all(|comment| is_remark_text(comment.as_str()))
 }
 
 fn is_mark_or_none(mark: &Option<Text>) -> bool

@@ -38,12 +38,7 @@ fn transaction(rt: &impl Abort, alloc: Global, text: &str, styles: &Styles) -> T
 }
 
 /// The texts of all transactions of a journal, an empty line behind each.
-fn canonical(
-    rt: &impl Abort,
-    alloc: Global,
-    text: &str,
-    styles: &Styles,
-) -> Result<Vec<u8>, Fail> {
+fn canonical(rt: &impl Abort, alloc: Global, text: &str, styles: &Styles) -> Result<Vec<u8>, Fail> {
     let mut out = Vec::new(alloc);
     for located in &transactions(rt, alloc, text, styles) {
         assert!(rt; is_printable(&located.txn, styles), "{text:?}");
@@ -281,10 +276,16 @@ fn a_header_prints_in_one_form(rt: HostRuntime) -> Result<(), Fail> {
         ("2024-01-05 hall", ">2024-01-05 hall\n"),
         ("2024-01-05", ">2024-01-05\n"),
         ("2024-01-05 ()", ">2024-01-05 ()\n"),
-        ("2024-01-05 *(7)  two  words ", ">2024-01-05 * (7) two  words\n"),
+        (
+            "2024-01-05 *(7)  two  words ",
+            ">2024-01-05 * (7) two  words\n",
+        ),
         ("2024-01-05 ! x;", ">2024-01-05 ! x\n    ;\n"),
         ("2024-01-05 x ; bookid:k-1", ">2024-01-05 x\n"),
-        ("2024-01-05 x ; bookid:k 1", ">2024-01-05 x\n    ; bookid:k 1\n"),
+        (
+            "2024-01-05 x ; bookid:k 1",
+            ">2024-01-05 x\n    ; bookid:k 1\n",
+        ),
     ];
     for (text, expected) in rows {
         let printed = body_of(&rt, alloc, text, &styles)?;
@@ -319,7 +320,8 @@ fn copied<T: Copied>(value: &T) -> Result<T, Cause> {
 fn copies_are_equal(rt: HostRuntime) -> Result<(), Fail> {
     let alloc = rt.alloc();
     let styles = declared_styles(&rt, alloc);
-    let text = "2024-01-05 * (7) x ; y\n    ; bookid:k\n    ! a:x  1.00 EUR @ $2.00 == 3.00 EUR  ; z";
+    let text =
+        "2024-01-05 * (7) x ; y\n    ; bookid:k\n    ! a:x  1.00 EUR @ $2.00 == 3.00 EUR  ; z";
     for located in &transactions(&rt, alloc, text, &styles) {
         let copy = copied(located)?;
         assert_eq!(rt; copy.line, 1);
@@ -333,7 +335,8 @@ fn copies_are_equal(rt: HostRuntime) -> Result<(), Fail> {
         if is_printable(&txn, &styles) {
             assert!(rt; print_txn(alloc, &txn, &styles, &mut out) == Ok(()));
         }
-        let expected = "2024-01-05 * (7) x\n    ; bookid:k\n    ; y\n    ! a:x  1.00 EUR @ $2.00 == 3.00 EUR\n    ; z\n";
+        let expected =
+            "2024-01-05 * (7) x\n    ; bookid:k\n    ; y\n    ! a:x  1.00 EUR @ $2.00 == 3.00 EUR\n    ; z\n";
         assert_eq!(rt; out.as_slice(), expected.as_bytes());
     }
     Ok(())
