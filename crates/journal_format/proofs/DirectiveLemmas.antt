@@ -1,10 +1,10 @@
 -- What follows the first word of a text in UTF-8 is UTF-8.
-use Rattle.std.proofs.Common.{◌≡◌, ◌==◌, ◌<◌, ◌||◌, ℕ, List, true, length, take, drop, arith, sym, subst}
+use Rattle.std.proofs.Common.{◌≡◌, ◌<◌, ℕ, List, true, drop, arith, sym, subst}
 use Rattle.std.proofs.lemmas.Grind.{common_steps}
 use Rattle.std.proofs.lemmas.List.{length-take-le}
 use Rattle.std.specs.List.{position_or_len}
 use Rattle.std.specs.Str.{is_utf8}
-use Rattle.journal_lines.specs.Blank.{is_blank, first_word, trim_start}
+use Rattle.journal_lines.specs.Blank.{is_blank, first_word}
 use Rattle.journal_lines.proofs.Utf8Lemmas.{IsCut, position_cut, cut_utf8, trim_start_utf8, trim_end_utf8}
 use Rattle.journal_format.specs.Directive.{behind_word}
 

@@ -1,4 +1,4 @@
-use Rattle.std.proofs.Common.{arith, ap, sym, ◌∙◌, [], ◌∷◌, List, ℕ}
+use Rattle.std.proofs.Common.{arith, ap, ◌∙◌, [], ◌∷◌, List, ℕ}
 use Rattle.journal_format.specs.BodySize.{remarks_size}
 use Rattle.journal_format.proofs.SizeLemmas.{empty_size, only_one, remarks_small}
 use Rattle.journal_format.proofs.body_size.remarks_size.Goals as goal
