@@ -1,4 +1,4 @@
--- The form of a directive `commodity` and of the lines below it (hledger manual, "commodity directive"). That it declares nothing, and has to
+-- The form of a directive `commodity` and of the lines below it (hledger manual, "Declaring commodities"). That it declares nothing, and has to
 -- agree with the declared styles, are own rules.
 use Rattle.std.specs.Prelude.{◌≡◌, ◌≢◌, ℕ, List, [], ◌++◌, codes, slice_get, true, Option, Some, ◌⊎◌}
 use Rattle.std.specs.List.{list_all}
