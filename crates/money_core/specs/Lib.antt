@@ -16,3 +16,4 @@ pub mod Price
 pub mod PriceReading
 pub mod PriceText
 pub mod Cost
+pub mod Growth
