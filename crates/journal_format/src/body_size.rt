@@ -71,7 +71,7 @@ fn amount_text_len(posting: &Posting, styles: &Styles) -> usize
 }
 
 /// How many bytes the line of a posting has, with its end.
-fn line_size(posting: &Posting, styles: &Styles) -> usize
+pub(crate) fn line_size(posting: &Posting, styles: &Styles) -> usize
     requires { is_posting styles.now posting.now ≡ true }
     ensures size { result ≡ line_size styles.now posting.now }
     ensures bound { result ≤ 500 }
