@@ -62,7 +62,7 @@ abbrev pub IsAmountPart : List Style → List ℕ → Option (Commodity × ℤ) 
 IsAmountPart styles text None price claim = (text ≡ []) × (price ≡ None) × (claim ≡ None)
 IsAmountPart styles text (Some a) price claim = WritesValue styles text a price claim
 
--- blanks that end an account name, of which a single space is a part: they begin with a tab, or are two at least
+-- blanks that set an account name apart, in which single spaces may stand: a tab first, or two at least
 abbrev pub is_wide : List ℕ → Bool
 is_wide gap = (slice_index gap 0 == 9) || nat_le 2 (length gap)
 
