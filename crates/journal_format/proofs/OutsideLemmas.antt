@@ -151,7 +151,7 @@ solid_behind xs ys h = record { some = omega (arith, h.some, length-append xs ys
 solid_number : (number : List ℕ) → NumberText number → IsSolid number
 solid_number number h = record { some = h.some; last = number_no_blank (slice_index number (length number - 1)) (AllPass-from_list_all (has Number) number h.bytes (length number - 1) 0 (omega (arith, h.some))) }
 
-solid_symbol : (symbol written : List ℕ) → WritesSymbol symbol written → IsSolid written
+pub solid_symbol : (symbol written : List ℕ) → WritesSymbol symbol written → IsSolid written
 solid_symbol symbol written (inl h) =
     let some = short_some symbol (bare_facts symbol h.0).short in
     subst IsSolid (sym h.1) (record { some = some; last = symbol_no_blank (slice_index symbol (length symbol - 1)) (AllPass-from_list_all (has Symbol) symbol (bare_facts symbol h.0).bytes (length symbol - 1) 0 (omega (arith, some))) })
@@ -203,6 +203,10 @@ pub record AllowsAmount (q : ℕ → Bool) : Type 0 where
   pub symbol : (b : ℕ) → has Symbol b ≡ true → q b ≡ true
   pub number : (b : ℕ) → has Number b ≡ true → q b ≡ true
 
+pub bytes_symbol : (q : ℕ → Bool) → AllowsAmount q → (symbol written : List ℕ) → WritesSymbol symbol written → list_all q written ≡ true
+bytes_symbol q f symbol written (inl h) = rw h.1 (all_weaker (has Symbol) q symbol f.symbol (bare_facts symbol h.0).bytes)
+bytes_symbol q f symbol written (inr h) = rw h.1 (and_from (q 34) _ f.quote (all_joined q symbol (34 ∷ []) (all_weaker is_quoted_byte q symbol f.quoted (symbol_facts symbol h.0).bytes) (and_from (q 34) _ f.quote refl)))
+
 pub bytes_amount : (q : ℕ → Bool) → AllowsAmount q → (mark : Mark) (text : List ℕ) (parts : Parts) → IsAmount mark text parts → list_all q text ≡ true
 bytes_amount q f mark text parts a = elim a.form [
   | inl left ↦
@@ -228,5 +232,4 @@ bytes_amount q f mark text parts a = elim a.form [
     signed outer inner (inr h) = (rw h.0 refl, sign parts.sign inner h.1)
 
     symbol : (written : List ℕ) → WritesSymbol parts.symbol written → list_all q written ≡ true
-    symbol written (inl h) = rw h.1 (all_weaker (has Symbol) q parts.symbol f.symbol (bare_facts parts.symbol h.0).bytes)
-    symbol written (inr h) = rw h.1 (and_from (q 34) _ f.quote (all_joined q parts.symbol (34 ∷ []) (all_weaker is_quoted_byte q parts.symbol f.quoted (symbol_facts parts.symbol h.0).bytes) (and_from (q 34) _ f.quote refl)))
+    symbol written h = bytes_symbol q f parts.symbol written h

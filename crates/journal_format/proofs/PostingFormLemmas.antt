@@ -76,7 +76,7 @@ symbol_no_equals b h = grind (arith, common_steps)
 symbol_no_star : (b : ℕ) → has Symbol b ≡ true → (b == 42) ≡ false
 symbol_no_star b h = grind (arith, common_steps)
 
-bars_blank : BarsAmount is_blank
+pub bars_blank : BarsAmount is_blank
 bars_blank = record { quote = refl; signs = (refl, refl); symbol = symbol_no_blank; number = number_no_blank }
 
 bars_equals : BarsAmount (λ b. b == 61)
@@ -85,7 +85,7 @@ bars_equals = record { quote = refl; signs = (refl, refl); symbol = symbol_no_eq
 bars_star : BarsAmount (λ b. b == 42)
 bars_star = record { quote = refl; signs = (refl, refl); symbol = symbol_no_star; number = number_no_star }
 
-allows_no_comment : AllowsAmount (λ b. not (b == 59))
+pub allows_no_comment : AllowsAmount (λ b. not (b == 59))
 allows_no_comment = record { quoted = quoted_is; quote = refl; signs = (refl, refl); blank = blank_no_semicolon; symbol = symbol_is; number = number_is }
   where
     quoted_is : (b : ℕ) → is_quoted_byte b ≡ true → not (b == 59) ≡ true
