@@ -72,7 +72,7 @@ const DATES: (&str, &str) = (
     equity:opening
 
 2024.01.05  hall
-\tassets:cash\t1.00 EUR
+\tassets:cash\t\t1.00 EUR
 \tequity:opening
 2024-01-05 hall
   assets:cash    EUR 1
