@@ -1,7 +1,6 @@
 -- what a failure names stands in the book
-use Rattle.std.proofs.Common.{◌≡◌, ℕ, ◌+◌, ◌<◌, ◌≤◌, Bool, true, false, ◌||◌, List, [], ◌∷◌, ◌++◌, length, arith, refl, ap, ◌∙◌, sym, subst, nat_eq, nat_lt, Option, Some, None, ℤ, pos, negsuc, ◌⊎◌, inl, inr}
-use Rattle.std.specs.Prelude.{if◌then◌else◌, option_map, unsigned_abs, map, Contains}
-use Rattle.std.specs.List.{list_any}
+use Rattle.std.proofs.Common.{◌≡◌, ℕ, ◌+◌, ◌≤◌, Bool, true, false, ◌||◌, List, [], ◌∷◌, length, arith, refl, ap, ◌∙◌, sym, subst, nat_eq, nat_lt, Option, Some, None, ℤ, pos, negsuc, ◌⊎◌, inl, inr}
+use Rattle.std.specs.Prelude.{if◌then◌else◌, option_map, unsigned_abs, Contains}
 use Rattle.std.proofs.lemmas.Int.{ints}
 use Rattle.std.proofs.lemmas.List.Elements.{Contains-append_left, Contains-append_right, Contains-append_cases, Contains-push}
 use Rattle.money_core.specs.declared.unit.Unit.{Unit as Commodity}
@@ -14,12 +13,11 @@ use Rattle.book_core.specs.declared.place.Place.{Place}
 use Rattle.book_core.specs.declared.claim.Asserted.{Asserted}
 use Rattle.book_core.specs.declared.entry.Entry.{Entry}
 use Rattle.book_core.specs.declared.refusal.Failure.{Failure}
-use Rattle.book_core.specs.declared.refusal.Refusal.{Refusal}
 use Rattle.book_core.specs.declared.refusal.Refusal.TheVariants.{Plain, ClaimFailed}
 use Rattle.book_core.specs.declared.place.Until.TheVariants.{At}
 use Rattle.book_core.specs.Book.{legs_of}
 use Rattle.book_core.specs.Claim.{reach_of, balance_at, asserted_on, asserted_claims, asserted_from, failure, FailsInOwn, FailsInOther, IsFirstFailure}
-use Rattle.book_core.specs.GoodBook.{most_entries, most_turnover, HasRoom, IsWithin, is_over, verdict}
+use Rattle.book_core.specs.GoodBook.{most_entries, most_turnover, HasRoom, is_over, verdict}
 use Rattle.book_core.specs.Named.{units_of, IsOfBook}
 use Rattle.book_core.proofs.SumLemmas.{Within}
 use Rattle.book_core.proofs.BookLemmas.{one_unit, room_from}

@@ -1,6 +1,6 @@
 //! How an assertion is judged, over any book whose balances can be found.
 
-ghost use Rattle.std.specs.Prelude.{◌≡◌, List, ℤ, Option};
+ghost use Rattle.std.specs.Prelude.{◌≡◌, List};
 ghost use Rattle.book_core.specs.declared.entry.Entry.{Entry};
 ghost use Rattle.book_core.specs.Claim.{reach_of, is_sole, fault};
 ghost use Rattle.book_core.specs.Query.{balance_for, stray_for};
