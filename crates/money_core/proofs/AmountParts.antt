@@ -28,11 +28,11 @@ minus_writes : (q : ℤ) → WritesSign (sign_printed q) (minus q)
 minus_writes (pos n) = refl
 minus_writes (negsuc n) = ([], (refl, refl))
 
-gap_blanks : (spaced : Bool) → IsBlanks (gap spaced)
+pub gap_blanks : (spaced : Bool) → IsBlanks (gap spaced)
 gap_blanks true = refl
 gap_blanks false = refl
 
-gap_seen : (spaced : Bool) → spaced ≡ not (length (gap spaced) == 0)
+pub gap_seen : (spaced : Bool) → spaced ≡ not (length (gap spaced) == 0)
 gap_seen true = refl
 gap_seen false = refl
 

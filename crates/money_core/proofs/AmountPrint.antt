@@ -1,7 +1,7 @@
 -- Printed amounts read as themselves, wherever they stand, and what is read can be printed. Proofs of crates above may cite `amounts_print`, `amounts_bound` and `amount_bytes`.
 use Rattle.std.proofs.Common.{◌≡◌, ◌≤◌, ◌<◌, ◌+◌, ◌-◌, ◌^◌, ◌++◌, ◌==◌, ℕ, ℤ, pos, negsuc, zero, suc, List, [], ◌∷◌, Bool, true, false, cond, not, ◌&&◌, length, slice_index, arith, refl, ap, ◌∙◌, sym, subst, Option, Some, None, Result, Ok, Err, lit<, inl, inr, length-append, nat_lt}
 use Rattle.std.proofs.lemmas.Grind.{common_steps}
-use Rattle.std.proofs.lemmas.Bool.{cases_Bool, and_parts, and_from, le-ltb, ltb-true, ltb-false, leb-true, eqb-true, cond-true, cond-false}
+use Rattle.std.proofs.lemmas.Bool.{cases_Bool, and_parts, and_from, le-ltb, ltb-false, leb-true, eqb-true, cond-true, cond-false}
 use Rattle.std.specs.List.{list_all, slice_get}
 use Rattle.std.specs.Str.{is_utf8}
 use Rattle.std.specs.Prelude.{unsigned_abs}

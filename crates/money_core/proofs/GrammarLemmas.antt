@@ -19,7 +19,7 @@ use Rattle.money_core.specs.Blank.{IsBlanks}
 use Rattle.money_core.specs.Class.{has}
 use Rattle.money_core.specs.Mark.{decimal_byte, group_byte}
 use Rattle.money_core.specs.Number.{is_group, is_whole, is_number, whole_part, fraction_part}
-use Rattle.money_core.specs.Symbol.{is_short, is_bare, is_symbol, is_quoted_byte, no_double, in_quotes, WritesSymbol}
+use Rattle.money_core.specs.Symbol.{is_bare, is_symbol, is_quoted_byte, in_quotes, WritesSymbol}
 use Rattle.money_core.specs.Amount.{Parts, WritesSign, IsLeftAmount, IsRightAmount, IsAmount}
 use Rattle.money_core.specs.Cutting.{end_of, skip_blanks, Cut, cut_quoted, cut_bare, cut_symbol, symbol_of, sign_of, unsigned, left_number, left_parts, right_symbol, right_parts, amount_parts}
 use Rattle.money_core.proofs.RoundTrip.{before_mark, split_some}

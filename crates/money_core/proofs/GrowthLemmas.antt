@@ -1,5 +1,5 @@
 -- What was found among some styles is found among them and more, at the same place.
-use Rattle.std.proofs.Common.{◌≡◌, ◌<◌, ◌++◌, ◌==◌, ℕ, ℤ, zero, suc, List, [], ◌∷◌, Bool, true, false, cond, not, length, slice_index, drop, arith, refl, ap, ◌∙◌, sym, append-nil, Option, Some, None, Result, Ok, Err, length-append}
+use Rattle.std.proofs.Common.{◌≡◌, ◌++◌, ◌==◌, ℕ, ℤ, zero, suc, List, [], ◌∷◌, Bool, true, false, cond, not, slice_index, drop, arith, refl, ap, ◌∙◌, sym, append-nil, Option, Some, None, Result, Ok, Err, length-append}
 use Rattle.std.specs.List.{slice_get}
 use Rattle.std.specs.Option.{option_map}
 use Rattle.std.specs.Str.{bytes_eq}
@@ -14,12 +14,12 @@ use Rattle.money_core.specs.Amount.{Parts, place_of}
 use Rattle.money_core.specs.Cutting.{skip_blanks, amount_parts}
 use Rattle.money_core.specs.Style.{unit_of}
 use Rattle.money_core.specs.Reading.{amount_in, amount_at, amount_of_parts, amount}
-use Rattle.money_core.specs.AmountText.{printed_of, printed_in, IsDeclared}
+use Rattle.money_core.specs.AmountText.{printed_in, IsDeclared}
 use Rattle.money_core.specs.Price.{cost_unit, is_cost, is_price}
 use Rattle.money_core.specs.PriceReading.{price_in, price_at, price_of_parts, price}
 use Rattle.money_core.specs.PriceText.{printed_cost, printed_price}
-use Rattle.money_core.specs.Cost.{cost, cost_in}
-use Rattle.money_core.specs.Growth.{StaysUnderMore, Appends, StylesGrow}
+use Rattle.money_core.specs.Cost.{cost}
+use Rattle.money_core.specs.Growth.{Appends, StylesGrow}
 use Rattle.money_core.proofs.PositionLemmas.{position-append_found}
 use Rattle.money_core.proofs.AmountPrint.{found_within}
 

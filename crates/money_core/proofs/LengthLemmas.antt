@@ -1,11 +1,10 @@
 -- How long printed numbers and amounts are, part by part.
-use Rattle.std.proofs.Common.{◌≡◌, ◌≤◌, ◌<◌, ◌+◌, ◌/◌, ◌%◌, ◌^◌, ◌++◌, ℕ, ℤ, pos, negsuc, List, [], ◌∷◌, Bool, true, false, length, arith, refl, ap, ◌∙◌, decimal, length-append, inl, inr}
+use Rattle.std.proofs.Common.{◌≡◌, ◌≤◌, ◌<◌, ◌+◌, ◌/◌, ◌%◌, ◌^◌, ◌++◌, ℕ, ℤ, List, [], ◌∷◌, Bool, length, arith, refl, decimal, length-append, inl, inr}
 use Rattle.std.specs.Prelude.{unsigned_abs}
 use Rattle.std.proofs.lemmas.Bool.{cases_Bool, ne_eqb}
 use Rattle.std.proofs.lemmas.Fmt.{decimal_digit, decimal_step}
 use Rattle.money_core.specs.declared.mark.Mark.{Mark}
 use Rattle.money_core.specs.declared.style.Style.{Style}
-use Rattle.money_core.specs.Mark.{decimal_byte}
 use Rattle.money_core.specs.Printed.{places, grouped, printed_number, printed_fraction}
 use Rattle.money_core.specs.Symbol.{in_quotes}
 use Rattle.money_core.specs.AmountText.{printed_symbol, minus, gap, printed_with}

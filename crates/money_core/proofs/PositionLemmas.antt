@@ -16,6 +16,12 @@ pub none_chosen : (b : Bool) (n : ℕ) → cond b (Some n) None ≡ None → b �
 none_chosen true n h = absurd cc
 none_chosen false n h = refl
 
+-- what is found nowhere has its place behind the end
+pub position-none : {X : Type 0} (p : X → Bool) (xs : List X) → position p xs ≡ None → length xs ≡ position_or_len p xs
+position-none p xs h =
+    let n = position_or_len p xs in
+    omega (arith, ltb-false n (length xs) (none_chosen (nat_lt n (length xs)) n h), prefix_len-le-length (λ x. not (p x)) xs)
+
 -- what was found stays where it is
 pub position-append_found : {X : Type 0} (p : X → Bool) (xs ys : List X) (i : ℕ) → position p xs ≡ Some i → position p (xs ++ ys) ≡ Some i
 position-append_found p xs ys i h =

@@ -21,6 +21,7 @@ use Rattle.money_core.specs.Amount.{Parts, WritesSign, IsLeftAmount, IsAmount, l
 use Rattle.money_core.specs.Cutting.{end_of, skip_blanks, amount_parts}
 use Rattle.money_core.specs.Price.{unit_limit, is_negative, cost_unit, IsUnitCost, IsTotalCost, IsCostOf, is_total, IsMarked, WritesPrice, HasNoPriceForm, NamesUndeclaredCost, HasNoCost}
 use Rattle.money_core.specs.PriceReading.{significant, kept_decimals, unit_cost, total_cost, price_in, price_at, price_of_parts, price}
+use Rattle.money_core.proofs.ClassLemmas.{number_no_blank}
 use Rattle.money_core.proofs.AmountPrint.{past, ok_same}
 use Rattle.money_core.proofs.CostDecimals.{significant_least, significant_fits}
 use Rattle.money_core.proofs.GrammarLemmas.{front_whole, front_passes, blanks_skipped, symbol_begins, number_text, first_number, amount_cut, cut_amount}
@@ -129,9 +130,6 @@ number_no_at b h = grind (arith, common_steps)
 blank_no_at : (b : ℕ) → has Blank b ≡ true → (b == 64) ≡ false
 blank_no_at b h = grind (arith, common_steps)
 
-number_blank : (b : ℕ) → has Number b ≡ true → has Blank b ≡ false
-number_blank b h = grind (arith, common_steps)
-
 signed_begins : (sign : Sign) (written rest : List ℕ) → WritesSign sign written → Begins rest → Begins (written ++ rest)
 signed_begins Absent written rest w b = rw w b
 signed_begins Plus written rest w b = rw w.1.1 (record { no_blank = refl; no_at = refl })
@@ -145,7 +143,7 @@ amount_begins mark text parts a =
           let rest = right.blanks ++ right.symbol in
           let first = first_number parts.number rest (number_text mark parts.number a.number) in
           let byte = slice_index (parts.number ++ rest) 0 in
-          rw right.whole (signed_begins parts.sign right.outer (parts.number ++ rest) right.signed (record { no_blank = number_blank byte first; no_at = number_no_at byte first }))
+          rw right.whole (signed_begins parts.sign right.outer (parts.number ++ rest) right.signed (record { no_blank = number_no_blank byte first; no_at = number_no_at byte first }))
     ]
   where
     on_left : IsLeftAmount text parts → Begins text

@@ -12,7 +12,6 @@ use Rattle.money_core.specs.declared.cause.Cause.TheVariants.{Amount, Cost}
 use Rattle.money_core.specs.Class.{has}
 use Rattle.money_core.specs.Number.{is_number, fits_decimals, fraction_part, quantity}
 use Rattle.money_core.specs.Printed.{printed_number}
-use Rattle.money_core.specs.Symbol.{is_symbol}
 use Rattle.money_core.specs.Amount.{Parts, limit, place_of}
 use Rattle.money_core.specs.Cutting.{skip_blanks, amount_parts}
 use Rattle.money_core.specs.Style.{AreStyles}

@@ -1,5 +1,5 @@
 -- Each style has a sample: a zero in it, with the symbol in quotes.
-use Rattle.std.proofs.Common.{◌≡◌, ◌↔◌, ◌⊎◌, ◌++◌, ◌==◌, ℕ, zero, suc, List, [], ◌∷◌, Bool, true, false, cond, not, length, replicate, arith, refl, ap, ◌∙◌, sym, inl, inr, lit<, IsTrue}
+use Rattle.std.proofs.Common.{◌≡◌, ◌↔◌, ◌⊎◌, ◌++◌, ◌==◌, ℕ, zero, suc, List, [], ◌∷◌, Bool, true, false, cond, length, replicate, arith, refl, ap, ◌∙◌, sym, inl, inr, lit<, IsTrue}
 use Rattle.std.proofs.lemmas.Bool.{cases_Bool, and_parts, or_right, eq-eqb, leb-true}
 use Rattle.std.proofs.lemmas.List.Folds.{list_any-append}
 use Rattle.std.proofs.Math.Seq.{drop-append-add}
@@ -10,13 +10,14 @@ use Rattle.money_core.specs.declared.mark.Mark.{Mark}
 use Rattle.money_core.specs.declared.mark.Mark.TheVariants.{Point, Comma}
 use Rattle.money_core.specs.declared.amount.Sign.TheVariants.{Absent}
 use Rattle.money_core.specs.declared.style.Style.{Style}
-use Rattle.money_core.specs.Blank.{IsBlanks}
 use Rattle.money_core.specs.Mark.{decimal_byte, group_byte}
 use Rattle.money_core.specs.Number.{fraction_part}
 use Rattle.money_core.specs.NumberText.{WritesQuantity}
 use Rattle.money_core.specs.Symbol.{is_symbol, in_quotes}
 use Rattle.money_core.specs.Amount.{Parts, IsLeftAmount, IsRightAmount}
+use Rattle.money_core.specs.AmountText.{gap}
 use Rattle.money_core.specs.Style.{is_style, IsSample}
+use Rattle.money_core.proofs.AmountParts.{gap_blanks, gap_seen}
 use Rattle.money_core.proofs.RoundTrip.{before_mark, ReadsAs, reads_with_mark}
 use Rattle.money_core.proofs.SampleLemmas.{sample_style}
 
@@ -76,21 +77,6 @@ zero_grouped Comma true decimals = refl
 zero_grouped Point false decimals = sym (zeros_no_mark Point decimals)
 zero_grouped Comma false decimals = sym (zeros_no_mark Comma decimals)
 
--- a space, or nothing
-gap : Bool → List ℕ
-gap true = 32 ∷ []
-gap false = []
-
-gap_blanks : (spaced : Bool) → IsBlanks (gap spaced)
-unfolding gap
-gap_blanks true = refl
-gap_blanks false = refl
-
-gap_spaced : (spaced : Bool) → spaced ≡ not (length (gap spaced) == 0)
-unfolding gap
-gap_spaced true = refl
-gap_spaced false = refl
-
 zero_parts : Style → Parts
 zero_parts style = record { sign = Absent; left = style.left; spaced = style.spaced; symbol = style.symbol; number = zero_number style.mark style.grouped style.decimals }
 
@@ -113,7 +99,7 @@ zero_form style h =
         signed = inl (refl, refl);
         symbolic = inr (h, refl);
         between = gap_blanks style.spaced;
-        spaced = gap_spaced style.spaced;
+        spaced = gap_seen style.spaced;
         left = left;
       })
       | inr right ↦ inr (record {
@@ -124,7 +110,7 @@ zero_form style h =
         signed = refl;
         symbolic = inr (h, refl);
         between = gap_blanks style.spaced;
-        spaced = gap_spaced style.spaced;
+        spaced = gap_seen style.spaced;
         left = right;
       })
     ]

@@ -1,5 +1,5 @@
 -- What is known of a symbol, and how it is printed.
-use Rattle.std.proofs.Common.{◌≡◌, ◌<◌, ◌-◌, ℕ, List, [], ◌∷◌, Bool, true, false, ◌&&◌, ◌==◌, not, length, slice_index, nat_lt, arith, refl, inl, inr}
+use Rattle.std.proofs.Common.{◌≡◌, ◌<◌, ◌-◌, ℕ, List, [], ◌∷◌, true, ◌&&◌, ◌==◌, not, length, slice_index, nat_lt, arith, refl, inl, inr}
 use Rattle.std.proofs.lemmas.Bool.{cases_Bool, and_parts, and_from, ltb-true, leb-true, cond-true, cond-false, not_from_false, not-true}
 use Rattle.std.proofs.lemmas.List.Sums.{AllPass-from_list_all}
 use Rattle.std.proofs.lemmas.Grind.{common_steps}
@@ -7,7 +7,7 @@ use Rattle.std.specs.List.{list_all}
 use Rattle.std.specs.Str.{is_utf8}
 use Rattle.money_core.specs.declared.class.Class.TheVariants.{Symbol}
 use Rattle.money_core.specs.Class.{has}
-use Rattle.money_core.specs.Symbol.{is_short, is_bare, is_dense, is_quoted_byte, no_double, has_no_outer_space, is_symbol, WritesSymbol}
+use Rattle.money_core.specs.Symbol.{is_short, is_bare, is_quoted_byte, no_double, has_no_outer_space, is_symbol, WritesSymbol}
 use Rattle.money_core.specs.NamePart.{is_part_byte, SymbolsAreNameParts}
 use Rattle.money_core.specs.AmountText.{printed_symbol}
 use Rattle.money_core.proofs.ClassLemmas.{all_weaker, symbol_no_space}

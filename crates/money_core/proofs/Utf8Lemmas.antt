@@ -1,5 +1,5 @@
 -- Printed symbols and numbers are UTF-8. Proofs of crates above may cite `utf8_joined` and `utf8_low`.
-use Rattle.std.proofs.Common.{◌≡◌, ◌<◌, ◌++◌, ◌∙◌, ℕ, ℤ, pos, negsuc, zero, suc, List, [], ◌∷◌, Bool, true, false, arith, refl, inl, inr, nat_lt}
+use Rattle.std.proofs.Common.{◌≡◌, ◌++◌, ℕ, ℤ, pos, negsuc, zero, suc, List, [], ◌∷◌, Bool, true, false, arith, refl, inl, inr, nat_lt}
 use Rattle.std.proofs.lemmas.Grind.{common_steps}
 use Rattle.std.proofs.lemmas.Bool.{cases_Bool, and_parts, ltb-true}
 use Rattle.std.specs.List.{list_all}
@@ -7,7 +7,7 @@ use Rattle.std.specs.Str.{is_utf8, IsAscii}
 use Rattle.std.proofs.lemmas.Str.{IsUtf8-append, IsUtf8-from_ascii, IsUtf8-from_is_utf8, is_utf8-from_IsUtf8}
 use Rattle.money_core.specs.declared.class.Class.TheVariants.{Number}
 use Rattle.money_core.specs.Class.{has}
-use Rattle.money_core.specs.Symbol.{is_bare, is_symbol, in_quotes}
+use Rattle.money_core.specs.Symbol.{is_bare, is_symbol}
 use Rattle.money_core.specs.AmountText.{printed_symbol, minus, gap}
 use Rattle.money_core.proofs.ClassLemmas.{all_weaker}
 use Rattle.money_core.proofs.SymbolText.{symbol_facts}

@@ -1,4 +1,4 @@
-use Rattle.std.proofs.Common.{arith, ◌≡◌, ◌∙◌, ap, sym, length, ◌+◌, ◌≤◌, ◌/◌}
+use Rattle.std.proofs.Common.{arith}
 use Rattle.money_core.proofs.PrintedLemmas.{grouped_small}
 use Rattle.money_core.proofs.LengthLemmas.{length_of_grouped}
 use Rattle.money_core.proofs.length.+grouped_len.Goals as goal

@@ -1,5 +1,5 @@
 -- The parts are as long as what is printed of each.
-use Rattle.std.proofs.Common.{rules, arith, ◌≡◌, refl, length, ◌+◌, w64}
+use Rattle.std.proofs.Common.{rules, ◌≡◌, refl, length, ◌+◌, w64}
 use Rattle.std.specs.Prelude.{unsigned_abs}
 use Rattle.std.proofs.lemmas.Int.{to_z-of_z}
 use Rattle.money_core.specs.AmountText.{minus, printed_symbol, printed_with}

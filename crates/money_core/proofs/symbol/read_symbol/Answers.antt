@@ -1,6 +1,4 @@
-use Rattle.std.proofs.Common.{◌≡◌, ◌∙◌, sym, ap, Some, None}
-use Rattle.std.specs.Option.{option_map}
-use Rattle.money_core.specs.Cutting.{symbol_of}
+use Rattle.std.proofs.Common.{sym, Some, None}
 use Rattle.money_core.proofs.GrammarLemmas.{symbol_answer, whole_utf8}
 use Rattle.money_core.proofs.symbol.read_symbol.Goals as goal
 
