@@ -1,5 +1,5 @@
 -- A journal of dated entries (hledger manual, "Transactions", "Postings"). Which lines it may have for now is an own rule (docs/FORMATS.md, "Journals").
-use Rattle.std.specs.Prelude.{ℕ, ℤ, ◌==◌, ◌≤◌, ◌&&◌, ◌≡◌, ◌↔◌, ◌⊎◌, nat_eq, Bool, true, false, not, if◌then◌else◌, List, [], ◌∷◌, ◌++◌, length, slice_index, take, drop, map, codes, Option, Some, None, option_map, option_to_list, Result, Ok, Err}
+use Rattle.std.specs.Prelude.{ℕ, ℤ, ◌==◌, ◌≤◌, ◌&&◌, ◌≡◌, ◌↔◌, ◌⊎◌, nat_eq, true, false, not, if◌then◌else◌, List, [], ◌∷◌, ◌++◌, length, slice_index, take, drop, map, codes, Option, Some, None, option_map, option_to_list, Result, Ok, Err}
 use Rattle.std.specs.List.{starts_with, AllByRecursion}
 use Rattle.std.specs.Str.{is_utf8, IsUtf8}
 use Rattle.money_core.specs.declared.day.Day.{Day}

@@ -1,4 +1,4 @@
-use Rattle.std.proofs.Common.{◌≡◌, refl, sym, ◌∙◌, inl, inr}
+use Rattle.std.proofs.Common.{refl, ◌∙◌, inl, inr}
 use Rattle.treasury.proofs.WordLemmas.{taken, fails_by, run_fails, help_shown, run_shows_none, cut_off_status}
 use Rattle.treasury.proofs.words.run_words.Goals as goal
 
