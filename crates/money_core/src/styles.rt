@@ -92,6 +92,13 @@ impl Styles {
         }
     }
 
+    /// How many commodities are declared: at most 16.
+    pub fn len(&self) -> usize
+        ensures { result ≡ length self.now }
+    {
+        self.list.len()
+    }
+
     /// The style of a commodity.
     pub fn style(&self, unit: Unit) -> Option<&Style>
         ensures { option_copied result ≡ slice_get self.now unit.0 }

@@ -1,0 +1,11 @@
+//! The entry of a transaction: its legs, with the amount that was left out and the conversion postings of its costs.
+#![tactic(auto)]
+
+mod balancing;
+mod conversion;
+mod entering;
+mod missing_amount;
+mod value;
+
+pub use balancing::legs;
+pub use conversion::conversion_accounts;
