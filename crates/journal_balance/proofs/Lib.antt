@@ -1,2 +1,4 @@
 pub mod SumLemmas
 pub mod RestLemmas
+pub mod LimitLemmas
+pub mod FaultLemmas

@@ -4,7 +4,7 @@ ghost use Rattle.std.specs.Prelude.{◌≡◌, Err, ◌⊎◌, ◌∷◌, [], tr
 ghost use Rattle.std.specs.Result.{IsOkUnless};
 ghost use Rattle.std.specs.List.{list_all, list_any, count_by};
 ghost use Rattle.journal_format.specs.Printable.{is_posting, PartsOk, IsPrintable};
-ghost use Rattle.journal_balance.specs.Legs.{is_open, is_large, legs_among, claims_among, balancing_fault, legs_of};
+ghost use Rattle.journal_balance.specs.Legs.{is_open, is_large, has_large_leg, legs_among, claims_among, balancing_fault, legs_of};
 
 use crate::entering::{push_claim, push_posting};
 use crate::missing_amount::{is_even, leaves_too_much};
@@ -28,13 +28,25 @@ fn has_open(postings: &[Posting]) -> bool
     postings.iter().any(|p| p.amount.is_none())
 }
 
-/// Whether some leg is over the limit: it can only be one that takes what is left.
+/// Whether a leg of the posting is over the limit: it can only be one that takes what is left.
+fn takes_too_much(posting: &Posting, postings: &[Posting], styles: &Styles) -> bool
+    requires posting { is_posting styles.now posting.now ≡ true }
+    requires postings { list_all (is_posting styles.now) postings.now ≡ true }
+    ensures { result ≡ has_large_leg styles.now postings.now posting.now }
+{
+    match posting.amount {
+        Some(_) => false,
+        None => leaves_too_much(postings, &posting.account, styles),
+    }
+}
+
+/// Whether some leg is over the limit.
 fn passes_limit(postings: &[Posting], styles: &Styles) -> bool
     requires { list_all (is_posting styles.now) postings.now ≡ true }
     ensures { result ≡ list_any is_large (legs_among styles.now postings.now postings.now) }
 {
     'postings: for posting in postings {
-        if posting.amount.is_none() && leaves_too_much(postings, &posting.account, styles) {
+        if takes_too_much(posting, postings, styles) {
             return true;
         }
     }
