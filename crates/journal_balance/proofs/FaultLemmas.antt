@@ -33,7 +33,7 @@ pub no_fault : (styles : List Style) (t : Txn) → balancing_fault styles t ≡ 
 unfolding balancing_fault
 no_fault styles t e =
     let h = in_order (nat_lt 1 (count_by is_open t.postings)) (not (list_any is_open t.postings) && not (is_even styles t.postings))
-        (list_any is_large (legs_among styles t.postings t.postings)) (cost_fault styles t.postings) TwoBlanks Unbalanced Limit e in
+    (list_any is_large (legs_among styles t.postings t.postings)) (cost_fault styles t.postings) TwoBlanks Unbalanced Limit e in
     record { one = h.0; costs = h.1; even = h.2; small = h.3 }
 
 -- a transaction with an entry has no fault, and the entry is the one of its postings

@@ -41,6 +41,7 @@ exact_small q above below = by_limit (nat_lt (limit * below) above) refl
       where
         quotient : above ≤ limit * below → above / below ≤ limit
         quotient k = div-le_of_le-mul below (subst (λ (n : ℕ). above ≤ n) (mul_comm limit below) k)
+
     by_limit : (t : Bool) → nat_lt (limit * below) above ≡ t → IsSmall (cost_value (if t then Err cause.Cost else (if not (above % below == 0) then Err cause.CostNotExact else Ok (signed_as q (above / below)))))
     by_limit true e = omega arith
     by_limit false e = by_rest (not (above % below == 0)) (ltb-false (limit * below) above e)

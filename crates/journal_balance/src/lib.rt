@@ -4,8 +4,10 @@
 mod balancing;
 mod conversion;
 mod entering;
+mod law;
 mod missing_amount;
 mod value;
 
 pub use balancing::legs;
 pub use conversion::conversion_accounts;
+pub use law::{entry_law, unmarked_law, written_law};

@@ -1,0 +1,39 @@
+//! What the entry of a transaction has, in the words of the book.
+
+ghost use Rattle.std.specs.Prelude.{◌≡◌, ◌≤◌, ℕ, List, Option, Ok, unsigned_abs};
+ghost use Rattle.std.specs.List.{AllByRecursion};
+ghost use Rattle.money_core.specs.declared.style.Style.{Style};
+ghost use Rattle.money_core.specs.Amount.{limit};
+ghost use Rattle.book_core.specs.declared.leg.Leg.{Leg as Posted};
+ghost use Rattle.book_core.specs.declared.entry.Entry.{Entry};
+ghost use Rattle.book_core.specs.GoodBook.{IsFit};
+ghost use Rattle.journal_format.specs.declared.txn.Txn.{Txn};
+ghost use Rattle.journal_format.specs.Printable.{IsPrintable};
+ghost use Rattle.journal_balance.specs.Legs.{legs_of};
+ghost use Rattle.journal_balance.specs.Plain.{IsWritten, written_entry};
+
+use journal_format::printing_law;
+use money_core::Styles;
+
+/// Laws of the entry of a printable transaction: it sums to zero in every commodity, and has its assertions on different
+/// legs of its own; each leg is within 10^16; its day is the transaction's. Costs nothing.
+pub fn entry_law(styles: &Styles)
+    ensures fit { (t : Txn) (e : Entry) → IsPrintable styles.now t → legs_of styles.now t ≡ Ok e → IsFit e }
+    ensures small { (t : Txn) (e : Entry) → legs_of styles.now t ≡ Ok e
+        → AllByRecursion (λ (x : Posted). unsigned_abs x.qty ≤ limit) e.legs }
+    ensures day { (t : Txn) (e : Entry) → legs_of styles.now t ≡ Ok e → e.day ≡ t.day }
+{
+    printing_law(styles);
+}
+
+/// A law of transactions of which everything is written, amounts without costs that sum to zero: the entry is that of
+/// the postings as they stand. Costs nothing.
+pub fn written_law()
+    ensures { (styles : List Style) (t : Txn) → IsWritten t → legs_of styles t ≡ Ok (written_entry t) }
+{}
+
+/// A law of marks: the entry of a transaction does not depend on its mark. Costs nothing.
+pub fn unmarked_law()
+    ensures { (styles : List Style) (t : Txn) (mark : Option (List ℕ))
+        → legs_of styles (record t { mark = mark }) ≡ legs_of styles t }
+{}
