@@ -5,3 +5,4 @@ pub mod FaultLemmas
 pub mod ValueLemmas
 pub mod ClaimLemmas
 pub mod EntryLemmas
+pub mod WrittenLemmas

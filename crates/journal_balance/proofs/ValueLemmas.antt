@@ -21,7 +21,7 @@ use Rattle.journal_format.specs.Printable.{is_amount, is_price_or_none, is_posti
 use Rattle.journal_balance.specs.Legs.{commodities, declared, in_unit, cost_value, amount_value, value_of, sum_of, leg, conversion_legs, amount_legs, rest_leg, rest_legs, posting_legs, legs_among, is_open, is_even}
 use Rattle.journal_balance.proofs.LimitLemmas.{amount_ok}
 
-value-append : (unit : Commodity) (xs ys : List Leg) → value unit (xs ++ ys) ≡ value unit xs +ℤ value unit ys
+pub value-append : (unit : Commodity) (xs ys : List Leg) → value unit (xs ++ ys) ≡ value unit xs +ℤ value unit ys
 value-append unit [] ys = omega (arith, ints)
 value-append unit (x ∷ xs) ys = let h = value-append unit xs ys in omega (arith, ints)
 
@@ -162,7 +162,7 @@ among_closed styles all (x ∷ xs) unit h =
     mine None e = absurd (true≢false e)
     mine (Some a) e = value-amount styles unit x.account a x.price
 
-count-cons : (x : Posting) (xs : List Posting) → count_by is_open (x ∷ xs) ≡ cond (is_open x) 1 0 + count_by is_open xs
+pub count-cons : (x : Posting) (xs : List Posting) → count_by is_open (x ∷ xs) ≡ cond (is_open x) 1 0 + count_by is_open xs
 count-cons x xs = sum_by-cons (λ (p : Posting). cond (is_open p) 1 0) x xs
 
 none_open : (xs : List Posting) → count_by is_open xs ≤ 0 → list_any is_open xs ≡ false
