@@ -3,6 +3,7 @@ use Rattle.std.proofs.Common.{◌≡◌, ◌≤◌, ◌<◌, ◌+◌, ◌-◌, �
 use Rattle.std.proofs.lemmas.Grind.{common_steps}
 use Rattle.std.proofs.lemmas.Bool.{cases_Bool, and_parts, and_from, le-ltb, ltb-true, ltb-false, leb-true, eqb-true, cond-true, cond-false}
 use Rattle.std.specs.List.{list_all, slice_get}
+use Rattle.std.specs.Str.{is_utf8}
 use Rattle.std.specs.Prelude.{unsigned_abs}
 use Rattle.std.proofs.lemmas.List.{get_or-append-add}
 use Rattle.std.proofs.lemmas.List.Sums.{AllPass-from_list_all}
@@ -25,8 +26,9 @@ use Rattle.money_core.specs.AmountText.{printed_symbol, minus, gap, printed_with
 use Rattle.money_core.proofs.RoundTrip.{printed_reads}
 use Rattle.money_core.proofs.ClassLemmas.{all_weaker, symbol_no_blank, number_no_blank}
 use Rattle.money_core.proofs.NumberLength.{number_length}
-use Rattle.money_core.proofs.GrammarLemmas.{NumberText, number_text, first_number, short_some, bare_bytes, symbol_bytes, symbol_begins}
-use Rattle.money_core.proofs.SymbolText.{symbol_short, printed_symbol_writes}
+use Rattle.money_core.proofs.GrammarLemmas.{NumberText, number_text, first_number, quoted_no_quote, symbol_begins}
+use Rattle.money_core.proofs.SymbolText.{symbol_facts, bare_facts, short_some, printed_symbol_writes}
+use Rattle.money_core.proofs.Utf8Lemmas.{utf8_joined, number_utf8, minus_utf8, gap_utf8, printed_symbol_utf8}
 use Rattle.money_core.proofs.AmountParts.{sign_printed, printed_parts}
 
 -- the quantity that is read
@@ -92,9 +94,6 @@ amount_bytes p false (b ∷ xs) m f g h =
 amount_byte_no_quote : (b : ℕ) → is_amount_byte b ≡ true → (b == 34) ≡ false
 amount_byte_no_quote b h = grind (arith, common_steps)
 
-quoted_no_quote : (b : ℕ) → is_quoted_byte b ≡ true → (b == 34) ≡ false
-quoted_no_quote b h = grind (arith, common_steps)
-
 bare_text : (xs : List ℕ) → list_all is_amount_byte xs ≡ true → is_amount_text false xs ≡ true
 bare_text [] h = refl
 bare_text (b ∷ xs) h =
@@ -117,7 +116,7 @@ symbol_text : (symbol : List ℕ) → list_all is_quoted_byte symbol ≡ true �
 unfolding printed_symbol
 symbol_text symbol plain =
     elim (cases_Bool (is_bare symbol)) [
-      | inl bare ↦ rw bare (bare_text symbol (all_weaker (has Symbol) is_amount_byte symbol symbol_amount (bare_bytes symbol bare)))
+      | inl bare ↦ rw bare (bare_text symbol (all_weaker (has Symbol) is_amount_byte symbol symbol_amount (bare_facts symbol bare).bytes))
       | inr quoted ↦ rw quoted (quoted_text symbol plain)
     ]
 
@@ -148,9 +147,9 @@ symbol_ends : (symbol : List ℕ) → is_short symbol ≡ true → SymbolEnds (p
 unfolding printed_symbol
 symbol_ends symbol h =
     let some = short_some symbol h in
-    let few = ltb-true (length symbol) 25 (and_parts (nat_lt 0 (length symbol)) _ h).1 in
+    let few = leb-true (length symbol) 24 (and_parts (nat_lt 0 (length symbol)) _ h).1 in
     elim (cases_Bool (is_bare symbol)) [
-      | inl bare ↦ rw bare (record { some = some; few = omega (arith, few); last = symbol_no_blank (slice_index symbol (length symbol - 1)) (last_passes (has Symbol) symbol (bare_bytes symbol bare) some) })
+      | inl bare ↦ rw bare (record { some = some; few = omega (arith, few); last = symbol_no_blank (slice_index symbol (length symbol - 1)) (last_passes (has Symbol) symbol (bare_facts symbol bare).bytes some) })
       | inr quoted ↦ rw quoted (record { some = omega arith; few = omega (arith, few, length-append symbol (34 ∷ [])); last = ap (has Blank) (last_of (34 ∷ symbol) (34 ∷ []) (lit< tt)) })
     ]
 
@@ -169,6 +168,7 @@ signed_first (negsuc n) number rest t = refl
 -- what is known of a printed amount as a text
 pub record AmountEnds (decimals : ℕ) (text : List ℕ) : Type 0 where
   pub form : is_amount_text false text ≡ true
+  pub utf8 : is_utf8 text ≡ true
   pub some : 0 < length text
   pub first : has Blank (slice_index text 0) ≡ false
   pub last : has Blank (slice_index text (length text - 1)) ≡ false
@@ -178,19 +178,22 @@ pub amount_ends : (style : Style) (decimals : ℕ) (q : ℤ) → is_symbol style
 unfolding printed_with
 amount_ends style decimals q ok l =
     let n = unsigned_abs q in
-    let plain = symbol_bytes style.symbol ok in
-    let brief = symbol_short style.symbol ok in
+    let facts = symbol_facts style.symbol ok in
     let number = printed_number style.mark style.grouped decimals n in
     let symbol = printed_symbol style.symbol in
     let g = gap style.spaced in
     let small : n < 2 ^ 64 = omega arith in
     let t = number_text style.mark number (printed_reads style.mark style.grouped decimals n small).form in
-    let s = symbol_ends style.symbol brief in
+    let s = symbol_ends style.symbol facts.short in
+    let word = printed_symbol_utf8 style.symbol ok in
+    let between = gap_utf8 style.spaced in
+    let signed = utf8_joined (minus q) number (minus_utf8 q) (number_utf8 number t.bytes) in
     let size = number_length style.mark style.grouped decimals n l in
     elim (cases_Bool style.left) [
       | inl left ↦ (let e : printed_with style decimals q ≡ symbol ++ (g ++ (minus q ++ number)) = cond-true style.left _ _ left in
           subst (AmountEnds decimals) (sym e) (record {
-            form = text_joined false symbol _ (symbol_text style.symbol plain) (text_joined false g _ (gap_text style.spaced) (signed_text q number t));
+            utf8 = utf8_joined symbol _ word (utf8_joined g _ between signed);
+            form = text_joined false symbol _ (symbol_text style.symbol facts.bytes) (text_joined false g _ (gap_text style.spaced) (signed_text q number t));
             some = omega (arith, s.some, length-append symbol (g ++ (minus q ++ number)));
             first = (symbol_begins style.symbol symbol (g ++ (minus q ++ number)) (printed_symbol_writes style.symbol ok)).no_blank;
             last = ap (has Blank) (last_of symbol (g ++ (minus q ++ number)) (omega (arith, t.some, length-append g (minus q ++ number), length-append (minus q) number)) ∙ (last_of g (minus q ++ number) (omega (arith, t.some, length-append (minus q) number)) ∙ last_of (minus q) number t.some))
@@ -199,7 +202,8 @@ amount_ends style decimals q ok l =
           }))
       | inr right ↦ (let e : printed_with style decimals q ≡ (minus q ++ number) ++ (g ++ symbol) = cond-false style.left _ _ right in
           subst (AmountEnds decimals) (sym e) (record {
-            form = text_joined false (minus q ++ number) _ (signed_text q number t) (text_joined false g _ (gap_text style.spaced) (symbol_text style.symbol plain));
+            utf8 = utf8_joined (minus q ++ number) _ signed (utf8_joined g _ between word);
+            form = text_joined false (minus q ++ number) _ (signed_text q number t) (text_joined false g _ (gap_text style.spaced) (symbol_text style.symbol facts.bytes));
             some = omega (arith, s.some, length-append (minus q ++ number) (g ++ symbol), length-append g symbol);
             first = signed_first q number (g ++ symbol) t;
             last = ap (has Blank) (last_of (minus q ++ number) (g ++ symbol) (omega (arith, s.some, length-append g symbol)) ∙ last_of g symbol s.some) ∙ s.last;
@@ -222,6 +226,7 @@ amounts_print styles ok unit q d =
     let ends = amount_ends style style.decimals q parts.0 d.size in
     rw found.1 (record {
       reads = amount_reads styles unit.0 style q ok found.1 d.size;
+      utf8 = ends.utf8;
       form = ends.form;
       some = ends.some;
       first = ends.first;

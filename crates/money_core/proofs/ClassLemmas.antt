@@ -7,7 +7,8 @@ use Rattle.std.specs.List.{list_all}
 use Rattle.std.specs.Char.{is_ascii_digit}
 use Rattle.money_core.specs.declared.class.Class.{Class}
 use Rattle.money_core.specs.declared.class.Class.TheVariants.{Blank, Symbol, Number}
-use Rattle.money_core.specs.Class.{has, end_of, skip_blanks}
+use Rattle.money_core.specs.Class.{has}
+use Rattle.money_core.specs.Cutting.{end_of, skip_blanks}
 use Rattle.money_core.proofs.RoundTrip.{before_mark, no_mark}
 
 -- what passes a test passes a weaker one

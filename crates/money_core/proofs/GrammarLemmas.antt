@@ -1,7 +1,7 @@
 -- An amount is cut into its parts, and so only; and what is cut is an amount.
-use Rattle.std.proofs.Common.{◌≡◌, ◌<◌, ◌+◌, ◌++◌, ◌==◌, ℕ, List, [], ◌∷◌, Bool, true, false, cond, not, ◌&&◌, ◌||◌, length, take, drop, slice_index, get_or, arith, refl, ap, ◌∙◌, sym, subst, append-nil, append_assoc, one-add, Option, Some, None, option_and_then, inl, inr, nat_lt, length-append}
+use Rattle.std.proofs.Common.{◌≡◌, ◌↔◌, ◌<◌, ◌+◌, ◌++◌, ◌==◌, ℕ, List, [], ◌∷◌, Bool, true, false, cond, not, ◌&&◌, ◌||◌, length, take, drop, slice_index, get_or, arith, refl, ap, ◌∙◌, sym, subst, append-nil, append_assoc, one-add, Option, Some, None, option_and_then, inl, inr, nat_lt, length-append}
 use Rattle.std.proofs.lemmas.Grind.{common_steps}
-use Rattle.std.proofs.lemmas.Bool.{cases_Bool, and_parts, and_from, ltb-true, lt-ltb, eqb-true, or_left, or_right, or_cases, cond-true, cond-false, cases_lt, ne_eqb}
+use Rattle.std.proofs.lemmas.Bool.{not_from_false, cases_Bool, and_parts, and_from, ltb-true, lt-ltb, eqb-true, or_left, or_right, or_cases, cond-true, cond-false, cases_lt, ne_eqb}
 use Rattle.std.proofs.lemmas.List.{take-append-drop, take_all, drop_at}
 use Rattle.std.proofs.lemmas.List.Folds.{length-prefix_len}
 use Rattle.std.proofs.lemmas.List.Sums.{split_at_first, passes_at_first}
@@ -15,13 +15,15 @@ use Rattle.money_core.specs.declared.class.Class.{Class}
 use Rattle.money_core.specs.declared.class.Class.TheVariants.{Blank, Symbol, Number}
 use Rattle.money_core.specs.declared.amount.Sign.{Sign}
 use Rattle.money_core.specs.declared.amount.Sign.TheVariants.{Absent, Plus, Minus}
-use Rattle.money_core.specs.Class.{has, end_of, skip_blanks, IsBlanks}
+use Rattle.money_core.specs.Blank.{IsBlanks}
+use Rattle.money_core.specs.Class.{has}
 use Rattle.money_core.specs.Mark.{decimal_byte, group_byte}
 use Rattle.money_core.specs.Number.{is_group, is_whole, is_number, whole_part, fraction_part}
 use Rattle.money_core.specs.Symbol.{is_short, is_bare, is_symbol, is_quoted_byte, no_double, in_quotes, WritesSymbol}
 use Rattle.money_core.specs.Amount.{Parts, WritesSign, IsLeftAmount, IsRightAmount, IsAmount}
-use Rattle.money_core.specs.Cutting.{Cut, cut_quoted, cut_bare, cut_symbol, sign_of, unsigned, left_number, left_parts, right_symbol, right_parts, amount_parts}
+use Rattle.money_core.specs.Cutting.{end_of, skip_blanks, Cut, cut_quoted, cut_bare, cut_symbol, symbol_of, sign_of, unsigned, left_number, left_parts, right_symbol, right_parts, amount_parts}
 use Rattle.money_core.proofs.RoundTrip.{before_mark, split_some}
+use Rattle.money_core.proofs.SymbolText.{symbol_facts, bare_facts, short_some, written_symbol}
 use Rattle.money_core.proofs.ClassLemmas.{all_weaker, all_joined, first_passes, EndsClass, class_end, digit_number, symbol_no_quote, symbol_no_minus, symbol_no_plus, symbol_no_number, symbol_no_blank, number_no_symbol, number_no_quote, number_no_minus, number_no_plus, number_no_blank, blank_no_symbol, blank_no_number}
 
 -- the longest front of a class, and what follows it
@@ -63,16 +65,6 @@ pub record BeginsSymbol (text : List ℕ) : Type 0 where
   pub no_blank : has Blank (slice_index text 0) ≡ false
   pub no_number : has Number (slice_index text 0) ≡ false
 
-pub short_some : (symbol : List ℕ) → is_short symbol ≡ true → 0 < length symbol
-short_some symbol h = ltb-true 0 (length symbol) (and_parts (nat_lt 0 (length symbol)) _ h).0
-
--- the parts of the two tests on symbols
-pub bare_short : (symbol : List ℕ) → is_bare symbol ≡ true → is_short symbol ≡ true
-bare_short symbol h = (and_parts (is_short symbol) _ (and_parts (is_short symbol && list_all (has Symbol) symbol) _ h).0).0
-
-pub bare_bytes : (symbol : List ℕ) → is_bare symbol ≡ true → list_all (has Symbol) symbol ≡ true
-bare_bytes symbol h = (and_parts (is_short symbol) _ (and_parts (is_short symbol && list_all (has Symbol) symbol) _ h).0).1
-
 no_sign_of : (b : ℕ) → (b == 45) ≡ false → (b == 43) ≡ false → sign_of b ≡ Absent
 no_sign_of b h k = rw (h, k) refl
 
@@ -88,28 +80,21 @@ bare_begins text h =
 
 pub symbol_begins : (symbol written rest : List ℕ) → WritesSymbol symbol written → BeginsSymbol (written ++ rest)
 symbol_begins symbol written rest (inl h) =
-    rw h.1 (bare_begins (symbol ++ rest) (first_passes (has Symbol) symbol rest (bare_bytes symbol h.0) (short_some symbol (bare_short symbol h.0))))
+    rw h.1 (bare_begins (symbol ++ rest) (first_passes (has Symbol) symbol rest (bare_facts symbol h.0).bytes (short_some symbol (bare_facts symbol h.0).short)))
 symbol_begins symbol written rest (inr h) = rw h.1 (record { first = refl; no_sign = refl; no_blank = refl; no_number = refl })
 
--- the parts of the test on symbols in quotes
-pub symbol_bytes : (symbol : List ℕ) → is_symbol symbol ≡ true → list_all is_quoted_byte symbol ≡ true
-symbol_bytes symbol h =
-    let front = (and_parts (is_short symbol && is_utf8 symbol && list_all is_quoted_byte symbol && no_double symbol) _ h).0 in
-    let three = (and_parts (is_short symbol && is_utf8 symbol && list_all is_quoted_byte symbol) _ front).0 in
-    (and_parts (is_short symbol && is_utf8 symbol) _ three).1
-
-quoted_no_quote : (b : ℕ) → is_quoted_byte b ≡ true → not (b == 34) ≡ true
+pub quoted_no_quote : (b : ℕ) → is_quoted_byte b ≡ true → (b == 34) ≡ false
 quoted_no_quote b h = grind (arith, common_steps)
 
 -- A symbol at the front is cut whole.
 pub symbol_cut : (symbol written rest : List ℕ) → WritesSymbol symbol written → EndsClass Symbol rest → cut_symbol (written ++ rest) ≡ Some (record { symbol = symbol; rest = rest })
 unfolding cut_symbol
 symbol_cut symbol written rest (inl h) ends =
-    let first = first_passes (has Symbol) symbol rest (bare_bytes symbol h.0) (short_some symbol (bare_short symbol h.0)) in
-    rw (h.1, symbol_no_quote (slice_index (symbol ++ rest) 0) first, class_end Symbol symbol rest (bare_bytes symbol h.0) ends, take-append_seam symbol rest, h.0, drop_at symbol rest (length symbol) refl) refl
+    let first = first_passes (has Symbol) symbol rest (bare_facts symbol h.0).bytes (short_some symbol (bare_facts symbol h.0).short) in
+    rw (h.1, symbol_no_quote (slice_index (symbol ++ rest) 0) first, class_end Symbol symbol rest (bare_facts symbol h.0).bytes ends, take-append_seam symbol rest, h.0, drop_at symbol rest (length symbol) refl) refl
 symbol_cut symbol written rest (inr h) ends =
     let seam : (symbol ++ 34 ∷ []) ++ rest ≡ symbol ++ 34 ∷ rest = append_assoc symbol (34 ∷ []) rest in
-    let at = before_mark (λ b. b == 34) symbol rest 34 (all_weaker is_quoted_byte (λ b. not (b == 34)) symbol quoted_no_quote (symbol_bytes symbol h.0)) refl in
+    let at = before_mark (λ b. b == 34) symbol rest 34 (all_weaker is_quoted_byte (λ b. not (b == 34)) symbol (λ b k. not_from_false _ (quoted_no_quote b k)) (symbol_facts symbol h.0).bytes) refl in
     let inside : length symbol < length (symbol ++ 34 ∷ rest) = rw (length-append symbol (34 ∷ rest)) (omega arith) in
     rw (h.1, seam, at, lt-ltb (length symbol) (length (symbol ++ 34 ∷ rest)) inside, take-append_seam symbol (34 ∷ rest), h.0, drop-append-add symbol (34 ∷ rest) 1) refl
 
@@ -155,6 +140,32 @@ symbol_front (b ∷ text) cut h =
           subst (λ (c : ℕ). SymbolFront (c ∷ text) cut) (sym e) (quoted_front text cut k)
       | inr other ↦ bare_front (b ∷ text) cut (sym (cond-false (b == 34) (cut_quoted text) (cut_bare (b ∷ text)) other) ∙ h)
     ]
+
+-- A text is a symbol exactly where it is cut whole.
+pub whole_symbol : (symbol text : List ℕ) → (symbol_of text ≡ Some symbol) ↔ WritesSymbol symbol text
+unfolding symbol_of
+whole_symbol symbol text = (λ h. there (cut_symbol text) refl h, λ w. back w)
+  where
+    empty : (xs : List ℕ) → (length xs == 0) ≡ true → xs ≡ []
+    empty [] h = refl
+    empty (x ∷ xs) h = absurd (omega (arith, eqb-true (length (x ∷ xs)) 0 h))
+
+    there : (o : Option Cut) → cut_symbol text ≡ o → option_and_then (λ cut. cond (length cut.rest == 0) (Some cut.symbol) None) o ≡ Some symbol → WritesSymbol symbol text
+    there None e k = absurd cc
+    there (Some cut) e k =
+        let t = tested (length cut.rest == 0) cut.symbol symbol k in
+        let front = symbol_front text cut e in
+        let whole : text ≡ front.written = front.whole ∙ (ap (λ (xs : List ℕ). front.written ++ xs) (empty cut.rest t.0) ∙ append-nil front.written) in
+        subst (λ (xs : List ℕ). WritesSymbol symbol xs) (sym whole) (subst (λ (xs : List ℕ). WritesSymbol xs front.written) t.1 front.writes)
+
+    back : WritesSymbol symbol text → option_and_then (λ cut. cond (length cut.rest == 0) (Some cut.symbol) None) (cut_symbol text) ≡ Some symbol
+    back w = let cut = symbol_cut symbol text [] w tt in rw (rw append-nil at cut) refl
+
+pub symbol_answer : (text : List ℕ) (o : Option (List ℕ)) → o ≡ symbol_of text → (symbol : List ℕ) → (o ≡ Some symbol) ↔ WritesSymbol symbol text
+symbol_answer text o e symbol = (λ h. (whole_symbol symbol text).0 (sym e ∙ h), λ w. e ∙ (whole_symbol symbol text).1 w)
+
+pub whole_utf8 : (symbol text : List ℕ) → symbol_of text ≡ Some symbol → is_utf8 symbol ≡ true
+whole_utf8 symbol text h = (symbol_facts symbol (written_symbol symbol text ((whole_symbol symbol text).0 h))).utf8
 
 -- what stands before the unsigned text is how its sign is written
 pub record SignFront (text : List ℕ) : Type 0 where

@@ -4,7 +4,9 @@ pub mod RoundTrip
 pub mod ClassLemmas
 pub mod StyleLemmas
 pub mod NumberLength
+pub mod LengthLemmas
 pub mod SymbolText
+pub mod Utf8Lemmas
 pub mod AmountParts
 pub mod AmountPrint
 pub mod Appends
@@ -20,3 +22,4 @@ pub mod PricePrint
 pub mod PriceGrammar
 pub mod WorkedPrices
 pub mod PositionLemmas
+pub mod GrowthLemmas

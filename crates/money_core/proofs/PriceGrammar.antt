@@ -14,10 +14,11 @@ use Rattle.money_core.specs.declared.price.Price.{Price}
 use Rattle.money_core.specs.declared.price.Price.TheVariants.{Each, Total}
 use Rattle.money_core.specs.declared.cause.Cause.{Cause}
 use Rattle.money_core.specs.declared.cause.Cause.TheVariants.{Amount, UnknownCommodity, Cost}
-use Rattle.money_core.specs.Class.{has, end_of, skip_blanks, IsBlanks}
+use Rattle.money_core.specs.Blank.{IsBlanks}
+use Rattle.money_core.specs.Class.{has}
 use Rattle.money_core.specs.Number.{is_number, fraction_part, fits_decimals, quantity}
 use Rattle.money_core.specs.Amount.{Parts, WritesSign, IsLeftAmount, IsAmount, limit, place_of, HasForm, HasNoForm, NamesUndeclared}
-use Rattle.money_core.specs.Cutting.{amount_parts}
+use Rattle.money_core.specs.Cutting.{end_of, skip_blanks, amount_parts}
 use Rattle.money_core.specs.Price.{unit_limit, is_negative, cost_unit, IsUnitCost, IsTotalCost, IsCostOf, is_total, IsMarked, WritesPrice, HasNoPriceForm, NamesUndeclaredCost, HasNoCost}
 use Rattle.money_core.specs.PriceReading.{significant, kept_decimals, unit_cost, total_cost, price_in, price_at, price_of_parts, price}
 use Rattle.money_core.proofs.AmountPrint.{past, ok_same}

@@ -1,6 +1,6 @@
 -- Printed prices read as themselves, and what is read can be printed. Proofs of crates above may cite `prices_print` and `prices_bound`.
 use Rattle.std.proofs.Common.{◌≡◌, ◌≤◌, ◌==◌, ℕ, pos, List, [], ◌∷◌, Bool, true, false, cond, not, drop, slice_index, arith, refl, ap, ◌∙◌, subst, Option, Some, None, Result, Ok, Err, IfOk, nat_lt}
-use Rattle.std.proofs.lemmas.Bool.{and_parts, and_from, le-ltb, le-leb, ltb-false, leb-true}
+use Rattle.std.proofs.lemmas.Bool.{and_from, le-ltb, le-leb, ltb-false, leb-true}
 use Rattle.std.specs.List.{slice_get}
 use Rattle.money_core.specs.declared.class.Class.TheVariants.{Blank}
 use Rattle.money_core.specs.declared.amount.Sign.{Sign}
@@ -9,33 +9,25 @@ use Rattle.money_core.specs.declared.unit.Unit.{Unit as Commodity}
 use Rattle.money_core.specs.declared.price.Price.{Price}
 use Rattle.money_core.specs.declared.price.Price.TheVariants.{Each, Total}
 use Rattle.money_core.specs.declared.cause.Cause.TheVariants.{Amount, Cost}
-use Rattle.money_core.specs.Class.{has, skip_blanks}
+use Rattle.money_core.specs.Class.{has}
 use Rattle.money_core.specs.Number.{is_number, fits_decimals, fraction_part, quantity}
 use Rattle.money_core.specs.Printed.{printed_number}
 use Rattle.money_core.specs.Symbol.{is_symbol}
 use Rattle.money_core.specs.Amount.{Parts, limit, place_of}
-use Rattle.money_core.specs.Cutting.{amount_parts}
+use Rattle.money_core.specs.Cutting.{skip_blanks, amount_parts}
 use Rattle.money_core.specs.Style.{AreStyles}
 use Rattle.money_core.specs.AmountText.{printed_with}
 use Rattle.money_core.specs.Price.{unit_limit, is_negative, cost_unit, is_cost, is_price}
 use Rattle.money_core.specs.PriceReading.{kept_decimals, unit_cost, total_cost, price_in, price_at, price_of_parts, price}
 use Rattle.money_core.specs.PriceText.{printed_cost, printed_price, IsPriceText, PricesPrint, PricesBound}
+use Rattle.money_core.proofs.Utf8Lemmas.{utf8_joined, utf8_low}
 use Rattle.money_core.proofs.RoundTrip.{printed_reads}
 use Rattle.money_core.proofs.AmountParts.{printed_parts}
 use Rattle.money_core.proofs.GrammarLemmas.{blanks_skipped}
 use Rattle.money_core.proofs.AmountPrint.{amount_ends, last_of, past, ok_same}
 use Rattle.money_core.proofs.CostDecimals.{kept_is_kept, kept_again}
+use Rattle.money_core.proofs.StyleLemmas.{style_facts}
 use Rattle.money_core.proofs.PriceFacts.{EachFacts, each_facts}
-
--- the symbol and the decimals of a declared style
-record Declared (style : Style) : Type 0 where
-  symbolic : is_symbol style.symbol ≡ true
-  few : style.decimals ≤ 6
-
-declared_style : (styles : List Style) (i : ℕ) (style : Style) → AreStyles styles → slice_get styles i ≡ Some style → Declared style
-declared_style styles i style ok at =
-    let parts = and_parts (is_symbol style.symbol) _ (ok.each i style at) in
-    record { symbolic = parts.0; few = leb-true style.decimals 6 parts.1 }
 
 -- A printed unit cost reads as itself.
 each_reads : (styles : List Style) (unit : Commodity) (digits decimals : ℕ) (style : Style) → AreStyles styles → slice_get styles unit.0 ≡ Some style → EachFacts style digits decimals
@@ -45,7 +37,7 @@ each_reads styles unit digits decimals style ok at facts =
     let number = printed_number style.mark style.grouped decimals digits in
     let writes = printed_reads style.mark style.grouped decimals digits (omega (arith, facts.small)) in
     let same = kept_again style number decimals facts.declared writes.decimals_fit (rw writes.value facts.kept) in
-    rw (printed_parts style decimals (pos digits) (declared_style styles unit.0 style ok at).symbolic (omega (arith, facts.small)), ok.found unit.0 style at, at, writes.form, same, le-ltb 12 decimals facts.few, writes.value, le-ltb unit_limit digits facts.small) refl
+    rw (printed_parts style decimals (pos digits) (style_facts styles unit.0 style ok at).symbolic (omega (arith, facts.small)), ok.found unit.0 style at, at, writes.form, same, le-ltb 12 decimals facts.few, writes.value, le-ltb unit_limit digits facts.small) refl
 
 -- A printed total cost reads as itself.
 total_reads : (styles : List Style) (unit : Commodity) (q : ℕ) (style : Style) → AreStyles styles → slice_get styles unit.0 ≡ Some style → q ≤ limit
@@ -53,7 +45,7 @@ total_reads : (styles : List Style) (unit : Commodity) (q : ℕ) (style : Style)
 unfolding price_of_parts total_cost
 total_reads styles unit q style ok at l =
     let writes = printed_reads style.mark style.grouped style.decimals q (omega arith) in
-    rw (printed_parts style style.decimals (pos q) (declared_style styles unit.0 style ok at).symbolic l, ok.found unit.0 style at, at, writes.form, writes.decimals_fit, writes.value, le-ltb limit q l) refl
+    rw (printed_parts style style.decimals (pos q) (style_facts styles unit.0 style ok at).symbolic l, ok.found unit.0 style at, at, writes.form, writes.decimals_fit, writes.value, le-ltb limit q l) refl
 
 -- behind `@ ` and `@@ `
 behind_one : (styles : List Style) (rest : List ℕ) → has Blank (slice_index rest 0) ≡ false → price styles (64 ∷ 32 ∷ rest) ≡ price_of_parts styles false (amount_parts rest)
@@ -69,8 +61,9 @@ price_text_is : (styles : List Style) (p : Price) (style : Style) → AreStyles 
 price_text_is styles (Each unit digits decimals) style ok at h =
     let facts = each_facts style unit digits decimals h in
     let rest = printed_with style decimals (pos digits) in
-    let ends = amount_ends style decimals (pos digits) (declared_style styles unit.0 style ok at).symbolic (omega (arith, facts.small)) in
+    let ends = amount_ends style decimals (pos digits) (style_facts styles unit.0 style ok at).symbolic (omega (arith, facts.small)) in
     record {
+      utf8 = utf8_joined (64 ∷ 32 ∷ []) rest (utf8_low (64 ∷ 32 ∷ []) refl) ends.utf8;
       reads = behind_one styles rest ends.first ∙ each_reads styles unit digits decimals style ok at facts;
       rest = rest;
       whole = refl;
@@ -82,9 +75,10 @@ price_text_is styles (Each unit digits decimals) style ok at h =
 price_text_is styles (Total unit q) style ok at h =
     let l : q ≤ limit = leb-true q limit h in
     let rest = printed_with style style.decimals (pos q) in
-    let known = declared_style styles unit.0 style ok at in
+    let known = style_facts styles unit.0 style ok at in
     let ends = amount_ends style style.decimals (pos q) known.symbolic l in
     record {
+      utf8 = utf8_joined (64 ∷ 64 ∷ 32 ∷ []) rest (utf8_low (64 ∷ 64 ∷ 32 ∷ []) refl) ends.utf8;
       reads = behind_two styles rest ends.first ∙ total_reads styles unit q style ok at l;
       rest = rest;
       whole = refl;

@@ -8,7 +8,8 @@ use Rattle.std.specs.List.{list_all, slice_split, onto_first, position_or_len}
 use Rattle.std.specs.Str.Parse.{digits_value_after}
 use Rattle.std.proofs.lemmas.Fmt.{decimal_by_steps, decimal_nonempty}
 use Rattle.std.proofs.lemmas.List.Folds.{list_all-append}
-use Rattle.money_core.specs.Number.{is_group, whole_part, fraction_part, WritesQuantity}
+use Rattle.money_core.specs.Number.{is_group, whole_part, fraction_part}
+use Rattle.money_core.specs.NumberText.{WritesQuantity}
 use Rattle.money_core.specs.declared.mark.Mark.{Mark}
 use Rattle.money_core.specs.declared.mark.Mark.TheVariants.{Point, Comma}
 use Rattle.money_core.specs.Mark.{decimal_byte, group_byte}

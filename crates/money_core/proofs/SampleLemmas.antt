@@ -1,11 +1,11 @@
 -- The style that is found is the one that the sample spells, and a sample spells one style.
 use Rattle.std.proofs.Common.{◌≡◌, ◌↔◌, ◌⊎◌, ◌<◌, ◌≤◌, ◌+◌, ◌-◌, ◌==◌, ℕ, List, [], ◌∷◌, Bool, true, false, cond, ◌&&◌, length, drop, get_or, slice_index, arith, refl, ap, ◌∙◌, sym, subst, Option, Some, None, Result, Ok, Err, IfOk, inl, inr, nat_lt, get_or-drop, length-drop}
 use Rattle.std.proofs.lemmas.Bool.{cases_Bool, and_parts, and_from, le-ltb, le-leb, eqb-true, false_from_ne_true, not_from_false, ltb-false, cases_order}
-use Rattle.std.proofs.lemmas.Grind.{common_steps}
 use Rattle.std.proofs.lemmas.List.Sums.{passes_at_first, AllPass-from_list_all}
 use Rattle.std.specs.List.{list_all, list_any, position_or_len}
 use Rattle.std.specs.Char.{is_ascii_digit}
 use Rattle.std.specs.Str.{is_utf8}
+use Rattle.std.specs.Option.{ok_or}
 use Rattle.std.specs.Result.{IsOkUnless}
 use Rattle.money_core.specs.declared.mark.Mark.{Mark}
 use Rattle.money_core.specs.declared.mark.Mark.TheVariants.{Point, Comma}
@@ -14,17 +14,15 @@ use Rattle.money_core.specs.declared.amount.Sign.TheVariants.{Absent, Plus, Minu
 use Rattle.money_core.specs.declared.style.Style.{Style}
 use Rattle.money_core.specs.declared.cause.Cause.{Cause}
 use Rattle.money_core.specs.declared.cause.Cause.TheVariants.{Amount, OutOfMemory}
-use Rattle.money_core.specs.declared.class.Class.TheVariants.{Symbol}
-use Rattle.money_core.specs.Class.{has}
 use Rattle.money_core.specs.Mark.{decimal_byte, group_byte}
 use Rattle.money_core.specs.Number.{is_number, fraction_part, quantity}
-use Rattle.money_core.specs.Symbol.{is_short, is_bare, is_quoted_byte, no_double, has_no_outer_space, is_symbol, WritesSymbol}
+use Rattle.money_core.specs.Symbol.{is_symbol}
 use Rattle.money_core.specs.Amount.{Parts, IsAmount, limit}
 use Rattle.money_core.specs.Cutting.{is_signed, amount_parts}
 use Rattle.money_core.specs.Style.{is_style, IsSample}
 use Rattle.money_core.specs.Sampling.{shows, shown_mark, style_with, style_in, style_of_parts, style_of}
-use Rattle.money_core.proofs.GrammarLemmas.{amount_cut, cut_amount, number_parts, some_same, bare_short, bare_bytes, short_some}
-use Rattle.money_core.proofs.ClassLemmas.{all_weaker, symbol_no_space}
+use Rattle.money_core.proofs.GrammarLemmas.{amount_cut, cut_amount, number_parts, some_same}
+use Rattle.money_core.proofs.SymbolText.{symbol_facts, written_symbol}
 
 -- a byte that stands in a list has a first place
 any_place : (p : ℕ → Bool) (xs : List ℕ) → list_any p xs ≡ true → position_or_len p xs < length xs
@@ -76,44 +74,12 @@ shown_shows mark number h =
       ]
     ]
 
--- a symbol that can stand bare can stand in quotes
-symbol_quoted : (b : ℕ) → has Symbol b ≡ true → is_quoted_byte b ≡ true
-symbol_quoted b h = grind (arith, common_steps)
-
-bare_no_double : (symbol : List ℕ) → list_all (has Symbol) symbol ≡ true → no_double symbol ≡ true
-bare_no_double [] h = refl
-bare_no_double (b ∷ symbol) h = let both = and_parts (has Symbol b) _ h in rw (symbol_no_space b both.0) (bare_no_double symbol both.1)
-
-bare_no_outer : (symbol : List ℕ) → 0 < length symbol → list_all (has Symbol) symbol ≡ true → has_no_outer_space symbol ≡ true
-bare_no_outer symbol some h =
-    let all = AllPass-from_list_all (has Symbol) symbol h in
-    and_from _ _ (not_from_false _ (symbol_no_space (slice_index symbol 0) (all 0 0 some)))
-    (not_from_false _ (symbol_no_space (slice_index symbol (length symbol - 1)) (all (length symbol - 1) 0 (omega arith))))
-
-bare_symbol : (symbol : List ℕ) → is_bare symbol ≡ true → is_symbol symbol ≡ true
-bare_symbol symbol h =
-    let short = bare_short symbol h in
-    let bytes = bare_bytes symbol h in
-    let utf8 = (and_parts (is_utf8 symbol) _ (and_parts (is_short symbol && list_all (has Symbol) symbol) _ h).1).0 in
-    and_from _ _ (and_from _ _ (and_from _ _ (and_from _ _ short utf8) (all_weaker (has Symbol) is_quoted_byte symbol symbol_quoted bytes)) (bare_no_double symbol bytes))
-    (bare_no_outer symbol (short_some symbol short) bytes)
-
-written_symbol : (symbol written : List ℕ) → WritesSymbol symbol written → is_symbol symbol ≡ true
-written_symbol symbol written (inl h) = bare_symbol symbol h.0
-written_symbol symbol written (inr h) = h.0
-
 pub amount_symbol : (mark : Mark) (text : List ℕ) (parts : Parts) → IsAmount mark text parts → is_symbol parts.symbol ≡ true
 amount_symbol mark text parts a =
     elim a.form [
       | inl left ↦ written_symbol parts.symbol left.symbol left.symbolic
       | inr right ↦ written_symbol parts.symbol right.symbol right.symbolic
     ]
-
-pub symbol_utf8 : (symbol : List ℕ) → is_symbol symbol ≡ true → is_utf8 symbol ≡ true
-symbol_utf8 symbol h =
-    let four = (and_parts (is_short symbol && is_utf8 symbol && list_all is_quoted_byte symbol && no_double symbol) _ h).0 in
-    let three = (and_parts (is_short symbol && is_utf8 symbol && list_all is_quoted_byte symbol) _ four).0 in
-    (and_parts (is_short symbol) _ (and_parts (is_short symbol && is_utf8 symbol) _ three).0).1
 
 -- Two tests that were passed.
 passed : {A : Type 0} (b c : Bool) (x y : A) → cond b None (cond c None (Some x)) ≡ Some y → (b ≡ false) × (c ≡ false) × (x ≡ y)
@@ -193,7 +159,7 @@ sample_style text style h = and_from _ _ (sample_symbol text style h) (le-leb st
 -- what is answered where a style was found
 module _ (text : List ℕ) (style : Style) (found : style_of text ≡ Some style) where
   pub found_utf8 : is_utf8 style.symbol ≡ true
-  found_utf8 = symbol_utf8 style.symbol (sample_symbol text style (style_spelled text style found))
+  found_utf8 = (symbol_facts style.symbol (sample_symbol text style (style_spelled text style found))).utf8
 
   pub found_ok : (r : Result Style Cause) → IfOk r (λ s. s ≡ style) → IfOk r (λ s. IsSample text s)
   found_ok (Ok s) e = subst (IsSample text) (sym e) (style_spelled text style found)
@@ -207,6 +173,10 @@ module _ (text : List ℕ) (style : Style) (found : style_of text ≡ Some style
   found_only (Ok s) e m other h = inl (ap (λ (x : Style). Ok x) (e ∙ some_same style other (sym found ∙ spelled_style text other h)))
   found_only (Err cause) e m other h = inr (ap (λ (x : Cause). Err x) m)
 
+  pub found_answer : (r : Result Style Cause) → IfOk r (λ s. s ≡ style) → IsOkUnless r OutOfMemory → (r ≡ ok_or (style_of text) Amount) ⊎ (r ≡ Err OutOfMemory)
+  found_answer (Ok s) e m = inl (rw (found, e) refl)
+  found_answer (Err cause) e m = inr (ap (λ (x : Cause). Err x) m)
+
   pub found_none : (r : Result Style Cause) → IsOkUnless r OutOfMemory → (r ≡ Err Amount) ↔ ((other : Style) → ¬ IsSample text other)
   found_none r m = (λ e. absurd (only_memory r m e), λ none. absurd (none style (style_spelled text style found)))
 
@@ -214,6 +184,9 @@ module _ (text : List ℕ) (style : Style) (found : style_of text ≡ Some style
 module _ (text : List ℕ) (lacks : style_of text ≡ None) where
   pub lacks_all : (other : Style) → ¬ IsSample text other
   lacks_all other h = let k = spelled_style text other h in cc
+
+  pub lacks_answer : (r : Result Style Cause) → r ≡ Err Amount → (r ≡ ok_or (style_of text) Amount) ⊎ (r ≡ Err OutOfMemory)
+  lacks_answer r e = inl (rw (lacks, e) refl)
 
   pub lacks_none : (r : Result Style Cause) → r ≡ Err Amount → (r ≡ Err Amount) ↔ ((other : Style) → ¬ IsSample text other)
   lacks_none r e = (λ _. lacks_all, λ _. e)

@@ -2,7 +2,8 @@
 use Rattle.std.proofs.Common.{◌≡◌, ◌≤◌, ◌<◌, ◌++◌, ℕ, List, [], ◌∷◌, Bool, true, false, Some, None, length, arith, refl, ap, ◌∙◌, sym, inl, inr, ◌⊎◌, length-append, nat_lt}
 use Rattle.std.specs.List.{slice_get, position_or_len}
 use Rattle.std.specs.Str.{bytes_eq}
-use Rattle.std.proofs.lemmas.Bool.{ltb-true, lt-leb, cases_lt}
+use Rattle.std.proofs.lemmas.Bool.{and_parts, leb-true, ltb-true, lt-leb, cases_lt}
+use Rattle.money_core.specs.Symbol.{is_symbol}
 use Rattle.money_core.proofs.PositionLemmas.{some_chosen, position-append_found, position-append_next, slice_get-snoc, bytes_eq-refl}
 use Rattle.money_core.specs.declared.style.Style.{Style}
 use Rattle.money_core.specs.Amount.{place_of}
@@ -80,3 +81,13 @@ declared-was_new styles style unit h = elim (option_cases (place_of styles style
   ]
   | inr some ↦ absurd (held_not_new style some.0 unit (slice_get styles some.0) (rw some.1 at h))
 ]
+
+-- the symbol and the decimals of a declared style
+pub record StyleFacts (style : Style) : Type 0 where
+  pub symbolic : is_symbol style.symbol ≡ true
+  pub few : style.decimals ≤ 6
+
+pub style_facts : (styles : List Style) (i : ℕ) (style : Style) → AreStyles styles → slice_get styles i ≡ Some style → StyleFacts style
+style_facts styles i style ok at =
+    let parts = and_parts (is_symbol style.symbol) _ (ok.each i style at) in
+    record { symbolic = parts.0; few = leb-true style.decimals 6 parts.1 }

@@ -10,9 +10,10 @@ use Rattle.money_core.specs.declared.mark.Mark.{Mark}
 use Rattle.money_core.specs.declared.mark.Mark.TheVariants.{Point, Comma}
 use Rattle.money_core.specs.declared.amount.Sign.TheVariants.{Absent}
 use Rattle.money_core.specs.declared.style.Style.{Style}
-use Rattle.money_core.specs.Class.{IsBlanks}
+use Rattle.money_core.specs.Blank.{IsBlanks}
 use Rattle.money_core.specs.Mark.{decimal_byte, group_byte}
-use Rattle.money_core.specs.Number.{fraction_part, WritesQuantity}
+use Rattle.money_core.specs.Number.{fraction_part}
+use Rattle.money_core.specs.NumberText.{WritesQuantity}
 use Rattle.money_core.specs.Symbol.{is_symbol, in_quotes}
 use Rattle.money_core.specs.Amount.{Parts, IsLeftAmount, IsRightAmount}
 use Rattle.money_core.specs.Style.{is_style, IsSample}

@@ -5,7 +5,7 @@ use Rattle.money_core.specs.declared.mark.Mark.{Mark}
 use Rattle.money_core.specs.declared.amount.Sign.{Sign}
 use Rattle.money_core.specs.declared.amount.Sign.TheVariants.{Absent, Plus, Minus}
 use Rattle.money_core.specs.declared.style.Style.{Style}
-use Rattle.money_core.specs.Class.{IsBlanks}
+use Rattle.money_core.specs.Blank.{IsBlanks}
 use Rattle.money_core.specs.Symbol.{WritesSymbol}
 use Rattle.money_core.specs.Number.{is_number, fraction_part, fits_decimals, quantity}
 

@@ -1,8 +1,10 @@
 -- What an amount is printed as (own rule), and what such a text has wherever it stands.
 use Rattle.std.specs.Prelude.{◌≡◌, ℕ, ℤ, pos, negsuc, unsigned_abs, ◌-◌, ◌==◌, ◌≤◌, ◌<◌, List, [], ◌∷◌, ◌++◌, length, slice_get, slice_index, Bool, true, false, ◌&&◌, ◌||◌, not, if◌then◌else◌, Option, Some, None, Ok}
-use Rattle.money_core.specs.declared.class.Class.TheVariants.{Blank, Symbol, Number}
+use Rattle.std.specs.Str.{is_utf8}
+use Rattle.money_core.specs.declared.class.Class.TheVariants.{Symbol, Number}
 use Rattle.money_core.specs.declared.style.Style.{Style}
 use Rattle.money_core.specs.declared.unit.Unit.{Unit as Commodity}
+use Rattle.money_core.specs.Blank.{is_blank}
 use Rattle.money_core.specs.Class.{has}
 use Rattle.money_core.specs.Symbol.{is_bare, is_quoted_byte, in_quotes}
 use Rattle.money_core.specs.Amount.{limit}
@@ -52,14 +54,20 @@ is_amount_text quoted (b ∷ bs) =
     if b == 34 then is_amount_text (not quoted) bs
     else (if quoted then is_quoted_byte b else is_amount_byte b) && is_amount_text quoted bs
 
--- The text is that quantity of that commodity wherever it stands: it reads as it, has only bytes of an amount, no blank at an end, and at most 64 bytes.
+-- the greatest length of a printed amount, in bytes
+abbrev pub longest_amount : ℕ
+longest_amount = 64
+
+-- The text is that quantity of that commodity wherever it stands: it reads as it, is UTF-8, has only bytes of an amount,
+-- no blank at an end, and is not too long.
 pub record IsAmountText (styles : List Style) (unit : Commodity) (quantity : ℤ) (text : List ℕ) : Type 0 where
   pub reads : amount styles text ≡ Ok (unit, quantity)
+  pub utf8 : is_utf8 text ≡ true
   pub form : is_amount_text false text ≡ true
   pub some : 0 < length text
-  pub first : has Blank (slice_index text 0) ≡ false
-  pub last : has Blank (slice_index text (length text - 1)) ≡ false
-  pub short : length text ≤ 64
+  pub first : is_blank (slice_index text 0) ≡ false
+  pub last : is_blank (slice_index text (length text - 1)) ≡ false
+  pub short : length text ≤ longest_amount
 
 -- a declared commodity, and a quantity within the limit
 pub record IsDeclared (styles : List Style) (unit : Commodity) (quantity : ℤ) : Type 0 where
@@ -68,7 +76,8 @@ pub record IsDeclared (styles : List Style) (unit : Commodity) (quantity : ℤ) 
 
 -- Each amount of these styles is printed as a text that reads as it.
 abbrev pub AmountsPrint : List Style → Type 0
-AmountsPrint styles = (unit : Commodity) (quantity : ℤ) → IsDeclared styles unit quantity → IsAmountText styles unit quantity (printed_in styles unit quantity)
+AmountsPrint styles =
+    (unit : Commodity) (quantity : ℤ) → IsDeclared styles unit quantity → IsAmountText styles unit quantity (printed_in styles unit quantity)
 
 -- What is read is of a declared commodity and within the limit.
 abbrev pub AmountsBound : List Style → Type 0

@@ -1,12 +1,21 @@
 -- How an amount is cut into its parts from the left; that these are the parts of `Amount`, and the only ones, stands behind the clauses of `read_amount`.
 use Rattle.std.specs.Prelude.{ℕ, ◌==◌, List, length, take, drop, slice_index, nat_lt, Bool, true, false, ◌&&◌, ◌||◌, not, if◌then◌else◌, Option, Some, None, option_and_then}
 use Rattle.std.specs.List.{position_or_len, before_first, after_first}
+use Rattle.money_core.specs.declared.class.Class.{Class}
 use Rattle.money_core.specs.declared.class.Class.TheVariants.{Blank, Symbol, Number}
 use Rattle.money_core.specs.declared.amount.Sign.{Sign}
 use Rattle.money_core.specs.declared.amount.Sign.TheVariants.{Absent, Plus, Minus}
-use Rattle.money_core.specs.Class.{has, end_of, skip_blanks}
+use Rattle.money_core.specs.Class.{has}
 use Rattle.money_core.specs.Symbol.{is_bare, is_symbol}
 use Rattle.money_core.specs.Amount.{Parts}
+
+-- where the longest front of that class ends
+abbrev pub end_of : Class → List ℕ → ℕ
+end_of class text = position_or_len (λ b. not (has class b)) text
+
+-- the text behind the blanks at its front
+abbrev pub skip_blanks : List ℕ → List ℕ
+skip_blanks text = drop (end_of Blank text) text
 
 -- a symbol and what follows it
 pub record Cut : Type 0 where
@@ -29,6 +38,10 @@ cut_bare text =
 unfoldable pub cut_symbol : List ℕ → Option Cut
 cut_symbol text = if slice_index text 0 == 34 then cut_quoted (drop 1 text) else cut_bare text
 
+-- the symbol that a whole text is, with its quotes or without
+unfoldable pub symbol_of : List ℕ → Option (List ℕ)
+symbol_of text = option_and_then (λ cut. if length cut.rest == 0 then Some cut.symbol else None) (cut_symbol text)
+
 -- the sign that a byte is
 abbrev pub sign_of : ℕ → Sign
 sign_of b = if b == 45 then Minus else if b == 43 then Plus else Absent
@@ -48,7 +61,13 @@ abbrev pub left_number : Sign → List ℕ → List ℕ → Parts
 left_number sign symbol rest =
     if is_signed sign
     then record { sign = sign; left = true; spaced = not (end_of Blank rest == 0); symbol = symbol; number = skip_blanks rest }
-    else record { sign = sign_of (slice_index (skip_blanks rest) 0); left = true; spaced = not (end_of Blank rest == 0); symbol = symbol; number = unsigned (skip_blanks rest) }
+    else record {
+      sign = sign_of (slice_index (skip_blanks rest) 0);
+      left = true;
+      spaced = not (end_of Blank rest == 0);
+      symbol = symbol;
+      number = unsigned (skip_blanks rest);
+    }
 
 -- a symbol, then a number
 unfoldable pub left_parts : Sign → List ℕ → Option Parts
@@ -57,7 +76,9 @@ left_parts sign text = option_and_then (λ cut. Some (left_number sign cut.symbo
 -- behind a number: blanks, then a symbol
 unfoldable pub right_symbol : Sign → List ℕ → List ℕ → Option Parts
 right_symbol sign number rest = option_and_then (λ cut.
-    if length cut.rest == 0 then Some (record { sign = sign; left = false; spaced = not (end_of Blank rest == 0); symbol = cut.symbol; number = number }) else None)
+    if length cut.rest == 0
+    then Some (record { sign = sign; left = false; spaced = not (end_of Blank rest == 0); symbol = cut.symbol; number = number })
+    else None)
     (cut_symbol (skip_blanks rest))
 
 -- a number, then a symbol

@@ -39,9 +39,3 @@ fits_decimals decimals fraction = list_all (λ b. b == 48) (drop decimals fracti
 -- the quantity that a number writes, in smallest units
 abbrev pub quantity : Mark → ℕ → List ℕ → ℕ
 quantity mark decimals bytes = digits_value 10 (unit_digits decimals (whole_part mark bytes) (fraction_part mark bytes))
-
--- The text is a number with that decimal mark, of at most so many decimals that are not zeros, and writes this quantity.
-pub record WritesQuantity (mark : Mark) (decimals quantity_written : ℕ) (bytes : List ℕ) : Type 0 where
-  pub form : is_number mark bytes ≡ true
-  pub decimals_fit : fits_decimals decimals (fraction_part mark bytes) ≡ true
-  pub value : quantity mark decimals bytes ≡ quantity_written

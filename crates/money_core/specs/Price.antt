@@ -6,13 +6,17 @@ use Rattle.money_core.specs.declared.style.Style.{Style}
 use Rattle.money_core.specs.declared.unit.Unit.{Unit as Commodity}
 use Rattle.money_core.specs.declared.price.Price.{Price}
 use Rattle.money_core.specs.declared.price.Price.TheVariants.{Each, Total}
-use Rattle.money_core.specs.Class.{IsBlanks}
+use Rattle.money_core.specs.Blank.{IsBlanks}
 use Rattle.money_core.specs.Number.{fraction_part, fits_decimals, quantity}
 use Rattle.money_core.specs.Amount.{Parts, IsAmount, limit, place_of, HasNoForm, NamesUndeclared}
 
 -- the greatest unit cost, as a whole number
 abbrev pub unit_limit : ℕ
 unit_limit = 1_000_000_000_000_000
+
+-- the greatest number of decimals of a unit cost
+abbrev pub max_cost_decimals : ℕ
+max_cost_decimals = 12
 
 -- the commodity of a price
 abbrev pub cost_unit : Price → Commodity
@@ -35,7 +39,7 @@ pub record IsUnitCost (style : Style) (parts : Parts) (digits decimals : ℕ) : 
   pub declared : style.decimals ≤ decimals
   pub exact : fits_decimals decimals (fraction_part style.mark parts.number) ≡ true
   pub least : (decimals ≡ style.decimals) ⊎ (fits_decimals (decimals - 1) (fraction_part style.mark parts.number) ≡ false)
-  pub few : decimals ≤ 12
+  pub few : decimals ≤ max_cost_decimals
   pub value : digits ≡ quantity style.mark decimals parts.number
   pub small : digits ≤ unit_limit
   pub no_debt : is_negative parts.sign digits ≡ false
@@ -102,7 +106,8 @@ pub record HasNoCost (styles : List Style) (text : List ℕ) : Type 0 where
 abbrev pub is_cost : Option Style → Price → Bool
 is_cost None p = false
 is_cost (Some style) (Each unit digits decimals) =
-    nat_le style.decimals decimals && nat_le decimals 12 && nat_le digits unit_limit && ((decimals == style.decimals) || not (digits % 10 == 0))
+    nat_le style.decimals decimals && nat_le decimals max_cost_decimals && nat_le digits unit_limit
+    && ((decimals == style.decimals) || not (digits % 10 == 0))
 is_cost (Some style) (Total unit quantity) = nat_le quantity limit
 
 -- whether some text has the price

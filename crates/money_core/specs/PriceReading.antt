@@ -7,12 +7,11 @@ use Rattle.money_core.specs.declared.price.Price.{Price}
 use Rattle.money_core.specs.declared.price.Price.TheVariants.{Each, Total}
 use Rattle.money_core.specs.declared.cause.Cause.{Cause}
 use Rattle.money_core.specs.declared.cause.Cause.TheVariants.{Amount, Cost}
-use Rattle.money_core.specs.Class.{skip_blanks}
 use Rattle.money_core.specs.Number.{is_number, fraction_part, fits_decimals, quantity}
 use Rattle.money_core.specs.Amount.{Parts, limit, place_of}
-use Rattle.money_core.specs.Cutting.{amount_parts}
+use Rattle.money_core.specs.Cutting.{skip_blanks, amount_parts}
 use Rattle.money_core.specs.Reading.{undeclared}
-use Rattle.money_core.specs.Price.{unit_limit, is_negative}
+use Rattle.money_core.specs.Price.{unit_limit, max_cost_decimals, is_negative}
 
 -- how many digits a fraction has up to the last that is not zero
 abbrev pub significant : List ℕ → ℕ
@@ -26,7 +25,7 @@ kept_decimals style number = max style.decimals (significant (fraction_part styl
 -- the cost of each unit: at most twelve decimals, at most 10^15 as a whole number, and not negative
 unfoldable pub unit_cost : Style → ℕ → Sign → List ℕ → Result Price Cause
 unit_cost style place sign number =
-    if nat_lt 12 (kept_decimals style number) then Err Cost
+    if nat_lt max_cost_decimals (kept_decimals style number) then Err Cost
     else if nat_lt unit_limit (quantity style.mark (kept_decimals style number) number) then Err Cost
     else if is_negative sign (quantity style.mark (kept_decimals style number) number) then Err Cost
     else Ok (Each (record { 0 = place }) (quantity style.mark (kept_decimals style number) number) (kept_decimals style number))

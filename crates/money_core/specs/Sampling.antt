@@ -4,10 +4,10 @@ use Rattle.std.specs.List.{list_any}
 use Rattle.money_core.specs.declared.mark.Mark.{Mark}
 use Rattle.money_core.specs.declared.mark.Mark.TheVariants.{Point, Comma}
 use Rattle.money_core.specs.declared.style.Style.{Style}
-use Rattle.money_core.specs.declared.sample.Spelled.{Spelled}
 use Rattle.money_core.specs.Mark.{decimal_byte, group_byte}
 use Rattle.money_core.specs.Number.{is_number, fraction_part, quantity}
 use Rattle.money_core.specs.Amount.{Parts, limit}
+use Rattle.money_core.specs.Style.{max_decimals}
 use Rattle.money_core.specs.Cutting.{is_signed, amount_parts}
 
 -- whether it is a number with that decimal mark, which it shows
@@ -29,11 +29,11 @@ style_with parts mark = record {
   grouped = list_any (λ b. b == group_byte mark) parts.number;
 }
 
--- the style, once the decimal mark was looked for: at most six decimals, and a quantity within the limit
+-- the style, once the decimal mark was looked for: its decimals and its quantity within their limits
 abbrev pub style_in : Parts → Option Mark → Option Style
 style_in parts None = None
 style_in parts (Some mark) =
-    if nat_lt 6 (length (fraction_part mark parts.number)) then None
+    if nat_lt max_decimals (length (fraction_part mark parts.number)) then None
     else if nat_lt limit (quantity mark (length (fraction_part mark parts.number)) parts.number) then None
     else Some (style_with parts mark)
 
@@ -45,7 +45,3 @@ style_of_parts (Some parts) = if is_signed parts.sign then None else style_in pa
 -- the style that a text spells
 abbrev pub style_of : List ℕ → Option Style
 style_of text = style_of_parts (amount_parts text)
-
--- the style without where its symbol lies in memory
-abbrev pub spelled_view : Spelled → Style
-spelled_view s = record { symbol = s.symbol.now; left = s.left; spaced = s.spaced; mark = s.mark; decimals = s.decimals; grouped = s.grouped }

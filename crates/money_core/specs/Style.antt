@@ -17,9 +17,17 @@ use Rattle.money_core.specs.Number.{fraction_part, quantity}
 use Rattle.money_core.specs.Symbol.{is_symbol}
 use Rattle.money_core.specs.Amount.{Parts, IsAmount, limit, place_of}
 
--- at most six decimals, and a symbol
+-- the greatest number of decimals of a commodity
+abbrev pub max_decimals : ℕ
+max_decimals = 6
+
+-- the greatest number of commodities
+abbrev pub max_commodities : ℕ
+max_commodities = 16
+
+-- a symbol, and not too many decimals
 abbrev pub is_style : Style → Bool
-is_style style = is_symbol style.symbol && nat_le style.decimals 6
+is_style style = is_symbol style.symbol && nat_le style.decimals max_decimals
 
 -- The text is a sample amount of the style: an amount without sign whose number shows its decimal mark, which is then its last mark and stands there once.
 pub record IsSample (text : List ℕ) (style : Style) : Type 0 where
@@ -32,14 +40,14 @@ pub record IsSample (text : List ℕ) (style : Style) : Type 0 where
   pub spaced : style.spaced ≡ parts.spaced
   pub decimals : style.decimals ≡ length (fraction_part style.mark parts.number)
   pub grouped : style.grouped ≡ list_any (λ b. b == group_byte style.mark) parts.number
-  pub few : style.decimals ≤ 6
+  pub few : style.decimals ≤ max_decimals
   pub small : quantity style.mark style.decimals parts.number ≤ limit
 
--- Each style is one that a sample has, and the one that its symbol finds; there are at most sixteen.
+-- Each style is one that a sample has, and the one that its symbol finds; there are not too many.
 pub record AreStyles (styles : List Style) : Type 0 where
   pub each : (i : ℕ) (style : Style) → slice_get styles i ≡ Some style → is_style style ≡ true
   pub found : (i : ℕ) (style : Style) → slice_get styles i ≡ Some style → place_of styles style.symbol ≡ Some i
-  pub few : length styles ≤ 16
+  pub few : length styles ≤ max_commodities
 
 -- the commodity of a symbol
 abbrev pub unit_of : List Style → List ℕ → Option Commodity
@@ -59,7 +67,9 @@ mark_eq Comma Point = false
 
 -- whether two styles are the same
 abbrev pub style_eq : Style → Style → Bool
-style_eq s t = bytes_eq s.symbol t.symbol && mark_eq s.mark t.mark && (s.decimals == t.decimals) && bool_eq s.left t.left && bool_eq s.spaced t.spaced && bool_eq s.grouped t.grouped
+style_eq s t =
+    bytes_eq s.symbol t.symbol && mark_eq s.mark t.mark && (s.decimals == t.decimals) && bool_eq s.left t.left
+    && bool_eq s.spaced t.spaced && bool_eq s.grouped t.grouped
 
 -- the answer where the symbol is declared with this style
 abbrev pub declared_with : Style → ℕ → Option Style → Result Declared Cause
@@ -69,7 +79,7 @@ declared_with style place (Some held) = if style_eq held style then Ok (Same (re
 -- the answer to a declaration, once its symbol was looked up
 abbrev pub declared_at : List Style → Style → Option ℕ → Result Declared Cause
 declared_at styles style (Some place) = declared_with style place (slice_get styles place)
-declared_at styles style None = if nat_le 16 (length styles) then Err Full else Ok (New (record { 0 = length styles }))
+declared_at styles style None = if nat_le max_commodities (length styles) then Err Full else Ok (New (record { 0 = length styles }))
 
 -- the answer to a declaration: an equal style, another style of the symbol, no room, or a new commodity with the next number
 unfoldable pub declared : List Style → Style → Result Declared Cause

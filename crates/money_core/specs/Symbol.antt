@@ -6,9 +6,13 @@ use Rattle.std.specs.Str.{chars, is_utf8}
 use Rattle.money_core.specs.declared.class.Class.TheVariants.{Symbol}
 use Rattle.money_core.specs.Class.{has}
 
--- 1 to 24 bytes
+-- the greatest length of a symbol, in bytes
+abbrev pub longest_symbol : ℕ
+longest_symbol = 24
+
+-- some bytes, and not too many
 abbrev pub is_short : List ℕ → Bool
-is_short symbol = nat_lt 0 (length symbol) && nat_lt (length symbol) 25
+is_short symbol = nat_lt 0 (length symbol) && nat_le (length symbol) longest_symbol
 
 -- a text of which no character is white space
 abbrev pub is_dense : List ℕ → Bool

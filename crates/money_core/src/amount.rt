@@ -3,11 +3,11 @@
 ghost use Rattle.std.specs.Prelude.{◌≡◌, ◌==◌, ◌<◌, ◌≤◌, ◌+◌, not, drop, take, length, slice_index};
 ghost use Rattle.std.specs.Option.{option_map};
 ghost use Rattle.money_core.specs.declared.class.Class.TheVariants.{Blank};
-ghost use Rattle.money_core.specs.Class.{end_of};
-ghost use Rattle.money_core.specs.Cutting.{sign_of, is_signed, unsigned, left_number, left_parts, right_symbol, right_parts, amount_parts};
-ghost use Rattle.money_core.specs.AmountViews.{parts_view};
+ghost use Rattle.money_core.specs.Cutting.{end_of, sign_of, is_signed, unsigned, left_number, left_parts, right_symbol, right_parts, amount_parts};
+ghost use Rattle.money_core.specs.Views.{parts_view};
 
-use crate::class::{Class, behind, end_of, first_byte, skip_blanks};
+use crate::bytes::{behind, first_byte};
+use crate::class::{Class, end_of, skip_blanks};
 use crate::symbol::cut_symbol;
 
 /// The sign of an amount.

@@ -6,6 +6,7 @@ ghost use Rattle.money_core.specs.AmountText.{minus, gap, printed_symbol, printe
 
 use crate::cause::Cause;
 use crate::number::LIMIT;
+use crate::price::MAX_COST_DECIMALS;
 use crate::printing::print_number;
 use crate::style::Style;
 use crate::styles::Styles;
@@ -15,7 +16,7 @@ use std::alloc::{AllocError, Global};
 
 /// Whether the commodity is declared, and the quantity at most 10^16 with either sign: the amounts that are printed, and
 /// that have a cost.
-pub fn is_declared(styles: &Styles, unit: Unit, qty: i64) -> bool
+pub fn is_declared(unit: Unit, qty: i64, styles: &Styles) -> bool
     ensures { IsTrue result ↔ IsDeclared styles.now unit qty }
 {
     styles.style(unit).is_some() && qty.unsigned_abs() <= LIMIT
@@ -66,7 +67,7 @@ fn push_signed(
     decimals: u8,
     quantity: i64,
 ) -> Result<(), AllocError>
-    requires { decimals ≤ 12 }
+    requires { decimals ≤ MAX_COST_DECIMALS }
     ensures ok { OnOk result (out.new.items ≡ out.old.items ++ printed_signed style.now decimals quantity) }
     ensures err { OnErr result (take (length out.old.items) out.new.items ≡ out.old.items) }
 {
@@ -91,7 +92,7 @@ pub(crate) fn push_amount(
     decimals: u8,
     quantity: i64,
 ) -> Result<(), AllocError>
-    requires { decimals ≤ 12 }
+    requires { decimals ≤ MAX_COST_DECIMALS }
     ensures ok { OnOk result (out.new.items ≡ out.old.items ++ printed_with style.now decimals quantity) }
     ensures err { OnErr result (take (length out.old.items) out.new.items ≡ out.old.items) }
 {

@@ -1,7 +1,10 @@
 //! The classes of bytes in an amount.
 
 ghost use Rattle.std.specs.Prelude.{◌≡◌, ◌==◌, ◌≤◌, not, drop, length, position, slice_index};
-ghost use Rattle.money_core.specs.Class.{has, end_of, skip_blanks};
+ghost use Rattle.money_core.specs.Class.{has};
+ghost use Rattle.money_core.specs.Cutting.{end_of, skip_blanks};
+
+use crate::bytes::behind;
 
 /// A class of bytes.
 #[derive(Clone, Copy)]
@@ -43,21 +46,6 @@ pub fn end_of(text: &[u8], class: Class) -> usize
         Some(at) => at,
         None => text.len(),
     }
-}
-
-/// What follows so many bytes.
-pub fn behind(text: &[u8], count: usize) -> &[u8]
-    requires { count ≤ length text.now }
-    ensures { result.now ≡ drop count text.now }
-{
-    &text[count..]
-}
-
-/// The first byte, or zero.
-pub fn first_byte(text: &[u8]) -> u8
-    ensures { result ≡ slice_index text.now 0 }
-{
-    if text.is_empty() { 0 } else { text[0] }
 }
 
 /// What follows the blanks at the front.

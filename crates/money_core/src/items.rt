@@ -21,7 +21,7 @@ impl<T> Model for Items<T> {
 
 /// A value of which an equal one can be made.
 pub trait Copied: Drop {
-    /// An equal value.
+    /// An equal value. Where memory for it is refused, it answers 40.
     fn copy(&self) -> Result<Self, Cause>
         ensures equal { IfOk result (λ x. x ≡ self.now) }
         ensures memory { IsOkUnless result Cause.OutOfMemory };
@@ -61,7 +61,7 @@ impl<T> Items<T> {
 }
 
 impl<T: Drop> Items<T> {
-    /// Puts the item last. Where memory is refused the item is lost.
+    /// Puts the item last. Where memory is refused (40), the list stays as it is, and the item is lost.
     pub fn push(&mut self, item: T) -> Result<(), Cause>
         ensures ok { OnOk result (self.new ≡ self.old ++ item ∷ []) }
         ensures err { OnErr result (self.new ≡ self.old) }

@@ -3,13 +3,16 @@
 
 mod amount;
 mod amount_text;
+mod bytes;
 mod cause;
 mod class;
 mod cost;
 mod day;
 #[cfg(test)]
 mod fixture;
+mod growth;
 mod items;
+mod length;
 mod mark;
 mod number;
 mod price;
@@ -24,10 +27,13 @@ mod text;
 mod unit;
 
 pub use amount_text::{amounts_bound, amounts_print, is_declared, print_amount};
+pub use bytes::{find, first_byte, first_place};
 pub use cause::{Cause, Fault};
 pub use cost::cost_of;
 pub use day::Day;
+pub use growth::growth_law;
 pub use items::{Copied, Items};
+pub use length::{MAX_AMOUNT_LEN, MAX_PRICE_LEN, amount_len, price_len};
 pub use mark::Mark;
 pub use price::{Price, is_price};
 pub use price_text::{prices_bound, prices_print, print_price, read_price};
@@ -35,5 +41,6 @@ pub use reading::read_amount;
 pub use sample::read_style;
 pub use style::{Style, is_style};
 pub use styles::Styles;
-pub use text::Text;
+pub use symbol::{MAX_SYMBOL_LEN, name_part_law, read_symbol};
+pub use text::{Text, text_of};
 pub use unit::{Declared, Unit};

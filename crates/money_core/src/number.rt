@@ -7,6 +7,7 @@ ghost use Rattle.std.specs.Char.{is_ascii_digit, digit_value};
 ghost use Rattle.std.specs.Str.Parse.{digits_value};
 ghost use Rattle.money_core.specs.Number.{is_group, is_whole, is_number, whole_part, fraction_part, fits_decimals, quantity, unit_digits};
 
+use crate::bytes::first_place;
 use crate::mark::Mark;
 
 /// The greatest quantity that a text may write, in smallest units.
@@ -48,24 +49,6 @@ fn is_whole(text: &[u8], group: u8) -> bool
         true
     } else {
         all_groups(text, group)
-    }
-}
-
-/// Where the byte first stands.
-fn find(text: &[u8], byte: u8) -> Option<usize>
-    ensures { result ≡ position (λ b. b == byte) text.now }
-{
-    text.iter().position(|b| *b == byte)
-}
-
-/// Where the byte first stands, or the length.
-fn first_place(text: &[u8], byte: u8) -> usize
-    ensures place { result ≡ position_or_len (λ b. b == byte) text.now }
-    ensures bound { result ≤ length text.now }
-{
-    match find(text, byte) {
-        Some(at) => at,
-        None => text.len(),
     }
 }
 

@@ -3,7 +3,7 @@
 ghost use Rattle.std.specs.Prelude.{◌≡◌, ◌↔◌, ◌⊎◌, ◌≤◌, ◌++◌, true, take, length, IfErr, OnOk, OnErr, IfOk};
 ghost use Rattle.std.specs.Option.{option_map};
 ghost use Rattle.std.specs.Result.{IsOkUnless};
-ghost use Rattle.money_core.specs.AmountViews.{parts_view};
+ghost use Rattle.money_core.specs.Views.{parts_view};
 ghost use Rattle.money_core.specs.Number.{is_number};
 ghost use Rattle.money_core.specs.Price.{is_negative, is_cost, is_price, WritesPrice, HasNoPriceForm, NamesUndeclaredCost, HasNoCost};
 ghost use Rattle.money_core.specs.PriceReading.{significant, unit_cost, total_cost, price_of_parts, price};
@@ -11,8 +11,9 @@ ghost use Rattle.money_core.specs.PriceText.{printed_cost, printed_price, IsPric
 
 use crate::amount::{Parts, Sign, amount_parts};
 use crate::amount_text::push_amount;
+use crate::bytes::{behind, first_byte};
 use crate::cause::Cause;
-use crate::class::{behind, first_byte, skip_blanks};
+use crate::class::skip_blanks;
 use crate::number::{LIMIT, fits_decimals, fraction_part, is_number, quantity, whole_part};
 use crate::price::{MAX_COST_DECIMALS, Price, UNIT_LIMIT};
 use crate::reading::undeclared;
@@ -164,7 +165,7 @@ fn push_price(
     price: &Price,
 ) -> Result<(), AllocError>
     requires cost { is_cost (Some style.now) price.now ≡ true }
-    requires few { style.now.decimals ≤ 12 }
+    requires few { style.now.decimals ≤ MAX_COST_DECIMALS }
     ensures ok { OnOk result (out.new.items ≡ out.old.items ++ printed_cost (Some style.now) price.now) }
     ensures err { OnErr result (take (length out.old.items) out.new.items ≡ out.old.items) }
 {

@@ -2,10 +2,12 @@
 
 ghost use Rattle.std.specs.Prelude.{◌≡◌, ◌+◌, ◌*◌, ◌-◌, ◌^◌, ◌<◌, ◌≤◌, [], ◌∷◌, ◌++◌, take, length, OnOk, OnErr, decimal};
 ghost use Rattle.money_core.specs.Mark.{decimal_byte, group_byte};
-ghost use Rattle.money_core.specs.Number.{WritesQuantity};
+ghost use Rattle.money_core.specs.NumberText.{WritesQuantity};
 ghost use Rattle.money_core.specs.Printed.{places, grouped, printed_whole, printed_fraction, printed_number};
 
 use crate::mark::Mark;
+use crate::price::MAX_COST_DECIMALS;
+use crate::style::MAX_DECIMALS;
 use std::alloc::{AllocError, Global};
 
 /// Appends the number in decimal.
@@ -70,7 +72,7 @@ fn push_fraction(
     groups: bool,
     decimals: u8,
 ) -> Result<(), AllocError>
-    requires { decimals ≤ 12 }
+    requires { decimals ≤ MAX_COST_DECIMALS }
     ensures ok { OnOk result (out.new.items ≡ out.old.items ++ printed_fraction mark groups decimals quantity) }
     ensures err { OnErr result (take (length out.old.items) out.new.items ≡ out.old.items) }
 {
@@ -84,9 +86,12 @@ fn push_fraction(
     push_places(out, quantity % power_of_ten(decimals), decimals)
 }
 
+/// The greatest power of ten that is needed: the decimals of an amount and those of its unit cost.
+pub const MAX_EXPONENT: u8 = MAX_DECIMALS + MAX_COST_DECIMALS;
+
 /// The power of ten.
 pub fn power_of_ten(exponent: u8) -> u64
-    requires { exponent ≤ 18 }
+    requires { exponent ≤ MAX_EXPONENT }
     ensures value { result ≡ 10 ^ exponent }
     ensures some { 0 < result }
 {
@@ -102,7 +107,7 @@ fn push_number(
     groups: bool,
     decimals: u8,
 ) -> Result<(), AllocError>
-    requires { decimals ≤ 12 }
+    requires { decimals ≤ MAX_COST_DECIMALS }
     ensures ok { OnOk result (out.new.items ≡ out.old.items ++ printed_number mark groups decimals quantity) }
     ensures err { OnErr result (take (length out.old.items) out.new.items ≡ out.old.items) }
 {
@@ -120,7 +125,7 @@ pub fn print_number(
     groups: bool,
     decimals: u8,
 ) -> Result<(), AllocError>
-    requires { decimals ≤ 12 }
+    requires { decimals ≤ MAX_COST_DECIMALS }
     ensures ok { OnOk result (out.new.items ≡ out.old.items ++ printed_number mark groups decimals quantity) }
     // What is appended reads as the quantity.
     ensures again { WritesQuantity mark decimals quantity (printed_number mark groups decimals quantity) }

@@ -3,7 +3,7 @@
 ghost use Rattle.std.specs.Prelude.{◌≡◌, ◌↔◌, ◌⊎◌, ℕ, ℤ, pos, ◌≤◌, ◌<◌, IfErr};
 ghost use Rattle.std.specs.Option.{option_map};
 ghost use Rattle.money_core.specs.Amount.{with_sign, WritesAmount, HasNoForm, NamesUndeclared, HasFurtherDecimals, IsOverLimit};
-ghost use Rattle.money_core.specs.AmountViews.{parts_view};
+ghost use Rattle.money_core.specs.Views.{parts_view};
 ghost use Rattle.money_core.specs.Reading.{quantity_in, amount, undeclared, amount_of_parts};
 
 use crate::amount::{Parts, Sign, amount_parts};

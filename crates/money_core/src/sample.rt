@@ -2,12 +2,12 @@
 
 ghost use Rattle.std.specs.Prelude.{◌≡◌, ◌↔◌, ◌==◌, ◌⊎◌, List, ℕ, true, IfSome, IfOk, IfErr};
 ghost use Rattle.std.specs.List.{list_any};
-ghost use Rattle.std.specs.Option.{option_map};
+ghost use Rattle.std.specs.Option.{option_map, ok_or};
 ghost use Rattle.std.specs.Result.{IsOkUnless};
 ghost use Rattle.std.specs.Str.{is_utf8};
 ghost use Rattle.money_core.specs.declared.style.Style.{Style};
-ghost use Rattle.money_core.specs.AmountViews.{parts_view};
-ghost use Rattle.money_core.specs.Sampling.{shows, shown_mark, style_of_parts, spelled_view};
+ghost use Rattle.money_core.specs.Views.{parts_view, spelled_view};
+ghost use Rattle.money_core.specs.Sampling.{shows, shown_mark, style_of_parts, style_of};
 ghost use Rattle.money_core.specs.Number.{is_number};
 ghost use Rattle.money_core.specs.Style.{is_style, IsSample};
 
@@ -16,7 +16,7 @@ use crate::cause::Cause;
 use crate::mark::Mark;
 use crate::number::{LIMIT, fraction_part, is_number, quantity, whole_part};
 use crate::style::{MAX_DECIMALS, Style};
-use crate::text::Text;
+use crate::text::{Text, text_of};
 use std::alloc::Global;
 
 /// The style that a sample spells, with its symbol where the sample has it.
@@ -92,11 +92,7 @@ fn copied(alloc: Global, spelled: Spelled<'_>) -> Result<Style, Cause>
     ensures equal { IfOk result (λ style. style ≡ spelled_view spelled.entry) }
     ensures memory { IsOkUnless result Cause.OutOfMemory }
 {
-    let symbol = match std::str::from_utf8(spelled.symbol) {
-        Ok(symbol) => symbol,
-        Err(_) => unreachable!(),
-    };
-    let symbol = Text::of(alloc, symbol)?;
+    let symbol = Text::of(alloc, text_of(spelled.symbol))?;
     Ok(Style {
         symbol,
         left: spelled.left,
@@ -109,7 +105,7 @@ fn copied(alloc: Global, spelled: Spelled<'_>) -> Result<Style, Cause>
 
 /// The style that a sample amount spells (own rule: its number shows the decimal mark), such as `1,000.00 EUR`.
 ///
-/// It answers 8 where the text is no sample; memory is asked for last.
+/// It answers 8 where the text is no sample. Memory for the symbol is asked for last, and 40 answered where it is refused.
 pub fn read_style(alloc: Global, text: &str) -> Result<Style, Cause>
     ensures ok { IfOk result (λ style. IsSample text.now style) }
     ensures declarable { IfOk result (λ style. is_style style ≡ true) }
@@ -117,6 +113,9 @@ pub fn read_style(alloc: Global, text: &str) -> Result<Style, Cause>
     ensures only { (style : Style) → IsSample text.now style → (result ≡ Ok style) ⊎ (result ≡ Err Cause.OutOfMemory) }
     ensures none { (result ≡ Err Cause.Amount) ↔ ((style : Style) → ¬ IsSample text.now style) }
     ensures causes { IfErr result (λ cause. (cause ≡ Cause.Amount) ⊎ (cause ≡ Cause.OutOfMemory)) }
+
+    // The same by a function, for laws.
+    ensures answer { (result ≡ ok_or (style_of text.now) Cause.Amount) ⊎ (result ≡ Err Cause.OutOfMemory) }
 {
     match cut_style(amount_parts(text.as_bytes())) {
         Some(spelled) => copied(alloc, spelled),

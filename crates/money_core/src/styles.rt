@@ -75,6 +75,14 @@ impl Styles {
         }
     }
 
+    /// How many commodities are declared.
+    pub fn len(&self) -> usize
+        ensures count { result ≡ length self.now }
+        ensures few { result ≤ MAX_COMMODITIES }
+    {
+        self.list.len()
+    }
+
     /// The commodity of a symbol, which is given without quotes.
     pub fn find(&self, symbol: &str) -> Option<Unit>
         ensures { result ≡ unit_of self.now symbol.now }
@@ -124,6 +132,8 @@ impl Styles {
     }
 
     /// Declares a commodity by its style, which has to be one that a sample has, as `judge` answers.
+    ///
+    /// Where memory is refused (40), the styles stay as they are, and the style is lost.
     pub fn declare(&mut self, style: Style) -> Result<Declared, Cause>
         requires { is_style style ≡ true }
         ensures answer { (result ≡ declared self.old style) ⊎ (result ≡ Err Cause.OutOfMemory) }

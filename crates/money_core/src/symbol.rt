@@ -1,23 +1,29 @@
 //! The symbols of commodities, bare and in quotes.
 
-ghost use Rattle.std.specs.Prelude.{◌≡◌, ◌==◌, ◌-◌, ◌<◌, ◌&&◌, not, true, drop, take, length, position, slice_index};
+ghost use Rattle.std.specs.Prelude.{◌≡◌, ◌↔◌, ℕ, List, Some, ◌==◌, ◌-◌, ◌<◌, ◌&&◌, not, true, drop, take, length, position, slice_index};
 ghost use Rattle.std.specs.List.{list_all, list_any};
 ghost use Rattle.std.specs.Char.{is_whitespace};
 ghost use Rattle.std.specs.Str.{chars, is_utf8};
 ghost use Rattle.std.specs.Option.{option_map};
 ghost use Rattle.money_core.specs.declared.class.Class.TheVariants.{Symbol as OfSymbol};
 ghost use Rattle.money_core.specs.Class.{has};
-ghost use Rattle.money_core.specs.Symbol.{is_short, is_dense, is_bare, is_quoted_byte, no_double, has_no_outer_space, is_symbol};
-ghost use Rattle.money_core.specs.Cutting.{cut_quoted, cut_bare, cut_symbol};
-ghost use Rattle.money_core.specs.AmountViews.{cut_view};
+ghost use Rattle.money_core.specs.Symbol.{is_short, is_dense, is_bare, is_quoted_byte, no_double, has_no_outer_space, is_symbol, WritesSymbol};
+ghost use Rattle.money_core.specs.Cutting.{cut_quoted, cut_bare, cut_symbol, symbol_of};
+ghost use Rattle.money_core.specs.NamePart.{SymbolsAreNameParts};
+ghost use Rattle.money_core.specs.Views.{cut_view};
 
-use crate::class::{Class, behind, end_of, first_byte};
+use crate::bytes::{behind, find, first_byte, last_byte};
+use crate::class::{Class, end_of};
+use crate::text::text_of;
 
-/// Whether it has 1 to 24 bytes.
+/// The greatest length of a symbol, in bytes.
+pub const MAX_SYMBOL_LEN: usize = 24;
+
+/// Whether it has some bytes, and not too many.
 fn is_short(symbol: &[u8]) -> bool
     ensures { result ≡ is_short symbol.now }
 {
-    0 < symbol.len() && symbol.len() < 25
+    0 < symbol.len() && symbol.len() <= MAX_SYMBOL_LEN
 }
 
 /// Whether a character of the text is white space.
@@ -28,7 +34,7 @@ fn has_white_space(text: &str) -> bool
 }
 
 /// Whether the bytes are a text.
-fn is_text(bytes: &[u8]) -> bool
+fn is_utf8(bytes: &[u8]) -> bool
     ensures { result ≡ is_utf8 bytes.now }
 {
     match std::str::from_utf8(bytes) {
@@ -89,17 +95,6 @@ fn no_double(text: &[u8]) -> bool
     true
 }
 
-/// The last byte, or zero.
-fn last_byte(text: &[u8]) -> u8
-    ensures { result ≡ slice_index text.now (length text.now - 1) }
-{
-    if text.is_empty() {
-        0
-    } else {
-        text[text.len() - 1]
-    }
-}
-
 /// Whether no space stands at an end.
 fn has_no_outer_space(symbol: &[u8]) -> bool
     ensures { result ≡ has_no_outer_space symbol.now }
@@ -112,7 +107,7 @@ pub fn is_symbol(symbol: &[u8]) -> bool
     ensures { result ≡ is_symbol symbol.now }
 {
     is_short(symbol)
-        && is_text(symbol)
+        && is_utf8(symbol)
         && has_quoted_bytes(symbol)
         && no_double(symbol)
         && has_no_outer_space(symbol)
@@ -140,17 +135,10 @@ fn cut_bare(text: &[u8]) -> Option<Cut<'_>>
     }
 }
 
-/// Where the closing quote stands.
-fn find_quote(text: &[u8]) -> Option<usize>
-    ensures { result ≡ position (λ b. b == 34) text.now }
-{
-    text.iter().position(|b| *b == b'"')
-}
-
 fn cut_quoted(text: &[u8]) -> Option<Cut<'_>>
     ensures { option_map cut_view result ≡ cut_quoted text.now }
 {
-    match find_quote(text) {
+    match find(text, b'"') {
         None => None,
         Some(end) => {
             let symbol = &text[..end];
@@ -177,3 +165,37 @@ pub fn cut_symbol(text: &[u8]) -> Option<Cut<'_>>
         cut_bare(text)
     }
 }
+
+/// The symbol that the whole text is.
+#[tactic(auto, unfolding(crate::specs::Cutting::symbol_of))]
+fn symbol_of(text: &[u8]) -> Option<&[u8]>
+    ensures { option_map (λ s. s.now) result ≡ symbol_of text.now }
+{
+    let cut = cut_symbol(text)?;
+    if cut.rest.is_empty() {
+        Some(cut.symbol)
+    } else {
+        None
+    }
+}
+
+/// The symbol that the whole text writes, bare or in quotes, without its quotes (hledger manual, "Commodity").
+pub fn read_symbol(text: &str) -> Option<&str>
+    ensures reads { (symbol : List ℕ) → (option_map (λ s. s.now) result ≡ Some symbol) ↔ WritesSymbol symbol text.now }
+
+    // The same by a function, for laws.
+    ensures answer { option_map (λ s. s.now) result ≡ symbol_of text.now }
+{
+    match symbol_of(text.as_bytes()) {
+        Some(symbol) => Some(text_of(symbol)),
+        None => None,
+    }
+}
+
+/// Each symbol can stand in an account name, as in those of conversion accounts, between bytes that are no spaces.
+pub fn name_part_law()
+    ensures { SymbolsAreNameParts }
+{}
+
+#[cfg(test)]
+mod tests;

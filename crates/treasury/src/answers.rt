@@ -27,8 +27,8 @@ fn is_printable_failure(styles: &Styles, failure: &Failure) -> bool
     ensures { IsTrue result ↔ IsPrintableFailure styles.now failure.now }
 {
     is_day_number(failure.place.day)
-        && is_declared(styles, failure.unit, failure.asserted)
-        && is_declared(styles, failure.unit, failure.found)
+        && is_declared(failure.unit, failure.asserted, styles)
+        && is_declared(failure.unit, failure.found, styles)
 }
 
 /// Whether the refusal can be printed.

@@ -34,6 +34,7 @@ fn an_amount_is_printed_in_its_commoditys_style(rt: HostRuntime) {
         ("\"EUR\" 1", "1.00 EUR"),
         ("100000000000000 EUR", "100,000,000,000,000.00 EUR"),
         ("-99999999999999.99 EUR", "-99,999,999,999,999.99 EUR"),
+        ("-9999999999999999 JPY", "-9,999,999,999,999,999. JPY"),
         ("$ 1234", "$1,234.00"),
         ("-$7", "$-7.00"),
         ("$-7", "$-7.00"),
@@ -73,7 +74,7 @@ fn a_declared_amount_is_within_the_limit(rt: HostRuntime) {
     ];
     for (unit, quantity, wanted) in rows {
         assert!(rt;
-            is_declared(&styles, Unit(unit), quantity) == wanted,
+            is_declared(Unit(unit), quantity, &styles) == wanted,
             "{unit} {quantity}"
         );
     }

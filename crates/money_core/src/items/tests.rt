@@ -23,6 +23,7 @@ fn a_copy_holds_equal_items_in_order(rt: HostRuntime) {
         let text = Text::of(alloc, word).expect(&rt, "memory");
         let copy = text.copy().expect(&rt, "memory");
         assert_eq!(rt; copy.as_str(), word);
+        copy.is_text();
         texts.push(text).expect(&rt, "memory");
     }
     let (list, copy) = two_lists(alloc, texts).expect(&rt, "memory");

@@ -1,7 +1,6 @@
 use Rattle.std.proofs.Common.{rules, arith, sym, w64}
 use Rattle.std.proofs.lemmas.Int.{to_z-of_z}
-use Rattle.std.proofs.lemmas.Bool.{and_parts, leb-true}
-use Rattle.money_core.specs.Symbol.{is_symbol}
+use Rattle.money_core.proofs.StyleLemmas.{style_facts}
 use Rattle.money_core.specs.AmountText.{printed_in}
 use Rattle.money_core.proofs.AmountPrint.{amounts_print}
 use Rattle.money_core.proofs.amount_text.print_amount.Goals as goal
@@ -9,7 +8,7 @@ use Rattle.money_core.proofs.amount_text.print_amount.Goals as goal
 pub push_amount-requires : goal.push_amount-requires
 push_amount-requires c =
     let at = sym (rw c.unwrap-style.ensures at c.style.ensures) in
-    let few = leb-true c.unwrap-style.result.now.decimals 6 (and_parts (is_symbol c.unwrap-style.result.now.symbol) _ (c.are_styles.ensures.each c.args.unit.0 c.unwrap-style.result.now at)).1 in
+    let few = (style_facts c.args.styles.now c.args.unit.0 c.unwrap-style.result.now c.are_styles.ensures at).few in
     omega (arith, few)
 
 pub returns-in-Ok-clause-ok : goal.returns-in-Ok-clause-ok

@@ -1,7 +1,6 @@
 use Rattle.std.proofs.Common.{◌++◌, ◌∙◌, arith, sym, ap, Option}
-use Rattle.std.proofs.lemmas.Bool.{and_parts, leb-true}
 use Rattle.money_core.specs.declared.style.Style.{Style}
-use Rattle.money_core.specs.Symbol.{is_symbol}
+use Rattle.money_core.proofs.StyleLemmas.{style_facts}
 use Rattle.money_core.specs.PriceText.{printed_cost, printed_price}
 use Rattle.money_core.proofs.PricePrint.{prices_print}
 use Rattle.money_core.proofs.price_text.print_price.Goals as goal
@@ -10,7 +9,7 @@ pub push_price-requires-clause-few : goal.push_price-requires-clause-few
 push_price-requires-clause-few c =
     let style = c.unwrap-style.result.now in
     let at = sym (rw c.unwrap-style.ensures at c.style.ensures) in
-    let few = leb-true style.decimals 6 (and_parts (is_symbol style.symbol) _ (c.are_styles.ensures.each c.unit.result.0 style at)).1 in
+    let few = (style_facts c.args.styles.now c.unit.result.0 style c.are_styles.ensures at).few in
     omega (arith, few)
 
 pub returns-in-Ok-clause-ok : goal.returns-in-Ok-clause-ok

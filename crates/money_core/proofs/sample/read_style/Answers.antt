@@ -1,7 +1,8 @@
 use Rattle.std.proofs.Common.{◌≡◌, sym, refl, Some, None, Err}
 use Rattle.money_core.specs.declared.cause.Cause.TheVariants.{Amount}
-use Rattle.money_core.specs.Sampling.{style_of, spelled_view}
-use Rattle.money_core.proofs.SampleLemmas.{found_utf8, found_ok, found_declarable, found_only, found_none, lacks_all, lacks_none}
+use Rattle.money_core.specs.Sampling.{style_of}
+use Rattle.money_core.specs.Views.{spelled_view}
+use Rattle.money_core.proofs.SampleLemmas.{found_utf8, found_ok, found_declarable, found_only, found_answer, found_none, lacks_all, lacks_answer, lacks_none}
 use Rattle.money_core.proofs.sample.read_style.Goals as goal
 use Rattle.money_core.proofs.sample.read_style.Goals.{In-Some, In-None}
 
@@ -24,11 +25,17 @@ returns-in-Some-clause-declarable c = found_declarable c.args.text.now (spelled_
 pub returns-in-Some-clause-only : goal.returns-in-Some-clause-only
 returns-in-Some-clause-only c = found_only c.args.text.now (spelled_view c.in-Some.spelled) (found (goal.at.returns-in-Some-clause-only c).In-Some) c.copied.result c.copied.ensures.equal c.copied.ensures.memory
 
+pub returns-in-Some-clause-answer : goal.returns-in-Some-clause-answer
+returns-in-Some-clause-answer c = found_answer c.args.text.now (spelled_view c.in-Some.spelled) (found (goal.at.returns-in-Some-clause-answer c).In-Some) c.copied.result c.copied.ensures.equal c.copied.ensures.memory
+
 pub returns-in-Some-clause-none : goal.returns-in-Some-clause-none
 returns-in-Some-clause-none c = found_none c.args.text.now (spelled_view c.in-Some.spelled) (found (goal.at.returns-in-Some-clause-none c).In-Some) c.copied.result c.copied.ensures.memory
 
 pub returns-in-None-clause-only : goal.returns-in-None-clause-only
 returns-in-None-clause-only c = λ style h. absurd (lacks_all c.args.text.now (lacks c) style h)
+
+pub returns-in-None-clause-answer : goal.returns-in-None-clause-answer
+returns-in-None-clause-answer c = lacks_answer c.args.text.now (lacks c) (Err Amount) refl
 
 pub returns-in-None-clause-none : goal.returns-in-None-clause-none
 returns-in-None-clause-none c = lacks_none c.args.text.now (lacks c) (Err Amount) refl

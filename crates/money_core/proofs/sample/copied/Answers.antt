@@ -1,5 +1,0 @@
-use Rattle.std.proofs.lemmas.Str.{IsUtf8-from_is_utf8}
-use Rattle.money_core.proofs.sample.copied.Goals as goal
-
-pub unreachable-requires : goal.unreachable-requires
-unreachable-requires c = absurd (c.in-Err.ensures.cases.0 (IsUtf8-from_is_utf8 c.args.spelled.symbol.now c.requires))

@@ -1,0 +1,29 @@
+//! Symbols as texts, row by row.
+
+use crate::symbol::{name_part_law, read_symbol};
+
+// hledger manual, "Commodity"; which characters need quotes, and the length, are own rules.
+#[test]
+fn a_symbol_is_bare_or_in_quotes(rt: HostRuntime) {
+    name_part_law();
+    let rows = [
+        ("EUR", Some("EUR")),
+        ("\"EUR\"", Some("EUR")),
+        ("$", Some("$")),
+        ("\"kg 2\"", Some("kg 2")),
+        ("ABCDEFGHIJKLMNOPQRSTUVWX", Some("ABCDEFGHIJKLMNOPQRSTUVWX")),
+        ("ABCDEFGHIJKLMNOPQRSTUVWXY", None),
+        ("", None),
+        ("\"\"", None),
+        ("kg2", None),
+        ("EUR ", None),
+        ("EUR 5", None),
+        ("\"EUR", None),
+        ("\"EUR\"5", None),
+        ("\"a  b\"", None),
+        ("\"a:b\"", None),
+    ];
+    for (text, wanted) in rows {
+        assert!(rt; read_symbol(text) == wanted, "{text}");
+    }
+}
