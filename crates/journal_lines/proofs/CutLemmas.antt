@@ -134,7 +134,7 @@ trim_start_first (x ∷ xs) = elim (cases_Bool (is_blank x)) [
 ]
 
 -- before blanks at the end
-trim_end_blank : (xs : List ℕ) (b : ℕ) → is_blank b ≡ true → trim_end (xs ++ b ∷ []) ≡ trim_end xs
+pub trim_end_blank : (xs : List ℕ) (b : ℕ) → is_blank b ≡ true → trim_end (xs ++ b ∷ []) ≡ trim_end xs
 unfolding trim_end
 trim_end_blank xs b h =
     let n : length xs + 1 - (1 + first_solid (reverse xs)) ≡ length xs - first_solid (reverse xs) = omega arith in

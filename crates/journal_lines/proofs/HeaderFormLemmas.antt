@@ -13,7 +13,8 @@ use Rattle.journal_lines.specs.declared.header.Status.TheVariants.{Pending, Clea
 use Rattle.journal_lines.specs.Blank.{is_blank, first_word, first_solid, trim_start, trim_end, is_trimmed}
 use Rattle.journal_lines.specs.Comment.{has_no, front_of, comment_of}
 use Rattle.journal_lines.specs.Date.{behind_year, separator, month_part, day_part, is_separator, is_short, IsDate, date_of, day_of}
-use Rattle.journal_lines.specs.Header.{status_at, behind_status, Coded, closed_code, code_at, behind_date, cut_header, HeaderParts, is_coded_long, length_of, judged_header, dated_header, closed_header, header_of}
+use Rattle.journal_lines.specs.Header.{status_at, behind_status, HeaderParts, length_of}
+use Rattle.journal_lines.specs.HeaderReading.{Coded, closed_code, code_at, behind_date, cut_header, is_coded_long, judged_header, dated_header, closed_header, header_of}
 use Rattle.journal_lines.specs.HeaderForm.{status_text, code_text, is_closed, starts_so, IsRemark, Reads}
 use Rattle.journal_lines.proofs.CutLemmas.{before_mark, trim_start_behind, trim_start_same, trim_start_blanks, trim_end_same, trim_inside, all_trim_end, front_whole, no_comment, comment_behind, all_weaker, all_joined, trim_trimmed, trim_start_first, trim_end_trimmed}
 use Rattle.journal_lines.proofs.DateLemmas.{date_of_is, date_facts}
@@ -64,7 +65,7 @@ byte_no_semicolon b h = grind (arith, common_steps)
 
 -- ---- a line in the form of a header reads as its parts
 
-blank_no_semicolon : (b : ℕ) → is_blank b ≡ true → not (b == 59) ≡ true
+pub blank_no_semicolon : (b : ℕ) → is_blank b ≡ true → not (b == 59) ≡ true
 blank_no_semicolon b h = grind (arith, common_steps)
 
 -- the description behind blanks begins with its first byte
@@ -96,7 +97,7 @@ no_sign n None gap text end z g e t first = ap (λ (xs : List ℕ). slice_index 
 no_sign n (Some code) gap text end z g e t first = ap (λ (xs : List ℕ). slice_index xs 0 == n) (trim_start_same (40 ∷ ((code ++ 41 ∷ []) ++ (gap ++ (text ++ end)))) refl) ∙ z
 
 -- a status and what follows it
-status_reads : (status : Option Status) (gap rest : List ℕ) → list_all is_blank gap ≡ true → (status ≡ None → ((slice_index (trim_start rest) 0 == 42) ≡ false) × ((slice_index (trim_start rest) 0 == 33) ≡ false))
+pub status_reads : (status : Option Status) (gap rest : List ℕ) → list_all is_blank gap ≡ true → (status ≡ None → ((slice_index (trim_start rest) 0 == 42) ≡ false) × ((slice_index (trim_start rest) 0 == 33) ≡ false))
     → (status_at (trim_start (status_text status ++ (gap ++ rest))) ≡ status) × (behind_status (trim_start (status_text status ++ (gap ++ rest))) ≡ trim_start rest)
 unfolding status_at behind_status
 status_reads None gap rest g first =
@@ -111,7 +112,7 @@ status_reads (Some Pending) gap rest g first =
     (rw start refl, rw start (trim_start_behind gap rest g))
 
 -- the line before its comment
-regroup : (a b c d e f g h i : List ℕ) → a ++ (b ++ (c ++ (d ++ (e ++ (f ++ (g ++ (h ++ i))))))) ≡ (a ++ (b ++ (c ++ (d ++ (e ++ (f ++ (g ++ h))))))) ++ i
+pub regroup : (a b c d e f g h i : List ℕ) → a ++ (b ++ (c ++ (d ++ (e ++ (f ++ (g ++ (h ++ i))))))) ≡ (a ++ (b ++ (c ++ (d ++ (e ++ (f ++ (g ++ h))))))) ++ i
 regroup a b c d e f g h i = simp append_assoc
 
 front_cut : (front rest : List ℕ) → has_no 59 front ≡ true → front_of (front ++ 59 ∷ rest) ≡ front
@@ -119,7 +120,7 @@ unfolding front_of
 front_cut front rest h = rw (before_mark (λ b. b == 59) front rest 59 h refl) (take-append_seam front (59 ∷ rest))
 
 -- the comment of a line
-remark_reads : (front remark : List ℕ) (comment : Option (List ℕ)) → has_no 59 front ≡ true → IsRemark comment remark → (front_of (front ++ remark) ≡ front) × (comment_of (front ++ remark) ≡ comment)
+pub remark_reads : (front remark : List ℕ) (comment : Option (List ℕ)) → has_no 59 front ≡ true → IsRemark comment remark → (front_of (front ++ remark) ≡ front) × (comment_of (front ++ remark) ≡ comment)
 remark_reads front remark None h none = subst (λ (r : List ℕ). (front_of (front ++ r) ≡ front) × (comment_of (front ++ r) ≡ None)) (sym none)
     (subst (λ (l : List ℕ). (front_of l ≡ front) × (comment_of l ≡ None)) (sym (append-nil front)) (front_whole front h, no_comment front h))
 remark_reads front remark (Some text) h w =
@@ -134,7 +135,7 @@ remark_reads front remark (Some text) h w =
     apart_blanks (x ∷ a) b h = let parts = and_parts (is_blank x) _ h in let rest = apart_blanks a b parts.1 in (and_from (is_blank x) _ parts.0 rest.0, rest.1)
 
 -- blanks in one row
-in_row : (a b : List ℕ) → list_all is_blank (a ++ b) ≡ true → (list_all is_blank a ≡ true) × (list_all is_blank b ≡ true)
+pub in_row : (a b : List ℕ) → list_all is_blank (a ++ b) ≡ true → (list_all is_blank a ≡ true) × (list_all is_blank b ≡ true)
 in_row [] b h = (refl, h)
 in_row (x ∷ a) b h = let parts = and_parts (is_blank x) _ h in let rest = in_row a b parts.1 in (and_from (is_blank x) _ parts.0 rest.0, rest.1)
 
@@ -153,7 +154,7 @@ gap_starts [] status code a b text end g rest none =
     starts (x ∷ xs) h = (and_parts (is_blank x) _ h).0
 
 -- no `;` stands before the comment
-status_no_semicolon : (status : Option Status) → has_no 59 (status_text status) ≡ true
+pub status_no_semicolon : (status : Option Status) → has_no 59 (status_text status) ≡ true
 status_no_semicolon None = refl
 status_no_semicolon (Some Cleared) = refl
 status_no_semicolon (Some Pending) = refl
@@ -223,26 +224,26 @@ form_reads line parts r =
 
 -- ---- a line that reads has the form
 
-blanks_front : (xs : List ℕ) → list_all is_blank (take (first_solid xs) xs) ≡ true
+pub blanks_front : (xs : List ℕ) → list_all is_blank (take (first_solid xs) xs) ≡ true
 blanks_front [] = refl
 blanks_front (x ∷ xs) = elim (cases_Bool (is_blank x)) [
   | inl blank ↦ (let n : 1 + first_solid xs ≡ suc (first_solid xs) = omega arith in rw (blank, n) (rw blank (blanks_front xs)))
   | inr solid ↦ rw solid refl
 ]
 
-split_start : (xs : List ℕ) → xs ≡ take (first_solid xs) xs ++ trim_start xs
+pub split_start : (xs : List ℕ) → xs ≡ take (first_solid xs) xs ++ trim_start xs
 unfolding trim_start
 split_start xs = sym (take-append-drop (first_solid xs) xs)
 
 -- the blanks that were cut off at the end
-abbrev end_blanks : List ℕ → List ℕ
+abbrev pub end_blanks : List ℕ → List ℕ
 end_blanks xs = drop (length xs - first_solid (reverse xs)) xs
 
-split_end : (xs : List ℕ) → xs ≡ trim_end xs ++ end_blanks xs
+pub split_end : (xs : List ℕ) → xs ≡ trim_end xs ++ end_blanks xs
 unfolding trim_end
 split_end xs = sym (take-append-drop (length xs - first_solid (reverse xs)) xs)
 
-blanks_end : (xs : List ℕ) → list_all is_blank (end_blanks xs) ≡ true
+pub blanks_end : (xs : List ℕ) → list_all is_blank (end_blanks xs) ≡ true
 blanks_end xs = list_all-from_AllPass is_blank (end_blanks xs) (λ k d l.
     let n = length xs - first_solid (reverse xs) in
     let inside : n + k < length xs = omega (arith, length-drop n xs, l) in
@@ -263,12 +264,12 @@ at_mark m xs h =
     split_at_first (λ b. b == m) xs 0 h ∙ ap (λ (b : ℕ). before_first (λ b. b == m) xs ++ (b ∷ after_first (λ b. b == m) xs)) here
 
 -- a status and the blanks behind it
-record StatusForm (text : List ℕ) (status : Option Status) (rest : List ℕ) : Type 0 where
-  gap : List ℕ
-  blanks : list_all is_blank gap ≡ true
-  written : text ≡ status_text status ++ (gap ++ rest)
+pub record StatusForm (text : List ℕ) (status : Option Status) (rest : List ℕ) : Type 0 where
+  pub gap : List ℕ
+  pub blanks : list_all is_blank gap ≡ true
+  pub written : text ≡ status_text status ++ (gap ++ rest)
 
-status_form : (text : List ℕ) → StatusForm text (status_at text) (behind_status text)
+pub status_form : (text : List ℕ) → StatusForm text (status_at text) (behind_status text)
 unfolding status_at behind_status
 status_form [] = record { gap = []; blanks = refl; written = refl }
 status_form (x ∷ xs) = elim (cases_Bool (x == 42)) [
@@ -314,15 +315,15 @@ code_form text coded h =
         }
 
 -- the comment of a line
-record RemarkForm (line front : List ℕ) (comment : Option (List ℕ)) : Type 0 where
-  remark : List ℕ
-  written : line ≡ front ++ remark
-  is : IsRemark comment remark
+pub record RemarkForm (line front : List ℕ) (comment : Option (List ℕ)) : Type 0 where
+  pub remark : List ℕ
+  pub written : line ≡ front ++ remark
+  pub is : IsRemark comment remark
 
 blanks_joined : (a b : List ℕ) → list_all is_blank a ≡ true → list_all is_blank b ≡ true → list_all is_blank (a ++ b) ≡ true
 blanks_joined a b h k = all_joined is_blank a b h k
 
-remark_form : (line : List ℕ) → RemarkForm line (front_of line) (comment_of line)
+pub remark_form : (line : List ℕ) → RemarkForm line (front_of line) (comment_of line)
 unfolding front_of comment_of
 remark_form line =
     let after = after_first (λ b. b == 59) line in

@@ -1,7 +1,7 @@
 -- A printed comment line and a printed header line read back as their parts, and what is read prints so.
-use Rattle.std.proofs.Common.{◌≡◌, ◌≤◌, ◌<◌, ◌+◌, ◌++◌, ◌==◌, ℕ, List, [], ◌∷◌, Bool, true, false, cond, not, ◌&&◌, ◌||◌, length, drop, slice_index, arith, refl, ap, ◌∙◌, append-nil, append_assoc, sym, subst, Option, Some, None, Result, Ok, Err, inl, inr, ◌⊎◌, length-append, nat_lt}
+use Rattle.std.proofs.Common.{◌≡◌, ◌≤◌, ◌<◌, ◌+◌, ◌++◌, ◌==◌, ℕ, List, [], ◌∷◌, Bool, true, false, cond, not, ◌&&◌, ◌||◌, length, drop, slice_index, arith, refl, ap, ◌∙◌, append-nil, append_assoc, sym, subst, Option, Some, None, Result, Ok, Err, inl, inr, ◌⊎◌, length-append, nat_lt, nat_le}
 use Rattle.std.proofs.lemmas.Grind.{common_steps}
-use Rattle.std.proofs.lemmas.Bool.{cases_Bool, and_parts, and_from, or_parts, not-true, not_from_false, lt-ltb, le-ltb, ltb-true, ltb-false}
+use Rattle.std.proofs.lemmas.Bool.{cases_Bool, and_parts, and_from, or_parts, not-true, not_from_false, lt-ltb, le-ltb, le-leb, leb-true, ltb-true, ltb-false}
 use Rattle.std.specs.List.{list_all, position_or_len, before_first, after_first}
 use Rattle.std.specs.Char.{is_ascii_digit}
 use Rattle.std.proofs.lemmas.List.{drop_at}
@@ -12,8 +12,9 @@ use Rattle.journal_lines.specs.declared.header.Status.TheVariants.{Pending, Clea
 use Rattle.journal_lines.specs.Blank.{is_blank, first_word, trim_start, trim_end, trim, is_trimmed}
 use Rattle.journal_lines.specs.Comment.{has_no, front_of, comment_of}
 use Rattle.journal_lines.specs.Date.{date_of, printed_date, IsDateText, IsDayNumber}
-use Rattle.journal_lines.specs.Header.{status_at, behind_status, Coded, code_at, behind_date, cut_header, HeaderParts, is_coded_long, length_of, judged_header, dated_header, closed_header, header_of}
-use Rattle.journal_lines.specs.Printed.{is_clean, indent, header_status, header_code, header_description, header_line, spaced_text, comment_line, is_comment, is_code, is_description, HeaderOk}
+use Rattle.journal_lines.specs.Header.{code_limit, description_limit, comment_limit, status_at, behind_status, HeaderParts, length_of}
+use Rattle.journal_lines.specs.HeaderReading.{Coded, code_at, behind_date, cut_header, is_coded_long, judged_header, dated_header, closed_header, header_of}
+use Rattle.journal_lines.specs.Printed.{is_clean, indent, header_status, header_code, header_line, spaced_text, comment_line, is_comment, is_code, is_description, HeaderOk, PrintsBack}
 use Rattle.journal_lines.specs.HeaderForm.{starts_so}
 use Rattle.journal_lines.proofs.CutLemmas.{before_mark, no_mark, trim_start_behind, trim_start_same, trim_end_same, trim_inside, trim_same, front_whole, no_comment, comment_behind, all_weaker, all_joined, all_take, all_drop, all_trim_start, all_trim_end, first_trimmed, trim_start_first, trim_end_trimmed, trim_trimmed, before_none}
 use Rattle.journal_lines.proofs.DateLemmas.{dates_print, dates_bound}
@@ -39,14 +40,14 @@ pub record DescriptionOk (status : Option Status) (code : Option (List ℕ)) (te
   pub trimmed : is_trimmed text ≡ true
   pub no_semicolon : has_no 59 text ≡ true
   pub clean : list_all is_clean text ≡ true
-  pub short : nat_lt (length text) 501 ≡ true
+  pub short : nat_le (length text) description_limit ≡ true
   pub so : starts_so status code (slice_index text 0) ≡ true
 
 pub description_parts : (status : Option Status) (code : Option (List ℕ)) (text : List ℕ) → is_description status code text ≡ true → DescriptionOk status code text
 description_parts status code text h =
-    let a = and_parts (is_trimmed text && list_all (λ b. not (b == 59)) text && list_all is_clean text && nat_lt (length text) 501) _ h in
-    let b = and_parts (is_trimmed text && list_all (λ b. not (b == 59)) text && list_all is_clean text) _ a.0 in
-    let c = and_parts (is_trimmed text && list_all (λ b. not (b == 59)) text) _ b.0 in
+    let a = and_parts (is_trimmed text && has_no 59 text && list_all is_clean text && nat_le (length text) description_limit) _ h in
+    let b = and_parts (is_trimmed text && has_no 59 text && list_all is_clean text) _ a.0 in
+    let c = and_parts (is_trimmed text && has_no 59 text) _ b.0 in
     let d = and_parts (is_trimmed text) _ c.0 in
     record { trimmed = d.0; no_semicolon = d.1; clean = c.1; short = b.1; so = a.1 }
 
@@ -54,17 +55,17 @@ pub record CodeOk (code : List ℕ) : Type 0 where
   pub open_end : has_no 41 code ≡ true
   pub no_semicolon : has_no 59 code ≡ true
   pub clean : list_all is_clean code ≡ true
-  pub short : nat_lt (length code) 101 ≡ true
+  pub short : nat_le (length code) code_limit ≡ true
 
 pub code_parts : (code : List ℕ) → is_code (Some code) ≡ true → CodeOk code
 code_parts code h =
-    let a = and_parts (list_all (λ b. not (b == 41)) code && list_all (λ b. not (b == 59)) code && list_all is_clean code) _ h in
-    let b = and_parts (list_all (λ b. not (b == 41)) code && list_all (λ b. not (b == 59)) code) _ a.0 in
-    let c = and_parts (list_all (λ b. not (b == 41)) code) _ b.0 in
+    let a = and_parts (has_no 41 code && has_no 59 code && list_all is_clean code) _ h in
+    let b = and_parts (has_no 41 code && has_no 59 code) _ a.0 in
+    let c = and_parts (has_no 41 code) _ b.0 in
     record { open_end = c.0; no_semicolon = c.1; clean = b.1; short = a.1 }
 
 -- the description behind its space
-description_back : (text : List ℕ) → is_trimmed text ≡ true → trim_start (header_description text) ≡ text
+description_back : (text : List ℕ) → is_trimmed text ≡ true → trim_start (spaced_text text) ≡ text
 description_back [] t = trim_start_same [] refl
 description_back (b ∷ bs) t =
     let parts = and_parts (not (is_blank b)) _ t in
@@ -76,7 +77,7 @@ description_end text t =
 
 -- the code and the description
 coded_back : (status : Option Status) (code : Option (List ℕ)) (text : List ℕ) → is_code code ≡ true → DescriptionOk status code text
-    → code_at (trim_start (header_code code ++ header_description text)) ≡ Some (record { code = code; rest = text })
+    → code_at (trim_start (header_code code ++ spaced_text text)) ≡ Some (record { code = code; rest = text })
 unfolding code_at
 coded_back status None text k d = rw (description_back text d.trimmed, no_bracket status d.so) refl
   where
@@ -86,35 +87,35 @@ coded_back status None text k d = rw (description_back text d.trimmed, no_bracke
     no_bracket (Some Cleared) h = not-true _ h
 coded_back status (Some code) text k d =
     let c = code_parts code k in
-    let behind : trim_start (header_code (Some code) ++ header_description text) ≡ 40 ∷ (code ++ 41 ∷ header_description text) =
-    trim_start_behind (32 ∷ []) (40 ∷ ((code ++ 41 ∷ []) ++ header_description text)) refl
-    ∙ (trim_start_same (40 ∷ ((code ++ 41 ∷ []) ++ header_description text)) refl
-    ∙ ap (λ (xs : List ℕ). 40 ∷ xs) (append_assoc code (41 ∷ []) (header_description text))) in
-    let inside : length code < length (code ++ 41 ∷ header_description text) = rw (length-append code (41 ∷ header_description text)) (omega arith) in
+    let behind : trim_start (header_code (Some code) ++ spaced_text text) ≡ 40 ∷ (code ++ 41 ∷ spaced_text text) =
+    trim_start_behind (32 ∷ []) (40 ∷ ((code ++ 41 ∷ []) ++ spaced_text text)) refl
+    ∙ (trim_start_same (40 ∷ ((code ++ 41 ∷ []) ++ spaced_text text)) refl
+    ∙ ap (λ (xs : List ℕ). 40 ∷ xs) (append_assoc code (41 ∷ []) (spaced_text text))) in
+    let inside : length code < length (code ++ 41 ∷ spaced_text text) = rw (length-append code (41 ∷ spaced_text text)) (omega arith) in
     rw (
       behind,
-      before_mark (λ b. b == 41) code (header_description text) 41 c.open_end refl,
-      lt-ltb (length code) (length (code ++ 41 ∷ header_description text)) inside,
-      take-append_seam code (41 ∷ header_description text),
-      drop-append-add code (41 ∷ header_description text) 1,
+      before_mark (λ b. b == 41) code (spaced_text text) 41 c.open_end refl,
+      lt-ltb (length code) (length (code ++ 41 ∷ spaced_text text)) inside,
+      take-append_seam code (41 ∷ spaced_text text),
+      drop-append-add code (41 ∷ spaced_text text) 1,
       description_back text d.trimmed,
     ) refl
 
 -- the status in front of them
 status_back : (status : Option Status) (code : Option (List ℕ)) (text : List ℕ) → DescriptionOk status code text
-    → (status_at (trim_start (header_status status ++ (header_code code ++ header_description text))) ≡ status)
-    × (behind_status (trim_start (header_status status ++ (header_code code ++ header_description text))) ≡ trim_start (header_code code ++ header_description text))
+    → (status_at (trim_start (header_status status ++ (header_code code ++ spaced_text text))) ≡ status)
+    × (behind_status (trim_start (header_status status ++ (header_code code ++ spaced_text text))) ≡ trim_start (header_code code ++ spaced_text text))
 unfolding status_at behind_status
 status_back (Some Pending) code text d =
-    let rest = header_code code ++ header_description text in
+    let rest = header_code code ++ spaced_text text in
     let e : trim_start (32 ∷ 33 ∷ rest) ≡ 33 ∷ rest = trim_start_behind (32 ∷ []) (33 ∷ rest) refl ∙ trim_start_same (33 ∷ rest) refl in
     (rw e refl, rw e refl)
 status_back (Some Cleared) code text d =
-    let rest = header_code code ++ header_description text in
+    let rest = header_code code ++ spaced_text text in
     let e : trim_start (32 ∷ 42 ∷ rest) ≡ 42 ∷ rest = trim_start_behind (32 ∷ []) (42 ∷ rest) refl ∙ trim_start_same (42 ∷ rest) refl in
     (rw e refl, rw e refl)
 status_back None (Some code) text d =
-    let rest = (code ++ 41 ∷ []) ++ header_description text in
+    let rest = (code ++ 41 ∷ []) ++ spaced_text text in
     let e : trim_start (32 ∷ 40 ∷ rest) ≡ 40 ∷ rest = trim_start_behind (32 ∷ []) (40 ∷ rest) refl ∙ trim_start_same (40 ∷ rest) refl in
     (rw e refl, rw e refl)
 status_back None None text d =
@@ -128,7 +129,7 @@ abbrev pub StartsBlank : List ℕ → Type 0
 StartsBlank [] = Unit {0}
 StartsBlank (b ∷ bs) = is_blank b ≡ true
 
-starts_blank : (status : Option Status) (code : Option (List ℕ)) (text : List ℕ) → StartsBlank (header_status status ++ (header_code code ++ header_description text))
+starts_blank : (status : Option Status) (code : Option (List ℕ)) (text : List ℕ) → StartsBlank (header_status status ++ (header_code code ++ spaced_text text))
 starts_blank (Some Pending) code text = refl
 starts_blank (Some Cleared) code text = refl
 starts_blank None (Some code) text = refl
@@ -150,10 +151,10 @@ header_no_semicolon : (day : Day) (status : Option Status) (code : Option (List 
     → has_no 59 (header_line day status code text) ≡ true
 unfolding header_line
 header_no_semicolon day status code text date k d =
-    all_joined (λ b. not (b == 59)) (printed_date day) (header_status status ++ (header_code code ++ header_description text))
+    all_joined (λ b. not (b == 59)) (printed_date day) (header_status status ++ (header_code code ++ spaced_text text))
     (all_weaker (λ b. is_ascii_digit b || (b == 45)) (λ b. not (b == 59)) (printed_date day) date_no_semicolon date.form)
-    (all_joined (λ b. not (b == 59)) (header_status status) (header_code code ++ header_description text) (of_status status)
-    (all_joined (λ b. not (b == 59)) (header_code code) (header_description text) (of_code code k) (of_text text d.no_semicolon)))
+    (all_joined (λ b. not (b == 59)) (header_status status) (header_code code ++ spaced_text text) (of_status status)
+    (all_joined (λ b. not (b == 59)) (header_code code) (spaced_text text) (of_code code k) (of_text text d.no_semicolon)))
   where
     of_status : (s : Option Status) → has_no 59 (header_status s) ≡ true
     of_status None = refl
@@ -164,7 +165,7 @@ header_no_semicolon day status code text date k d =
     of_code None h = refl
     of_code (Some c) h = all_joined (λ b. not (b == 59)) c (41 ∷ []) (code_parts c h).no_semicolon refl
 
-    of_text : (t : List ℕ) → has_no 59 t ≡ true → has_no 59 (header_description t) ≡ true
+    of_text : (t : List ℕ) → has_no 59 t ≡ true → has_no 59 (spaced_text t) ≡ true
     of_text [] h = refl
     of_text (b ∷ bs) h = h
 
@@ -173,7 +174,7 @@ header_cut : (day : Day) (status : Option Status) (code : Option (List ℕ)) (te
     → cut_header (header_line day status code text) ≡ record { date = printed_date day; status = status; coded = Some (record { code = code; rest = text }); comment = None }
 unfolding cut_header header_line first_word behind_date
 header_cut day status code text date k d =
-    let rest = header_status status ++ (header_code code ++ header_description text) in
+    let rest = header_status status ++ (header_code code ++ spaced_text text) in
     let none = header_no_semicolon day status code text date k d in
     let front : front_of (printed_date day ++ rest) ≡ printed_date day ++ rest = front_whole (printed_date day ++ rest) none in
     let comment : comment_of (printed_date day ++ rest) ≡ None = no_comment (printed_date day ++ rest) none in
@@ -189,11 +190,11 @@ header_reads day status code text h =
     let date = dates_print day h.number in
     let d = description_parts status code text h.description_ok in
     let text_end = description_end text d.trimmed in
-    rw (header_cut day status code text date h.code_ok d, short_code code h.code_ok, text_end, le-ltb 500 (length text) (omega (arith, ltb-true (length text) 501 d.short)), date.reads) (rw text_end refl)
+    rw (header_cut day status code text date h.code_ok d, short_code code h.code_ok, text_end, le-ltb 500 (length text) (omega (arith, leb-true (length text) 500 d.short)), date.reads) (rw text_end refl)
   where
     short_code : (c : Option (List ℕ)) → is_code c ≡ true → nat_lt 100 (length_of c) ≡ false
     short_code None k = refl
-    short_code (Some c) k = le-ltb 100 (length c) (omega (arith, ltb-true (length c) 101 (code_parts c k).short))
+    short_code (Some c) k = le-ltb 100 (length c) (omega (arith, leb-true (length c) 100 (code_parts c k).short))
 
 date_clean : (b : ℕ) → (is_ascii_digit b || (b == 45)) ≡ true → is_clean b ≡ true
 date_clean b h = grind (arith, common_steps)
@@ -203,10 +204,10 @@ pub header_clean : (day : Day) (status : Option Status) (code : Option (List ℕ
     → list_all is_clean (header_line day status code text) ≡ true
 unfolding header_line
 header_clean day status code text date k d =
-    all_joined is_clean (printed_date day) (header_status status ++ (header_code code ++ header_description text))
+    all_joined is_clean (printed_date day) (header_status status ++ (header_code code ++ spaced_text text))
     (all_weaker (λ b. is_ascii_digit b || (b == 45)) is_clean (printed_date day) date_clean date.form)
-    (all_joined is_clean (header_status status) (header_code code ++ header_description text) (of_status status)
-    (all_joined is_clean (header_code code) (header_description text) (of_code code k) (of_text text d.clean)))
+    (all_joined is_clean (header_status status) (header_code code ++ spaced_text text) (of_status status)
+    (all_joined is_clean (header_code code) (spaced_text text) (of_code code k) (of_text text d.clean)))
   where
     of_status : (s : Option Status) → list_all is_clean (header_status s) ≡ true
     of_status None = refl
@@ -217,7 +218,7 @@ header_clean day status code text date k d =
     of_code None h = refl
     of_code (Some c) h = all_joined is_clean c (41 ∷ []) (code_parts c h).clean refl
 
-    of_text : (t : List ℕ) → list_all is_clean t ≡ true → list_all is_clean (header_description t) ≡ true
+    of_text : (t : List ℕ) → list_all is_clean t ≡ true → list_all is_clean (spaced_text t) ≡ true
     of_text [] h = refl
     of_text (b ∷ bs) h = h
 
@@ -232,10 +233,10 @@ header_short day status code text date k d =
       of_status status,
       of_code code k,
       of_text text,
-      ltb-true (length text) 501 d.short,
-      length-append (printed_date day) (header_status status ++ (header_code code ++ header_description text)),
-      length-append (header_status status) (header_code code ++ header_description text),
-      length-append (header_code code) (header_description text),
+      leb-true (length text) 500 d.short,
+      length-append (printed_date day) (header_status status ++ (header_code code ++ spaced_text text)),
+      length-append (header_status status) (header_code code ++ spaced_text text),
+      length-append (header_code code) (spaced_text text),
     )
   where
     of_status : (s : Option Status) → length (header_status s) ≤ 2
@@ -245,9 +246,9 @@ header_short day status code text date k d =
 
     of_code : (c : Option (List ℕ)) → is_code c ≡ true → length (header_code c) ≤ 103
     of_code None h = omega arith
-    of_code (Some c) h = omega (arith, length-append c (41 ∷ []), ltb-true (length c) 101 (code_parts c h).short)
+    of_code (Some c) h = omega (arith, length-append c (41 ∷ []), leb-true (length c) 100 (code_parts c h).short)
 
-    of_text : (t : List ℕ) → length (header_description t) ≤ length t + 1
+    of_text : (t : List ℕ) → length (spaced_text t) ≤ length t + 1
     of_text [] = omega arith
     of_text (b ∷ bs) = omega arith
 
@@ -265,7 +266,7 @@ read_comment line text clean e short =
           let q : trim (after_first (λ b. b == 59) line) ≡ text = (let found_is = found.1 in cc) in
           let ends : is_trimmed text ≡ true = ap is_trimmed (sym q) ∙ trim_trimmed (after_first (λ b. b == 59) line) in
           let good : list_all is_clean text ≡ true = ap (λ (t : List ℕ). list_all is_clean t) (sym q) ∙ all_trim_end is_clean _ (all_trim_start is_clean _ (all_drop is_clean (position_or_len (λ b. b == 59) line + 1) line clean)) in
-          and_from _ _ (and_from _ _ ends good) (lt-ltb (length text) 901 (omega (arith, ltb-false 900 (length text) short)))
+          and_from _ _ (and_from _ _ ends good) (le-leb (length text) 900 (ltb-false 900 (length text) short))
       | inr none ↦ absurd (let none_is = none.1 in cc)
     ]
 
@@ -353,11 +354,6 @@ coded_ok text coded solid h =
       bare = λ e. absurd cc;
     }
 
--- the facts of a header line's parts
-pub record HeaderRead (h : HeaderParts) : Type 0 where
-  pub parts : HeaderOk h.day h.status h.code h.description
-  pub comment : (text : List ℕ) → h.comment ≡ Some text → is_comment text ≡ true
-
 -- the code and the description are well formed
 code_read : (text : List ℕ) (coded : Coded) → CodedOk text coded → has_no 59 text ≡ true → list_all is_clean text ≡ true → nat_lt 100 (length_of coded.code) ≡ false → is_code coded.code ≡ true
 code_read text coded k none clean short = at coded.code refl
@@ -366,7 +362,7 @@ code_read text coded k none clean short = at coded.code refl
     at None e = refl
     at (Some code) e =
         let size = ltb-false 100 (length code) (ap (λ (o : Option (List ℕ)). nat_lt 100 (length_of o)) (sym e) ∙ short) in
-        and_from _ _ (and_from _ _ (and_from _ _ (k.open_end code e) (k.within (λ b. not (b == 59)) code e none)) (k.within is_clean code e clean)) (lt-ltb (length code) 101 (omega (arith, size)))
+        and_from _ _ (and_from _ _ (and_from _ _ (k.open_end code e) (k.within (λ b. not (b == 59)) code e none)) (k.within is_clean code e clean)) (le-leb (length code) 100 size)
 
 pub so_read : (status : Option Status) (dated : List ℕ) (coded : Coded) → CodedOk (behind_status dated) coded → status_at dated ≡ status → starts_so status coded.code (slice_index (trim_end coded.rest) 0) ≡ true
 so_read status dated coded k e = at coded.code refl status e
@@ -386,7 +382,7 @@ so_read status dated coded k e = at coded.code refl status e
     at None q (Some Cleared) u = let b = k.bare q in not_one 40 refl b.0 b.1
 
 -- The parts of a header line that is read are well formed.
-pub read_header : (line : List ℕ) (h : HeaderParts) → list_all is_clean line ≡ true → header_of line ≡ Ok h → HeaderRead h
+pub read_header : (line : List ℕ) (h : HeaderParts) → list_all is_clean line ≡ true → header_of line ≡ Ok h → PrintsBack h
 unfolding judged_header cut_header
 read_header line h clean e =
     let front = front_of line in
@@ -397,7 +393,7 @@ read_header line h clean e =
     at_date (date_of (first_word front)) refl (code_at text) refl limits.0 limits.1 one.1
   where
     at_coded : (day : Day) → IsDayNumber day → (o : Option Coded) → code_at (behind_status (behind_date (front_of line))) ≡ o → is_coded_long o ≡ false → nat_lt 900 (length_of (comment_of line)) ≡ false
-        → closed_header (cut_header line) day o ≡ Ok h → HeaderRead h
+        → closed_header (cut_header line) day o ≡ Ok h → PrintsBack h
     at_coded day number None q long short r = absurd cc
     at_coded day number (Some coded) q long short r =
         let dated = behind_date (front_of line) in
@@ -408,17 +404,17 @@ read_header line h clean e =
         let sizes = or_parts (nat_lt 100 (length_of coded.code)) _ long in
         let size = ltb-false 500 (length (trim_end coded.rest)) sizes.1 in
         let same : record { day = day; status = status_at dated; code = coded.code; description = trim_end coded.rest; comment = comment_of line } ≡ h = cc in
-        subst (λ (p : HeaderParts). HeaderRead p) same (record {
+        subst (λ (p : HeaderParts). PrintsBack p) same (record {
           parts = record {
             number = number;
             code_ok = code_read text coded k none good sizes.0;
             description_ok = and_from _ _ (and_from _ _ (and_from _ _ (and_from _ _ (trim_end_trimmed coded.rest k.first) (all_trim_end (λ b. not (b == 59)) coded.rest (k.inside (λ b. not (b == 59)) none)))
-                (all_trim_end is_clean coded.rest (k.inside is_clean good))) (lt-ltb (length (trim_end coded.rest)) 501 (omega (arith, size)))) (so_read (status_at dated) dated coded k refl);
+                (all_trim_end is_clean coded.rest (k.inside is_clean good))) (le-leb (length (trim_end coded.rest)) 500 size)) (so_read (status_at dated) dated coded k refl);
           };
           comment = λ t is. read_comment line t clean is (ap (λ (o : Option (List ℕ)). nat_lt 900 (length_of o)) (sym is) ∙ short);
         })
 
     at_date : (o : Option Day) → date_of (first_word (front_of line)) ≡ o → (c : Option Coded) → code_at (behind_status (behind_date (front_of line))) ≡ c → is_coded_long c ≡ false → nat_lt 900 (length_of (comment_of line)) ≡ false
-        → dated_header (cut_header line) o ≡ Ok h → HeaderRead h
+        → dated_header (cut_header line) o ≡ Ok h → PrintsBack h
     at_date None q c r long short f = absurd cc
     at_date (Some day) q c r long short f = at_coded day (dates_bound (first_word (front_of line)) day q) c r long short (subst (λ (x : Option Coded). closed_header (cut_header line) day x ≡ Ok h) r f)

@@ -1,10 +1,14 @@
 -- A header that was read, without where its parts lie in memory.
-use Rattle.std.proofs.Common.{◌≡◌, ◌∙◌, ℕ, List, sym, Result, Ok, Err, IfOk}
+use Rattle.std.proofs.Common.{◌≡◌, ◌∙◌, ℕ, List, true, sym, Result, Ok, Err, IfOk}
 use Rattle.money_core.specs.declared.cause.Cause.{Cause}
 use Rattle.journal_lines.specs.declared.header.Header as read
-use Rattle.journal_lines.specs.Header.{HeaderParts, header_of}
+use Rattle.journal_lines.specs.Header.{HeaderParts}
+use Rattle.journal_lines.specs.HeaderReading.{header_of}
 use Rattle.journal_lines.specs.HeaderForm.{Reads}
 use Rattle.journal_lines.specs.HeaderView.{parts_of, read_parts}
+use Rattle.std.specs.Str.{is_utf8}
+use Rattle.journal_lines.specs.Utf8.{IsUtf8Header}
+use Rattle.journal_lines.proofs.Utf8Lemmas.{header_utf8}
 use Rattle.journal_lines.proofs.HeaderFormLemmas.{form_reads, reads_form}
 
 pub found_from : (line : List ℕ) (r : Result read.Header Cause) → read_parts r ≡ header_of line → IfOk r (λ header. Reads line (parts_of header))
@@ -13,3 +17,7 @@ found_from line (Err c) e = tt
 
 pub only_from : (line : List ℕ) (r : Result read.Header Cause) → read_parts r ≡ header_of line → (parts : HeaderParts) → Reads line parts → read_parts r ≡ Ok parts
 only_from line r e parts form = e ∙ form_reads line parts form
+
+pub utf8_from : (line : List ℕ) (r : Result read.Header Cause) → read_parts r ≡ header_of line → is_utf8 line ≡ true → IfOk r (λ header. IsUtf8Header (parts_of header))
+utf8_from line (Ok h) e u = header_utf8 line (parts_of h) u (sym e)
+utf8_from line (Err c) e u = tt

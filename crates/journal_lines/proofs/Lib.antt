@@ -8,3 +8,6 @@ pub mod HeaderLemmas
 pub mod WorkedValues
 pub mod HeaderFormLemmas
 pub mod HeaderReadLemmas
+pub mod Utf8Lemmas
+pub mod KindLemmas
+pub mod PrintedLemmas

@@ -6,7 +6,8 @@ use Rattle.journal_lines.specs.LineKind.{kind_of, is_block_start, is_skipped_wor
 use Rattle.journal_lines.specs.Blank.{trim_end, first_word, trim_start}
 use Rattle.journal_lines.specs.Comment.{front_of, comment_of}
 use Rattle.journal_lines.specs.declared.header.Status.TheVariants.{Cleared}
-use Rattle.journal_lines.specs.Header.{header_of, judged_header, cut_header, behind_date, status_at, behind_status, code_at}
+use Rattle.journal_lines.specs.Header.{status_at, behind_status}
+use Rattle.journal_lines.specs.HeaderReading.{header_of, judged_header, cut_header, behind_date, code_at}
 use Rattle.jiff_core.specs.Calendar.{days_from_civil}
 use Rattle.jiff_core.proofs.SignedLemmas.{signed_arith}
 use Rattle.jiff_core.proofs.CalendarLemmas.{days_from_civil-day_count}

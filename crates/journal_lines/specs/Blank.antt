@@ -1,10 +1,7 @@
--- Blanks, and texts without those at their ends (own rule: a blank is a space or a tab).
-use Rattle.std.specs.Prelude.{ℕ, ◌-◌, ◌==◌, List, length, take, drop, reverse, slice_index, Bool, ◌&&◌, ◌||◌, not}
+-- Texts without the blanks at their ends, and up to the first blank (own rule).
+use Rattle.std.specs.Prelude.{ℕ, ◌-◌, List, length, take, drop, reverse, slice_index, Bool, ◌&&◌, not}
 use Rattle.std.specs.List.{position_or_len, before_first}
-
--- a space or a tab
-abbrev pub is_blank : ℕ → Bool
-is_blank b = (b == 32) || (b == 9)
+pub use Rattle.money_core.specs.Blank.{is_blank}
 
 -- the text up to the first blank
 unfoldable pub first_word : List ℕ → List ℕ

@@ -7,7 +7,7 @@ use Rattle.journal_lines.specs.declared.header.Status.TheVariants.{Cleared, Pend
 use Rattle.journal_lines.specs.Blank.{is_blank, is_trimmed}
 use Rattle.journal_lines.specs.Comment.{has_no}
 use Rattle.journal_lines.specs.Date.{IsDate, day_of}
-use Rattle.journal_lines.specs.Header.{HeaderParts, length_of}
+use Rattle.journal_lines.specs.Header.{code_limit, description_limit, comment_limit, HeaderParts, length_of}
 
 -- a status as it is written
 abbrev pub status_text : Option Status → List ℕ
@@ -63,6 +63,6 @@ pub record Reads (line : List ℕ) (parts : HeaderParts) : Type 0 where
   pub uncommented : has_no 59 parts.description ≡ true
   pub begins : starts_so parts.status parts.code (slice_index parts.description 0) ≡ true
   pub commented : IsRemark parts.comment remark
-  pub short_code : length_of parts.code ≤ 100
-  pub short_description : length parts.description ≤ 500
-  pub short_comment : length_of parts.comment ≤ 900
+  pub short_code : length_of parts.code ≤ code_limit
+  pub short_description : length parts.description ≤ description_limit
+  pub short_comment : length_of parts.comment ≤ comment_limit

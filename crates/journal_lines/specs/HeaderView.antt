@@ -1,23 +1,18 @@
 -- The parts of a header without where they lie in memory.
-use Rattle.std.specs.Prelude.{Result, Ok, Err}
+use Rattle.std.specs.Prelude.{ℕ, List, Option, Result, Ok, Err}
+use Rattle.std.specs.Borrow.{Bor}
 use Rattle.std.specs.Option.{option_map}
 use Rattle.money_core.specs.declared.cause.Cause.{Cause}
 use Rattle.journal_lines.specs.declared.header.Header as read
-use Rattle.journal_lines.specs.declared.header.HeaderCut as cut
-use Rattle.journal_lines.specs.declared.header.Coded as coded
-use Rattle.journal_lines.specs.Header.{Coded, HeaderCut, HeaderParts}
+use Rattle.journal_lines.specs.Header.{HeaderParts}
 
--- a code that was cut, and what follows it
-abbrev pub coded_view : coded.Coded → Coded
-coded_view c = record { code = option_map (λ t. t.now) c.code; rest = c.rest.now }
-
--- the parts that were cut
-abbrev pub cut_view : cut.HeaderCut → HeaderCut
-cut_view c = record { date = c.date.now; status = c.status; coded = option_map coded_view c.coded; comment = option_map (λ t. t.now) c.comment }
+-- a text, if there is one
+abbrev pub text_of : Option (Bor (List ℕ)) → Option (List ℕ)
+text_of text = option_map (λ t. t.now) text
 
 -- the parts of a header
 abbrev pub parts_of : read.Header → HeaderParts
-parts_of h = record { day = h.day; status = h.status; code = option_map (λ t. t.now) h.code; description = h.description.now; comment = option_map (λ t. t.now) h.comment }
+parts_of h = record { day = h.day; status = h.status; code = text_of h.code; description = h.description.now; comment = text_of h.comment }
 
 -- what reading a header answered
 abbrev pub read_parts : Result read.Header Cause → Result HeaderParts Cause

@@ -6,7 +6,7 @@ use Rattle.std.specs.Char.{is_ascii_digit}
 use lib.Pointwise.{pointwise}
 use Rattle.journal_lines.specs.declared.line_kind.LineKind.{LineKind}
 use Rattle.journal_lines.specs.declared.line_kind.LineKind.TheVariants.{Blank, Comment, Block, Header, Indented, Commodity, Skipped, Unknown}
-use Rattle.journal_lines.specs.Blank.{is_blank, first_word, trim_end}
+use Rattle.journal_lines.specs.Blank.{is_blank, first_word, trim_start, trim_end}
 
 -- two texts are the same
 abbrev pub is_same : List ℕ → List ℕ → Bool
@@ -47,3 +47,7 @@ kind_of line =
     else if is_commodity_word (first_word line) then Commodity
     else if is_skipped_word (first_word line) then Skipped
     else Unknown
+
+-- an indented line is a comment line where `;` is its first byte behind the blanks
+unfoldable pub is_remark : List ℕ → Bool
+is_remark line = slice_index (trim_start line) 0 == 59

@@ -1,7 +1,8 @@
 //! Account names.
 
-ghost use Rattle.std.specs.Prelude.{◌≡◌, ◌↔◌, ◌==◌, IsTrue, not, slice_index, ◌+◌, ◌≤◌, length, drop};
+ghost use Rattle.std.specs.Prelude.{◌≡◌, ◌↔◌, ◌==◌, IsTrue, true, not, slice_index, ◌+◌, ◌≤◌, length, drop};
 ghost use Rattle.std.specs.List.{list_all};
+ghost use Rattle.std.specs.Str.{is_utf8, IsCharBoundary};
 ghost use Rattle.journal_lines.specs.AccountName.{is_name_byte, is_part, parts, is_gap, has_gap, bars_start, IsAccount, is_account, ends_name, name_end, IsReserved};
 
 use crate::blank::is_blank;
@@ -91,6 +92,9 @@ fn bars_start(byte: u8) -> bool
 pub fn name_end(text: &[u8]) -> usize
     ensures place { result ≡ name_end text.now }
     ensures bound { result ≤ length text.now }
+
+    // A name and what follows it are UTF-8 where the text is.
+    ensures utf8 { is_utf8 text.now ≡ true → IsCharBoundary text.now result }
 {
     for (at, byte) in text.iter().enumerate() {
         if ends_name(*byte, &text[at + 1..]) {

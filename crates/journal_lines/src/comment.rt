@@ -1,6 +1,7 @@
 //! The comment of a line, and its tags.
 
-ghost use Rattle.std.specs.Prelude.{◌≡◌, ℕ, List, true};
+ghost use Rattle.std.specs.Prelude.{◌≡◌, ℕ, List, true, IfSome};
+ghost use Rattle.std.specs.Str.{is_utf8};
 ghost use Rattle.std.specs.Option.{option_map};
 ghost use Rattle.journal_lines.specs.Comment.{front_of, comment_of};
 ghost use Rattle.journal_lines.specs.Tag.{first_tag, tags_of, IsTagOf};
@@ -13,7 +14,8 @@ use crate::tag::Tags;
 /// What stands before the first `;`, or all.
 #[tactic(auto, unfolding(crate::specs::Comment::front_of))]
 pub fn front_of(line: &[u8]) -> &[u8]
-    ensures { result.now ≡ front_of line.now }
+    ensures value { result.now ≡ front_of line.now }
+    ensures utf8 { is_utf8 line.now ≡ true → is_utf8 result.now ≡ true }
 {
     match find(line, b';') {
         Some(at) => &line[..at],
@@ -24,7 +26,8 @@ pub fn front_of(line: &[u8]) -> &[u8]
 /// The text behind the first `;`, without blanks at its ends.
 #[tactic(auto, unfolding(crate::specs::Comment::comment_of))]
 pub fn comment_of(line: &[u8]) -> Option<&[u8]>
-    ensures { option_map (λ c. c.now) result ≡ comment_of line.now }
+    ensures value { option_map (λ c. c.now) result ≡ comment_of line.now }
+    ensures utf8 { is_utf8 line.now ≡ true → IfSome result (λ comment. is_utf8 comment.now ≡ true) }
 {
     match find(line, b';') {
         Some(at) => Some(trim(&line[at + 1..])),

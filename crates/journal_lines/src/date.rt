@@ -139,7 +139,7 @@ pub fn print_date(_alloc: Global, day: Day, out: &mut Vec<u8>) -> Result<(), Cau
 }
 
 /// The ten bytes of the date of the day.
-fn date_text(day: Day) -> [u8; 10]
+pub(crate) fn date_text(day: Day) -> [u8; 10]
     requires { IsDayNumber day }
     ensures value { result ≡ printed_date day }
     ensures reads { IsDateText day (printed_date day) }

@@ -1,10 +1,14 @@
 //! The header line of a transaction.
 
-ghost use Rattle.std.specs.Prelude.{◌≡◌, ◌==◌, ◌||◌, nat_lt, slice_index, drop, length, IfOk, Ok};
+ghost use Rattle.std.specs.Prelude.{◌≡◌, ◌==◌, ◌||◌, true, nat_lt, slice_index, drop, length, IfOk, Ok};
 ghost use Rattle.std.specs.Option.{option_map};
-ghost use Rattle.journal_lines.specs.Header.{status_at, behind_status, closed_code, code_at, behind_date, cut_header, length_of, is_coded_long, is_cut_long, HeaderParts, judged_header, header_of};
+ghost use Rattle.std.specs.Str.{is_utf8};
+ghost use Rattle.journal_lines.specs.Header.{status_at, behind_status, length_of, HeaderParts};
+ghost use Rattle.journal_lines.specs.HeaderReading.{closed_code, code_at, behind_date, cut_header, is_coded_long, is_cut_long, judged_header, header_of};
 ghost use Rattle.journal_lines.specs.HeaderForm.{Reads};
-ghost use Rattle.journal_lines.specs.HeaderView.{coded_view, cut_view, parts_of, read_parts};
+ghost use Rattle.journal_lines.specs.Utf8.{IsUtf8Header};
+ghost use Rattle.journal_lines.specs.HeaderView.{parts_of, read_parts};
+ghost use Rattle.journal_lines.specs.HeaderCutView.{coded_view, cut_view};
 
 use crate::blank::{find_blank, first_word, trim_end, trim_start};
 use crate::comment::{comment_of, front_of};
@@ -32,10 +36,10 @@ pub struct Header<'a> {
 }
 
 /// The most bytes that a code has.
-const MAX_CODE: usize = 100;
+pub const MAX_CODE: usize = 100;
 
 /// The most bytes that a description has.
-const MAX_DESCRIPTION: usize = 500;
+pub const MAX_DESCRIPTION: usize = 500;
 
 /// The most bytes that a comment has.
 pub const MAX_COMMENT: usize = 900;
@@ -63,14 +67,17 @@ pub fn read_header(line: &[u8]) -> Result<Header<'_>, Cause>
     ensures found { IfOk result (λ header. Reads line.entry.now (parts_of header)) }
     ensures only { (parts : HeaderParts) → Reads line.entry.now parts → read_parts result ≡ Ok parts }
 
-    // The value, or the first fault.
+    // The parts of a line in UTF-8 are UTF-8, and those of a line without control characters print back.
+    ensures utf8 { is_utf8 line.entry.now ≡ true → IfOk result (λ header. IsUtf8Header (parts_of header)) }
+
+    // The same by a function, for the laws of the crates above.
     ensures value { read_parts result ≡ header_of line.entry.now }
 {
     judged_header(cut_header(line))
 }
 
 /// The parts of a header that was cut, or its first fault.
-#[tactic(auto, unfolding(crate::specs::Header::judged_header))]
+#[tactic(auto, unfolding(crate::specs::HeaderReading::judged_header))]
 fn judged_header(cut: HeaderCut<'_>) -> Result<Header<'_>, Cause>
     ensures { read_parts result ≡ judged_header (cut_view cut.entry) }
 {
@@ -93,7 +100,7 @@ fn judged_header(cut: HeaderCut<'_>) -> Result<Header<'_>, Cause>
 }
 
 /// The parts of a header, by characters alone.
-#[tactic(auto, unfolding(crate::specs::Header::cut_header))]
+#[tactic(auto, unfolding(crate::specs::HeaderReading::cut_header))]
 fn cut_header(line: &[u8]) -> HeaderCut<'_>
     ensures { cut_view result ≡ cut_header line.now }
 {
@@ -134,7 +141,7 @@ fn length_of(part: Option<&[u8]>) -> usize
 }
 
 /// What follows the text up to the first blank, without blanks between.
-#[tactic(auto, unfolding(crate::specs::Header::behind_date))]
+#[tactic(auto, unfolding(crate::specs::HeaderReading::behind_date))]
 fn behind_date(front: &[u8]) -> &[u8]
     ensures { result.now ≡ behind_date front.now }
 {
@@ -171,7 +178,8 @@ pub fn status_at(text: &[u8]) -> Option<Status>
 /// What follows the status, without blanks between; all where there is none.
 #[tactic(auto, unfolding(crate::specs::Header::behind_status))]
 pub fn behind_status(text: &[u8]) -> &[u8]
-    ensures { result.now ≡ behind_status text.now }
+    ensures value { result.now ≡ behind_status text.now }
+    ensures utf8 { is_utf8 text.now ≡ true → is_utf8 result.now ≡ true }
 {
     let first = first_byte(text);
     if first == b'*' || first == b'!' {
@@ -182,7 +190,7 @@ pub fn behind_status(text: &[u8]) -> &[u8]
 }
 
 /// The code at the front and what follows it, without blanks between; none where it is not closed.
-#[tactic(auto, unfolding(crate::specs::Header::code_at))]
+#[tactic(auto, unfolding(crate::specs::HeaderReading::code_at))]
 fn code_at(text: &[u8]) -> Option<Coded<'_>>
     ensures { option_map coded_view result ≡ code_at text.now }
 {

@@ -8,6 +8,7 @@ mod date;
 mod header;
 mod line_kind;
 mod lines;
+mod printed;
 mod tag;
 #[cfg(test)]
 mod tests;
@@ -16,8 +17,14 @@ pub use account::{is_account, is_reserved, name_end};
 pub use blank::{first_word, is_blank, trim, trim_end, trim_start};
 pub use comment::{comment_of, front_of, tags};
 pub use date::{is_day_number, print_date, read_date};
-pub use header::{Header, MAX_COMMENT, Status, behind_status, read_header, status_at};
-pub use line_kind::{LineKind, is_block_end, kind};
+pub use header::{
+    Header, MAX_CODE, MAX_COMMENT, MAX_DESCRIPTION, Status, behind_status, read_header, status_at,
+};
+pub use line_kind::{LineKind, is_block_end, is_remark, kind};
 pub use lines::Lines;
 pub use money_core::{Cause, Day};
+pub use printed::{
+    comment_len, header_len, is_clean, is_code, is_comment, is_description, print_comment,
+    print_header,
+};
 pub use tag::Tags;

@@ -1,11 +1,12 @@
 //! What kind of line a line is.
 
-ghost use Rattle.std.specs.Prelude.{◌≡◌, slice_index};
+ghost use Rattle.std.specs.Prelude.{◌≡◌, ◌<◌, IsTrue, true, length, slice_index, is_some};
 ghost use Rattle.std.specs.Char.{is_ascii_digit};
-ghost use Rattle.journal_lines.specs.Blank.{is_blank};
-ghost use Rattle.journal_lines.specs.LineKind.{is_same, is_blank_line, is_comment_sign, is_block_start, is_block_end, is_commodity_word, is_skipped_word, kind_of};
+ghost use Rattle.journal_lines.specs.Blank.{is_blank, trim_start};
+ghost use Rattle.journal_lines.specs.Comment.{comment_of};
+ghost use Rattle.journal_lines.specs.LineKind.{is_same, is_blank_line, is_comment_sign, is_block_start, is_block_end, is_commodity_word, is_skipped_word, kind_of, is_remark};
 
-use crate::blank::{first_word, is_blank, trim_end};
+use crate::blank::{first_word, is_blank, trim_end, trim_start};
 use crate::header::first_byte;
 
 /// The kinds of lines.
@@ -31,7 +32,9 @@ pub enum LineKind {
 
 /// The kind of a line without its end, outside a block of comment lines.
 pub fn kind(line: &[u8]) -> LineKind
-    ensures { result ≡ kind_of line.now }
+    ensures value { result ≡ kind_of line.now }
+    ensures header { is_ascii_digit (slice_index line.now 0) ≡ true → result ≡ LineKind.Header }
+    ensures indented { is_blank (slice_index line.now 0) ≡ true → 0 < length (trim_start line.now) → result ≡ LineKind.Indented }
 {
     let first = first_byte(line);
     let word = first_word(line);
@@ -60,6 +63,15 @@ pub fn is_block_end(line: &[u8]) -> bool
     ensures { result ≡ is_block_end line.now }
 {
     is_same(trim_end(line), b"end comment")
+}
+
+/// Whether the first byte behind the blanks is `;`, with which an indented line is a comment line, and has a comment.
+#[tactic(auto, unfolding(crate::specs::LineKind::is_remark))]
+pub fn is_remark(line: &[u8]) -> bool
+    ensures value { result ≡ is_remark line.now }
+    ensures comment { IsTrue result → is_some (comment_of line.now) ≡ true }
+{
+    first_byte(trim_start(line)) == b';'
 }
 
 fn is_blank_line(line: &[u8]) -> bool

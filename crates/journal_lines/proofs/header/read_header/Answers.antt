@@ -1,6 +1,6 @@
 use Rattle.std.proofs.Common.{◌∙◌, ap}
-use Rattle.journal_lines.specs.Header.{judged_header}
-use Rattle.journal_lines.proofs.HeaderReadLemmas.{found_from, only_from}
+use Rattle.journal_lines.specs.HeaderReading.{judged_header}
+use Rattle.journal_lines.proofs.HeaderReadLemmas.{found_from, only_from, utf8_from}
 use Rattle.journal_lines.proofs.header.read_header.Goals as goal
 
 pub returns-clause-found : goal.returns-clause-found
@@ -8,3 +8,6 @@ returns-clause-found c = found_from c.args.line.now c.judged_header.result (c.ju
 
 pub returns-clause-only : goal.returns-clause-only
 returns-clause-only c = only_from c.args.line.now c.judged_header.result (c.judged_header.ensures ∙ ap judged_header c.cut_header.ensures)
+
+pub returns-clause-utf8 : goal.returns-clause-utf8
+returns-clause-utf8 c = utf8_from c.args.line.now c.judged_header.result (c.judged_header.ensures ∙ ap judged_header c.cut_header.ensures)
