@@ -6,3 +6,4 @@ pub mod ValueLemmas
 pub mod ClaimLemmas
 pub mod EntryLemmas
 pub mod WrittenLemmas
+pub mod GrowthLemmas

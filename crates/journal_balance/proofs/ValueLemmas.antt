@@ -114,7 +114,7 @@ other_value : (unit own : Commodity) (q : ℤ) → nat_eq own.0 unit.0 ≡ false
 other_value unit own q e = ap (λ (t : Bool). if t then q else pos 0) e
 
 -- postings have values in declared commodities alone
-sum_undeclared : (styles : List Style) (unit : Commodity) (ps : List Posting) → list_all (is_posting styles) ps ≡ true → length styles ≤ unit.0 → sum_of styles unit ps ≡ pos 0
+pub sum_undeclared : (styles : List Style) (unit : Commodity) (ps : List Posting) → list_all (is_posting styles) ps ≡ true → length styles ≤ unit.0 → sum_of styles unit ps ≡ pos 0
 sum_undeclared styles unit [] ok h = refl
 sum_undeclared styles unit (p ∷ ps) ok h =
     let both = and_parts (is_posting styles p) (list_all (is_posting styles) ps) ok in

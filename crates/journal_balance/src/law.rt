@@ -1,6 +1,6 @@
 //! What the entry of a transaction has, in the words of the book.
 
-ghost use Rattle.std.specs.Prelude.{◌≡◌, ◌≤◌, ℕ, List, Option, Ok, unsigned_abs};
+ghost use Rattle.std.specs.Prelude.{◌≡◌, ◌≤◌, ◌++◌, ℕ, List, Option, Ok, unsigned_abs};
 ghost use Rattle.std.specs.List.{AllByRecursion};
 ghost use Rattle.money_core.specs.declared.style.Style.{Style};
 ghost use Rattle.money_core.specs.Amount.{limit};
@@ -13,7 +13,7 @@ ghost use Rattle.journal_balance.specs.Legs.{legs_of};
 ghost use Rattle.journal_balance.specs.Plain.{IsWritten, written_entry};
 
 use journal_format::printing_law;
-use money_core::Styles;
+use money_core::{Styles, growth_law};
 
 /// Laws of the entry of a printable transaction: it sums to zero in every commodity, and has its assertions on different
 /// legs of its own; each leg is within 10^16; its day is the transaction's. Costs nothing.
@@ -37,3 +37,13 @@ pub fn unmarked_law()
     ensures { (styles : List Style) (t : Txn) (mark : Option (List ℕ))
         → legs_of styles (record t { mark = mark }) ≡ legs_of styles t }
 {}
+
+/// A law of further commodities: when more are declared, a printable transaction keeps its entry, or its fault. Costs
+/// nothing.
+pub fn entries_grow_law(styles: &Styles)
+    ensures { (more : List Style) (t : Txn) → IsPrintable styles.now t
+        → legs_of (styles.now ++ more) t ≡ legs_of styles.now t }
+{
+    printing_law(styles);
+    growth_law();
+}

@@ -10,4 +10,4 @@ mod value;
 
 pub use balancing::legs;
 pub use conversion::conversion_accounts;
-pub use law::{entry_law, unmarked_law, written_law};
+pub use law::{entries_grow_law, entry_law, unmarked_law, written_law};

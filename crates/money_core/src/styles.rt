@@ -75,7 +75,7 @@ impl Styles {
         }
     }
 
-    /// How many commodities are declared.
+    /// How many commodities are declared: at most 16.
     pub fn len(&self) -> usize
         ensures count { result ≡ length self.now }
         ensures few { result ≤ MAX_COMMODITIES }
@@ -98,13 +98,6 @@ impl Styles {
             Some(place) => Some(Unit(place as u16)),
             None => None,
         }
-    }
-
-    /// How many commodities are declared: at most 16.
-    pub fn len(&self) -> usize
-        ensures { result ≡ length self.now }
-    {
-        self.list.len()
     }
 
     /// The style of a commodity.

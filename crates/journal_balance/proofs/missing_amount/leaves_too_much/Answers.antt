@@ -15,7 +15,7 @@ loop-number-preserved c =
     let n = c.loop-number.number in
     let m = length c.args.styles.now in
     let f : Commodity → List Leg = λ (unit : Commodity). rest_leg c.args.account.now unit (sum_of c.args.styles.now unit c.args.postings.now) in
-    let within : n < m = subst (λ (k : ℕ). n < k) c.len-number-end.ensures c.loop-number-test.true in
+    let within : n < m = subst (λ (k : ℕ). n < k) c.len-number-end.ensures.count c.loop-number-test.true in
     let small =
     rest_large c.args.account.now (record { 0 = n }) (sum_of c.args.styles.now (record { 0 = n }) c.args.postings.now)
     ∙ ap (λ (z : ℤ). nat_lt limit (unsigned_abs z)) (sym c.sum_of-sum.ensures ∙ sym (to_z-of_z w128 c.sum_of-sum.result (search rules))) ∙ sym c.is_over.ensures ∙ c.if-is_over.false in
@@ -26,7 +26,7 @@ returns-then-is_over c =
     let n = c.loop-number.number in
     let m = length c.args.styles.now in
     let f : Commodity → List Leg = λ (unit : Commodity). rest_leg c.args.account.now unit (sum_of c.args.styles.now unit c.args.postings.now) in
-    let within : n < m = subst (λ (k : ℕ). n < k) c.len-number-end.ensures c.loop-number-test.true in
+    let within : n < m = subst (λ (k : ℕ). n < k) c.len-number-end.ensures.count c.loop-number-test.true in
     let large =
     rest_large c.args.account.now (record { 0 = n }) (sum_of c.args.styles.now (record { 0 = n }) c.args.postings.now)
     ∙ ap (λ (z : ℤ). nat_lt limit (unsigned_abs z)) (sym c.sum_of-sum.ensures ∙ sym (to_z-of_z w128 c.sum_of-sum.result (search rules))) ∙ sym c.is_over.ensures ∙ c.if-is_over.true in

@@ -14,7 +14,7 @@ pub push_rest-requires : goal.push_rest-requires
 push_rest-requires c =
     let n = c.loop-number.number in
     let m = length c.args.styles.now in
-    let within : n < m = subst (λ (k : ℕ). n < k) c.len-number-end.ensures c.loop-number-test.true in
+    let within : n < m = subst (λ (k : ℕ). n < k) c.len-number-end.ensures.count c.loop-number-test.true in
     let small = small_first c.args.account.now (λ (u : Commodity). sum_of c.args.styles.now u c.args.postings.now) n m within c.loop-number.invariant.room in
     subst (λ (z : ℤ). unsigned_abs z ≤ limit) (sym c.sum_of-sum.ensures ∙ sym (to_z-of_z w128 c.sum_of-sum.result (search rules))) small
 
@@ -24,7 +24,7 @@ loop-number-preserved c =
     let m = length c.args.styles.now in
     let f : Commodity → List Leg = λ (u : Commodity). rest_leg c.args.account.now u (sum_of c.args.styles.now u c.args.postings.now) in
     let rest = flat_map f (commodities (n + 1) (m - (n + 1))) in
-    let within : n < m = subst (λ (k : ℕ). n < k) c.len-number-end.ensures c.loop-number-test.true in
+    let within : n < m = subst (λ (k : ℕ). n < k) c.len-number-end.ensures.count c.loop-number-test.true in
     let sums = to_z-of_z w128 c.sum_of-sum.result (search rules) ∙ c.sum_of-sum.ensures in
     record {
       room = small_behind f n m within c.loop-number.invariant.room;
