@@ -6,6 +6,8 @@ mod conversion;
 mod entering;
 mod law;
 mod missing_amount;
+#[cfg(test)]
+mod tests;
 mod value;
 
 pub use balancing::legs;
