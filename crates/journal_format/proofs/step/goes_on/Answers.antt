@@ -1,0 +1,10 @@
+use Rattle.std.proofs.Common.{arith, ap}
+use Rattle.journal_format.specs.declared.state.Context.{Context}
+use Rattle.journal_format.specs.Machine.{size_of}
+use Rattle.journal_format.proofs.SizeLemmas.{body_size}
+use Rattle.journal_format.proofs.step.goes_on.Goals as goal
+
+pub returns-in-Ok-clause-size : goal.returns-in-Ok-clause-size
+returns-in-Ok-clause-size c =
+    let styles = c.args.styles.now in
+    omega (arith, c.requires.size, ap (λ (x : Context). size_of styles x) c.in-Entry.is, body_size styles c.in-Entry.txn, body_size styles c.in-Ok.txn, c.in-Ok.ensures.grown)
