@@ -3,14 +3,14 @@
 ghost use Rattle.std.specs.Prelude.{◌≡◌, Err, ◌⊎◌, ◌∷◌, [], true, false, IfOk};
 ghost use Rattle.std.specs.Result.{IsOkUnless};
 ghost use Rattle.std.specs.List.{list_all, list_any, count_by};
-ghost use Rattle.journal_format.specs.Printable.{is_posting, PartsOk, IsPrintable};
+ghost use Rattle.journal_format.specs.Printable.{is_posting, IsPrintable};
 ghost use Rattle.journal_balance.specs.Legs.{is_open, is_large, has_large_leg, legs_among, claims_among, balancing_fault, legs_of};
 
 use crate::entering::{push_claim, push_posting};
 use crate::missing_amount::{is_even, leaves_too_much};
 use crate::value::cost_fault;
 use book_core::{Entry, Leg, Placed};
-use journal_format::{Posting, Txn, printing_law};
+use journal_format::{Posting, Txn};
 use money_core::{Cause, Items, Styles};
 use std::alloc::Global;
 
@@ -96,10 +96,16 @@ fn entered(
     Ok((legs, claims))
 }
 
-/// The entry of a transaction whose parts are well formed.
+/// The entry of a transaction: the legs of its postings, with what is left for the one without an amount and the
+/// conversion postings of each cost, and the assertions on them (hledger manual, "Postings", "Costs", "Equity conversion
+/// postings").
+///
+/// It asks that the transaction is printable. The faults, in this order: 17 for a second posting without an amount; 12
+/// and 13, posting by posting, for a cost in the amount's own commodity or over 10^16, and for one that is not exact; 18
+/// where the values do not sum to zero; 28 for a leg over 10^16. 40 for want of memory.
 #[tactic(auto, unfolding(crate::specs::Legs::legs_of))]
-fn entry_of(alloc: Global, txn: &Txn, styles: &Styles) -> Result<Entry, Cause>
-    requires { PartsOk styles.now txn.now }
+pub fn legs(alloc: Global, txn: &Txn, styles: &Styles) -> Result<Entry, Cause>
+    requires { IsPrintable styles.now txn.now }
     ensures { (result ≡ legs_of styles.now txn.now) ⊎ (result ≡ Err Cause.OutOfMemory) }
 {
     if let Some(cause) = balancing_fault(txn, styles) {
@@ -111,19 +117,4 @@ fn entry_of(alloc: Global, txn: &Txn, styles: &Styles) -> Result<Entry, Cause>
         legs,
         claims,
     })
-}
-
-/// The entry of a transaction: the legs of its postings, with what is left for the one without an amount and the
-/// conversion postings of each cost, and the assertions on them (hledger manual, "Postings", "Costs", "Equity conversion
-/// postings").
-///
-/// It asks that the transaction is printable. The faults, in this order: 17 for a second posting without an amount; 12
-/// and 13, posting by posting, for a cost in the amount's own commodity or over 10^16, and for one that is not exact; 18
-/// where the values do not sum to zero; 28 for a leg over 10^16. 40 for want of memory.
-pub fn legs(alloc: Global, txn: &Txn, styles: &Styles) -> Result<Entry, Cause>
-    requires { IsPrintable styles.now txn.now }
-    ensures { (result ≡ legs_of styles.now txn.now) ⊎ (result ≡ Err Cause.OutOfMemory) }
-{
-    printing_law(styles);
-    entry_of(alloc, txn, styles)
 }

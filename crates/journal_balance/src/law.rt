@@ -12,18 +12,24 @@ ghost use Rattle.journal_format.specs.Printable.{IsPrintable};
 ghost use Rattle.journal_balance.specs.Legs.{legs_of};
 ghost use Rattle.journal_balance.specs.Plain.{IsWritten, written_entry};
 
-use journal_format::printing_law;
-use money_core::{Styles, growth_law};
+use money_core::growth_law;
 
 /// Laws of the entry of a printable transaction: it sums to zero in every commodity, and has its assertions on different
 /// legs of its own; each leg is within 10^16; its day is the transaction's. Costs nothing.
-pub fn entry_law(styles: &Styles)
-    ensures fit { (t : Txn) (e : Entry) → IsPrintable styles.now t → legs_of styles.now t ≡ Ok e → IsFit e }
-    ensures small { (t : Txn) (e : Entry) → legs_of styles.now t ≡ Ok e
+pub fn entry_law()
+    ensures fit { (styles : List Style) (t : Txn) (e : Entry) → IsPrintable styles t → legs_of styles t ≡ Ok e → IsFit e }
+    ensures small { (styles : List Style) (t : Txn) (e : Entry) → legs_of styles t ≡ Ok e
         → AllByRecursion (λ (x : Posted). unsigned_abs x.qty ≤ limit) e.legs }
-    ensures day { (t : Txn) (e : Entry) → legs_of styles.now t ≡ Ok e → e.day ≡ t.day }
+    ensures day { (styles : List Style) (t : Txn) (e : Entry) → legs_of styles t ≡ Ok e → e.day ≡ t.day }
+{}
+
+/// A law of further commodities: when more are declared, a printable transaction keeps its entry, or its fault. Costs
+/// nothing.
+pub fn entry_growth_law()
+    ensures { (styles more : List Style) (t : Txn) → IsPrintable styles t
+        → legs_of (styles ++ more) t ≡ legs_of styles t }
 {
-    printing_law(styles);
+    growth_law();
 }
 
 /// A law of transactions of which everything is written, amounts without costs that sum to zero: the entry is that of
@@ -37,13 +43,3 @@ pub fn unmarked_law()
     ensures { (styles : List Style) (t : Txn) (mark : Option (List ℕ))
         → legs_of styles (record t { mark = mark }) ≡ legs_of styles t }
 {}
-
-/// A law of further commodities: when more are declared, a printable transaction keeps its entry, or its fault. Costs
-/// nothing.
-pub fn entries_grow_law(styles: &Styles)
-    ensures { (more : List Style) (t : Txn) → IsPrintable styles.now t
-        → legs_of (styles.now ++ more) t ≡ legs_of styles.now t }
-{
-    printing_law(styles);
-    growth_law();
-}

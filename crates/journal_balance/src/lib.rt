@@ -12,4 +12,4 @@ mod value;
 
 pub use balancing::legs;
 pub use conversion::conversion_accounts;
-pub use law::{entries_grow_law, entry_law, unmarked_law, written_law};
+pub use law::{entry_growth_law, entry_law, unmarked_law, written_law};

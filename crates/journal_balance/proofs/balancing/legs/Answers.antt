@@ -3,7 +3,7 @@ use Rattle.std.specs.List.{list_any}
 use Rattle.journal_format.specs.declared.posting.Posting.{Posting}
 use Rattle.journal_balance.specs.Legs.{is_large, legs_among}
 use Rattle.journal_balance.proofs.FaultLemmas.{no_fault}
-use Rattle.journal_balance.proofs.balancing.entry_of.Goals as goal
+use Rattle.journal_balance.proofs.balancing.legs.Goals as goal
 
 pub entered-requires-clause-room : goal.entered-requires-clause-room
 entered-requires-clause-room c =
