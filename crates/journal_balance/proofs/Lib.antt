@@ -7,3 +7,4 @@ pub mod ClaimLemmas
 pub mod EntryLemmas
 pub mod WrittenLemmas
 pub mod GrowthLemmas
+pub mod WorkedValues
