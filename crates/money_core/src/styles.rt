@@ -75,7 +75,7 @@ impl Styles {
         }
     }
 
-    /// How many commodities are declared.
+    /// How many commodities are declared: at most 16.
     pub fn len(&self) -> usize
         ensures count { result ≡ length self.now }
         ensures few { result ≤ MAX_COMMODITIES }

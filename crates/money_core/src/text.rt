@@ -32,6 +32,13 @@ impl Text {
         Ok(Text { text })
     }
 
+    /// A string as a text, without a copy.
+    pub fn from_string(text: String) -> Self
+        ensures { result ≡ string_bytes text }
+    {
+        Text { text }
+    }
+
     /// The text.
     pub fn as_str(&self) -> &str
         ensures { result.now ≡ self.now }

@@ -24,6 +24,8 @@ fn a_copy_holds_equal_items_in_order(rt: HostRuntime) {
         let copy = text.copy().expect(&rt, "memory");
         assert_eq!(rt; copy.as_str(), word);
         copy.is_text();
+        let string = String::from_str(alloc, word).expect(&rt, "memory");
+        assert_eq!(rt; Text::from_string(string).as_str(), word);
         texts.push(text).expect(&rt, "memory");
     }
     let (list, copy) = two_lists(alloc, texts).expect(&rt, "memory");

@@ -1,0 +1,45 @@
+//! What the entry of a transaction has, in the words of the book.
+
+ghost use Rattle.std.specs.Prelude.{◌≡◌, ◌≤◌, ◌++◌, ℕ, List, Option, Ok, unsigned_abs};
+ghost use Rattle.std.specs.List.{AllByRecursion};
+ghost use Rattle.money_core.specs.declared.style.Style.{Style};
+ghost use Rattle.money_core.specs.Amount.{limit};
+ghost use Rattle.book_core.specs.declared.leg.Leg.{Leg as Posted};
+ghost use Rattle.book_core.specs.declared.entry.Entry.{Entry};
+ghost use Rattle.book_core.specs.GoodBook.{IsFit};
+ghost use Rattle.journal_format.specs.declared.txn.Txn.{Txn};
+ghost use Rattle.journal_format.specs.Printable.{IsPrintable};
+ghost use Rattle.journal_balance.specs.Legs.{legs_of};
+ghost use Rattle.journal_balance.specs.Plain.{IsWritten, written_entry};
+
+use money_core::growth_law;
+
+/// Laws of the entry of a printable transaction: it sums to zero in every commodity, and has its assertions on different
+/// legs of its own; each leg is within 10^16; its day is the transaction's. Costs nothing.
+pub fn entry_law()
+    ensures fit { (styles : List Style) (t : Txn) (e : Entry) → IsPrintable styles t → legs_of styles t ≡ Ok e → IsFit e }
+    ensures small { (styles : List Style) (t : Txn) (e : Entry) → legs_of styles t ≡ Ok e
+        → AllByRecursion (λ (x : Posted). unsigned_abs x.qty ≤ limit) e.legs }
+    ensures day { (styles : List Style) (t : Txn) (e : Entry) → legs_of styles t ≡ Ok e → e.day ≡ t.day }
+{}
+
+/// A law of further commodities: when more are declared, a printable transaction keeps its entry, or its fault. Costs
+/// nothing.
+pub fn entry_growth_law()
+    ensures { (styles more : List Style) (t : Txn) → IsPrintable styles t
+        → legs_of (styles ++ more) t ≡ legs_of styles t }
+{
+    growth_law();
+}
+
+/// A law of transactions of which everything is written, amounts without costs that sum to zero: the entry is that of
+/// the postings as they stand. Costs nothing.
+pub fn written_law()
+    ensures { (styles : List Style) (t : Txn) → IsWritten t → legs_of styles t ≡ Ok (written_entry t) }
+{}
+
+/// A law of marks: the entry of a transaction does not depend on its mark. Costs nothing.
+pub fn unmarked_law()
+    ensures { (styles : List Style) (t : Txn) (mark : Option (List ℕ))
+        → legs_of styles (record t { mark = mark }) ≡ legs_of styles t }
+{}

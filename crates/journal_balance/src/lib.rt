@@ -1,0 +1,15 @@
+//! The entry of a transaction: its legs, with the amount that was left out and the conversion postings of its costs.
+#![tactic(auto)]
+
+mod balancing;
+mod conversion;
+mod entering;
+mod law;
+mod missing_amount;
+#[cfg(test)]
+mod tests;
+mod value;
+
+pub use balancing::legs;
+pub use conversion::conversion_accounts;
+pub use law::{entry_growth_law, entry_law, unmarked_law, written_law};
