@@ -8,8 +8,8 @@ ghost use Rattle.journal_lines.specs.Tag.{tags_of, comment_parts, AreTagsOf};
 ghost use Rattle.journal_lines.specs.TagsLeft.{tags_left};
 
 use crate::blank::trim;
-use crate::lines::find;
 use crate::tag::Tags;
+use money_core::find;
 
 /// What stands before the first `;`, or all.
 #[tactic(auto, unfolding(crate::specs::Comment::front_of))]

@@ -16,8 +16,7 @@ ghost use Rattle.journal_lines.specs.HeaderCutView.{coded_view, cut_view};
 use crate::blank::{find_blank, first_word, trim_end, trim_start};
 use crate::comment::{comment_of, front_of};
 use crate::date::read_date;
-use crate::lines::find;
-use money_core::{Cause, Day};
+use money_core::{Cause, Day, find, first_byte};
 
 /// The status of a transaction or a posting.
 #[derive(Clone, Copy, Debug, PartialEq, Eq)]
@@ -158,15 +157,6 @@ fn behind_date(front: &[u8]) -> &[u8]
     match find_blank(front) {
         Some(at) => trim_start(&front[at..]),
         None => trim_start(&[]),
-    }
-}
-
-pub(crate) fn first_byte(text: &[u8]) -> u8
-    ensures { result ≡ slice_index text.now 0 }
-{
-    match text {
-        [first, ..] => *first,
-        [] => 0,
     }
 }
 

@@ -7,7 +7,7 @@ ghost use Rattle.journal_lines.specs.Comment.{comment_of};
 ghost use Rattle.journal_lines.specs.LineKind.{is_same, is_blank_line, is_comment_sign, is_block_start, is_block_end, is_commodity_word, is_skipped_word, kind_of, is_remark};
 
 use crate::blank::{first_word, is_blank, trim_end, trim_start};
-use crate::header::first_byte;
+use money_core::first_byte;
 
 /// The kinds of lines.
 #[derive(Clone, Copy, Debug, PartialEq, Eq)]

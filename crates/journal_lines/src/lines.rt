@@ -5,6 +5,8 @@ ghost use Rattle.std.specs.List.{position_or_len, before_first, after_first};
 ghost use Rattle.std.specs.Iterator.{YieldsFirstBy, item_count};
 ghost use Rattle.journal_lines.specs.Lines.{without_return, lines, numbered, MakeUp};
 
+use money_core::{find, first_place};
+
 /// The lines of a text with their numbers from 1, in order, each the slice of the text without its end.
 #[derive(Drop)]
 pub struct Lines<'a> {
@@ -71,24 +73,6 @@ fn without_return(line: &[u8]) -> &[u8]
     match line {
         [front @ .., b'\r'] => front,
         _ => line,
-    }
-}
-
-/// Where the byte first stands.
-pub(crate) fn find(text: &[u8], byte: u8) -> Option<usize>
-    ensures { result ≡ position (λ b. b == byte) text.now }
-{
-    text.iter().position(|b| *b == byte)
-}
-
-/// Where the byte first stands, or the length.
-fn first_place(text: &[u8], byte: u8) -> usize
-    ensures place { result ≡ position_or_len (λ b. b == byte) text.now }
-    ensures bound { result ≤ length text.now }
-{
-    match find(text, byte) {
-        Some(at) => at,
-        None => text.len(),
     }
 }
 

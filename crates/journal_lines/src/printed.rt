@@ -15,9 +15,8 @@ ghost use Rattle.journal_lines.specs.Printed.{is_clean, header_status, header_co
 
 use crate::blank::is_blank;
 use crate::date::date_text;
-use crate::header::{MAX_CODE, MAX_COMMENT, MAX_DESCRIPTION, Status, first_byte};
-use crate::lines::find;
-use money_core::{Cause, Day};
+use crate::header::{MAX_CODE, MAX_COMMENT, MAX_DESCRIPTION, Status};
+use money_core::{Cause, Day, find, first_byte};
 use std::alloc::AllocError;
 
 /// Whether no ASCII control character but the tab stands in the line.
