@@ -3,6 +3,7 @@ use Rattle.std.specs.Prelude.{ℕ, List, [], ◌∷◌, ◌++◌, length, nat_le
 use Rattle.std.specs.List.{flat_map, list_all}
 use Rattle.money_core.specs.declared.style.Style.{Style}
 use Rattle.journal_lines.specs.Printed.{header_line, comment_line}
+use Rattle.journal_format.specs.Pieces.{posting_limit}
 use Rattle.journal_format.specs.declared.posting.Posting.{Posting}
 use Rattle.journal_format.specs.declared.txn.Txn.{Txn}
 use Rattle.journal_format.specs.CanonicalText.{posting_line}
@@ -44,4 +45,4 @@ rest_part styles t = comments_part t.comments ++ postings_part styles t.postings
 
 -- what stands below a header is well formed
 abbrev pub has_good_lines : List Style → Txn → Bool
-has_good_lines styles t = is_mark_or_none t.mark && list_all is_note t.comments && list_all (is_posting styles) t.postings && nat_le (length t.postings) 1000
+has_good_lines styles t = is_mark_or_none t.mark && list_all is_note t.comments && list_all (is_posting styles) t.postings && nat_le (length t.postings) posting_limit
