@@ -1,9 +1,9 @@
 -- A directive, and a line below it, are read exactly where they have their form.
-use Rattle.std.proofs.Common.{◌≡◌, ◌≢◌, ◌≤◌, ◌<◌, ◌+◌, ◌-◌, ◌++◌, ◌==◌, ℕ, suc, List, [], ◌∷◌, Bool, true, false, cond, not, ◌&&◌, ◌||◌, length, take, drop, slice_index, slice_get, codes, arith, refl, ap, ◌∙◌, append-nil, append_assoc, take-append-drop, sym, subst, Option, Some, None, Result, Ok, Err, inl, inr, ◌⊎◌, length-append, nat_lt, nat_eq}
+use Rattle.std.proofs.Common.{◌≡◌, ◌≢◌, ◌≤◌, ◌<◌, ◌+◌, ◌++◌, ◌==◌, ℕ, suc, List, [], ◌∷◌, Bool, true, false, cond, not, ◌&&◌, length, take, drop, slice_index, slice_get, codes, arith, refl, ap, ◌∙◌, append-nil, append_assoc, take-append-drop, sym, subst, Option, Some, None, Result, Ok, Err, inl, inr, ◌⊎◌, length-append}
 use Rattle.std.specs.Prelude.{◌↔◌}
 use Rattle.std.proofs.lemmas.Grind.{common_steps}
 use Rattle.std.proofs.lemmas.Bool.{cases_Bool, cases_lt, and_parts, and_from, not-true, not_from_false, lt-ltb, le-ltb, eqb-true, eq-eqb, ne_eqb}
-use Rattle.std.specs.List.{list_all, slice_split, onto_first, position_or_len, before_first, after_first}
+use Rattle.std.specs.List.{list_all, slice_split, onto_first, position_or_len}
 use Rattle.std.specs.Char.{is_ascii_digit}
 use Rattle.std.specs.Cmp.Lexicographic.{same_text}
 use Rattle.std.proofs.lemmas.List.{drop_at}
@@ -11,11 +11,11 @@ use Rattle.std.proofs.lemmas.List.Sums.{passes_at_first}
 use Rattle.std.proofs.Math.Seq.{take-append_seam, drop-cons}
 use Rattle.money_core.specs.declared.mark.Mark.{Mark}
 use Rattle.money_core.specs.declared.mark.Mark.TheVariants.{Point, Comma}
-use Rattle.money_core.specs.declared.class.Class.TheVariants.{Blank, Symbol, Number}
+use Rattle.money_core.specs.declared.class.Class.TheVariants.{Symbol}
 use Rattle.money_core.specs.declared.style.Style.{Style}
 use Rattle.money_core.specs.declared.unit.Unit.{Unit as Commodity}
 use Rattle.money_core.specs.declared.cause.Cause.{Cause}
-use Rattle.money_core.specs.declared.cause.Cause.TheVariants.{CommodityStyle, Directive}
+use Rattle.money_core.specs.declared.cause.Cause.TheVariants.{Directive}
 use Rattle.money_core.specs.Class.{has}
 use Rattle.money_core.specs.Mark.{decimal_byte, group_byte}
 use Rattle.money_core.specs.Number.{is_group, is_whole, is_number, whole_part, fraction_part}
@@ -26,18 +26,18 @@ use Rattle.money_core.specs.Sampling.{style_of}
 use Rattle.money_core.specs.Cutting.{symbol_of}
 use Rattle.money_core.proofs.GrammarLemmas.{number_parts, symbol_begins, whole_symbol}
 use Rattle.money_core.proofs.SampleLemmas.{style_spelled, spelled_style}
-use Rattle.journal_lines.specs.Blank.{is_blank, first_word, first_solid, trim_start, trim_end, trim, is_trimmed}
-use Rattle.journal_lines.specs.Comment.{front_of, comment_of, has_no}
+use Rattle.journal_lines.specs.Blank.{is_blank, first_word, first_solid, trim_start, trim, is_trimmed}
+use Rattle.journal_lines.specs.Comment.{front_of, comment_of}
 use Rattle.journal_lines.specs.LineKind.{kind_of, is_same, is_commodity_word, is_skipped_word}
 use Rattle.journal_lines.specs.declared.line_kind.LineKind.{LineKind}
 use Rattle.journal_lines.specs.declared.line_kind.LineKind.TheVariants as kind
-use Rattle.journal_lines.proofs.CutLemmas.{trim_start_behind, trim_start_same, trim_start_first, trim_end_same, trim_inside, all_joined, all_weaker, first_kept}
+use Rattle.journal_lines.proofs.CutLemmas.{trim_start_behind, trim_start_same, trim_start_first, trim_inside, all_joined, all_weaker, first_kept}
 use Rattle.journal_lines.proofs.HeaderLemmas.{StartsBlank, date_ends, chosen}
 use Rattle.journal_lines.proofs.HeaderFormLemmas.{remark_reads, in_row, split_start, blanks_front, end_blanks, split_end, blanks_end, remark_form, blank_no_semicolon}
 use Rattle.journal_format.specs.Posting.{outside}
 use Rattle.journal_format.specs.Directive.{behind_word, shows_digit, agrees, sampled, sampled_at, symbol_at, named, commodity_named, commodity_of, format_at, sample_fault, is_format, format_fault}
 use Rattle.journal_format.specs.DirectiveForm.{IsSampleOf, IsSymbolOf, HasBehind, NamesCommodity, IsBelow}
-use Rattle.journal_format.proofs.OutsideLemmas.{IsPassed, IsFree, number_in, passed_symbol, solid_amount, solid_symbol, IsSolid, first_amount, bytes_amount, bytes_symbol}
+use Rattle.journal_format.proofs.OutsideLemmas.{IsFree, number_in, passed_symbol, solid_amount, solid_symbol, first_amount, bytes_amount, bytes_symbol}
 use Rattle.journal_format.proofs.PostingFormLemmas.{bars_blank, allows_no_comment}
 
 -- ---- samples and symbols

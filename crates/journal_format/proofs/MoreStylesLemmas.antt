@@ -1,5 +1,5 @@
 -- What is printable under some styles is printable under them and more, with the same texts.
-use Rattle.std.proofs.Common.{◌≡◌, ◌++◌, ◌≤◌, ℕ, ℤ, List, [], ◌∷◌, true, ◌&&◌, length, map, arith, refl, ap, ◌∙◌, subst, sym, Option, Some, None, nat_lt, nat_le}
+use Rattle.std.proofs.Common.{◌≡◌, ◌++◌, ◌≤◌, ℕ, ℤ, List, [], ◌∷◌, true, ◌&&◌, length, map, refl, ap, ◌∙◌, subst, sym, Option, Some, None, nat_lt, nat_le}
 use Rattle.std.specs.Prelude.{unsigned_abs}
 use Rattle.std.specs.List.{list_all, flat_map}
 use Rattle.std.specs.Str.{is_utf8}
@@ -17,7 +17,7 @@ use Rattle.journal_lines.specs.Printed.{ended, indent, comment_line, header_line
 use Rattle.journal_format.specs.declared.posting.Posting.{Posting}
 use Rattle.journal_format.specs.declared.txn.Txn.{Txn}
 use Rattle.journal_format.specs.PostingForm.{claim_sign}
-use Rattle.journal_format.specs.CanonicalText.{posting_status, price_text, claim_text, amount_text, posting_line, posting_lines, mark_lines, txn_lines, txn_text, body_text, marked}
+use Rattle.journal_format.specs.CanonicalText.{posting_status, price_text, claim_text, amount_text, posting_line, posting_lines, mark_lines, txn_lines, txn_text, marked}
 use Rattle.journal_format.specs.Printable.{is_remark_text, is_amount, is_price_or_none, is_claim_or_none, is_value, is_posting, IsPrintable}
 use Rattle.journal_format.specs.Growth.{StaysPrintable}
 

@@ -4,19 +4,14 @@ use Rattle.std.proofs.lemmas.Grind.{common_steps}
 use Rattle.std.proofs.lemmas.Bool.{and_parts, and_from, not-true, not_from_false}
 use Rattle.std.proofs.lemmas.List.Sums.{AllPass-from_list_all}
 use Rattle.std.specs.List.{list_all}
-use Rattle.std.specs.Char.{is_ascii_digit}
 use Rattle.money_core.specs.declared.mark.Mark.{Mark}
 use Rattle.money_core.specs.declared.class.Class.TheVariants.{Blank, Symbol, Number}
 use Rattle.money_core.specs.declared.amount.Sign.{Sign}
 use Rattle.money_core.specs.declared.amount.Sign.TheVariants.{Absent, Plus, Minus}
-use Rattle.money_core.specs.declared.style.Style.{Style}
-use Rattle.money_core.specs.declared.price.Price.{Price}
 use Rattle.money_core.specs.Blank.{IsBlanks}
 use Rattle.money_core.specs.Class.{has}
-use Rattle.money_core.specs.Number.{is_number}
 use Rattle.money_core.specs.Symbol.{is_quoted_byte, in_quotes, WritesSymbol}
-use Rattle.money_core.specs.Amount.{Parts, WritesSign, IsAmount, WritesAmount}
-use Rattle.money_core.specs.Price.{price_mark, is_total, WritesPrice}
+use Rattle.money_core.specs.Amount.{Parts, WritesSign, IsAmount}
 use Rattle.money_core.proofs.AmountPrint.{last_of}
 use Rattle.money_core.proofs.ClassLemmas.{all_weaker, all_joined, first_passes, symbol_no_blank, symbol_no_quote, number_no_blank, number_no_quote}
 use Rattle.money_core.proofs.GrammarLemmas.{number_text, first_number, NumberText}

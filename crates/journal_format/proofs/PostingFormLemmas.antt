@@ -1,10 +1,10 @@
 -- A posting line is read exactly where it has its form.
-use Rattle.std.proofs.Common.{◌≡◌, ◌≤◌, ◌<◌, ◌+◌, ◌-◌, ◌++◌, ◌==◌, ℕ, ℤ, suc, List, [], ◌∷◌, Bool, true, false, cond, not, ◌&&◌, ◌||◌, length, take, drop, slice_index, arith, refl, ap, ◌∙◌, append-nil, append_assoc, take-append-drop, sym, subst, Option, Some, None, Result, Ok, Err, inl, inr, ◌⊎◌, length-append, nat_lt, nat_le}
+use Rattle.std.proofs.Common.{◌≡◌, ◌≤◌, ◌<◌, ◌+◌, ◌++◌, ◌==◌, ℕ, ℤ, suc, List, [], ◌∷◌, Bool, true, false, cond, not, ◌&&◌, ◌||◌, length, take, drop, slice_index, arith, refl, ap, ◌∙◌, append-nil, append_assoc, take-append-drop, sym, subst, Option, Some, None, Result, Ok, Err, inl, inr, ◌⊎◌, nat_lt, nat_le}
 use Rattle.std.specs.Prelude.{option_to_list, ◌↔◌}
 use Rattle.std.proofs.lemmas.Grind.{common_steps}
-use Rattle.std.proofs.lemmas.Bool.{cases_Bool, and_parts, and_from, not-true, not_from_false, le-ltb, le-leb, ltb-false, leb-true, eqb-true, ne_eqb, or_cases}
+use Rattle.std.proofs.lemmas.Bool.{cases_Bool, and_parts, and_from, not-true, le-ltb, le-leb, ltb-false, eqb-true, ne_eqb}
 use Rattle.std.specs.List.{list_all}
-use Rattle.std.proofs.lemmas.List.{drop_at, take_all, get_or_append_left}
+use Rattle.std.proofs.lemmas.List.{drop_at, get_or_append_left}
 use Rattle.std.proofs.Math.Seq.{take-append_seam}
 use Rattle.money_core.specs.declared.style.Style.{Style}
 use Rattle.money_core.specs.declared.unit.Unit.{Unit as Commodity}
@@ -27,15 +27,15 @@ use Rattle.journal_lines.specs.declared.header.Status.{Status}
 use Rattle.journal_lines.specs.Blank.{is_blank, first_solid, trim_start, trim_end, trim, is_trimmed}
 use Rattle.journal_lines.specs.Comment.{front_of, comment_of}
 use Rattle.journal_lines.specs.Header.{status_at, behind_status, length_of}
-use Rattle.journal_lines.specs.HeaderForm.{status_text, IsRemark}
+use Rattle.journal_lines.specs.HeaderForm.{status_text}
 use Rattle.journal_lines.specs.AccountName.{is_account, is_name_byte, ends_name, name_end}
 use Rattle.journal_lines.proofs.AccountLemmas.{EndsName, name_whole, account_unbroken}
 use Rattle.journal_lines.proofs.CutLemmas.{trim_start_behind, trim_start_same, trim_start_blanks, trim_end_same, trim_inside, all_joined, all_weaker, first_kept, trim_end_trimmed, trim_trimmed, trim_same}
 use Rattle.journal_lines.proofs.HeaderLemmas.{past, chosen}
 use Rattle.journal_lines.proofs.HeaderFormLemmas.{status_reads, remark_reads, in_row, split_start, blanks_front, end_blanks, split_end, blanks_end, status_form, remark_form, status_no_semicolon, blank_no_semicolon}
 use Rattle.journal_format.specs.declared.posting.Posting.{Posting}
-use Rattle.journal_format.specs.Posting.{Value, outside, before_mark, from_mark, PostingCut, cut_part, cut_posting, claim_sign, kind_at, claimed, with_claim, with_price, with_amount, without_amount, value_of, is_virtual, posted, judged_posting, posting_of}
-use Rattle.journal_format.specs.PostingForm.{IsBehindBlanks, WritesClaim, IsPricePart, IsClaimPart, WritesValue, IsAmountPart, is_wide, IsPostingText}
+use Rattle.journal_format.specs.Posting.{Value, outside, before_mark, from_mark, PostingCut, cut_part, cut_posting, claim_sign, kind_at, claimed, with_claim, with_price, with_amount, value_of, is_virtual, posted, judged_posting, posting_of}
+use Rattle.journal_format.specs.PostingForm.{WritesClaim, IsPricePart, IsClaimPart, IsAmountPart, is_wide, IsPostingText}
 use Rattle.journal_format.proofs.CutUtf8Lemmas.{outside_mark}
 use Rattle.journal_format.proofs.OutsideLemmas.{IsPassed, IsFree, passed_bytes, passed_joined, passed_blanks, passed_amount, IsSolid, solid_behind, solid_amount, BarsAmount, first_amount, AllowsAmount, bytes_amount}
 use Rattle.journal_format.proofs.ValueLemmas.{split_mark}

@@ -1,5 +1,5 @@
 -- What is left of the room that a text may take.
-use Rattle.std.proofs.Common.{◌≡◌, ◌≤◌, ◌<◌, ◌+◌, ◌-◌, ◌++◌, ℕ, List, [], ◌∷◌, Bool, true, false, ◌&&◌, length, take, get_or, arith, refl, ap, ◌∙◌, sym, append-nil, inl, inr, Option, Some, None, nat_le, length-append}
+use Rattle.std.proofs.Common.{◌≡◌, ◌≤◌, ◌<◌, ◌+◌, ◌-◌, ◌++◌, ℕ, List, [], ◌∷◌, Bool, true, false, ◌&&◌, length, take, get_or, arith, refl, ap, ◌∙◌, sym, append-nil, inl, inr, Some, None, nat_le, length-append}
 use Rattle.std.specs.Prelude.{is_some}
 use Rattle.std.specs.List.{flat_map}
 use Rattle.std.proofs.lemmas.Bool.{cases_Bool, le-leb, lt-leb, leb-true, leb-false}

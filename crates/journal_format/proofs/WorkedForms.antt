@@ -1,5 +1,5 @@
 -- Lines and pieces worked out by hand, so that a wrong definition of what they are does not check.
-use Rattle.std.proofs.Common.{◌≡◌, refl, List, [], ◌∷◌, ◌++◌, Some, None, codes, pos, Ok, Err, ℕ, inl, inr, ◌∙◌, sym, true, false, arith}
+use Rattle.std.proofs.Common.{◌≡◌, refl, List, [], ◌∷◌, Some, None, codes, pos, Ok, Err, ℕ, inl, inr, ◌∙◌, sym, true, false, arith}
 use Rattle.std.specs.Str.{is_utf8, chars}
 use lib.Utf8.{encode}
 use Rattle.money_core.specs.declared.mark.Mark.TheVariants.{Point}
@@ -9,11 +9,11 @@ use Rattle.money_core.specs.declared.cause.Cause.TheVariants as cause
 use Rattle.money_core.specs.declared.price.Price.{Price}
 use Rattle.money_core.specs.declared.price.Price.TheVariants.{Each, Total}
 use Rattle.money_core.specs.Price.{WritesPrice}
-use Rattle.money_core.specs.Cutting.{symbol_of, cut_symbol, left_parts, right_symbol, amount_parts}
+use Rattle.money_core.specs.Cutting.{cut_symbol, left_parts, right_symbol, amount_parts}
 use Rattle.money_core.specs.Reading.{quantity_in, amount_of_parts}
 use Rattle.money_core.specs.PriceReading.{unit_cost, total_cost, price_of_parts, price}
 use Rattle.money_core.specs.Sampling.{shown_mark, style_of_parts}
-use Rattle.money_core.proofs.WorkedValues.{styles, euro, dollar}
+use Rattle.money_core.proofs.WorkedValues.{styles, euro}
 use Rattle.money_core.proofs.ReadingLemmas.{writes_if}
 use Rattle.money_core.proofs.PriceGrammar.{price_reads_iff}
 use Rattle.money_core.proofs.SampleLemmas.{style_spelled}
@@ -28,7 +28,7 @@ use Rattle.journal_format.specs.declared.posting.Posting.{Posting}
 use Rattle.journal_format.specs.Posting.{outside, cut_posting, kind_at, value_of, judged_posting, posting_of}
 use Rattle.journal_format.specs.PostingForm.{IsPostingText}
 use Rattle.journal_format.specs.DirectiveForm.{NamesCommodity, IsBelow}
-use Rattle.journal_format.specs.Directive.{commodity_named, is_format, format_fault}
+use Rattle.journal_format.specs.Directive.{is_format, format_fault}
 use Rattle.journal_format.specs.Machine.{step, journal_of}
 use Rattle.journal_format.specs.Pieces.{HaveList}
 use Rattle.journal_format.specs.Pieces.ArePieces.{nothing, led, alone, remark}

@@ -4,19 +4,11 @@ use Rattle.std.proofs.lemmas.Bool.{cases_Bool, cases_lt, and_parts, and_from, no
 use Rattle.std.specs.List.{list_all, position_or_len, before_first, after_first}
 use Rattle.std.proofs.lemmas.List.{get_or-reverse, length-reverse, reverse-append, reverse-reverse, take_at, take-append-le, get_or_at}
 use Rattle.std.proofs.lemmas.List.Sums.{AllPass-from_list_all, list_all-from_AllPass, prefix_len-drop_no, passes_at_first, split_at_first}
-use Rattle.std.proofs.lemmas.List.Folds.{list_all-append}
 use Rattle.std.proofs.Math.Seq.{drop-append-add, take-length}
 use Rattle.journal_lines.specs.Blank.{is_blank, first_solid, trim_start, trim_end, trim, is_trimmed}
 use Rattle.journal_lines.specs.Comment.{has_no, front_of, comment_of}
-
--- the first place of a byte that passes
-pub before_mark : (p : ℕ → Bool) (xs ys : List ℕ) (y : ℕ) → list_all (λ b. not (p b)) xs ≡ true → p y ≡ true → position_or_len p (xs ++ y ∷ ys) ≡ length xs
-before_mark p [] ys y h k = rw k refl
-before_mark p (x ∷ xs) ys y h k = let parts = and_parts (not (p x)) _ h in rw (parts.0, before_mark p xs ys y parts.1 k) (omega arith)
-
-pub no_mark : (p : ℕ → Bool) (xs : List ℕ) → list_all (λ b. not (p b)) xs ≡ true → position_or_len p xs ≡ length xs
-no_mark p [] h = refl
-no_mark p (x ∷ xs) h = let parts = and_parts (not (p x)) _ h in rw (parts.0, no_mark p xs parts.1) (omega arith)
+pub use Rattle.money_core.proofs.ClassLemmas.{all_weaker, all_joined}
+pub use Rattle.money_core.proofs.RoundTrip.{before_mark, no_mark}
 
 -- blanks at the front
 pub solid_behind : (us xs : List ℕ) → list_all is_blank us ≡ true → first_solid (us ++ xs) ≡ length us + first_solid xs
@@ -87,14 +79,6 @@ unfolding comment_of
 comment_behind front text h =
     let inside : length front < length (front ++ 59 ∷ text) = rw (length-append front (59 ∷ text)) (omega arith) in
     rw (before_mark (λ b. b == 59) front text 59 h refl, lt-ltb (length front) (length (front ++ 59 ∷ text)) inside, drop-append-add front (59 ∷ text) 1) refl
-
--- a weaker test passes too
-pub all_weaker : (p q : ℕ → Bool) (xs : List ℕ) → ((b : ℕ) → p b ≡ true → q b ≡ true) → list_all p xs ≡ true → list_all q xs ≡ true
-all_weaker p q [] f h = refl
-all_weaker p q (x ∷ xs) f h = let parts = and_parts (p x) _ h in and_from (q x) _ (f x parts.0) (all_weaker p q xs f parts.1)
-
-pub all_joined : (p : ℕ → Bool) (xs ys : List ℕ) → list_all p xs ≡ true → list_all p ys ≡ true → list_all p (xs ++ ys) ≡ true
-all_joined p xs ys h k = list_all-append p xs ys ∙ and_from _ _ h k
 
 -- parts of a list
 pub all_take : (p : ℕ → Bool) (n : ℕ) (xs : List ℕ) → list_all p xs ≡ true → list_all p (take n xs) ≡ true

@@ -1,8 +1,8 @@
 -- Which fault a header line has: that of its text from left to right.
-use Rattle.std.proofs.Common.{◌≡◌, ◌≤◌, ◌<◌, ◌↔◌, ◌+◌, ◌-◌, ◌++◌, ◌==◌, ◌⊎◌, ℕ, List, [], ◌∷◌, Bool, true, false, cond, not, ◌&&◌, ◌||◌, length, take, drop, slice_index, arith, refl, ap, ◌∙◌, append-nil, append_assoc, sym, subst, Option, Some, None, Result, Ok, Err, IfErr, inl, inr, nat_lt, take-append-drop}
+use Rattle.std.proofs.Common.{◌≡◌, ◌≤◌, ◌<◌, ◌↔◌, ◌++◌, ◌==◌, ◌⊎◌, ℕ, List, [], ◌∷◌, Bool, true, false, not, ◌||◌, length, take, drop, slice_index, arith, refl, ap, ◌∙◌, append_assoc, sym, subst, Option, Some, None, Result, Ok, Err, IfErr, inl, inr, nat_lt}
 use Rattle.std.proofs.lemmas.Grind.{common_steps}
 use Rattle.std.proofs.lemmas.Bool.{cases_Bool, and_parts, and_from, or_parts, not-true, not_from_false, lt-ltb, le-ltb, ltb-true, ltb-false, eqb-true}
-use Rattle.std.specs.List.{list_all, position_or_len, before_first}
+use Rattle.std.specs.List.{list_all, position_or_len}
 use Rattle.std.proofs.lemmas.List.{drop_at}
 use Rattle.std.proofs.Math.Seq.{take-append_seam}
 use Rattle.money_core.specs.declared.day.Day.{Day}
@@ -13,16 +13,15 @@ use Rattle.journal_lines.specs.declared.header.Status.{Status}
 use Rattle.journal_lines.specs.declared.header.Header as read
 use Rattle.journal_lines.specs.Blank.{is_blank, first_word, first_solid, trim_start, trim_end}
 use Rattle.journal_lines.specs.Comment.{has_no, front_of, comment_of}
-use Rattle.journal_lines.specs.Date.{IsDate}
 use Rattle.journal_lines.specs.DateReading.{date_of}
 use Rattle.journal_lines.specs.Header.{HeaderParts, length_of, status_at, behind_status}
 use Rattle.journal_lines.specs.HeaderReading.{Coded, closed_code, code_at, HeaderCut, behind_date, cut_header, is_coded_long, is_cut_long, judged_header, dated_header, closed_header, header_of}
 use Rattle.journal_lines.specs.HeaderView.{read_parts}
 use Rattle.journal_lines.specs.HeaderForm.{status_text, code_text, is_closed}
-use Rattle.journal_lines.specs.HeaderFaults.{is_sign, IsCut, IsCoded, IsLongText, HasLongPart, HasNoDate, HasOpenCode}
-use Rattle.journal_lines.proofs.CutLemmas.{no_mark, trim_start_behind, trim_start_same, trim_inside, all_weaker, all_joined, all_take, all_trim_end, first_trimmed, trim_end_same, trim_end_trimmed, before_none}
+use Rattle.journal_lines.specs.HeaderFaults.{IsCut, IsCoded, IsLongText, HasLongPart, HasNoDate, HasOpenCode}
+use Rattle.journal_lines.proofs.CutLemmas.{no_mark, trim_start_behind, trim_start_same, trim_inside, all_weaker, all_joined, all_take, first_trimmed, trim_end_trimmed, before_none}
 use Rattle.journal_lines.proofs.DateLemmas.{reads_date, date_reads}
-use Rattle.journal_lines.proofs.HeaderLemmas.{StartsBlank, date_ends, chosen, CodedOk, coded_ok, all_behind_date, all_behind_status, front_none, date_first, status_first, no_status}
+use Rattle.journal_lines.proofs.HeaderLemmas.{StartsBlank, date_ends, CodedOk, coded_ok, all_behind_date, all_behind_status, front_none, date_first, status_first, no_status}
 use Rattle.journal_lines.proofs.HeaderFormLemmas.{StatusForm, CodeForm, RemarkForm, status_reads, remark_reads, code_reads, in_row, remark_form, status_form, code_form, date_split, nothing_apart, end_blanks, split_end, blanks_front, blanks_end, blank_no_semicolon, status_no_semicolon, nothing_has_no_status, blanks_joined}
 
 -- ---- each line is cut so

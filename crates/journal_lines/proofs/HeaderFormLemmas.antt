@@ -5,7 +5,7 @@ use Rattle.std.proofs.lemmas.Bool.{cases_Bool, cases_lt, and_parts, and_from, or
 use Rattle.std.specs.List.{list_all, position_or_len, before_first, after_first}
 use Rattle.std.specs.Char.{is_ascii_digit}
 use Rattle.std.proofs.lemmas.List.{drop_at, get_or-reverse, length-drop, get_or-drop}
-use Rattle.std.proofs.lemmas.List.Sums.{list_all-from_AllPass, fails_before_first, passes_at_first, split_at_first}
+use Rattle.std.proofs.lemmas.List.Sums.{list_all-from_AllPass, fails_before_first, passes_at_first}
 use Rattle.std.proofs.Math.Seq.{take-append_seam, drop-append-add, drop-cons}
 use Rattle.money_core.specs.declared.day.Day.{Day}
 use Rattle.journal_lines.specs.declared.header.Status.{Status}
@@ -13,7 +13,7 @@ use Rattle.journal_lines.specs.declared.header.Status.TheVariants.{Pending, Clea
 use Rattle.journal_lines.specs.Blank.{is_blank, first_word, first_solid, trim_start, trim_end, is_trimmed}
 use Rattle.journal_lines.specs.Comment.{has_no, front_of, comment_of}
 use Rattle.journal_lines.specs.Date.{is_separator, is_short}
-use Rattle.journal_lines.specs.DateReading.{behind_year, separator, month_part, day_part, HasDateParts, date_of, day_of}
+use Rattle.journal_lines.specs.DateReading.{behind_year, separator, month_part, day_part, HasDateParts, date_of}
 use Rattle.journal_lines.specs.Header.{status_at, behind_status, HeaderParts, length_of}
 use Rattle.journal_lines.specs.HeaderReading.{Coded, closed_code, code_at, behind_date, cut_header, is_coded_long, judged_header, dated_header, closed_header, header_of}
 use Rattle.journal_lines.specs.HeaderForm.{status_text, code_text, is_closed, starts_so, IsRemark, Reads}

@@ -1,7 +1,7 @@
 -- A printed comment line and a printed header line read back as their parts, and what is read prints so.
-use Rattle.std.proofs.Common.{◌≡◌, ◌≤◌, ◌<◌, ◌+◌, ◌++◌, ◌==◌, ℕ, List, [], ◌∷◌, Bool, true, false, cond, not, ◌&&◌, ◌||◌, length, drop, slice_index, arith, refl, ap, ◌∙◌, append-nil, append_assoc, sym, subst, Option, Some, None, Result, Ok, Err, inl, inr, ◌⊎◌, length-append, nat_lt, nat_le}
+use Rattle.std.proofs.Common.{◌≡◌, ◌≤◌, ◌<◌, ◌+◌, ◌++◌, ◌==◌, ℕ, List, [], ◌∷◌, Bool, true, false, cond, not, ◌&&◌, ◌||◌, length, drop, slice_index, arith, refl, ap, ◌∙◌, append-nil, append_assoc, sym, subst, Option, Some, None, Ok, inl, inr, ◌⊎◌, length-append, nat_lt, nat_le}
 use Rattle.std.proofs.lemmas.Grind.{common_steps}
-use Rattle.std.proofs.lemmas.Bool.{cases_Bool, and_parts, and_from, or_parts, not-true, not_from_false, lt-ltb, le-ltb, le-leb, leb-true, ltb-true, ltb-false}
+use Rattle.std.proofs.lemmas.Bool.{cases_Bool, and_parts, and_from, or_parts, not-true, not_from_false, lt-ltb, le-ltb, le-leb, leb-true, ltb-false}
 use Rattle.std.specs.List.{list_all, position_or_len, before_first, after_first}
 use Rattle.std.specs.Char.{is_ascii_digit}
 use Rattle.std.proofs.lemmas.List.{drop_at}
@@ -13,12 +13,13 @@ use Rattle.journal_lines.specs.Blank.{is_blank, first_word, trim_start, trim_end
 use Rattle.journal_lines.specs.Comment.{has_no, front_of, comment_of}
 use Rattle.journal_lines.specs.Date.{printed_date, IsDateText, IsDayNumber}
 use Rattle.journal_lines.specs.DateReading.{date_of}
-use Rattle.journal_lines.specs.Header.{code_limit, description_limit, comment_limit, status_at, behind_status, HeaderParts, length_of}
+use Rattle.journal_lines.specs.Header.{code_limit, description_limit, status_at, behind_status, HeaderParts, length_of}
 use Rattle.journal_lines.specs.HeaderReading.{Coded, code_at, behind_date, cut_header, is_coded_long, judged_header, dated_header, closed_header, header_of}
 use Rattle.journal_lines.specs.Printed.{is_clean, indent, header_status, header_code, header_line, spaced_text, comment_line, is_comment, is_code, is_description, HeaderOk, PrintsBack}
 use Rattle.journal_lines.specs.HeaderForm.{starts_so}
 use Rattle.journal_lines.proofs.CutLemmas.{before_mark, no_mark, trim_start_behind, trim_start_same, trim_end_same, trim_inside, trim_same, front_whole, no_comment, comment_behind, all_weaker, all_joined, all_take, all_drop, all_trim_start, all_trim_end, first_trimmed, trim_start_first, trim_end_trimmed, trim_trimmed, before_none}
 use Rattle.journal_lines.proofs.DateLemmas.{dates_print, dates_bound, date_reads}
+pub use Rattle.money_core.proofs.AmountPrint.{past}
 
 -- comment lines
 spaced_trimmed : (text : List ℕ) → is_trimmed text ≡ true → trim (spaced_text text) ≡ text
@@ -270,11 +271,6 @@ read_comment line text clean e short =
           and_from _ _ (and_from _ _ ends good) (le-leb (length text) 900 (ltb-false 900 (length text) short))
       | inr none ↦ absurd (let none_is = none.1 in cc)
     ]
-
--- past a test that refuses
-pub past : {A E : Type 0} (b : Bool) (e : E) (r : Result A E) (x : A) → cond b (Err e) r ≡ Ok x → (b ≡ false) × (r ≡ Ok x)
-past true e r x h = absurd cc
-past false e r x h = (refl, h)
 
 all_front : (p : ℕ → Bool) (line : List ℕ) → list_all p line ≡ true → list_all p (front_of line) ≡ true
 unfolding front_of

@@ -1,5 +1,5 @@
 -- The kinds of lines, and of those that are printed.
-use Rattle.std.proofs.Common.{◌≡◌, ◌≤◌, ◌<◌, ◌-◌, ◌++◌, ◌==◌, ℕ, zero, suc, List, [], ◌∷◌, Bool, true, false, not, length, take, slice_index, arith, refl, ap, ◌∙◌, sym, subst, Option, Some, None, inl, inr, nat_eq, nat_lt, codes, reverse}
+use Rattle.std.proofs.Common.{◌≡◌, ◌≤◌, ◌<◌, ◌-◌, ◌++◌, ◌==◌, ℕ, zero, suc, List, [], ◌∷◌, true, false, not, length, take, slice_index, arith, refl, ap, ◌∙◌, sym, subst, Option, Some, inl, inr, nat_eq, nat_lt, codes, reverse}
 use Rattle.std.specs.Prelude.{is_some}
 use Rattle.std.proofs.lemmas.Grind.{common_steps}
 use Rattle.std.proofs.lemmas.Bool.{cases_Bool, and_parts, eqb-true, ltb-false}

@@ -1,14 +1,14 @@
 -- What is cut out of a line of UTF-8 is UTF-8, and what is put together of UTF-8.
-use Rattle.std.proofs.Common.{◌≡◌, ◌≤◌, ◌<◌, ◌+◌, ◌-◌, ◌++◌, ◌==◌, ℕ, zero, suc, List, [], ◌∷◌, Bool, true, false, cond, not, ◌&&◌, ◌||◌, length, take, drop, slice_index, arith, refl, ap, ◌∙◌, sym, subst, Option, Some, None, Result, Ok, Err, inl, inr, ◌⊎◌, nat_lt, length-append, position}
+use Rattle.std.proofs.Common.{◌≡◌, ◌≤◌, ◌<◌, ◌+◌, ◌-◌, ◌++◌, ◌==◌, ℕ, suc, List, [], ◌∷◌, Bool, true, not, ◌||◌, length, take, drop, slice_index, arith, refl, ap, ◌∙◌, sym, subst, Option, Some, None, Ok, inl, inr, ◌⊎◌, nat_lt, length-append, position}
 use Rattle.std.specs.Prelude.{reverse}
 use Rattle.std.proofs.lemmas.Grind.{common_steps}
-use Rattle.std.proofs.lemmas.Bool.{cases_Bool, cases_lt, and_parts, and_from, eqb-true, ltb-true}
+use Rattle.std.proofs.lemmas.Bool.{cases_Bool, cases_lt, and_from, eqb-true}
 use Rattle.std.specs.Char.{is_ascii_digit}
-use Rattle.std.specs.List.{list_all, position_or_len, before_first, after_first}
-use Rattle.std.specs.Str.{is_utf8, IsCharBoundary, IsAscii}
+use Rattle.std.specs.List.{position_or_len, before_first, after_first}
+use Rattle.std.specs.Str.{is_utf8, IsCharBoundary}
 use lib.Dec.{ltb}
 use Rattle.journal_lines.proofs.LineSteps.{found_place}
-use Rattle.std.proofs.lemmas.Str.{IsUtf8-nil, IsUtf8-take, IsUtf8-drop, IsUtf8-append, IsUtf8-from_ascii, IsCharBoundary-after_ascii, IsUtf8-from_is_utf8, is_utf8-from_IsUtf8}
+use Rattle.std.proofs.lemmas.Str.{IsUtf8-nil, IsUtf8-take, IsUtf8-drop, IsCharBoundary-after_ascii, IsUtf8-from_is_utf8, is_utf8-from_IsUtf8}
 use Rattle.std.proofs.lemmas.List.{take_at, drop_all, reverse-append, reverse-reverse, get_or_at}
 use Rattle.money_core.specs.declared.day.Day.{Day}
 use Rattle.journal_lines.specs.declared.header.Status.{Status}
@@ -24,6 +24,7 @@ use Rattle.journal_lines.specs.Printed.{indent, header_status, header_code, head
 use Rattle.journal_lines.specs.AccountName.{ends_name, name_end}
 use Rattle.journal_lines.proofs.CutLemmas.{trim_start_behind, trim_start_same, trim_end_same, trim_end_blank, all_weaker}
 use Rattle.journal_lines.proofs.HeaderLemmas.{past, chosen}
+pub use Rattle.money_core.proofs.Utf8Lemmas.{utf8_joined, is_low, utf8_low}
 
 -- a text may be cut before an ASCII byte, and at its end
 pub record IsCut (xs : List ℕ) (n : ℕ) : Type 0 where
@@ -44,7 +45,7 @@ pub empty_utf8 : is_utf8 [] ≡ true
 empty_utf8 = is_utf8-from_IsUtf8 [] IsUtf8-nil
 
 -- one byte further on
-later_cut : (x : ℕ) (xs : List ℕ) (n : ℕ) → IsCut xs n → IsCut (x ∷ xs) (1 + n)
+pub later_cut : (x : ℕ) (xs : List ℕ) (n : ℕ) → IsCut xs n → IsCut (x ∷ xs) (1 + n)
 later_cut x xs n k = record { inside = omega (arith, k.inside); low = λ l. subst (λ (m : ℕ). slice_index (x ∷ xs) m < 128) step (k.low (omega (arith, l))) }
   where
     step : suc n ≡ 1 + n
@@ -58,10 +59,10 @@ position_cut p low (x ∷ xs) = elim (cases_Bool (p x)) [
   | inr later ↦ rw later (later_cut x xs (position_or_len p xs) (position_cut p low xs))
 ]
 
-blank_low : (b : ℕ) → is_blank b ≡ true → b < 128
+pub blank_low : (b : ℕ) → is_blank b ≡ true → b < 128
 blank_low b h = grind (arith, common_steps)
 
-sign_low : (n b : ℕ) → n < 128 → (b == n) ≡ true → b < 128
+pub sign_low : (n b : ℕ) → n < 128 → (b == n) ≡ true → b < 128
 sign_low n b h e = omega (arith, h, eqb-true b n e)
 
 -- where a name ends
@@ -204,20 +205,6 @@ header_utf8 line h u e = at_date (date_of (cut_header line).date) (past (is_code
     at_date (Some day) f = at_coded day (code_at rest) refl f
 
 -- ---- texts that are put together
-
-pub utf8_joined : (xs ys : List ℕ) → is_utf8 xs ≡ true → is_utf8 ys ≡ true → is_utf8 (xs ++ ys) ≡ true
-utf8_joined xs ys h k = is_utf8-from_IsUtf8 (xs ++ ys) (IsUtf8-append xs ys (IsUtf8-from_is_utf8 xs h) (IsUtf8-from_is_utf8 ys k))
-
-abbrev pub is_low : ℕ → Bool
-is_low b = nat_lt b 128
-
-low_ascii : (xs : List ℕ) → list_all is_low xs ≡ true → IsAscii xs
-low_ascii [] h i = omega arith
-low_ascii (x ∷ xs) h zero = ltb-true x 128 (and_parts (is_low x) _ h).0
-low_ascii (x ∷ xs) h (suc i) = low_ascii xs (and_parts (is_low x) _ h).1 i
-
-pub utf8_low : (xs : List ℕ) → list_all is_low xs ≡ true → is_utf8 xs ≡ true
-utf8_low xs h = is_utf8-from_IsUtf8 xs (IsUtf8-from_ascii xs (low_ascii xs h))
 
 date_low : (b : ℕ) → (is_ascii_digit b || (b == 45)) ≡ true → is_low b ≡ true
 date_low b h = grind (arith, common_steps)

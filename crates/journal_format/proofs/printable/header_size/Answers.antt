@@ -1,7 +1,6 @@
-use Rattle.std.proofs.Common.{◌≡◌, ◌≤◌, ◌+◌, ◌∷◌, [], ◌∙◌, true, length, arith, ap, sym, subst, ℕ, List, Option, Some, None, length-append}
+use Rattle.std.proofs.Common.{◌≡◌, ◌≤◌, ◌∙◌, true, length, arith, ap, sym, subst, ℕ, List, Option, Some, None}
 use Rattle.std.proofs.lemmas.Bool.{leb-true}
 use Rattle.journal_lines.specs.Header.{length_of, code_limit, description_limit}
-use Rattle.journal_lines.specs.HeaderView.{text_of}
 use Rattle.journal_lines.specs.Printed.{is_code, HeaderOk, header_line}
 use Rattle.journal_lines.proofs.DateLemmas.{dates_print}
 use Rattle.journal_lines.proofs.HeaderLemmas.{code_parts, description_parts, header_short}

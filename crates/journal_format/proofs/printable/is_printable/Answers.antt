@@ -1,4 +1,3 @@
-use Rattle.std.proofs.Common.{true}
 use Rattle.journal_format.proofs.ReadLemmas.{printable_exactly}
 use Rattle.journal_format.proofs.printable.is_printable.Goals as goal
 

@@ -1,4 +1,4 @@
-use Rattle.std.proofs.Common.{◌+◌, ◌∙◌, ap, drop}
+use Rattle.std.proofs.Common.{◌+◌, ◌∙◌, ap}
 use Rattle.std.specs.Str.{is_utf8}
 use Rattle.journal_lines.proofs.LineSteps.{whole_rest}
 use Rattle.journal_lines.proofs.Utf8Lemmas.{front_found}

@@ -1,4 +1,4 @@
-use Rattle.std.proofs.Common.{sym, subst, List, ℕ}
+use Rattle.std.proofs.Common.{sym, subst}
 use Rattle.journal_lines.specs.Tag.{comment_parts, AreTagsOf}
 use Rattle.journal_lines.proofs.TagLemmas.{are_tags_of}
 use Rattle.journal_lines.proofs.comment.tags.Goals as goal

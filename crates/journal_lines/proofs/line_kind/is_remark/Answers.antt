@@ -1,4 +1,3 @@
-use Rattle.std.proofs.Common.{◌≡◌}
 use Rattle.journal_lines.proofs.KindLemmas.{shown_remark}
 use Rattle.journal_lines.proofs.line_kind.is_remark.Goals as goal
 

@@ -1,4 +1,4 @@
-use Rattle.std.proofs.Common.{◌≡◌, arith, sym}
+use Rattle.std.proofs.Common.{arith, sym}
 use Rattle.journal_lines.proofs.KindLemmas.{blank_shows, block_first}
 use Rattle.journal_lines.proofs.line_kind.kind.Goals as goal
 
