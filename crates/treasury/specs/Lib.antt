@@ -3,7 +3,7 @@ pub mod Request
 pub mod Transcript
 pub mod RunEnd
 pub mod Federation
-pub mod SmallJournal
+pub mod Asked
 pub mod Step
 pub mod Answer
 pub mod BalanceReport
