@@ -10,8 +10,7 @@ pub mod BalanceReport
 pub mod History
 pub mod Words
 -- What mirrors code, for private clauses: nobody has to believe it
-pub mod Entering
+pub mod Replied
 pub mod Form
-pub mod LineView
 pub mod Served
 pub mod Echo

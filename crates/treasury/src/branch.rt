@@ -12,11 +12,14 @@ use money_core::Text;
 /// The greatest number of bytes of a branch's name.
 const MAX_NAME: usize = 32;
 
+/// The ledger that keeps the book of a branch. It is named here alone.
+pub type Book = PlainLedger;
+
 /// A branch: its name, and its book.
 #[derive(Drop)]
 pub struct Branch {
     pub name: Text,
-    pub book: PlainLedger,
+    pub book: Book,
 }
 
 /// Whether the byte may stand in a branch's name.

@@ -1,13 +1,13 @@
 //! Entries that a check has passed go into a branch's book.
 
-ghost use Rattle.std.specs.Prelude.{◌≡◌, ◌++◌, ℕ, List, reverse, OnOk, OnErr};
+ghost use Rattle.std.specs.Prelude.{◌≡◌, ◌++◌, List, [], reverse, OnOk, OnErr};
 ghost use Rattle.std.specs.List.{AllByRecursion};
 ghost use Rattle.std.specs.Result.{IsOkUnless};
 ghost use Rattle.book_core.specs.GoodBook.{IsFit, IsWithin};
-ghost use Rattle.treasury.specs.Entering.{Begins};
 
-use book_core::{Entry, Ledger, PlainLedger};
+use book_core::{Entry, Ledger};
 use money_core::Cause;
+use std::alloc::Global;
 
 /// The entries, last first.
 fn reversed(mut entries: Vec<Entry>) -> Vec<Entry>
@@ -17,20 +17,23 @@ fn reversed(mut entries: Vec<Entry>) -> Vec<Entry>
     entries
 }
 
-/// Adds the entries in order. Where memory is refused, it answers 40: the first of them stay in the book, and the rest is
-/// lost.
-pub fn enter_all(book: &mut PlainLedger, new: Vec<Entry>) -> Result<(), Cause>
+/// Adds the entries in order. Where memory is refused, it answers 40, and the book is lost: without the others, the first
+/// of the entries might break an assertion, so it is left empty.
+pub fn enter_all<L: Ledger>(alloc: Global, book: &mut L, new: Vec<Entry>) -> Result<(), Cause>
     requires fit { AllByRecursion IsFit new.items }
-    requires room { IsWithin (book.old ++ new.items) }
-    ensures ok { OnOk result (book.new ≡ book.old ++ new.items) }
-    ensures err { OnErr result (Begins book.old new.items book.new) }
+    requires room { IsWithin (L.book book.old ++ new.items) }
+    ensures ok { OnOk result (L.book book.new ≡ L.book book.old ++ new.items) }
+    ensures err { OnErr result (L.book book.new ≡ []) }
     ensures memory { IsOkUnless result Cause.OutOfMemory }
 {
     let mut left = reversed(new);
     'entering: while let Some(entry) = left.pop() {
         match book.add(entry) {
             Ok(()) => {}
-            Err(cause) => return Err(cause),
+            Err(_) => {
+                *book = L::empty(alloc);
+                return Err(Cause::OutOfMemory);
+            }
         }
     }
     Ok(())
