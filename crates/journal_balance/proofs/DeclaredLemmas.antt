@@ -84,7 +84,7 @@ claims_known : (styles : List Style) (all : List Posting) (k : ℕ) (xs : List P
 claims_known styles all k [] ok = tt
 claims_known styles all k (x ∷ xs) ok =
     let both = and_parts (is_posting styles x) (list_all (is_posting styles) xs) ok in
-    all-append (IsSayable styles) (placed k x.claim) _ (by_claim x.claim refl both.0) (claims_known styles all _ xs both.1)
+    all-append (IsSayable styles) (placed k x.claim) _ (by_claim x.claim refl both.0) (claims_known styles all (k + length (posting_legs styles all x.account x.amount x.price)) xs both.1)
   where
     by_claim : (o : Option Claim) → x.claim ≡ o → is_posting styles x ≡ true → AllByRecursion (IsSayable styles) (placed k o)
     by_claim None e one = tt

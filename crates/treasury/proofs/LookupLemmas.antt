@@ -1,9 +1,10 @@
 -- The branch of a name is looked up: where it stands, its book, and what its new entries do.
-use Rattle.std.proofs.Common.{◌≡◌, ◌<◌, ◌≤◌, ◌+◌, ◌++◌, ℕ, zero, suc, List, [], ◌∷◌, length, Bool, true, false, not, cond, ◌||◌, nat_lt, Option, Some, None, position, arith, refl, ap, ◌∙◌, sym, subst}
-use Rattle.std.specs.Prelude.{if◌then◌else◌, is_some}
-use Rattle.std.specs.List.{list_any, slice_get, slice_set, prefix_len, position_or_len}
+use Rattle.std.proofs.Common.{◌≡◌, ◌<◌, ◌≤◌, ◌+◌, ◌++◌, ℕ, zero, suc, List, [], ◌∷◌, length, Bool, true, false, not, cond, ◌||◌, nat_lt, Option, Some, None, arith, refl, ap, ◌∙◌, sym, subst, get_or}
+use Rattle.std.specs.Prelude.{if◌then◌else◌}
+use Rattle.std.specs.List.{AllByRecursion, list_any, slice_get, slice_set, position_or_len}
 use Rattle.std.specs.Str.{bytes_eq}
 use Rattle.std.proofs.lemmas.Bool.{ltb-true, ltb-false}
+use Rattle.std.proofs.lemmas.Option.{get_or_from_slice_get}
 use Rattle.money_core.proofs.PositionLemmas.{some_chosen, none_chosen}
 use Rattle.book_core.specs.declared.entry.Entry.{Entry}
 use Rattle.treasury.specs.declared.branch.Branch.{Branch}
@@ -67,10 +68,12 @@ pub found_nowhere : (bs : List Branch) (name : List ℕ) → branch_place bs nam
 found_nowhere bs name h =
     missing name bs (ltb-false (before name bs) (length bs) (none_chosen (nat_lt (before name bs) (length bs)) (before name bs) h))
 
--- a look-up says whether the branch is there
-pub has_place : (bs : List Branch) (name : List ℕ) → is_some (branch_place bs name) ≡ list_any (has_name name) bs
-has_place bs name = by_place (branch_place bs name) refl
-  where
-    by_place : (o : Option ℕ) → branch_place bs name ≡ o → is_some o ≡ list_any (has_name name) bs
-    by_place None e = sym (found_nowhere bs name e)
-    by_place (Some place) e = sym (found_there bs name place e).has
+-- what holds of all elements holds of the one at a place
+pub all_get : {X : Type 0} (P : X → Type 0) (xs : List X) (i : ℕ) (x : X) → AllByRecursion P xs → slice_get xs i ≡ Some x → P x
+all_get P [] i x h at = absurd cc
+all_get P (y ∷ ys) zero x h at = let e : y ≡ x = cc in subst P e h.0
+all_get P (y ∷ ys) (suc i) x h at = all_get P ys i x h.1 at
+
+-- the element that was taken there
+pub taken_there : (bs : List Branch) (name : List ℕ) (place : ℕ) (t : IsThere bs name place) (b : Branch) → b ≡ get_or bs place b → b ≡ t.branch
+taken_there bs name place t b h = h ∙ get_or_from_slice_get bs place t.branch b t.at

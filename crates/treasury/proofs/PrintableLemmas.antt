@@ -5,6 +5,7 @@ use Rattle.std.specs.List.{AllByRecursion}
 use Rattle.money_core.specs.declared.style.Style.{Style}
 use Rattle.money_core.specs.declared.unit.Unit.{Unit as Commodity}
 use Rattle.money_core.specs.declared.day.Day.{Day}
+use Rattle.money_core.specs.declared.cause.Cause.TheVariants.{OutOfMemory}
 use Rattle.money_core.specs.Amount.{limit}
 use Rattle.money_core.specs.AmountText.{IsDeclared}
 use Rattle.journal_lines.specs.Date.{IsDayNumber}
@@ -14,12 +15,12 @@ use Rattle.book_core.specs.declared.entry.Entry.{Entry}
 use Rattle.book_core.specs.declared.refusal.Failure.{Failure}
 use Rattle.book_core.specs.declared.refusal.Refusal.{Refusal}
 use Rattle.book_core.specs.declared.refusal.Refusal.TheVariants.{Plain, Text, ClaimFailed}
-use Rattle.book_core.specs.GoodBook.{IsFit, most_turnover, verdict}
+use Rattle.book_core.specs.GoodBook.{verdict}
 use Rattle.book_core.specs.Book.{legs_of}
 use Rattle.book_core.specs.Named.{IsOfBook, units_of}
 use Rattle.book_core.proofs.HoldLemmas.{contains_cons}
 use Rattle.book_core.proofs.NamedLemmas.{failed_named, named_unit}
-use Rattle.journal_balance.proofs.EntryLemmas.{entry_fit, entry_day}
+use Rattle.journal_balance.proofs.EntryLemmas.{entry_day}
 use Rattle.journal_balance.proofs.DeclaredLemmas.{entry_declared, entry_asserts}
 use Rattle.treasury.specs.Answer.{IsPrintableFailure, IsPrintableRefusal}
 use Rattle.treasury.specs.Federation.{IsOfTransaction}
@@ -77,7 +78,12 @@ printable_verdict styles b (Plain cause) all h = tt
 printable_verdict styles b (Text fault) all h = tt
 printable_verdict styles b (ClaimFailed f) all h = printable_failure styles b f all h
 
--- entries of transactions are fit for a ledger
-pub fit_entries : (styles : List Style) (b : List Entry) → AllByRecursion (IsOfTransaction styles) b → AllByRecursion IsFit b
-fit_entries styles [] h = tt
-fit_entries styles (e ∷ es) h = (entry_fit styles h.0.txn e h.0.printable.postings h.0.legs, fit_entries styles es h.1)
+-- what a check of a book with new entries answers can be printed
+all-append : {X : Type 0} (P : X → Type 0) (xs ys : List X) → AllByRecursion P xs → AllByRecursion P ys → AllByRecursion P (xs ++ ys)
+all-append P [] ys h k = k
+all-append P (x ∷ xs) ys h k = (h.0, all-append P xs ys h.1 k)
+
+pub printable_check : (styles : List Style) (old new : List Entry) (e : Refusal) → AllByRecursion (IsOfTransaction styles) old → AllByRecursion (IsOfTransaction styles) new
+    → (e ≡ Plain OutOfMemory) ⊎ (verdict (old ++ new) ≡ Some e) → IsPrintableRefusal styles e
+printable_check styles old new e was made (inl memory) = subst (IsPrintableRefusal styles) (sym memory) tt
+printable_check styles old new e was made (inr h) = printable_verdict styles (old ++ new) e (all-append (IsOfTransaction styles) old new was made) h

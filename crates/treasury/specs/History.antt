@@ -1,6 +1,6 @@
 -- What came into the books along a run, told from what was asked and replied, and which replies leave the state (own rules; docs/RULES.md,
 -- "Books", "Orders").
-use Rattle.std.specs.Prelude.{◌≡◌, ℕ, if◌then◌else◌, Bool, true, false, List, [], ◌∷◌, ◌++◌, map, ◌+ℤ◌, ◌⊎◌, ⊤, Contains, ¬, codes, Result, Ok, Err}
+use Rattle.std.specs.Prelude.{◌≡◌, ℕ, if◌then◌else◌, Bool, true, false, List, [], ◌∷◌, ◌++◌, map, ◌+ℤ◌, ◌⊎◌, ⊤, Contains, codes, Result, Ok, Err}
 use Rattle.std.specs.List.{AllByRecursion}
 use Rattle.std.specs.Str.{bytes_eq}
 use Rattle.money_core.specs.declared.unit.Unit.{Unit as Commodity}
@@ -11,7 +11,8 @@ use Rattle.book_core.specs.declared.entry.Entry.{Entry}
 use Rattle.book_core.specs.declared.refusal.Refusal.{Refusal}
 use Rattle.book_core.specs.Book.{legs_of}
 use Rattle.book_core.specs.Balance.{balance}
-use Rattle.book_core.specs.Claim.{Asserted, asserted_from, Holds}
+use Rattle.book_core.specs.declared.claim.Asserted.{Asserted}
+use Rattle.book_core.specs.Claim.{asserted_from, Holds}
 use Rattle.book_core.specs.GoodBook.{IsBalanced}
 use Rattle.journal_format.specs.declared.txn.Located.{Located}
 use Rattle.treasury.specs.declared.branch.Branch.{Branch}
@@ -50,9 +51,9 @@ texts_of f (t ∷ ts) = reply_text f t.asked t.reply ++ texts_of (after_turn f t
 -- the turns of a transcript: the input's requests, and the output that answers them
 pub record IsRun (start : Federation) (input output : List ℕ) (end : Federation) (turns : List Turn) : Type 0 where
   pub requests : map (λ (t : Turn). t.line) turns ≡ requests_in input
-  pub turns : AreTurns start turns
-  pub output : output ≡ texts_of start turns
-  pub end : end ≡ end_of start turns
+  pub follow : AreTurns start turns
+  pub written : output ≡ texts_of start turns
+  pub left : end ≡ end_of start turns
 
 -- transactions that were accepted: the name of their branch, and their entries
 pub record Accepted : Type 0 where
@@ -97,7 +98,7 @@ AllAssertionsHold f = AllByRecursion (λ (branch : Branch). AllByRecursion (Hold
 pub record BreaksAssertion (old new : List Entry) : Type 0 where
   pub assertion : Asserted
   pub stands : Contains (asserted_from 1 (old ++ new)) assertion
-  pub fails : ¬ (Holds (old ++ new) assertion)
+  pub fails : Holds (old ++ new) assertion → ⊥
 
 -- a refusal, or `repeated`
 abbrev pub is_refusal_or_repeat : Result Answer Refusal → Bool

@@ -111,12 +111,12 @@ abbrev pub Replies : Federation → Asked → Result Answer Refusal → Type 0
 Replies f asked r = (r ≡ reply f asked) ⊎ (r ≡ Err (Plain OutOfMemory))
 
 -- a line is answered with a text, and leads to a state: by what it asks, what is replied to that, and the state after the reply
-pub record Answers (f : Federation) (line text : List ℕ) (g : Federation) : Type 0 where
+pub record Answers (f : Federation) (line answer : List ℕ) (g : Federation) : Type 0 where
   pub asked : Asked
   pub reply : Result Answer Refusal
   pub asks : Asks f.styles line asked
   pub replies : Replies f asked reply
-  pub text : text ≡ reply_text f asked reply
+  pub text : answer ≡ reply_text f asked reply
   pub state : g ≡ after f asked reply
 
 -- a line at which the state may be lost: it asks to enter transactions that are not refused, and memory was refused while they were added

@@ -32,7 +32,10 @@ pub struct Accepted {
 const NO_MEMORY: Refusal = Refusal::Plain(Cause::OutOfMemory);
 
 /// A fault on that line, or want of memory, which is no fault of a line.
-fn fault_or_memory(fault: Fault) -> Refusal {
+fn fault_or_memory(fault: Fault) -> Refusal
+    ensures either { MemoryOr (λ refusal. refusal ≡ Refusal.Text fault) result }
+    ensures memory { fault.cause ≡ Cause.OutOfMemory → result ≡ Refusal.Plain Cause.OutOfMemory }
+{
     match fault.cause {
         Cause::OutOfMemory => NO_MEMORY,
         _ => Refusal::Text(fault),
