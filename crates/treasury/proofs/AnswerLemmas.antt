@@ -3,6 +3,7 @@ use Rattle.std.proofs.Common.{◌≡◌, ◌++◌, ◌⊎◌, ℕ, List, Option,
 use Rattle.std.specs.Prelude.{◌↔◌}
 use Rattle.money_core.specs.declared.style.Style.{Style}
 use Rattle.money_core.specs.declared.cause.Cause.TheVariants.{OutOfMemory, Request as NoRequest}
+use Rattle.money_core.specs.declared.cause.Cause.{Cause}
 use Rattle.money_core.specs.declared.cause.Fault.{Fault}
 use Rattle.money_core.specs.Sampling.{style_of}
 use Rattle.book_core.specs.declared.refusal.Refusal.{Refusal}
@@ -11,15 +12,13 @@ use Rattle.journal_format.specs.declared.txn.Located.{Located}
 use Rattle.journal_format.specs.Machine.{journal_of}
 use Rattle.journal_format.specs.Pieces.{Reads}
 use Rattle.journal_format.specs.Fault.{IsFirstFault}
-use Rattle.treasury.specs.declared.answers.Answer.{Answer}
 use Rattle.treasury.specs.declared.request.Request.{Request}
 use Rattle.treasury.specs.declared.request.Request.TheVariants.{Branch as ForBranch, Commodity as ForCommodity, Import as ForImport, Balance as ForBalance}
 use Rattle.treasury.specs.Request.{spelled}
 use Rattle.treasury.specs.Federation.{Federation}
 use Rattle.treasury.specs.Asked.{Asked, new_branch, balances, enter, nothing, asked_by_sample, JournalAsks, RequestAsks, Asks}
 use Rattle.treasury.specs.Answer.{answer_text}
-use Rattle.treasury.specs.Step.{reply, after, reply_text, Answers, Loses}
-use Rattle.treasury.specs.Replied.{IsReplied, IsAnswered, MayLose}
+use Rattle.treasury.specs.Step.{Answers}
 
 -- what reading line by line says of the grammar
 pub record ReadsAll : Type 0 where
@@ -51,40 +50,49 @@ line_asks law styles line = by_request (spelled line) refl
 abbrev pub IsBehind : Federation → List ℕ → List ℕ → List ℕ → Federation → Type 0
 IsBehind f line before written g = (text : List ℕ) × (Answers f line text g × (written ≡ before ++ text))
 
-pub answered_request : (f g : Federation) (line before written : List ℕ) (request : Request) → spelled line ≡ Some request → IsAnswered f request before written g → IsBehind f line before written g
-answered_request f g line before written request e a =
-    (reply_text f a.asked (reply f a.asked), (record {
-      asked = a.asked;
-      reply = reply f a.asked;
-      asks = inl (request, (e, a.asks));
-      replies = inl refl;
-      text = refl;
-      state = a.replied.state;
-    }, a.replied.text))
-
-pub answered_none : (f : Federation) (line before written : List ℕ) → spelled line ≡ None → written ≡ before ++ answer_text f.styles (Err (Plain NoRequest)) → IsBehind f line before written f
-answered_none f line before written e h =
-    (answer_text f.styles (Err (Plain NoRequest)), (record {
+answered_none : (f : Federation) (line before written : List ℕ) → spelled line ≡ None → written ≡ before ++ answer_text f.styles (Err (Plain NoRequest)) → IsBehind f line before written f
+answered_none f line before written e h = (
+  answer_text f.styles (Err (Plain NoRequest)),
+  (
+    record {
       asked = nothing (Plain NoRequest);
       reply = Err (Plain NoRequest);
       asks = inr (e, refl);
       replies = inl refl;
       text = refl;
       state = refl;
-    }, h))
+    },
+    h,
+  ),
+)
 
-pub answered_memory : ReadsAll → (f : Federation) (line before written : List ℕ) → written ≡ before ++ answer_text f.styles (Err (Plain OutOfMemory)) → IsBehind f line before written f
+answered_memory : ReadsAll → (f : Federation) (line before written : List ℕ) → written ≡ before ++ answer_text f.styles (Err (Plain OutOfMemory)) → IsBehind f line before written f
 answered_memory law f line before written h =
-    let a = line_asks law f.styles line in
-    (answer_text f.styles (Err (Plain OutOfMemory)), (record {
-      asked = a.0;
-      reply = Err (Plain OutOfMemory);
-      asks = a.1;
-      replies = inr refl;
-      text = refl;
-      state = refl;
-    }, h))
+    let a = line_asks law f.styles line in (
+      answer_text f.styles (Err (Plain OutOfMemory)),
+      (
+        record {
+          asked = a.0;
+          reply = Err (Plain OutOfMemory);
+          asks = a.1;
+          replies = inr refl;
+          text = refl;
+          state = refl;
+        },
+        h,
+      ),
+    )
 
--- the state is lost at the line of a request at which it may be
-pub lost_request : (f : Federation) (line : List ℕ) (request : Request) → spelled line ≡ Some request → MayLose f request → Loses f line
-lost_request f line request e m = record { name = m.name; list = m.list; asks = inl (request, (e, m.asks)); accepted = m.accepted }
+-- what a reading of the line is refused with
+pub answered_cause : ReadsAll → (f : Federation) (line before written : List ℕ) (cause : Cause) → (cause ≡ NoRequest → spelled line ≡ None) → (cause ≡ NoRequest) ⊎ (cause ≡ OutOfMemory)
+    → written ≡ before ++ answer_text f.styles (Err (Plain cause)) → IsBehind f line before written f
+answered_cause law f line before written cause none (inl e) h = answered_none f line before written (none e) (h ∙ ap (λ (c : Cause). before ++ answer_text f.styles (Err (Plain c))) e)
+answered_cause law f line before written cause none (inr e) h = answered_memory law f line before written (h ∙ ap (λ (c : Cause). before ++ answer_text f.styles (Err (Plain c))) e)
+
+-- want of memory, by which nothing has changed
+pub answered_kept : ReadsAll → (f g : Federation) (line before mid written : List ℕ) → g ≡ f → mid ≡ before → written ≡ mid ++ answer_text g.styles (Err (Plain OutOfMemory))
+    → IsBehind f line before written g
+answered_kept law f g line before mid written same kept h =
+    let at : written ≡ before ++ answer_text f.styles (Err (Plain OutOfMemory)) =
+    h ∙ (ap (λ (xs : List ℕ). xs ++ answer_text g.styles (Err (Plain OutOfMemory))) kept ∙ ap (λ (k : Federation). before ++ answer_text k.styles (Err (Plain OutOfMemory))) same) in
+    subst (λ (k : Federation). IsBehind f line before written k) (sym same) (answered_memory law f line before written at)

@@ -52,13 +52,15 @@ run_of start (request ∷ requests) output end t =
     let a = t.3.0 in
     let turn : Turn = record { line = request; asked = a.asked; reply = a.reply } in
     let rest : (turns : List Turn) × IsRunOf (after_turn start turn) requests t.2 end turns =
-        subst (λ (f : Federation). (turns : List Turn) × IsRunOf f requests t.2 end turns) a.state (run_of t.0 requests t.2 end t.3.1) in
-    (turn ∷ rest.0, record {
-      requests = ap (λ (lines : List (List ℕ)). request ∷ lines) rest.1.requests;
-      follow = (a.asks, a.replies, rest.1.follow);
-      written = t.3.2 ∙ (ap (λ (xs : List ℕ). t.1 ++ xs) rest.1.written ∙ ap (λ (xs : List ℕ). xs ++ texts_of (after_turn start turn) rest.0) a.text);
-      left = rest.1.left;
-    })
+    subst (λ (f : Federation). (turns : List Turn) × IsRunOf f requests t.2 end turns) a.state (run_of t.0 requests t.2 end t.3.1) in (
+      turn ∷ rest.0,
+      record {
+        requests = ap (λ (lines : List (List ℕ)). request ∷ lines) rest.1.requests;
+        follow = (a.asks, a.replies, rest.1.follow);
+        written = t.3.2 ∙ (ap (λ (xs : List ℕ). t.1 ++ xs) rest.1.written ∙ ap (λ (xs : List ℕ). xs ++ texts_of (after_turn start turn) rest.0) a.text);
+        left = rest.1.left;
+      },
+    )
 
 pub turns_of : (start : Federation) (input output : List ℕ) (end : Federation) → IsTranscript Answers start input output end → (turns : List Turn) × IsRun start input output end turns
 turns_of start input output end t =
@@ -70,7 +72,7 @@ answered_in_turn : (start : Federation) (turns : List Turn) → AreTurns start t
 answered_in_turn start [] h = (refl, refl)
 answered_in_turn start (t ∷ ts) h =
     let answers : Answers start t.line (reply_text start t.asked t.reply) (after_turn start t) =
-        record { asked = t.asked; reply = t.reply; asks = h.0; replies = h.1; text = refl; state = refl } in
+    record { asked = t.asked; reply = t.reply; asks = h.0; replies = h.1; text = refl; state = refl } in
     (after_turn start t, reply_text start t.asked t.reply, texts_of (after_turn start t) ts, (answers, answered_in_turn (after_turn start t) ts h.2, refl))
 
 pub transcript_of : (start : Federation) (input output : List ℕ) (end : Federation) (turns : List Turn) → IsRun start input output end turns → IsTranscript Answers start input output end

@@ -58,10 +58,10 @@ listed_next styles list i entries more x e low is l h pushed =
       printable = (subst (AllByRecursion (λ (y : Located). IsPrintable styles y.txn)) at l.printable).1;
       balanced = sym (unbalanced_next styles x rest e h) ∙ (ap (unbalanced styles) (sym at) ∙ l.balanced);
       entries =
-        ap (λ (es : List Entry). es ++ entries_of styles rest) pushed
-        ∙ (append_assoc entries (e ∷ []) (entries_of styles rest)
-        ∙ (ap (λ (es : List Entry). entries ++ es) (sym (entries_next styles x rest e h))
-        ∙ (ap (λ (ys : List Located). entries ++ entries_of styles ys) (sym at) ∙ l.entries)));
+          ap (λ (es : List Entry). es ++ entries_of styles rest) pushed
+          ∙ (append_assoc entries (e ∷ []) (entries_of styles rest)
+          ∙ (ap (λ (es : List Entry). entries ++ es) (sym (entries_next styles x rest e h))
+          ∙ (ap (λ (ys : List Located). entries ++ entries_of styles ys) (sym at) ∙ l.entries)));
     }
 
 -- or it has none, and that is the first

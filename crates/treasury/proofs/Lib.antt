@@ -14,6 +14,7 @@ pub mod PrintableLemmas
 pub mod AskedLemmas
 pub mod EnteringLemmas
 pub mod ImportLemmas
+pub mod EnterLemmas
 pub mod ReplyLemmas
 pub mod AnswerLemmas
 pub mod HistoryLemmas

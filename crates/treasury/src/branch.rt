@@ -2,9 +2,9 @@
 
 ghost use Rattle.std.specs.Prelude.{◌≡◌, ◌==◌, ◌&&◌, nat_le, length, position, slice_index};
 ghost use Rattle.std.specs.Char.{is_ascii_lowercase};
-ghost use Rattle.std.specs.List.{list_all};
+ghost use Rattle.std.specs.List.{list_all, list_any};
 ghost use Rattle.std.specs.Str.{bytes_eq};
-ghost use Rattle.treasury.specs.Federation.{is_name_byte, is_branch_name, branch_place};
+ghost use Rattle.treasury.specs.Federation.{is_name_byte, is_branch_name, has_name, branch_place};
 
 use book_core::PlainLedger;
 use money_core::Text;
@@ -45,6 +45,15 @@ pub fn is_branch_name(name: &[u8]) -> bool
         None => false,
     };
     begins && has_name_bytes(name) && name.len() <= MAX_NAME
+}
+
+/// Whether there is a branch of that name.
+pub fn has_branch(branches: &[Branch], name: &[u8]) -> bool
+    ensures { result ≡ list_any (has_name name.now) branches.now }
+{
+    branches
+        .iter()
+        .any(|branch| branch.name.as_str().as_bytes() == name)
 }
 
 /// Where the branch of that name stands.

@@ -13,7 +13,7 @@ ghost use Rattle.treasury.specs.declared.request.Request.TheVariants.{Import as 
 
 use crate::answers::{Answer, answer_line};
 use crate::balance_report::balance_report;
-use crate::branch::{Book, Branch, branch_place, is_branch_name};
+use crate::branch::{Book, Branch, branch_place, has_branch, is_branch_name};
 use crate::entering::enter_all;
 use crate::import::{Accepted, decided, transactions_of};
 use crate::lines::Shortage;
@@ -97,7 +97,7 @@ impl Desk {
         if !is_branch_name(name.as_bytes()) {
             return Err(Refusal::Plain(Cause::BranchName));
         }
-        if branch_place(&self.branches, name.as_bytes()).is_some() {
+        if has_branch(&self.branches, name.as_bytes()) {
             return Ok(Answer::Repeated);
         }
         if self.branches.len() >= MAX_BRANCHES {
@@ -196,12 +196,7 @@ impl Desk {
 
     /// What an import is decided to be: first the text has to be read without a fault, then its branch has to be there, then
     /// the transactions are judged. 40 for want of memory.
-    fn decide_import(
-        &self,
-        alloc: Global,
-        name: &str,
-        journal: &[u8],
-    ) -> Result<Accepted, Refusal>
+    fn decide_import(&self, alloc: Global, name: &str, journal: &[u8]) -> Result<Accepted, Refusal>
         ensures accepted { IfOk result (IsAccepted self.now name.now journal.now) }
         ensures refused { IfErr result (MemoryOr (IsRefused self.now name.now journal.now)) }
         ensures printable { IfErr result (IsPrintableRefusal self.now.styles) }
@@ -222,14 +217,21 @@ impl Desk {
         }
     }
 
-    /// Enters the entries of an accepted import. Where memory is refused, the book of the branch is lost.
-    fn enter(&mut self, alloc: Global, accepted: Accepted) -> Result<(), Cause>
+    /// Enters the entries of an accepted import. Where memory is refused, the state is lost: the branches are gone, since
+    /// without the others some of the entries might break an assertion.
+    fn enter(&mut self, accepted: Accepted) -> Result<(), Cause>
         requires { (name : List ℕ) × ((journal : List ℕ) × IsAccepted self.old name journal accepted) }
         ensures ok { OnOk result ((name journal : List ℕ) (was : IsAccepted self.old name journal accepted) → self.new ≡ done self.old (enter name was.list)) }
         ensures memory { IsOkUnless result Cause.OutOfMemory }
     {
         let Accepted { place, new } = accepted;
-        enter_all(alloc, &mut self.branches[place].book, new.into_vec())
+        match enter_all(&mut self.branches[place].book, new.into_vec()) {
+            Ok(()) => Ok(()),
+            Err(cause) => {
+                self.branches.clear();
+                Err(cause)
+            }
+        }
     }
 
     /// Appends the line of a refusal. Where it is want of memory, or there is none for the line, nothing has changed.
@@ -278,7 +280,7 @@ impl Desk {
             Ok(()) => {}
             Err(_) => return Err(Shortage::Kept),
         }
-        match self.enter(alloc, accepted) {
+        match self.enter(accepted) {
             Ok(()) => Ok(()),
             Err(_) => Err(Shortage::Lost),
         }

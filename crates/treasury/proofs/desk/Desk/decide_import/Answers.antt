@@ -5,6 +5,7 @@ use Rattle.book_core.specs.declared.refusal.Refusal.TheVariants.{Plain}
 use Rattle.money_core.specs.declared.cause.Cause.TheVariants.{UnknownBranch}
 use Rattle.book_core.specs.declared.entry.Entry.{Entry}
 use Rattle.book_core.proofs.GoodBookLemmas.{failure_good}
+use Rattle.journal_format.specs.Pieces.{Reads}
 use Rattle.treasury.specs.declared.branch.Branch.{Branch}
 use Rattle.treasury.specs.declared.desk.Desk.TheInside as inside
 use Rattle.treasury.specs.Federation.{Federation, branch_place, IsOfTransaction, IsGoodBranch}
@@ -35,29 +36,31 @@ decided-requires-clause-hold c =
     let t = found_there d.branches.items c.args.name.now c.in-Some.place at in
     failure_good c.index.result.now.book (good_taken d c.args.name.now c.in-Some.place c.index.result.now t c.self.invariant.good (taken_there d.branches.items c.args.name.now c.in-Some.place t c.index.result.now c.index.ensures)).book
 
-pub returns-in-Some-clause-accepted : goal.returns-in-Some-clause-accepted
-returns-in-Some-clause-accepted c =
+pub returns-clause-accepted : goal.returns-clause-accepted
+returns-clause-accepted c =
     let d = c.self.inside in
     let f = state d in
     let name = c.args.name.now in
     let at : branch_place d.branches.items name ≡ Some c.in-Some.place = cc in
     let t = found_there d.branches.items name c.in-Some.place at in
     let same = taken_there d.branches.items name c.in-Some.place t c.index.result.now c.index.ensures in
+    let read : Reads f.styles c.args.journal.now c.deref-in-Some.result.now = rw c.deref-in-Some.ensures.value c.in-Ok.ensures.read in
     if_ok3 c.decided.result _ _ _ (IsAccepted c.args.self.now name c.args.journal.now) c.decided.ensures.accepted c.decided.ensures.place c.decided.ensures.new
     (λ accepted allowed is new. subst (λ (g : Federation). IsAccepted g name c.args.journal.now accepted) c.self.view_is
-    (accepted_there f name c.args.journal.now c.in-Ok.list.items c.in-Some.place c.index.result.now accepted t same c.in-Ok.ensures.read at allowed is new))
+    (accepted_there f name c.args.journal.now c.deref-in-Some.result.now c.in-Some.place c.index.result.now accepted t same read at allowed is new))
 
-pub returns-in-Some-clause-refused : goal.returns-in-Some-clause-refused
-returns-in-Some-clause-refused c =
+pub returns-clause-refused : goal.returns-clause-refused
+returns-clause-refused c =
     let d = c.self.inside in
     let f = state d in
     let name = c.args.name.now in
     let at : branch_place d.branches.items name ≡ Some c.in-Some.place = cc in
     let t = found_there d.branches.items name c.in-Some.place at in
     let same = taken_there d.branches.items name c.in-Some.place t c.index.result.now c.index.ensures in
+    let read : Reads f.styles c.args.journal.now c.deref-in-Some.result.now = rw c.deref-in-Some.ensures.value c.in-Ok.ensures.read in
     if_err c.decided.result _ (MemoryOr (IsRefused c.args.self.now name c.args.journal.now)) c.decided.ensures.refused
     (λ refusal h. subst (λ (g : Federation). MemoryOr (IsRefused g name c.args.journal.now) refusal) c.self.view_is
-    (refused_there f name c.args.journal.now c.in-Ok.list.items c.in-Some.place c.index.result.now refusal t same c.in-Ok.ensures.read h))
+    (refused_there f name c.args.journal.now c.deref-in-Some.result.now c.in-Some.place c.index.result.now refusal t same read h))
 
 pub returns-in-None-clause-refused : goal.returns-in-None-clause-refused
 returns-in-None-clause-refused c =
