@@ -1,23 +1,17 @@
 -- What came into the books along turns, step by step; that turns are what a transcript has; and that a good state stays good.
-use Rattle.std.proofs.Common.{◌≡◌, ◌++◌, ℕ, List, [], ◌∷◌, Bool, true, false, not, ◌||◌, Option, Some, None, Result, Ok, Err, length, map, arith, refl, ap, ◌∙◌, sym, subst, inl, inr, ◌⊎◌, append_assoc, append-nil, slice_index, if◌then◌else◌, nat_le, pos, ◌+ℤ◌}
+use Rattle.std.proofs.Common.{◌≡◌, ◌++◌, ℕ, List, [], ◌∷◌, Bool, true, false, ◌||◌, Option, Some, None, Result, Ok, Err, length, map, arith, refl, ap, ◌∙◌, sym, subst, inl, inr, append_assoc, append-nil, slice_index, if◌then◌else◌, pos, ◌+ℤ◌}
 use Rattle.std.specs.List.{AllByRecursion, list_any}
 use Rattle.std.specs.Str.{bytes_eq}
 use Rattle.std.proofs.lemmas.Bool.{cases_Bool}
 use Rattle.std.proofs.lemmas.Int.{ints}
 use Rattle.std.proofs.lemmas.Slice.Eq.{bytes_eq-Decides}
 use Rattle.money_core.specs.declared.unit.Unit.{Unit as Commodity}
-use Rattle.money_core.specs.declared.unit.Declared.{Declared}
-use Rattle.money_core.specs.declared.unit.Declared.TheVariants.{New, Same}
-use Rattle.money_core.specs.declared.day.Day.{Day}
 use Rattle.money_core.specs.declared.style.Style.{Style}
-use Rattle.money_core.specs.declared.cause.Cause.{Cause}
 use Rattle.money_core.specs.declared.cause.Cause.TheVariants.{OutOfMemory}
-use Rattle.money_core.specs.Style.{declared}
 use Rattle.book_core.specs.declared.leg.Leg.{Leg}
 use Rattle.book_core.specs.declared.entry.Entry.{Entry}
 use Rattle.book_core.specs.declared.refusal.Refusal.{Refusal}
 use Rattle.book_core.specs.declared.refusal.Refusal.TheVariants.{Plain}
-use Rattle.book_core.specs.declared.account.Reach.{Reach}
 use Rattle.book_core.specs.declared.place.Until.TheVariants.{Through}
 use Rattle.book_core.specs.Book.{legs_of}
 use Rattle.book_core.specs.Balance.{balance, value}
@@ -29,7 +23,7 @@ use Rattle.treasury.specs.declared.branch.Branch.{Branch}
 use Rattle.treasury.specs.declared.answers.Answer.{Answer}
 use Rattle.treasury.specs.declared.answers.Answer.TheVariants.{Done, Entered, Repeated}
 use Rattle.treasury.specs.Federation.{Federation, has_name, book_in, book_of, IsGoodBranch, IsGoodFederation}
-use Rattle.treasury.specs.Asked.{Asked, new_branch, new_commodity, enter, balances, nothing, Asks}
+use Rattle.treasury.specs.Asked.{Asked, new_branch, new_commodity, enter, balances, nothing}
 use Rattle.treasury.specs.Answer.{answer_text}
 use Rattle.treasury.specs.Step.{unless, entries_of, enter_refusal, with_entries, done, reply, after, reply_text, Replies, Answers}
 use Rattle.treasury.specs.Transcript.{requests_in, AnswersInTurn, IsTranscript}
@@ -52,13 +46,15 @@ run_of start (request ∷ requests) output end t =
     let a = t.3.0 in
     let turn : Turn = record { line = request; asked = a.asked; reply = a.reply } in
     let rest : (turns : List Turn) × IsRunOf (after_turn start turn) requests t.2 end turns =
-        subst (λ (f : Federation). (turns : List Turn) × IsRunOf f requests t.2 end turns) a.state (run_of t.0 requests t.2 end t.3.1) in
-    (turn ∷ rest.0, record {
-      requests = ap (λ (lines : List (List ℕ)). request ∷ lines) rest.1.requests;
-      follow = (a.asks, a.replies, rest.1.follow);
-      written = t.3.2 ∙ (ap (λ (xs : List ℕ). t.1 ++ xs) rest.1.written ∙ ap (λ (xs : List ℕ). xs ++ texts_of (after_turn start turn) rest.0) a.text);
-      left = rest.1.left;
-    })
+    subst (λ (f : Federation). (turns : List Turn) × IsRunOf f requests t.2 end turns) a.state (run_of t.0 requests t.2 end t.3.1) in (
+      turn ∷ rest.0,
+      record {
+        requests = ap (λ (lines : List (List ℕ)). request ∷ lines) rest.1.requests;
+        follow = (a.asks, a.replies, rest.1.follow);
+        written = t.3.2 ∙ (ap (λ (xs : List ℕ). t.1 ++ xs) rest.1.written ∙ ap (λ (xs : List ℕ). xs ++ texts_of (after_turn start turn) rest.0) a.text);
+        left = rest.1.left;
+      },
+    )
 
 pub turns_of : (start : Federation) (input output : List ℕ) (end : Federation) → IsTranscript Answers start input output end → (turns : List Turn) × IsRun start input output end turns
 turns_of start input output end t =
@@ -70,7 +66,7 @@ answered_in_turn : (start : Federation) (turns : List Turn) → AreTurns start t
 answered_in_turn start [] h = (refl, refl)
 answered_in_turn start (t ∷ ts) h =
     let answers : Answers start t.line (reply_text start t.asked t.reply) (after_turn start t) =
-        record { asked = t.asked; reply = t.reply; asks = h.0; replies = h.1; text = refl; state = refl } in
+    record { asked = t.asked; reply = t.reply; asks = h.0; replies = h.1; text = refl; state = refl } in
     (after_turn start t, reply_text start t.asked t.reply, texts_of (after_turn start t) ts, (answers, answered_in_turn (after_turn start t) ts h.2, refl))
 
 pub transcript_of : (start : Federation) (input output : List ℕ) (end : Federation) (turns : List Turn) → IsRun start input output end turns → IsTranscript Answers start input output end

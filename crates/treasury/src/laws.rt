@@ -63,5 +63,5 @@ pub fn late_entry_law()
         → has_branch f name ≡ true → unbalanced f.styles list ≡ None → IsWithin (book_of f name ++ entries_of f.styles list)
         → BreaksAssertion (book_of f name) (entries_of f.styles list)
         → (first : Failure) × ((reply f (enter name list) ≡ Err (ClaimFailed first))
-            × IsFirstFailure (book_of f name ++ entries_of f.styles list) first) }
+        × IsFirstFailure (book_of f name ++ entries_of f.styles list) first) }
 {}
