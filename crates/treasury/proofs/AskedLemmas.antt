@@ -1,20 +1,16 @@
 -- What a line asks is read from its text, and the reply to it leads from a good state to a good state.
-use Rattle.std.proofs.Common.{◌≡◌, ◌++◌, ℕ, List, [], ◌∷◌, Bool, true, false, not, Option, Some, None, Result, Ok, Err, length, refl, ap, ◌∙◌, sym, subst, inl, inr, ◌⊎◌, if◌then◌else◌, nat_le}
+use Rattle.std.proofs.Common.{◌≡◌, ℕ, List, Bool, true, false, not, Option, Some, None, Result, Ok, Err, length, refl, sym, subst, inl, inr, if◌then◌else◌, nat_le}
 use Rattle.std.specs.Prelude.{⊤}
 use Rattle.std.specs.List.{AllByRecursion}
 use Rattle.money_core.specs.declared.style.Style.{Style}
-use Rattle.money_core.specs.declared.unit.Unit.{Unit as Commodity}
 use Rattle.money_core.specs.declared.unit.Declared.{Declared}
 use Rattle.money_core.specs.declared.unit.Declared.TheVariants.{New, Same}
 use Rattle.money_core.specs.declared.cause.Cause.{Cause}
-use Rattle.money_core.specs.declared.cause.Cause.TheVariants.{OutOfMemory, Request as NoRequest}
-use Rattle.money_core.specs.declared.cause.Fault.{Fault}
 use Rattle.money_core.specs.Style.{is_style, declared}
 use Rattle.money_core.specs.Sampling.{style_of}
 use Rattle.money_core.proofs.SampleLemmas.{style_spelled}
 use Rattle.money_core.proofs.StyleSamples.{is_style_iff}
 use Rattle.book_core.specs.declared.refusal.Refusal.{Refusal}
-use Rattle.book_core.specs.declared.refusal.Refusal.TheVariants.{Plain, Text}
 use Rattle.journal_format.specs.declared.txn.Located.{Located}
 use Rattle.journal_format.specs.Printable.{IsPrintable}
 use Rattle.journal_format.proofs.ReadLemmas.{read_printable}

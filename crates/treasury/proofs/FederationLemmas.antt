@@ -1,11 +1,11 @@
 -- A federation stays good by each thing that is asked and done: one more branch, one more commodity, further entries of one branch.
-use Rattle.std.proofs.Common.{◌≡◌, ◌<◌, ◌+◌, ◌++◌, ℕ, zero, suc, List, [], ◌∷◌, Bool, true, false, not, cond, ◌||◌, Option, Some, None, Result, Ok, Err, is_some, length, map, position, arith, refl, ap, ◌∙◌, sym, subst, inl, inr, ◌⊎◌, length-append, if◌then◌else◌, nat_le, nat_lt}
+use Rattle.std.proofs.Common.{◌≡◌, ◌<◌, ◌+◌, ◌++◌, ℕ, zero, suc, List, [], ◌∷◌, Bool, true, false, not, cond, ◌||◌, Option, Some, None, Result, Ok, Err, is_some, length, arith, refl, ap, ◌∙◌, sym, inl, inr, ◌⊎◌, length-append, if◌then◌else◌, nat_le, nat_lt}
 use Rattle.std.specs.List.{AllByRecursion, slice_get, prefix_len, list_any}
 use Rattle.std.specs.Option.{option_map, option_or}
 use Rattle.std.specs.Str.{bytes_eq}
 use Rattle.std.proofs.lemmas.Bool.{leb-false, lt-ltb, le-ltb, cases_lt}
 use Rattle.money_core.specs.declared.style.Style.{Style}
-use Rattle.money_core.specs.Style.{AreStyles, is_style, declared, after as styles_after}
+use Rattle.money_core.specs.Style.{is_style, declared, after as styles_after}
 use Rattle.money_core.specs.declared.unit.Unit.{Unit as Commodity}
 use Rattle.money_core.specs.declared.unit.Declared.{Declared}
 use Rattle.money_core.specs.declared.unit.Declared.TheVariants.{New, Same}
@@ -254,16 +254,16 @@ IsGoodFederation-with_entries f name new ok fit made passes = record {
 -- ---- transactions that are not refused
 
 -- their branch is there, each has its entry, and the book with them is good
-pub record IsAccepted (f : Federation) (name : List ℕ) (list : List Located) : Type 0 where
+pub record MayEnter (f : Federation) (name : List ℕ) (list : List Located) : Type 0 where
   pub there : has_branch f name ≡ true
   pub balanced : unbalanced f.styles list ≡ None
   pub passes : verdict (book_of f name ++ entries_of f.styles list) ≡ None
 
-pub is_accepted : (f : Federation) (name : List ℕ) (list : List Located) → enter_refusal f name list ≡ None → IsAccepted f name list
+pub is_accepted : (f : Federation) (name : List ℕ) (list : List Located) → enter_refusal f name list ≡ None → MayEnter f name list
 is_accepted f name list h = by_tests (has_branch f name) (unbalanced f.styles list) refl refl h
   where
     by_tests : (t : Bool) (o : Option Fault) → has_branch f name ≡ t → unbalanced f.styles list ≡ o
-        → (if not t then Some (Plain UnknownBranch) else option_or (option_map Text o) (verdict (book_of f name ++ entries_of f.styles list))) ≡ None → IsAccepted f name list
+        → (if not t then Some (Plain UnknownBranch) else option_or (option_map Text o) (verdict (book_of f name ++ entries_of f.styles list))) ≡ None → MayEnter f name list
     by_tests false o at is k = absurd cc
     by_tests true (Some fault) at is k = absurd cc
     by_tests true None at is k = record { there = at; balanced = is; passes = k }

@@ -1,23 +1,17 @@
 -- What came into the books along turns, step by step; that turns are what a transcript has; and that a good state stays good.
-use Rattle.std.proofs.Common.{◌≡◌, ◌++◌, ℕ, List, [], ◌∷◌, Bool, true, false, not, ◌||◌, Option, Some, None, Result, Ok, Err, length, map, arith, refl, ap, ◌∙◌, sym, subst, inl, inr, ◌⊎◌, append_assoc, append-nil, slice_index, if◌then◌else◌, nat_le, pos, ◌+ℤ◌}
+use Rattle.std.proofs.Common.{◌≡◌, ◌++◌, ℕ, List, [], ◌∷◌, Bool, true, false, ◌||◌, Option, Some, None, Result, Ok, Err, length, map, arith, refl, ap, ◌∙◌, sym, subst, inl, inr, append_assoc, append-nil, slice_index, if◌then◌else◌, pos, ◌+ℤ◌}
 use Rattle.std.specs.List.{AllByRecursion, list_any}
 use Rattle.std.specs.Str.{bytes_eq}
 use Rattle.std.proofs.lemmas.Bool.{cases_Bool}
 use Rattle.std.proofs.lemmas.Int.{ints}
 use Rattle.std.proofs.lemmas.Slice.Eq.{bytes_eq-Decides}
 use Rattle.money_core.specs.declared.unit.Unit.{Unit as Commodity}
-use Rattle.money_core.specs.declared.unit.Declared.{Declared}
-use Rattle.money_core.specs.declared.unit.Declared.TheVariants.{New, Same}
-use Rattle.money_core.specs.declared.day.Day.{Day}
 use Rattle.money_core.specs.declared.style.Style.{Style}
-use Rattle.money_core.specs.declared.cause.Cause.{Cause}
 use Rattle.money_core.specs.declared.cause.Cause.TheVariants.{OutOfMemory}
-use Rattle.money_core.specs.Style.{declared}
 use Rattle.book_core.specs.declared.leg.Leg.{Leg}
 use Rattle.book_core.specs.declared.entry.Entry.{Entry}
 use Rattle.book_core.specs.declared.refusal.Refusal.{Refusal}
 use Rattle.book_core.specs.declared.refusal.Refusal.TheVariants.{Plain}
-use Rattle.book_core.specs.declared.account.Reach.{Reach}
 use Rattle.book_core.specs.declared.place.Until.TheVariants.{Through}
 use Rattle.book_core.specs.Book.{legs_of}
 use Rattle.book_core.specs.Balance.{balance, value}
@@ -29,7 +23,7 @@ use Rattle.treasury.specs.declared.branch.Branch.{Branch}
 use Rattle.treasury.specs.declared.answers.Answer.{Answer}
 use Rattle.treasury.specs.declared.answers.Answer.TheVariants.{Done, Entered, Repeated}
 use Rattle.treasury.specs.Federation.{Federation, has_name, book_in, book_of, IsGoodBranch, IsGoodFederation}
-use Rattle.treasury.specs.Asked.{Asked, new_branch, new_commodity, enter, balances, nothing, Asks}
+use Rattle.treasury.specs.Asked.{Asked, new_branch, new_commodity, enter, balances, nothing}
 use Rattle.treasury.specs.Answer.{answer_text}
 use Rattle.treasury.specs.Step.{unless, entries_of, enter_refusal, with_entries, done, reply, after, reply_text, Replies, Answers}
 use Rattle.treasury.specs.Transcript.{requests_in, AnswersInTurn, IsTranscript}

@@ -1,8 +1,7 @@
 -- Entries that would break an assertion are refused, and change nothing.
-use Rattle.std.proofs.Common.{◌≡◌, ◌++◌, ◌<◌, List, [], ◌∷◌, Bool, true, false, not, Option, Some, None, Result, Ok, Err, length, arith, refl, ap, ◌∙◌, sym, subst, inl, inr, if◌then◌else◌}
-use Rattle.std.specs.Prelude.{IsErr, Contains, option_map}
+use Rattle.std.proofs.Common.{◌≡◌, ◌++◌, List, Bool, true, not, Option, Some, None, Result, Err, length, refl, ap, ◌∙◌, sym, subst, inl, inr, if◌then◌else◌, ℕ}
+use Rattle.std.specs.Prelude.{IsErr, option_map}
 use Rattle.std.specs.Option.{option_or}
-use Rattle.std.specs.List.{AllByRecursion}
 use Rattle.money_core.specs.declared.cause.Fault.{Fault}
 use Rattle.money_core.specs.declared.cause.Cause.TheVariants.{UnknownBranch}
 use Rattle.book_core.specs.declared.entry.Entry.{Entry}
@@ -11,7 +10,7 @@ use Rattle.book_core.specs.declared.refusal.Refusal.{Refusal}
 use Rattle.book_core.specs.declared.refusal.Refusal.TheVariants.{Plain, Text, ClaimFailed}
 use Rattle.book_core.specs.Claim.{asserted_from, Holds, IsFirstFailure, failure}
 use Rattle.book_core.specs.GoodBook.{IsWithin, verdict}
-use Rattle.book_core.proofs.HoldLemmas.{failure_none, failure_first, contains_cons}
+use Rattle.book_core.proofs.HoldLemmas.{failure_none, failure_first}
 use Rattle.book_core.proofs.GoodBookLemmas.{failure_from}
 use Rattle.book_core.proofs.CommodityLemmas.{over_none}
 use Rattle.book_core.proofs.VerdictLemmas.{verdict_claims}
@@ -23,17 +22,11 @@ use Rattle.treasury.specs.Asked.{enter}
 use Rattle.treasury.specs.Step.{unless, unbalanced, entries_of, enter_refusal, reply, after, Replies}
 use Rattle.treasury.specs.History.{BreaksAssertion}
 use Rattle.treasury.proofs.FederationLemmas.{is_accepted}
-
-all_contains : {X : Type 0} (P : X → Type 0) (xs : List X) (x : X) → AllByRecursion P xs → Contains xs x → P x
-all_contains P [] x all c = absurd (omega (arith, c.1))
-all_contains P (y ∷ ys) x all c = elim (contains_cons y x ys c) [
-  | inl same ↦ subst P same all.0
-  | inr later ↦ all_contains P ys x all.1 later
-]
+use Rattle.treasury.proofs.PrintableLemmas.{all_at}
 
 -- a book in which an assertion does not hold has a failure
 not_none : (old new : List Entry) → BreaksAssertion old new → failure (old ++ new) ≡ None → ⊥
-not_none old new broken none = broken.fails (all_contains (Holds (old ++ new)) (asserted_from 1 (old ++ new)) broken.assertion ((failure_none (old ++ new)).0 none) broken.stands)
+not_none old new broken none = broken.fails (all_at (Holds (old ++ new)) (asserted_from 1 (old ++ new)) broken.assertion ((failure_none (old ++ new)).0 none) broken.stands)
 
 refused : (f : Federation) (name : List ℕ) (list : List Located) (o : Option Refusal) → enter_refusal f name list ≡ o → BreaksAssertion (book_of f name) (entries_of f.styles list)
     → IsErr (unless (Entered (length list) 0) o) × (after f (enter name list) (unless (Entered (length list) 0) o) ≡ f)

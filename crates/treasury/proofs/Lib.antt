@@ -20,5 +20,6 @@ pub mod AnswerLemmas
 pub mod HistoryLemmas
 pub mod LateEntryLemmas
 pub mod RunEndLemmas
+pub mod WorkedHistory
 pub mod WordLemmas
 pub mod WorkedWords

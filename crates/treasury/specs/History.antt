@@ -14,13 +14,12 @@ use Rattle.book_core.specs.Balance.{balance}
 use Rattle.book_core.specs.declared.claim.Asserted.{Asserted}
 use Rattle.book_core.specs.Claim.{asserted_from, Holds}
 use Rattle.book_core.specs.GoodBook.{IsBalanced}
-use Rattle.journal_format.specs.declared.txn.Located.{Located}
 use Rattle.treasury.specs.declared.branch.Branch.{Branch}
 use Rattle.treasury.specs.declared.answers.Answer.{Answer}
 use Rattle.treasury.specs.declared.answers.Answer.TheVariants.{Done, Entered, Repeated}
 use Rattle.treasury.specs.Federation.{Federation, book_of}
 use Rattle.treasury.specs.Asked.{Asked, enter, Asks}
-use Rattle.treasury.specs.Step.{entries_of, after, reply_text, Replies, Answers}
+use Rattle.treasury.specs.Step.{entries_of, after, reply_text, Replies}
 use Rattle.treasury.specs.Transcript.{requests_in}
 
 -- a request: its line, what it asks, and what was replied
