@@ -26,7 +26,7 @@ apart_below x j m [] h all = tt
 apart_below x j m (y ∷ ys) h all = ((λ e. omega (arith, h, all.0.0, e)), apart_below x j m ys h all.1)
 
 -- only a posting with an amount has an assertion
-claim_amount : (styles : List Style) (p : Posting) (claim : Claim) → is_posting styles p ≡ true → p.claim ≡ Some claim → (a : Commodity × ℤ) × (p.amount ≡ Some a)
+pub claim_amount : (styles : List Style) (p : Posting) (claim : Claim) → is_posting styles p ≡ true → p.claim ≡ Some claim → (a : Commodity × ℤ) × (p.amount ≡ Some a)
 claim_amount styles p claim ok e = by_amount p.amount refl (and_parts _ _ (and_parts _ _ ok).0).1
   where
     not_both : (b : Bool) → (b && false) ≡ true → ⊥

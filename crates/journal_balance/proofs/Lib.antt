@@ -5,6 +5,7 @@ pub mod FaultLemmas
 pub mod ValueLemmas
 pub mod ClaimLemmas
 pub mod EntryLemmas
+pub mod DeclaredLemmas
 pub mod WrittenLemmas
 pub mod GrowthLemmas
 pub mod WorkedValues

@@ -1,11 +1,17 @@
 -- Some of the entries are in the book, and the others are left.
-use Rattle.std.proofs.Common.{◌≡◌, ◌++◌, List, [], ◌∷◌, refl, ap, ◌∙◌, sym, subst, append_assoc, append-nil, reverse}
+use Rattle.std.proofs.Common.{◌≡◌, ◌++◌, List, [], ◌∷◌, refl, ap, ◌∙◌, sym, subst, append_assoc, append-nil, reverse, arith, length-append}
 use Rattle.std.specs.List.{AllByRecursion}
 use Rattle.std.proofs.lemmas.List.{reverse-append}
 use Rattle.book_core.specs.declared.entry.Entry.{Entry}
 use Rattle.book_core.specs.GoodBook.{IsFit, IsWithin}
-use Rattle.treasury.specs.Entering.{Begins}
-use Rattle.treasury.proofs.BookLemmas.{IsWithin-front}
+use Rattle.book_core.proofs.BookLemmas.{turnover-append}
+
+-- a front of a book within its limits
+IsWithin-front : (b c : List Entry) → IsWithin (b ++ c) → IsWithin b
+IsWithin-front b c h = record {
+  few = omega (arith, h.few, length-append b c);
+  small = λ unit. omega (arith, h.small unit, turnover-append unit b c);
+}
 
 -- the new entries are those that are in the book behind the old ones, and those that are left
 pub record Half (old new book left : List Entry) : Type 0 where
@@ -39,10 +45,6 @@ half_room old new book left e h = IsWithin-front (book ++ e ∷ []) left (subst 
 -- all are entered
 pub half_end : (old new book : List Entry) → Half old new book [] → book ≡ old ++ new
 half_end old new book h = h.entered ∙ ap (λ (es : List Entry). old ++ es) (sym (h.all ∙ append-nil h.first))
-
--- it ends before all are entered
-pub half_begins : (old new book left : List Entry) → Half old new book left → Begins old new book
-half_begins old new book left h = record { first = h.first; rest = left; all = h.all; entered = h.entered }
 
 -- the last of the list is the first of the reversed one
 pub reverse-pop : (all rest : List Entry) (e : Entry) → all ≡ rest ++ e ∷ [] → reverse all ≡ e ∷ reverse rest

@@ -3,15 +3,14 @@ pub mod Request
 pub mod Transcript
 pub mod RunEnd
 pub mod Federation
-pub mod SmallJournal
+pub mod Asked
 pub mod Step
 pub mod Answer
 pub mod BalanceReport
 pub mod History
 pub mod Words
 -- What mirrors code, for private clauses: nobody has to believe it
-pub mod Entering
+pub mod Replied
 pub mod Form
-pub mod LineView
 pub mod Served
 pub mod Echo

@@ -5,10 +5,10 @@ use Rattle.clap.specs.Kinds.{Kinds, IsAmong}
 use Rattle.clap.specs.Faults.{fault_of}
 use Rattle.clap.specs.declared.error.kind.ErrorKind.TheVariants.{DisplayHelp, DisplayVersion}
 use Rattle.money_core.specs.declared.cause.Cause.{Cause}
-use Rattle.treasury.specs.Federation.{Federation, IsGoodFederation}
+use Rattle.treasury.specs.Federation.{Federation, IsGoodFederation, book_of}
 use Rattle.treasury.specs.RunEnd.{most_input, Finished, EndsBy, IsLost}
 use Rattle.treasury.specs.Step.{Answers, Loses}
-use Rattle.treasury.specs.History.{IsBalancedFederation, book_of, entered_into, history, BalancesMove, RefusalsLeave}
+use Rattle.treasury.specs.History.{Turn, IsRun, history, entered_into, BalancesMove, IsBalancedFederation, AllAssertionsHold, RefusalsLeave}
 
 -- the words that the program knows: it has a version; one of its subcommands has to be given, and `run` is the only one
 abbrev pub known : App
@@ -30,25 +30,27 @@ MayAskForHelp words = IsAmong DisplayHelp (objections words) ⊎ IsAmong Display
 abbrev pub nothing : Federation
 nothing = record { styles = []; branches = [] }
 
--- All of the input is answered, at most 64 MiB of it, over a federation that had nothing yet. At its end the state is good, in each branch
--- every commodity sums to zero, each book is the entries of the accepted imports into its branch, in order, and nothing else, each balance
--- has moved by exactly these, and each answer that is a refusal or `repeated` left the state as it was.
--- `remaining` and `contents` are what a reader has left and what a writer holds, where they are known.
+-- the state is good, in each branch every commodity sums to zero, and every stored assertion holds at its place
+pub record IsSound (f : Federation) : Type 0 where
+  pub good : IsGoodFederation f
+  pub balanced : IsBalancedFederation f
+  pub asserted : AllAssertionsHold f
+
+-- All of the input is answered, at most 64 MiB of it, over a federation that had nothing yet: by turns, one for each request. At their end the
+-- state is sound, each book is the accepted entries of its branch, in order, and nothing else, each balance has moved by exactly these, and each
+-- reply that is a refusal or `repeated` left the state as it was.
 pub record AnswersAll {R W : Type 0} (remaining : R → Option (List ℕ)) (r0 r1 : R) (contents : W → Option (List ℕ)) (w0 w1 : W) : Type 0 where
   pub end : Federation
+  pub turns : List Turn
   pub finished : Finished Answers most_input (remaining r0) (remaining r1) (contents w0) (contents w1) nothing end
-  pub good : IsGoodFederation end
-  pub balanced : IsBalancedFederation end
-  pub books : (name : List ℕ) → book_of end.branches name ≡ entered_into name (history nothing finished.seen finished.written end finished.transcript)
-  pub balances : BalancesMove nothing finished.seen finished.written end finished.transcript
-  pub refusals : RefusalsLeave nothing finished.seen finished.written end finished.transcript
-
--- the state is good, and in each branch every commodity sums to zero
-abbrev pub IsSound : Federation → Type 0
-IsSound f = IsGoodFederation f × IsBalancedFederation f
+  pub run : IsRun nothing finished.seen finished.written end turns
+  pub sound : IsSound end
+  pub books : (name : List ℕ) → book_of end name ≡ entered_into name (history nothing turns)
+  pub balances : BalancesMove nothing turns
+  pub refusals : RefusalsLeave nothing turns
 
 -- A run over a federation that had nothing yet is cut off by this cause: memory, its input or its output. The state is sound then too, or it
--- is lost: memory was refused while the entries of an accepted import were added.
+-- is lost: memory was refused while accepted entries were added.
 pub record IsCutOffBy {R W : Type 0} (cause : Cause) (remaining : R → Option (List ℕ)) (r0 r1 : R) (contents : W → Option (List ℕ)) (w0 w1 : W) : Type 0 where
   pub end : Federation
   pub ends : EndsBy cause Answers Loses most_input (remaining r0) (remaining r1) (contents w0) (contents w1) nothing end

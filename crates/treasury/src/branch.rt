@@ -2,9 +2,9 @@
 
 ghost use Rattle.std.specs.Prelude.{◌≡◌, ◌==◌, ◌&&◌, nat_le, length, position, slice_index};
 ghost use Rattle.std.specs.Char.{is_ascii_lowercase};
-ghost use Rattle.std.specs.List.{list_all};
+ghost use Rattle.std.specs.List.{list_all, list_any};
 ghost use Rattle.std.specs.Str.{bytes_eq};
-ghost use Rattle.treasury.specs.Federation.{is_name_byte, is_branch_name, branch_place};
+ghost use Rattle.treasury.specs.Federation.{is_name_byte, is_branch_name, has_name, branch_place};
 
 use book_core::PlainLedger;
 use money_core::Text;
@@ -12,11 +12,14 @@ use money_core::Text;
 /// The greatest number of bytes of a branch's name.
 const MAX_NAME: usize = 32;
 
+/// The ledger that keeps the book of a branch. It is named here alone.
+pub type Book = PlainLedger;
+
 /// A branch: its name, and its book.
 #[derive(Drop)]
 pub struct Branch {
     pub name: Text,
-    pub book: PlainLedger,
+    pub book: Book,
 }
 
 /// Whether the byte may stand in a branch's name.
@@ -42,6 +45,15 @@ pub fn is_branch_name(name: &[u8]) -> bool
         None => false,
     };
     begins && has_name_bytes(name) && name.len() <= MAX_NAME
+}
+
+/// Whether there is a branch of that name.
+pub fn has_branch(branches: &[Branch], name: &[u8]) -> bool
+    ensures { result ≡ list_any (has_name name.now) branches.now }
+{
+    branches
+        .iter()
+        .any(|branch| branch.name.as_str().as_bytes() == name)
 }
 
 /// Where the branch of that name stands.

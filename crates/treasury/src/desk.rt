@@ -1,23 +1,24 @@
 //! The desk: the state of a federation in memory, and what it answers to requests.
 
-ghost use Rattle.std.specs.Prelude.{◌≡◌, ◌↔◌, IsTrue, true, ◌≤◌, ◌<◌, ◌++◌, ◌∷◌, [], List, ℕ, Ok, Err, Some, None, IfOk, IfSome, OnOk, OnErr, IsErrOf};
+ghost use Rattle.std.specs.Prelude.{◌≡◌, ◌↔◌, IsTrue, true, ◌≢◌, ◌++◌, ◌∷◌, [], List, ℕ, Ok, Err, IfOk, IfErr, IfSome, OnOk, OnErr, IsErrOf};
 ghost use Rattle.std.specs.Result.{IsOkUnless};
 ghost use Rattle.money_core.specs.Style.{is_style};
 ghost use Rattle.money_core.specs.Sampling.{style_of};
-ghost use Rattle.treasury.specs.Step.{branch_answer, with_branch, declaration_answer, after_commodity, import_decision, after_import, step, IsOutcome, IsAcceptedImport, IsAcceptedRequest};
-ghost use Rattle.treasury.specs.Answer.{answer_text};
+ghost use Rattle.treasury.specs.Asked.{new_branch, new_commodity, asked_by_sample, enter, balances};
+ghost use Rattle.treasury.specs.Step.{branch_reply, commodity_reply, reply, done, after};
+ghost use Rattle.treasury.specs.Replied.{IsReplied, IsAnswered, MayLose, IsAccepted, IsRefused, MemoryOr};
+ghost use Rattle.treasury.specs.Answer.{answer_text, IsPrintableRefusal};
 ghost use Rattle.treasury.specs.declared.answers.Answer.TheVariants.{Done};
-ghost use Rattle.treasury.specs.declared.request.Request.TheVariants.{Branch as ForBranch, Commodity as ForCommodity, Import as ForImport, Balance as ForBalance};
+ghost use Rattle.treasury.specs.declared.request.Request.TheVariants.{Import as ForImport};
 
 use crate::answers::{Answer, answer_line};
 use crate::balance_report::balance_report;
-use crate::branch::{Branch, branch_place, is_branch_name};
+use crate::branch::{Book, Branch, branch_place, has_branch, is_branch_name};
 use crate::entering::enter_all;
-use crate::import::{Accepted, judged};
+use crate::import::{Accepted, decided, transactions_of};
 use crate::lines::Shortage;
 use crate::request::Request;
-use crate::small_journal::read_journal;
-use book_core::{Ledger, PlainLedger, Refusal};
+use book_core::{Ledger, Refusal};
 use money_core::{Cause, Day, Declared, Style, Styles, Text, read_style};
 use std::alloc::Global;
 use std::marker::Model;
@@ -67,9 +68,9 @@ fn spelled_style(alloc: Global, sample: &str) -> Result<Option<Style>, Cause>
     }
 }
 
-/// What a declaration is answered.
-fn declaration_answer(judged: Result<Declared, Cause>) -> Result<Answer, Refusal>
-    ensures { result ≡ declaration_answer judged }
+/// The reply to a new commodity, as its declaration is judged.
+fn commodity_reply(judged: Result<Declared, Cause>) -> Result<Answer, Refusal>
+    ensures { result ≡ commodity_reply judged }
 {
     match judged {
         Ok(Declared::New(_)) => Ok(Answer::Done),
@@ -89,14 +90,14 @@ impl Desk {
         }
     }
 
-    /// What a new branch is answered.
-    fn branch_answer(&self, name: &str) -> Result<Answer, Refusal>
-        ensures { result ≡ branch_answer self.now name.now }
+    /// The reply to a new branch.
+    fn branch_reply(&self, name: &str) -> Result<Answer, Refusal>
+        ensures { result ≡ branch_reply self.now name.now }
     {
         if !is_branch_name(name.as_bytes()) {
             return Err(Refusal::Plain(Cause::BranchName));
         }
-        if branch_place(&self.branches, name.as_bytes()).is_some() {
+        if has_branch(&self.branches, name.as_bytes()) {
             return Ok(Answer::Repeated);
         }
         if self.branches.len() >= MAX_BRANCHES {
@@ -107,25 +108,24 @@ impl Desk {
 
     /// Adds a branch with an empty book.
     fn add_branch(&mut self, alloc: Global, name: &str) -> Result<(), Cause>
-        requires { branch_answer self.old name.now ≡ Ok Done }
-        ensures ok { OnOk result (self.new ≡ with_branch self.old name.now) }
+        requires { branch_reply self.old name.now ≡ Ok Done }
+        ensures ok { OnOk result (self.new ≡ done self.old (new_branch name.now)) }
         ensures err { OnErr result (self.new ≡ self.old) }
         ensures memory { IsOkUnless result Cause.OutOfMemory }
     {
         let name = Text::of(alloc, name)?;
-        let book = PlainLedger::empty(alloc);
+        let book = Book::empty(alloc);
         self.branches.push(Branch { name, book })?;
         Ok(())
     }
 
     /// Answers the request for a new branch. The answer's room is made before the branch is.
-    #[tactic(auto, unfolding(crate::specs::Step::step))]
     fn answer_branch(&mut self, alloc: Global, name: &str, out: &mut Vec<u8>) -> Result<(), Cause>
-        ensures ok { OnOk result (IsOutcome (step self.old (ForBranch name.now)) out.old.items out.new.items self.new) }
+        ensures ok { OnOk result (IsReplied self.old (new_branch name.now) out.old.items out.new.items self.new) }
         ensures err { OnErr result ((self.new ≡ self.old) × (out.new.items ≡ out.old.items)) }
         ensures memory { IsOkUnless result Cause.OutOfMemory }
     {
-        let answer = self.branch_answer(name);
+        let answer = self.branch_reply(name);
         let before = out.len();
         match answer_line(alloc, &answer, &self.styles, out) {
             Ok(()) => {}
@@ -144,14 +144,13 @@ impl Desk {
     }
 
     /// Answers the request for a new commodity, by its sample. The answer's room is made before the commodity is.
-    #[tactic(auto, unfolding(crate::specs::Step::step))]
     fn answer_commodity(
         &mut self,
         alloc: Global,
         sample: &str,
         out: &mut Vec<u8>,
     ) -> Result<(), Cause>
-        ensures ok { OnOk result (IsOutcome (step self.old (ForCommodity sample.now)) out.old.items out.new.items self.new) }
+        ensures ok { OnOk result (IsReplied self.old (asked_by_sample (style_of sample.now)) out.old.items out.new.items self.new) }
         ensures err { OnErr result ((self.new ≡ self.old) × (out.new.items ≡ out.old.items)) }
         ensures memory { IsOkUnless result Cause.OutOfMemory }
     {
@@ -167,7 +166,7 @@ impl Desk {
             }
             Err(cause) => return Err(cause),
         };
-        let answer = declaration_answer(self.styles.judge(&style));
+        let answer = commodity_reply(self.styles.judge(&style));
         let before = out.len();
         match answer_line(alloc, &answer, &self.styles, out) {
             Ok(()) => {}
@@ -185,7 +184,7 @@ impl Desk {
     /// Declares the style as it was judged.
     fn declare(&mut self, style: Style) -> Result<(), Cause>
         requires { is_style style ≡ true }
-        ensures ok { OnOk result (self.new ≡ after_commodity self.old (Some style)) }
+        ensures ok { OnOk result (self.new ≡ after self.old (new_commodity style) (reply self.old (new_commodity style))) }
         ensures err { OnErr result (self.new ≡ self.old) }
         ensures memory { IsOkUnless result Cause.OutOfMemory }
     {
@@ -195,44 +194,69 @@ impl Desk {
         }
     }
 
-    /// What an import is decided to be.
-    fn import_decision(
-        &self,
-        alloc: Global,
-        name: &str,
-        journal: &[u8],
-    ) -> Result<Result<Accepted, Refusal>, Cause>
-        ensures decided { IfOk result (λ decision. decision ≡ import_decision self.now name.now journal.now) }
-        ensures memory { IsOkUnless result Cause.OutOfMemory }
+    /// What an import is decided to be: first the text has to be read without a fault, then its branch has to be there, then
+    /// the transactions are judged. 40 for want of memory.
+    fn decide_import(&self, alloc: Global, name: &str, journal: &[u8]) -> Result<Accepted, Refusal>
+        ensures accepted { IfOk result (IsAccepted self.now name.now journal.now) }
+        ensures refused { IfErr result (MemoryOr (IsRefused self.now name.now journal.now)) }
+        ensures printable { IfErr result (IsPrintableRefusal self.now.styles) }
     {
-        let list = match read_journal(alloc, journal, &self.styles) {
+        let list = match transactions_of(alloc, journal, &self.styles) {
             Ok(list) => list,
-            Err(fault) => {
-                return if is_memory(fault.cause) {
-                    Err(Cause::OutOfMemory)
-                } else {
-                    Ok(Err(Refusal::Text(fault)))
-                };
-            }
+            Err(refusal) => return Err(refusal),
         };
         match branch_place(&self.branches, name.as_bytes()) {
-            None => Ok(Err(Refusal::Plain(Cause::UnknownBranch))),
-            Some(place) => judged(alloc, place, &self.branches[place].book, list),
+            None => Err(Refusal::Plain(Cause::UnknownBranch)),
+            Some(place) => decided(
+                alloc,
+                place,
+                &self.branches[place].book,
+                &list,
+                &self.styles,
+            ),
         }
     }
 
-    /// Enters the entries of an accepted import. Where memory is refused, those that were entered stay.
+    /// Enters the entries of an accepted import. Where memory is refused, the state is lost: the branches are gone, since
+    /// without the others some of the entries might break an assertion.
     fn enter(&mut self, accepted: Accepted) -> Result<(), Cause>
-        requires { (name : List ℕ) × ((journal : List ℕ) × (import_decision self.old name journal ≡ Ok accepted)) }
-        ensures ok { OnOk result (self.new ≡ after_import self.old (Ok accepted)) }
+        requires { (name : List ℕ) × ((journal : List ℕ) × IsAccepted self.old name journal accepted) }
+        ensures ok { OnOk result ((name journal : List ℕ) (was : IsAccepted self.old name journal accepted) → self.new ≡ done self.old (enter name was.list)) }
         ensures memory { IsOkUnless result Cause.OutOfMemory }
     {
         let Accepted { place, new } = accepted;
-        enter_all(&mut self.branches[place].book, new.into_vec())
+        match enter_all(&mut self.branches[place].book, new.into_vec()) {
+            Ok(()) => Ok(()),
+            Err(cause) => {
+                self.branches.clear();
+                Err(cause)
+            }
+        }
+    }
+
+    /// Appends the line of a refusal. Where it is want of memory, or there is none for the line, nothing has changed.
+    fn answer_refusal(
+        &self,
+        alloc: Global,
+        refusal: Refusal,
+        out: &mut Vec<u8>,
+    ) -> Result<(), Shortage>
+        requires { IsPrintableRefusal self.now.styles refusal }
+        ensures ok { OnOk result (out.new.items ≡ out.old.items ++ answer_text self.now.styles (Err refusal)) }
+        ensures other { OnOk result (refusal ≢ Refusal.Plain Cause.OutOfMemory) }
+        ensures err { OnErr result (out.new.items ≡ out.old.items) }
+        ensures kept { OnErr result (result ≡ Err Shortage.Kept) }
+    {
+        if refusal == Refusal::Plain(Cause::OutOfMemory) {
+            return Err(Shortage::Kept);
+        }
+        match answer_line(alloc, &Err(refusal), &self.styles, out) {
+            Ok(()) => Ok(()),
+            Err(_) => Err(Shortage::Kept),
+        }
     }
 
     /// Answers the request for an import. The answer's room is made before an entry is added.
-    #[tactic(auto, unfolding(crate::specs::Step::step))]
     fn answer_import(
         &mut self,
         alloc: Global,
@@ -240,19 +264,13 @@ impl Desk {
         journal: &[u8],
         out: &mut Vec<u8>,
     ) -> Result<(), Shortage>
-        ensures ok { OnOk result (IsOutcome (step self.old (ForImport name.now journal.now)) out.old.items out.new.items self.new) }
+        ensures ok { OnOk result (IsAnswered self.old (ForImport name.now journal.now) out.old.items out.new.items self.new) }
         ensures kept { IsErrOf result Shortage.Kept → (self.new ≡ self.old) × (out.new.items ≡ out.old.items) }
-        ensures lost { IsErrOf result Shortage.Lost → IsAcceptedImport self.old name.now journal.now }
+        ensures lost { IsErrOf result Shortage.Lost → MayLose self.old (ForImport name.now journal.now) }
     {
-        let accepted = match self.import_decision(alloc, name, journal) {
-            Ok(Ok(accepted)) => accepted,
-            Ok(Err(refusal)) => {
-                return match answer_line(alloc, &Err(refusal), &self.styles, out) {
-                    Ok(()) => Ok(()),
-                    Err(_) => Err(Shortage::Kept),
-                };
-            }
-            Err(_) => return Err(Shortage::Kept),
+        let accepted = match self.decide_import(alloc, name, journal) {
+            Ok(accepted) => accepted,
+            Err(refusal) => return self.answer_refusal(alloc, refusal, out),
         };
         let answer = Ok(Answer::Entered {
             new: accepted.new.items().len(),
@@ -269,7 +287,6 @@ impl Desk {
     }
 
     /// Answers the request for a branch's balances: the report and `ok`, or that the branch is not there.
-    #[tactic(auto, unfolding(crate::specs::Step::step))]
     fn answer_balance(
         &self,
         alloc: Global,
@@ -277,7 +294,7 @@ impl Desk {
         day: Day,
         out: &mut Vec<u8>,
     ) -> Result<(), Cause>
-        ensures ok { OnOk result (IsOutcome (step self.now (ForBalance name.now day)) out.old.items out.new.items self.now) }
+        ensures ok { OnOk result (IsReplied self.now (balances name.now day) out.old.items out.new.items self.now) }
         ensures err { OnErr result (out.new.items ≡ out.old.items) }
         ensures memory { IsOkUnless result Cause.OutOfMemory }
     {
@@ -310,9 +327,9 @@ impl Desk {
         request: &Request,
         out: &mut Vec<u8>,
     ) -> Result<(), Shortage>
-        ensures ok { OnOk result (IsOutcome (step self.old request.now) out.old.items out.new.items self.new) }
+        ensures ok { OnOk result (IsAnswered self.old request.now out.old.items out.new.items self.new) }
         ensures kept { IsErrOf result Shortage.Kept → (self.new ≡ self.old) × (out.new.items ≡ out.old.items) }
-        ensures lost { IsErrOf result Shortage.Lost → IsAcceptedRequest self.old request.now }
+        ensures lost { IsErrOf result Shortage.Lost → MayLose self.old request.now }
     {
         let done = match request {
             Request::Branch { name } => self.answer_branch(alloc, name.as_str(), out),

@@ -1,12 +1,11 @@
 //! Entries that a check has passed go into a branch's book.
 
-ghost use Rattle.std.specs.Prelude.{◌≡◌, ◌++◌, ℕ, List, reverse, OnOk, OnErr};
+ghost use Rattle.std.specs.Prelude.{◌≡◌, ◌++◌, reverse, OnOk};
 ghost use Rattle.std.specs.List.{AllByRecursion};
 ghost use Rattle.std.specs.Result.{IsOkUnless};
 ghost use Rattle.book_core.specs.GoodBook.{IsFit, IsWithin};
-ghost use Rattle.treasury.specs.Entering.{Begins};
 
-use book_core::{Entry, Ledger, PlainLedger};
+use book_core::{Entry, Ledger};
 use money_core::Cause;
 
 /// The entries, last first.
@@ -17,13 +16,12 @@ fn reversed(mut entries: Vec<Entry>) -> Vec<Entry>
     entries
 }
 
-/// Adds the entries in order. Where memory is refused, it answers 40: the first of them stay in the book, and the rest is
-/// lost.
-pub fn enter_all(book: &mut PlainLedger, new: Vec<Entry>) -> Result<(), Cause>
+/// Adds the entries in order. Where memory is refused, it answers 40: the first of them stay in the book, which need not
+/// be good without the others, and the rest is lost.
+pub fn enter_all<L: Ledger>(book: &mut L, new: Vec<Entry>) -> Result<(), Cause>
     requires fit { AllByRecursion IsFit new.items }
-    requires room { IsWithin (book.old ++ new.items) }
-    ensures ok { OnOk result (book.new ≡ book.old ++ new.items) }
-    ensures err { OnErr result (Begins book.old new.items book.new) }
+    requires room { IsWithin (L.book book.old ++ new.items) }
+    ensures ok { OnOk result (L.book book.new ≡ L.book book.old ++ new.items) }
     ensures memory { IsOkUnless result Cause.OutOfMemory }
 {
     let mut left = reversed(new);

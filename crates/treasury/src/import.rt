@@ -1,20 +1,22 @@
 //! What an import is decided to be: the entries of a journal that a branch's book takes, or the refusal.
 
-ghost use Rattle.std.specs.Prelude.{◌≡◌, ◌≢◌, ◌≤◌, ◌<◌, ◌++◌, ◌⊎◌, ◌∷◌, [], pos, not, map, take, length, find, slice_get, IfOk, OnOk, OnErr, None, Some, MatchResult, MatchOption};
-ghost use Rattle.std.specs.List.{list_all, AllByRecursion};
-ghost use Rattle.std.specs.Ordering.{int_eq};
-ghost use Rattle.std.specs.Result.{IsOkUnless};
-ghost use Rattle.std.specs.Option.{option_copied};
-ghost use Rattle.book_core.specs.Balance.{value};
+ghost use Rattle.std.specs.Prelude.{◌≡◌, ◌++◌, None, Ok, Some, option_map, IfOk, IfErr};
+ghost use Rattle.std.specs.List.{AllByRecursion};
 ghost use Rattle.book_core.specs.Claim.{failure};
-ghost use Rattle.treasury.specs.declared.small_journal.Written.{Written as Transaction};
-ghost use Rattle.book_core.specs.GoodBook.{IsFit, IsWithin, verdict};
-ghost use Rattle.treasury.specs.SmallJournal.{entries_of};
-ghost use Rattle.treasury.specs.Step.{is_balanced, unbalanced_line, checked, judged};
+ghost use Rattle.book_core.specs.GoodBook.{IsFit};
+ghost use Rattle.journal_format.specs.declared.txn.Located.{Located as Transaction};
+ghost use Rattle.journal_format.specs.Pieces.{Reads};
+ghost use Rattle.journal_format.specs.Printable.{IsPrintable};
+ghost use Rattle.journal_balance.specs.Legs.{legs_of};
+ghost use Rattle.treasury.specs.Answer.{IsPrintableRefusal};
+ghost use Rattle.treasury.specs.Federation.{IsOfTransaction};
+ghost use Rattle.treasury.specs.Step.{fault_on, unbalanced, entries_of};
+ghost use Rattle.treasury.specs.Replied.{MemoryOr, NamesFault, refusal_in};
 
-use crate::small_journal::Written;
-use book_core::{Count, Entry, Items, Ledger, Leg, PlainLedger, Refusal};
-use money_core::{Cause, Fault};
+use book_core::{Count, Entry, Items, Ledger, Refusal};
+use journal_balance::{entry_law, legs};
+use journal_format::{Located, read_journal};
+use money_core::{Cause, Fault, Styles};
 use std::alloc::Global;
 
 /// An import that is accepted.
@@ -26,89 +28,95 @@ pub struct Accepted {
     pub new: Items<Entry>,
 }
 
-/// Whether the transaction sums to zero in every commodity.
-fn is_balanced(written: &Written) -> bool
-    ensures { result ≡ is_balanced written.now.entry.legs }
-{
-    book_core::is_balanced(written.entry.legs.items())
-}
+/// Want of memory.
+const NO_MEMORY: Refusal = Refusal::Plain(Cause::OutOfMemory);
 
-/// The first transaction that does not sum to zero.
-fn first_unbalanced(list: &[Written]) -> Option<&Written>
-    ensures { option_copied result ≡ find (λ (t : Transaction). not (is_balanced t.entry.legs)) list.now }
+/// A fault on that line, or want of memory, which is no fault of a line.
+fn fault_or_memory(fault: Fault) -> Refusal
+    ensures either { MemoryOr (λ refusal. refusal ≡ Refusal.Text fault) result }
+    ensures memory { fault.cause ≡ Cause.OutOfMemory → result ≡ Refusal.Plain Cause.OutOfMemory }
 {
-    list.iter().find(|written| !is_balanced(written))
-}
-
-/// The line of the first transaction that does not sum to zero.
-fn unbalanced_line(list: &[Written]) -> Option<usize>
-    ensures { result ≡ unbalanced_line list.now }
-{
-    match first_unbalanced(list) {
-        Some(written) => Some(written.line),
-        None => None,
+    match fault.cause {
+        Cause::OutOfMemory => NO_MEMORY,
+        _ => Refusal::Text(fault),
     }
 }
 
-/// The entries of the transactions, in order.
-fn entries_of(alloc: Global, list: Vec<Written>) -> Result<Items<Entry>, Cause>
-    ensures equal { IfOk result (λ entries. entries ≡ entries_of list.items) }
-    ensures memory { IsOkUnless result Cause.OutOfMemory }
+/// The transactions of a journal's text, in order, or its first fault; 40 for want of memory.
+pub fn transactions_of(alloc: Global, text: &[u8], styles: &Styles) -> Result<Vec<Located>, Refusal>
+    ensures read { IfOk result (λ list. Reads styles.now text.now list.items) }
+    ensures printable { IfOk result (λ list. AllByRecursion (λ (x : Transaction). IsPrintable styles.now x.txn) list.items) }
+    ensures refused { IfErr result (MemoryOr (NamesFault styles.now text.now)) }
+{
+    match read_journal(alloc, text, styles) {
+        Ok(list) => Ok(list),
+        Err(fault) => Err(fault_or_memory(fault)),
+    }
+}
+
+/// The entry of a transaction, or its fault, on the line of its header; 40 for want of memory.
+fn entry_of(alloc: Global, located: &Located, styles: &Styles) -> Result<Entry, Refusal>
+    requires { IsPrintable styles.now located.now.txn }
+    ensures ok { IfOk result (λ entry. legs_of styles.now located.now.txn ≡ Ok entry) }
+    ensures refused { IfErr result (MemoryOr (λ refusal. option_map Refusal.Text (fault_on located.now.line (legs_of styles.now located.now.txn)) ≡ Some refusal)) }
+{
+    match legs(alloc, &located.txn, styles) {
+        Ok(entry) => Ok(entry),
+        Err(cause) => Err(fault_or_memory(Fault {
+            line: located.line,
+            cause,
+        })),
+    }
+}
+
+/// The entries of transactions, in order, or the fault of the first that has none; 40 for want of memory.
+fn entries_of(alloc: Global, list: &[Located], styles: &Styles) -> Result<Items<Entry>, Refusal>
+    requires { AllByRecursion (λ (x : Transaction). IsPrintable styles.now x.txn) list.now }
+    ensures balanced { IfOk result (λ entries. unbalanced styles.now list.now ≡ None) }
+    ensures entries { IfOk result (λ entries. entries ≡ entries_of styles.now list.now) }
+    ensures refused { IfErr result (MemoryOr (λ refusal. option_map Refusal.Text (unbalanced styles.now list.now) ≡ Some refusal)) }
 {
     let mut entries = Items::empty(alloc);
-    'listing: for written in list {
-        entries.push(written.entry)?;
+    'transactions: for located in list {
+        match entry_of(alloc, located, styles) {
+            Ok(entry) => match entries.push(entry) {
+                Ok(()) => {}
+                Err(_) => return Err(NO_MEMORY),
+            },
+            Err(refusal) => return Err(refusal),
+        }
     }
     Ok(entries)
 }
 
-/// What a check of the branch's book with the new entries decides.
-fn checked(
-    place: usize,
-    book: &PlainLedger,
-    new: Items<Entry>,
-) -> Result<Result<Accepted, Refusal>, Cause>
-    requires fit { AllByRecursion IsFit new }
-    requires hold { failure book.now ≡ None }
-    ensures decided { IfOk result (λ decision. decision ≡ checked place new (verdict (book.now ++ new))) }
-    ensures memory { IsOkUnless result Cause.OutOfMemory }
-{
-    let mut count = Count { claims: 0 };
-    match book.check(new.items(), &mut count) {
-        Ok(()) => Ok(Ok(Accepted { place, new })),
-        Err(refusal) => {
-            if refusal == Refusal::Plain(Cause::OutOfMemory) {
-                Err(Cause::OutOfMemory)
-            } else {
-                Ok(Err(refusal))
-            }
-        }
-    }
-}
-
-/// What is decided of the transactions of a journal, for the book of the branch at that place.
+/// What is decided of transactions, for the book of the branch at that place: their entries, or the refusal.
 ///
-/// 18 where one does not sum to zero, with its line; then what a check of the book with all of them says. Where memory is
-/// refused, it answers 40, and the transactions are lost.
-pub fn judged(
+/// First the fault of the first transaction that has no entry, on the line of its header; then what a check of the book
+/// with all entries together says, without a line. 40 for want of memory.
+pub fn decided<L: Ledger>(
     alloc: Global,
     place: usize,
-    book: &PlainLedger,
-    list: Vec<Written>,
-) -> Result<Result<Accepted, Refusal>, Cause>
-    requires unclaimed { AllByRecursion (λ (t : Transaction). t.entry.claims ≡ []) list.items }
-    requires hold { failure book.now ≡ None }
-    ensures decided { IfOk result (λ decision. decision ≡ judged place book.now list.items (unbalanced_line list.items)) }
-    ensures memory { IsOkUnless result Cause.OutOfMemory }
+    book: &L,
+    list: &[Located],
+    styles: &Styles,
+) -> Result<Accepted, Refusal>
+    requires printable { AllByRecursion (λ (x : Transaction). IsPrintable styles.now x.txn) list.now }
+    requires entered { AllByRecursion (IsOfTransaction styles.now) (L.book book.now) }
+    requires hold { failure (L.book book.now) ≡ None }
+    ensures accepted { IfOk result (λ accepted. refusal_in styles.now (L.book book.now) list.now ≡ None) }
+    ensures place { IfOk result (λ accepted. accepted.place ≡ place) }
+    ensures new { IfOk result (λ accepted. accepted.new ≡ entries_of styles.now list.now) }
+    ensures refused { IfErr result (MemoryOr (λ refusal. refusal_in styles.now (L.book book.now) list.now ≡ Some refusal)) }
+    ensures printable { IfErr result (IsPrintableRefusal styles.now) }
 {
-    match unbalanced_line(&list) {
-        Some(line) => Ok(Err(Refusal::Text(Fault {
-            line,
-            cause: Cause::Unbalanced,
-        }))),
-        None => match entries_of(alloc, list) {
-            Ok(new) => checked(place, book, new),
-            Err(cause) => Err(cause),
-        },
+    let new = match entries_of(alloc, list, styles) {
+        Ok(new) => new,
+        Err(refusal) => return Err(refusal),
+    };
+    entry_law();
+    let mut count = Count { claims: 0 };
+    match book.check(new.items(), &mut count) {
+        Ok(()) => Ok(Accepted { place, new }),
+        Err(refusal) => Err(refusal),
     }
 }

@@ -13,7 +13,6 @@ mod laws;
 mod lines;
 mod request;
 mod running;
-mod small_journal;
 mod words;
 
 use std::process::ExitCode;

@@ -6,6 +6,7 @@ ghost use Rattle.treasury.specs.Step.{Answers, Loses};
 use crate::desk::Desk;
 use crate::lines::{Machine, Shortage, run_machine};
 use crate::request::read_line;
+use journal_format::reading_law;
 use money_core::Cause;
 use std::alloc::Global;
 use std::io::{Read, Write};
@@ -16,6 +17,7 @@ impl Machine for Desk {
     ghost loses = { Loses };
 
     fn answer(&mut self, alloc: Global, request: &[u8], out: &mut Vec<u8>) -> Result<(), Shortage> {
+        reading_law();
         let asked = match read_line(alloc, request) {
             Ok(asked) => asked,
             Err(cause) => return self.refuse(alloc, cause, out),

@@ -9,7 +9,7 @@ ghost use Rattle.treasury.specs.Words.{known, AskForRun, MayAskForHelp, AnswersA
 mod tests;
 
 use crate::desk::Desk;
-use crate::laws::{balances_law, books_law, good_law, refusal_law};
+use crate::laws::{balances_law, books_law, good_law, late_entry_law, refusal_law, run_law};
 use crate::running::run_lines;
 use clap::error::ErrorKind;
 use clap::{Command, Error};
@@ -96,10 +96,12 @@ fn run<R: Read, W: Write>(alloc: Global, input: &mut R, output: &mut W) -> Resul
     ensures cut_off { IfErr result (λ cause. IsCutOffBy cause R.remaining input.old input.new W.contents output.old output.new) }
 {
     let mut desk = Desk::empty(alloc);
+    run_law();
     books_law();
     balances_law();
     good_law();
     refusal_law();
+    late_entry_law();
     run_lines(alloc, input, output, &mut desk)
 }
 

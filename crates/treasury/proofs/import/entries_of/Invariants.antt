@@ -1,6 +1,5 @@
-use Rattle.std.proofs.Common.{◌≡◌}
-use Rattle.treasury.specs.SmallJournal.{entries_of}
+use Rattle.treasury.proofs.ImportLemmas.{Listed}
 use Rattle.treasury.proofs.import.entries_of.Given as goal
 
-abbrev pub invariant-listing : goal.invariant-listing
-invariant-listing l = l.entries ≡ entries_of l.yielded
+abbrev pub invariant-transactions : goal.invariant-transactions
+invariant-transactions l = Listed l.styles l.list l.located-index l.entries

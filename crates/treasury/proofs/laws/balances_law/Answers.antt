@@ -1,5 +1,5 @@
-use Rattle.treasury.proofs.HistoryLemmas.{balance_along}
+use Rattle.treasury.proofs.HistoryLemmas.{balances_move}
 use Rattle.treasury.proofs.laws.balances_law.Goals as goal
 
 pub returns : goal.returns
-returns c = balance_along
+returns c = balances_move

@@ -1,5 +1,5 @@
-use Rattle.treasury.proofs.HistoryLemmas.{book_along}
+use Rattle.treasury.proofs.HistoryLemmas.{books_grow}
 use Rattle.treasury.proofs.laws.books_law.Goals as goal
 
 pub returns : goal.returns
-returns c = book_along
+returns c = books_grow

@@ -1,11 +1,8 @@
-use Rattle.treasury.proofs.HistoryLemmas.{left_step, left_answered, left_along}
+use Rattle.treasury.proofs.HistoryLemmas.{turns_leave, answered_leaves}
 use Rattle.treasury.proofs.laws.refusal_law.Goals as goal
 
-pub returns-clause-decided : goal.returns-clause-decided
-returns-clause-decided c = left_step
+pub returns-clause-turns : goal.returns-clause-turns
+returns-clause-turns c = λ start turns _. turns_leave start turns
 
 pub returns-clause-answered : goal.returns-clause-answered
-returns-clause-answered c = left_answered
-
-pub returns-clause-along : goal.returns-clause-along
-returns-clause-along c = left_along
+returns-clause-answered c = answered_leaves
