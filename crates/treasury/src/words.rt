@@ -18,7 +18,7 @@ use std::alloc::{AllocError, Global};
 use std::io::{Read, Write};
 
 /// The version that `--version` shows.
-const VERSION: &str = "0.1.0";
+const VERSION: &str = "0.2.0";
 
 /// What the program is for, and an example.
 const ABOUT: &str = "Keeps the books of a federation of branches: requests in, answers out.";
