@@ -1,7 +1,7 @@
 //! What one more line of a journal does, or its first fault.
 
 ghost use Rattle.std.specs.Prelude.{◌≡◌, ◌≤◌, true, not, IfOk};
-ghost use Rattle.journal_lines.specs.LineKind.{is_block_end};
+ghost use Rattle.journal_lines.specs.LineKind.{is_block_end, kind_of};
 ghost use Rattle.journal_format.specs.Line.{is_line};
 ghost use Rattle.journal_format.specs.Machine.{size_of, in_block, block_line, goes_on, opens, by_kind, moved, step};
 ghost use Rattle.journal_format.specs.PostingRead.{IsUnlessMemory, first_of};
@@ -101,7 +101,7 @@ fn block_line(state: State, line: &[u8]) -> State
     }
 }
 
-/// A line within its limits, by its form.
+/// A line of that kind within its limits, by its form.
 fn moved(
     alloc: Global,
     styles: &Styles,
@@ -109,8 +109,10 @@ fn moved(
     size: usize,
     number: usize,
     line: &[u8],
+    kind: LineKind,
 ) -> Result<(State, usize), Cause>
     requires line { is_line line.now ≡ true }
+    requires kind { kind ≡ kind_of line.now }
     requires size { size ≡ size_of styles.now state.context }
     requires small { size ≤ MAX_BODY }
     ensures state { IsUnlessMemory (first_of result) (moved styles.now state number line.now) }
@@ -119,13 +121,13 @@ fn moved(
     if in_block(&state.context) {
         return Ok((block_line(state, line), 0));
     }
-    match kind(line) {
+    match kind {
         LineKind::Indented => {
             let State { done, context } = state;
             let (context, size) = goes_on(alloc, styles, context, size, line)?;
             Ok((State { done, context }, size))
         }
-        kind => {
+        _ => {
             let done = state.into_list()?;
             let count = done.items().len();
             let (context, size) = opens(alloc, styles, count, number, line, kind)?;
@@ -150,13 +152,14 @@ pub(crate) fn read_line(
     ensures size { IfOk result (λ r. r.1 ≡ size_of styles.now r.0.context) }
     ensures small { IfOk result (λ r. r.1 ≤ MAX_BODY) }
 {
-    if breaks_limit(&state, line) {
+    let kind = kind(line);
+    if breaks_limit(&state, line, kind) {
         return Err(Cause::TooLong);
     }
     if !is_text(line) {
         return Err(Cause::Utf8);
     }
-    match moved(alloc, styles, state, size, number, line) {
+    match moved(alloc, styles, state, size, number, line, kind) {
         Ok((_, size)) if size > MAX_BODY => Err(Cause::TooLong),
         answer => answer,
     }

@@ -12,3 +12,4 @@ pub mod Utf8Lemmas
 pub mod KindLemmas
 pub mod PrintedLemmas
 pub mod HeaderFaultLemmas
+pub mod WithinLemmas

@@ -29,7 +29,11 @@ pub fn is_clean(line: &[u8]) -> bool
 fn is_clean_byte(byte: u8) -> bool
     ensures { result ≡ is_clean byte }
 {
-    byte >= 32 && byte != 127 || byte == b'\t'
+    match byte {
+        b'\t' => true,
+        0..=31 | 127 => false,
+        _ => true,
+    }
 }
 
 /// Whether no blank stands at either end.
