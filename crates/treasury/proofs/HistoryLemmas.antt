@@ -7,6 +7,7 @@ use Rattle.std.proofs.lemmas.Int.{ints}
 use Rattle.std.proofs.lemmas.Slice.Eq.{bytes_eq-Decides}
 use Rattle.money_core.specs.declared.unit.Unit.{Unit as Commodity}
 use Rattle.money_core.specs.declared.style.Style.{Style}
+use Rattle.money_core.specs.declared.day.Day.{Day}
 use Rattle.money_core.specs.declared.cause.Cause.TheVariants.{OutOfMemory}
 use Rattle.book_core.specs.declared.leg.Leg.{Leg}
 use Rattle.book_core.specs.declared.entry.Entry.{Entry}
@@ -27,7 +28,7 @@ use Rattle.treasury.specs.Asked.{Asked, new_branch, new_commodity, enter, balanc
 use Rattle.treasury.specs.Answer.{answer_text}
 use Rattle.treasury.specs.Step.{unless, entries_of, enter_refusal, with_entries, done, reply, after, reply_text, Replies, Answers}
 use Rattle.treasury.specs.Transcript.{requests_in, AnswersInTurn, IsTranscript}
-use Rattle.treasury.specs.History.{Turn, after_turn, AreTurns, end_of, texts_of, IsRun, Accepted, accepted_by, history, entered_into, BooksGrow, BalancesMove, IsBalancedFederation, AllAssertionsHold, is_refusal_or_repeat, RefusalsLeave, IsRefusalOrRepeat}
+use Rattle.treasury.specs.History.{Turn, after_turn, AreTurns, end_of, texts_of, IsRun, Accepted, accepted_by, history, entered_into, BooksGrow, BalancesMove, IsBalancedFederation, AllAssertionsHold, is_refusal_or_repeat, RefusalsLeave, IsRefusalOrRepeat, RefusedLinesLeave}
 use Rattle.treasury.proofs.FederationLemmas.{is_accepted}
 use Rattle.treasury.proofs.AskedLemmas.{after_good}
 
@@ -257,3 +258,14 @@ told_leaves f (nothing refusal) (Ok (Entered n m)) h = refl
 
 pub answered_leaves : (f : Federation) (line text : List ℕ) (g : Federation) → Answers f line text g → IsRefusalOrRepeat text → g ≡ f
 answered_leaves f line text g a h = a.state ∙ told_leaves f a.asked a.reply (subst IsRefusalOrRepeat a.text h)
+
+pub lines_leave : (start : Federation) (turns : List Turn) → RefusedLinesLeave start turns
+lines_leave start [] = tt
+lines_leave start (t ∷ ts) = (told_leaves start t.asked t.reply, lines_leave (after_turn start t) ts)
+
+-- a report leaves the state, whatever is replied
+pub report_leaves : (f : Federation) (name : List ℕ) (day : Day) (r : Result Answer Refusal) → after f (balances name day) r ≡ f
+report_leaves f name day (Ok Done) = refl
+report_leaves f name day (Ok Repeated) = refl
+report_leaves f name day (Ok (Entered n m)) = refl
+report_leaves f name day (Err refusal) = refl

@@ -24,6 +24,7 @@ use Rattle.journal_balance.proofs.EntryLemmas.{entry_day}
 use Rattle.journal_balance.proofs.DeclaredLemmas.{entry_declared, entry_asserts}
 use Rattle.treasury.specs.Answer.{IsPrintableFailure, IsPrintableRefusal}
 use Rattle.treasury.specs.Federation.{IsOfTransaction}
+use Rattle.treasury.proofs.FederationLemmas.{all-append}
 
 -- what holds of all elements holds of one
 pub all_at : {X : Type 0} (P : X → Type 0) (xs : List X) (x : X) → AllByRecursion P xs → Contains xs x → P x
@@ -79,10 +80,6 @@ printable_verdict styles b (Text fault) all h = tt
 printable_verdict styles b (ClaimFailed f) all h = printable_failure styles b f all h
 
 -- what a check of a book with new entries answers can be printed
-all-append : {X : Type 0} (P : X → Type 0) (xs ys : List X) → AllByRecursion P xs → AllByRecursion P ys → AllByRecursion P (xs ++ ys)
-all-append P [] ys h k = k
-all-append P (x ∷ xs) ys h k = (h.0, all-append P xs ys h.1 k)
-
 pub printable_check : (styles : List Style) (old new : List Entry) (e : Refusal) → AllByRecursion (IsOfTransaction styles) old → AllByRecursion (IsOfTransaction styles) new
     → (e ≡ Plain OutOfMemory) ⊎ (verdict (old ++ new) ≡ Some e) → IsPrintableRefusal styles e
 printable_check styles old new e was made (inl memory) = subst (IsPrintableRefusal styles) (sym memory) tt

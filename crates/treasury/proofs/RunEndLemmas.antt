@@ -10,7 +10,7 @@ use Rattle.treasury.specs.Transcript.{IsTranscript}
 use Rattle.treasury.specs.RunEnd.{most_input, Finished, EndsBy, Ends, IsLost}
 use Rattle.treasury.specs.Words.{nothing, IsSound, AnswersAll, IsCutOffBy}
 use Rattle.treasury.proofs.AskedLemmas.{answers_good}
-use Rattle.treasury.proofs.HistoryLemmas.{turns_of, books_grow, balances_move, turns_good, good_balanced, good_asserted, turns_leave}
+use Rattle.treasury.proofs.HistoryLemmas.{turns_of, books_grow, balances_move, turns_good, good_balanced, good_asserted, turns_leave, lines_leave}
 
 -- what is looked up in an empty list is not there
 none_there : {X : Type 0} (P : Type 0) (i : ℕ) (x : X) → slice_get [] i ≡ Some x → P
@@ -46,6 +46,7 @@ all_answered remaining r0 r1 contents w0 w1 end finished =
       books = λ name. ap (λ (f : Federation). book_of f name) run.1.left ∙ books_grow nothing run.0 run.1.follow name;
       balances = balances_move nothing run.0 run.1.follow;
       refusals = turns_leave nothing run.0;
+      lines = lines_leave nothing run.0;
     }
 
 pub answers_all : {T R W : Type 0} (result : Result T Cause) (remaining : R → Option (List ℕ)) (r0 r1 : R) (contents : W → Option (List ℕ)) (w0 w1 : W) (end : Federation)

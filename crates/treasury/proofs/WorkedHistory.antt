@@ -1,5 +1,5 @@
 -- Values worked out by hand, so that a wrong definition of a book, of a reply or of a history does not check.
-use Rattle.std.proofs.Common.{◌≡◌, refl, ℕ, List, [], ◌∷◌, ℤ, pos, neg_ℤ, Option, Some, None, Ok, Err, true, false}
+use Rattle.std.proofs.Common.{◌≡◌, refl, inl, inr, ℕ, List, [], ◌∷◌, ℤ, pos, neg_ℤ, Option, Some, None, Ok, Err, true, false}
 use Rattle.std.specs.Prelude.{codes}
 use Rattle.money_core.specs.declared.mark.Mark.TheVariants.{Point}
 use Rattle.money_core.specs.declared.unit.Unit.{Unit as Commodity}
@@ -20,8 +20,9 @@ use Rattle.treasury.specs.declared.branch.Branch.{Branch}
 use Rattle.treasury.specs.declared.answers.Answer.TheVariants.{Entered, Repeated}
 use Rattle.treasury.specs.Federation.{Federation, book_of}
 use Rattle.treasury.specs.Asked.{Asked, new_branch, enter}
-use Rattle.treasury.specs.Step.{reply}
-use Rattle.treasury.specs.History.{Turn, end_of, Accepted, history, entered_into}
+use Rattle.treasury.specs.Answer.{answer_text}
+use Rattle.treasury.specs.Step.{reply, reply_text}
+use Rattle.treasury.specs.History.{Turn, end_of, Accepted, history, entered_into, IsRefusalOrRepeat}
 
 abbrev branch : List ℕ → List Entry → Branch
 branch name book = record { name = name; book = book }
@@ -108,3 +109,14 @@ turns refusal =
 pub run : (refusal : Refusal) → (end_of (federation []) (turns refusal) ≡ federation (stated ∷ []))
     × (history (federation []) (turns refusal) ≡ accepted (codes "north") (stated ∷ []) ∷ [])
 run refusal = (refl, refl)
+
+-- whatever is asked, every refusal and `repeated` are answered with the lines that leave the state
+pub told_refusal : (f : Federation) (asked : Asked) (refusal : Refusal) → IsRefusalOrRepeat (reply_text f asked (Err refusal))
+unfolding answer_text
+told_refusal f asked (Plain cause) = inl (_, refl)
+told_refusal f asked (Text fault) = inl (_, refl)
+told_refusal f asked (ClaimFailed failure) = inl (_, refl)
+
+pub told_repeat : (f : Federation) (name : List ℕ) → IsRefusalOrRepeat (reply_text f (new_branch name) (Ok Repeated))
+unfolding answer_text
+told_repeat f name = inr refl

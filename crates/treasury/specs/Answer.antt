@@ -24,17 +24,21 @@ line_text _ line = codes " line " ++ decimal line
 
 -- where a leg stands
 abbrev pub place_text : Place → List ℕ
-place_text place = codes " at " ++ printed_date place.day ++ codes " entry " ++ decimal place.entry ++ codes " leg " ++ decimal place.leg
+place_text place =
+    codes " at " ++ printed_date place.day ++ codes " entry " ++ decimal place.entry ++ codes " leg " ++ decimal place.leg
 
 -- the balance that an assertion states, and the one that was found
 abbrev pub difference_text : List Style → Failure → List ℕ
-difference_text styles failure = codes ": asserted " ++ printed_in styles failure.unit failure.asserted ++ codes ", found " ++ printed_in styles failure.unit failure.found
+difference_text styles failure =
+    codes ": asserted " ++ printed_in styles failure.unit failure.asserted
+    ++ codes ", found " ++ printed_in styles failure.unit failure.found
 
 -- what a refusal is answered with
 abbrev pub refusal_text : List Style → Refusal → List ℕ
 refusal_text styles (Plain cause) = refused_text cause
 refusal_text styles (Text fault) = refused_text fault.cause ++ line_text fault.cause fault.line
-refusal_text styles (ClaimFailed failure) = refused_text ClaimCause ++ place_text failure.place ++ difference_text styles failure
+refusal_text styles (ClaimFailed failure) =
+    refused_text ClaimCause ++ place_text failure.place ++ difference_text styles failure
 
 -- what a command is answered with that is not refused
 abbrev pub done_text : Answer → List ℕ

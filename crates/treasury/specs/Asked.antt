@@ -1,4 +1,5 @@
--- What a line asks, once its texts are read (own rule; docs/FORMATS.md, "Requests"): a journal by the grammar's relation, or by its first fault.
+-- What a line asks, once its texts are read (own rule; docs/FORMATS.md, "Requests"): a journal by the grammar's
+-- relation, or by its first fault.
 use Rattle.std.specs.Prelude.{◌≡◌, ℕ, List, ◌⊎◌, Option, Some, None}
 use Rattle.money_core.specs.declared.style.Style.{Style}
 use Rattle.money_core.specs.declared.day.Day.{Day}
@@ -14,8 +15,9 @@ use Rattle.treasury.specs.declared.request.Request.{Request}
 use Rattle.treasury.specs.declared.request.Request.TheVariants.{Branch, Commodity, Import, Balance}
 use Rattle.treasury.specs.Request.{spelled}
 
--- a new branch of that name; a new commodity in that style; the transactions of a journal, each with the line of its header, into the branch of
--- that name; the balances of the branch of that name through the day; or nothing, since a text has a fault
+-- a new branch of that name; a new commodity in that style; the transactions of a journal, each with the line of its
+-- header, into the branch of that name; the balances of the branch of that name through the day; or nothing, since a
+-- text has a fault
 pub data Asked : Type 0 where
   new_branch : List ℕ → Asked
   new_commodity : Style → Asked

@@ -1,5 +1,6 @@
 -- The balance report of a book (own rule; docs/FORMATS.md, "Balance report"; hledger manual, "balance").
-use Rattle.std.specs.Prelude.{ℕ, zero, suc, ◌-◌, Bool, ◌&&◌, not, nat_le, nat_lt, if◌then◌else◌, List, [], ◌∷◌, ◌++◌, length, count_by, replicate, ℤ, pos, codes}
+use Rattle.std.specs.Prelude.{ℕ, zero, suc, ◌-◌, ℤ, pos, Bool, ◌&&◌, not, nat_le, nat_lt, if◌then◌else◌}
+use Rattle.std.specs.Prelude.{List, [], ◌∷◌, ◌++◌, length, count_by, replicate, codes}
 use Rattle.std.specs.List.{flat_map}
 use Rattle.std.specs.Ordering.{int_eq}
 use Rattle.std.specs.declared.cmp.Ordering.{Ordering}
@@ -59,11 +60,13 @@ first_units (suc n) = first_units n ++ record { 0 = n } ∷ []
 -- the line of one balance; none where it is zero
 abbrev pub amount_line : List Style → List ℕ → Commodity → ℤ → List ℕ
 amount_line styles account unit quantity =
-    if int_eq quantity (pos 0) then [] else right_aligned amount_width (printed_in styles unit quantity) ++ codes "  " ++ account ++ codes "\n"
+    if int_eq quantity (pos 0) then []
+    else right_aligned amount_width (printed_in styles unit quantity) ++ codes "  " ++ account ++ codes "\n"
 
 -- the line of an account's own balance in a commodity through the day
 abbrev pub balance_line : List Style → List Entry → Day → List ℕ → Commodity → List ℕ
-balance_line styles entries day account unit = amount_line styles account unit (balance Own entries account unit (Through day))
+balance_line styles entries day account unit =
+    amount_line styles account unit (balance Own entries account unit (Through day))
 
 -- the lines of an account
 abbrev pub account_lines : List Style → List Entry → Day → List ℕ → List ℕ

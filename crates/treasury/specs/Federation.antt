@@ -1,5 +1,7 @@
--- The state of a federation: its commodities, and its branches with their books (own rules; docs/RULES.md, "Branches", "Commodities", "Books").
-use Rattle.std.specs.Prelude.{◌≡◌, ◌≤◌, ℕ, ◌==◌, nat_le, ◌&&◌, ◌||◌, if◌then◌else◌, Bool, true, List, [], ◌∷◌, length, slice_index, slice_get, position, Option, Some, Ok}
+-- The state of a federation: its commodities, and its branches with their books (own rules; docs/RULES.md, "Branches",
+-- "Commodities", "Books").
+use Rattle.std.specs.Prelude.{◌≡◌, ◌≤◌, ℕ, ◌==◌, nat_le, ◌&&◌, ◌||◌, if◌then◌else◌, Bool, true, Option, Some, Ok}
+use Rattle.std.specs.Prelude.{List, [], ◌∷◌, length, slice_index, slice_get, position}
 use Rattle.std.specs.Char.{is_ascii_lowercase, is_ascii_digit}
 use Rattle.std.specs.List.{list_all, list_any, AllByRecursion}
 use Rattle.std.specs.Str.{bytes_eq}
@@ -12,7 +14,7 @@ use Rattle.journal_format.specs.Printable.{IsPrintable}
 use Rattle.journal_balance.specs.Legs.{legs_of}
 use Rattle.treasury.specs.declared.branch.Branch.{Branch}
 
--- the commodities in order of declaration, and the branches in order, each with its name and its book, the list of its entries
+-- the commodities in order of declaration, and the branches in order, each with its name and its book, a list of entries
 pub record Federation : Type 0 where
   pub styles : List Style
   pub branches : List Branch
@@ -27,7 +29,8 @@ most_name_bytes = 32
 
 -- a branch's name: a lower-case ASCII letter, then 0 to 31 lower-case letters, digits or `-`
 abbrev pub is_branch_name : List ℕ → Bool
-is_branch_name name = is_ascii_lowercase (slice_index name 0) && list_all is_name_byte name && nat_le (length name) most_name_bytes
+is_branch_name name =
+    is_ascii_lowercase (slice_index name 0) && list_all is_name_byte name && nat_le (length name) most_name_bytes
 
 -- the greatest number of branches
 abbrev pub most_branches : ℕ

@@ -2,7 +2,8 @@
 use Rattle.treasury.specs.declared.request.Request.{Request}
 use Rattle.treasury.specs.declared.request.Request.TheVariants.{Branch, Commodity, Import, Balance}
 use Rattle.treasury.specs.declared.request.form.Form.{Form}
-use Rattle.treasury.specs.declared.request.form.Form.TheVariants.{Branch as BranchForm, Commodity as CommodityForm, Import as ImportForm, Balance as BalanceForm}
+use Rattle.treasury.specs.declared.request.form.Form.TheVariants.{Branch as BranchForm, Commodity as CommodityForm}
+use Rattle.treasury.specs.declared.request.form.Form.TheVariants.{Import as ImportForm, Balance as BalanceForm}
 
 -- the request of a form
 abbrev pub shown : Form → Request

@@ -1,6 +1,7 @@
--- What came into the books along a run, told from what was asked and replied, and which replies leave the state (own rules; docs/RULES.md,
--- "Books", "Orders").
-use Rattle.std.specs.Prelude.{◌≡◌, ℕ, if◌then◌else◌, Bool, true, false, List, [], ◌∷◌, ◌++◌, map, ◌+ℤ◌, ◌⊎◌, ⊤, Contains, codes, Result, Ok, Err}
+-- What came into the books along a run, told from what was asked and replied, and which replies leave the state (own rules;
+-- docs/RULES.md, "Books", "Orders").
+use Rattle.std.specs.Prelude.{◌≡◌, ◌⊎◌, ⊤, ℕ, ◌+ℤ◌, Bool, true, false, if◌then◌else◌, Result, Ok, Err}
+use Rattle.std.specs.Prelude.{List, [], ◌∷◌, ◌++◌, map, Contains, codes}
 use Rattle.std.specs.List.{AllByRecursion}
 use Rattle.std.specs.Str.{bytes_eq}
 use Rattle.money_core.specs.declared.unit.Unit.{Unit as Commodity}
@@ -61,7 +62,8 @@ pub record Accepted : Type 0 where
 
 -- the transactions that a reply accepts, if it does
 abbrev pub accepted_by : Federation → Asked → Result Answer Refusal → List Accepted
-accepted_by f (enter name list) (Ok (Entered new repeated)) = record { branch = name; entries = entries_of f.styles list } ∷ []
+accepted_by f (enter name list) (Ok (Entered new repeated)) =
+    record { branch = name; entries = entries_of f.styles list } ∷ []
 accepted_by f _ _ = []
 
 -- what was accepted along turns, in order
@@ -76,9 +78,11 @@ entered_into name (x ∷ xs) = (if bytes_eq x.branch name then x.entries else []
 
 -- each book is the old one, followed by the accepted entries of its branch, in order, and nothing else
 abbrev pub BooksGrow : Federation → List Turn → Type 0
-BooksGrow start turns = (name : List ℕ) → book_of (end_of start turns) name ≡ book_of start name ++ entered_into name (history start turns)
+BooksGrow start turns = (name : List ℕ)
+    → book_of (end_of start turns) name ≡ book_of start name ++ entered_into name (history start turns)
 
--- each account's balance through each day, with its subaccounts or without, has moved by that of the accepted entries of its branch
+-- each account's balance through each day, with its subaccounts or without, has moved by that of the accepted entries
+-- of its branch
 abbrev pub BalancesMove : Federation → List Turn → Type 0
 BalancesMove start turns = (name : List ℕ) (reach : Reach) (account : List ℕ) (unit : Commodity) (day : Day)
     → balance reach (book_of (end_of start turns) name) account unit (Through day)
@@ -91,7 +95,8 @@ IsBalancedFederation f = AllByRecursion (λ (branch : Branch). IsBalanced (legs_
 
 -- in each branch every stored assertion holds at its place, in the book as it is
 abbrev pub AllAssertionsHold : Federation → Type 0
-AllAssertionsHold f = AllByRecursion (λ (branch : Branch). AllByRecursion (Holds branch.book) (asserted_from 1 branch.book)) f.branches
+AllAssertionsHold f =
+    AllByRecursion (λ (branch : Branch). AllByRecursion (Holds branch.book) (asserted_from 1 branch.book)) f.branches
 
 -- an assertion of the old entries or of the new ones does not hold in the book with the new entries
 pub record BreaksAssertion (old new : List Entry) : Type 0 where
@@ -114,3 +119,9 @@ RefusalsLeave f (t ∷ ts) = (is_refusal_or_repeat t.reply ≡ true → after_tu
 -- the line of a refusal, or of `repeated`
 abbrev pub IsRefusalOrRepeat : List ℕ → Type 0
 IsRefusalOrRepeat text = ((rest : List ℕ) × (text ≡ codes "refused " ++ rest)) ⊎ (text ≡ codes "repeated\n")
+
+-- each turn whose text is the line of a refusal, or of `repeated`, leaves the state
+abbrev pub RefusedLinesLeave : Federation → List Turn → Type 0
+RefusedLinesLeave f [] = ⊤
+RefusedLinesLeave f (t ∷ ts) =
+    (IsRefusalOrRepeat (reply_text f t.asked t.reply) → after_turn f t ≡ f) × RefusedLinesLeave (after_turn f t) ts

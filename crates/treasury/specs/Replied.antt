@@ -17,7 +17,8 @@ use Rattle.treasury.specs.Federation.{Federation, branch_place}
 use Rattle.treasury.specs.Asked.{Asked, enter, JournalAsks, RequestAsks}
 use Rattle.treasury.specs.Step.{unbalanced, entries_of, enter_refusal, reply, after, reply_text}
 
--- what is asked is replied to: the text of the reply stands behind what was written before, and the state is the one after the reply
+-- what is asked is replied to: the text of the reply stands behind what was written before, and the state is the one
+-- after it
 pub record IsReplied (f : Federation) (asked : Asked) (before written : List ℕ) (g : Federation) : Type 0 where
   pub text : written ≡ before ++ reply_text f asked (reply f asked)
   pub state : g ≡ after f asked (reply f asked)

@@ -1,6 +1,7 @@
 -- The requests (own rule; docs/FORMATS.md, "Requests"). A request is one JSON object, and each of its values is a text.
--- What JSON is, `serde_json` says: arrays and objects nest 127 deep, and of a key that is written twice the last value stays.
-use Rattle.std.specs.Prelude.{ℕ, ◌+◌, Bool, List, Option, None, ◌==◌, ◌&&◌, if◌then◌else◌, option_map, option_and_then, codes, ⊤}
+-- What JSON is, `serde_json` says: arrays and objects nest 127 deep, and of a key that is written twice the last one stays.
+use Rattle.std.specs.Prelude.{ℕ, ◌+◌, Bool, ◌==◌, ◌&&◌, if◌then◌else◌, List, codes, ⊤}
+use Rattle.std.specs.Prelude.{Option, None, option_map, option_and_then}
 use Rattle.std.specs.Str.{bytes_eq, is_utf8}
 use Rattle.serde_json.specs.Data.{Data, null, boolean, number, string, array, object, Members, no_members, member}
 use Rattle.serde_json.specs.Find.{get, as_str}
@@ -42,8 +43,10 @@ abbrev pub form : List ℕ → Data → Option Request
 form word d =
     if is_form (codes "branch") 2 word d then option_map Branch (text_at (codes "name") d)
     else if is_form (codes "commodity") 2 word d then option_map Commodity (text_at (codes "sample") d)
-    else if is_form (codes "import") 3 word d then option_and_then (λ branch. option_map (Import branch) (text_at (codes "journal") d)) (text_at (codes "branch") d)
-    else if is_form (codes "balance") 3 word d then option_and_then (λ branch. option_map (Balance branch) (day_at (codes "day") d)) (text_at (codes "branch") d)
+    else if is_form (codes "import") 3 word d
+    then option_and_then (λ branch. option_map (Import branch) (text_at (codes "journal") d)) (text_at (codes "branch") d)
+    else if is_form (codes "balance") 3 word d
+    then option_and_then (λ branch. option_map (Balance branch) (day_at (codes "day") d)) (text_at (codes "branch") d)
     else None
 
 -- the request that an object is

@@ -7,20 +7,23 @@ use Rattle.treasury.specs.Transcript.{AnswersInTurn}
 use Rattle.treasury.specs.RunEnd.{AnswersWhole, StopsBy}
 
 -- the writer got the answers to these requests
-pub record Served {S : Type 0} (Step : S → List ℕ → List ℕ → S → Type 0) (w0 w1 : Option (List ℕ)) (start : S) (requests : List (List ℕ)) (end : S) : Type 0 where
+pub record Served {S : Type 0} (Step : S → List ℕ → List ℕ → S → Type 0)
+    (w0 w1 : Option (List ℕ)) (start : S) (requests : List (List ℕ)) (end : S) : Type 0 where
   pub written : List ℕ
   pub answers : AnswersInTurn Step start requests written end
   pub appended : Appends w0 w1 written
 
 -- memory was refused for the one request: nothing was written, and the state is as before or lost
-pub record Unserved {S : Type 0} (Loses : S → List ℕ → Type 0) (w0 w1 : Option (List ℕ)) (start : S) (requests : List (List ℕ)) (end : S) : Type 0 where
+pub record Unserved {S : Type 0} (Loses : S → List ℕ → Type 0)
+    (w0 w1 : Option (List ℕ)) (start : S) (requests : List (List ℕ)) (end : S) : Type 0 where
   pub request : List ℕ
   pub one : requests ≡ request ∷ []
   pub appended : Appends w0 w1 []
   pub left : (end ≡ start) ⊎ Loses start request
 
 -- a write failed: of the one request's answer a first part was written
-pub record HalfServed {S : Type 0} (Step : S → List ℕ → List ℕ → S → Type 0) (w0 w1 : Option (List ℕ)) (start : S) (requests : List (List ℕ)) (end : S) : Type 0 where
+pub record HalfServed {S : Type 0} (Step : S → List ℕ → List ℕ → S → Type 0)
+    (w0 w1 : Option (List ℕ)) (start : S) (requests : List (List ℕ)) (end : S) : Type 0 where
   pub request : List ℕ
   pub answer : List ℕ
   pub taken : ℕ
@@ -29,19 +32,22 @@ pub record HalfServed {S : Type 0} (Step : S → List ℕ → List ℕ → S →
   pub appended : Appends w0 w1 (take taken answer)
 
 -- the requests are not served, for this cause
-abbrev pub FailsBy : {S : Type 0} → Cause → (S → List ℕ → List ℕ → S → Type 0) → (S → List ℕ → Type 0) → Option (List ℕ) → Option (List ℕ) → S → List (List ℕ) → S → Type 0
+abbrev pub FailsBy : {S : Type 0} → Cause → (S → List ℕ → List ℕ → S → Type 0) → (S → List ℕ → Type 0)
+    → Option (List ℕ) → Option (List ℕ) → S → List (List ℕ) → S → Type 0
 FailsBy OutOfMemory Step Loses w0 w1 start requests end = Unserved Loses w0 w1 start requests end
 FailsBy WriteFault Step Loses w0 w1 start requests end = HalfServed Step w0 w1 start requests end
 FailsBy _ Step Loses w0 w1 start requests end = ⊥
 
 -- the requests are served, or not, by the result
-abbrev pub Serves : {T S : Type 0} → Result T Cause → (S → List ℕ → List ℕ → S → Type 0) → (S → List ℕ → Type 0) → Option (List ℕ) → Option (List ℕ) → S → List (List ℕ) → S → Type 0
+abbrev pub Serves : {T S : Type 0} → Result T Cause → (S → List ℕ → List ℕ → S → Type 0) → (S → List ℕ → Type 0)
+    → Option (List ℕ) → Option (List ℕ) → S → List (List ℕ) → S → Type 0
 Serves result Step Loses w0 w1 start requests end = MatchResult result
     (λ _. Served Step w0 w1 start requests end)
     (λ cause. FailsBy cause Step Loses w0 w1 start requests end)
 
 -- the complete lines of what was seen are answered, or the answers stop, by the result
-abbrev pub Feeds : {T S : Type 0} → Result T Cause → (S → List ℕ → List ℕ → S → Type 0) → (S → List ℕ → Type 0) → Option (List ℕ) → Option (List ℕ) → S → List ℕ → List ℕ → S → Type 0
+abbrev pub Feeds : {T S : Type 0} → Result T Cause → (S → List ℕ → List ℕ → S → Type 0) → (S → List ℕ → Type 0)
+    → Option (List ℕ) → Option (List ℕ) → S → List ℕ → List ℕ → S → Type 0
 Feeds result Step Loses w0 w1 start seen begun end = MatchResult result
     (λ _. AnswersWhole Step w0 w1 start seen begun end)
     (λ cause. StopsBy cause Step Loses ⊥ w0 w1 start seen end)

@@ -1,5 +1,7 @@
--- What is answered, and the state after it (own rules; docs/RULES.md, "Orders"). The cases stand in the order of the refusals.
-use Rattle.std.specs.Prelude.{◌≡◌, ℕ, nat_le, not, if◌then◌else◌, List, [], ◌∷◌, ◌++◌, length, map, Option, Some, None, option_map, Result, Ok, Err, ◌⊎◌}
+-- What is answered, and the state after it (own rules; docs/RULES.md, "Orders").
+-- The cases stand in the order of the refusals.
+use Rattle.std.specs.Prelude.{◌≡◌, ◌⊎◌, ℕ, nat_le, not, if◌then◌else◌, List, [], ◌∷◌, ◌++◌, length, map}
+use Rattle.std.specs.Prelude.{Option, Some, None, option_map, Result, Ok, Err}
 use Rattle.std.specs.Option.{option_or}
 use Rattle.std.specs.Str.{bytes_eq}
 use Rattle.money_core.specs.declared.style.Style.{Style}
@@ -56,7 +58,7 @@ unbalanced styles (x ∷ xs) = option_or (fault_on x.line (legs_of styles x.txn)
 abbrev pub entries_of : List Style → List Located → List Entry
 entries_of styles list = map (λ (x : Located). entry_of styles x.txn) list
 
--- why transactions are refused: their branch is not there, one has no entry, or the book with all new entries would not be good
+-- why transactions are refused: their branch is not there, one has no entry, or the book with all new ones would not be good
 abbrev pub enter_refusal : Federation → List ℕ → List Located → Option Refusal
 enter_refusal f name list =
     if not (has_branch f name) then Some (Plain UnknownBranch)
@@ -78,10 +80,11 @@ reply f (nothing refusal) = Err refusal
 -- the branches, of which the one of that name has new entries behind its old ones
 abbrev pub with_entries : List ℕ → List Entry → List Branch → List Branch
 with_entries name new [] = []
-with_entries name new (b ∷ bs) = if bytes_eq b.name name then record b { book = b.book ++ new } ∷ bs else b ∷ with_entries name new bs
+with_entries name new (b ∷ bs) =
+    if bytes_eq b.name name then record b { book = b.book ++ new } ∷ bs else b ∷ with_entries name new bs
 
--- the state once what is asked is done: one branch more, whose book is empty; one commodity more; the entries of the transactions in their
--- branch's book; a report changes nothing
+-- the state once what is asked is done: one branch more, whose book is empty; one commodity more; the entries of the
+-- transactions in their branch's book; a report changes nothing
 abbrev pub done : Federation → Asked → Federation
 done f (new_branch name) = record f { branches = f.branches ++ record { name = name; book = [] } ∷ [] }
 done f (new_commodity style) = record f { styles = f.styles ++ style ∷ [] }
@@ -110,7 +113,7 @@ reply_text f asked (Err refusal) = answer_text f.styles (Err refusal)
 abbrev pub Replies : Federation → Asked → Result Answer Refusal → Type 0
 Replies f asked r = (r ≡ reply f asked) ⊎ (r ≡ Err (Plain OutOfMemory))
 
--- a line is answered with a text, and leads to a state: by what it asks, what is replied to that, and the state after the reply
+-- a line is answered with a text, and leads to a state: by what it asks, what is replied to that, and the state after that
 pub record Answers (f : Federation) (line answer : List ℕ) (g : Federation) : Type 0 where
   pub asked : Asked
   pub reply : Result Answer Refusal
@@ -119,7 +122,8 @@ pub record Answers (f : Federation) (line answer : List ℕ) (g : Federation) : 
   pub text : answer ≡ reply_text f asked reply
   pub state : g ≡ after f asked reply
 
--- a line at which the state may be lost: it asks to enter transactions that are not refused, and memory was refused while they were added
+-- a line at which the state may be lost: it asks to enter transactions that are not refused, and memory was refused
+-- while they were added
 pub record Loses (f : Federation) (line : List ℕ) : Type 0 where
   pub name : List ℕ
   pub list : List Located

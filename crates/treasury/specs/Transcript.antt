@@ -22,8 +22,10 @@ requests_in input = requests_among (lines input)
 abbrev pub AnswersInTurn : {S : Type 0} → (S → List ℕ → List ℕ → S → Type 0) → S → List (List ℕ) → List ℕ → S → Type 0
 AnswersInTurn Step start [] output end = (output ≡ []) × (end ≡ start)
 AnswersInTurn {S = S} Step start (request ∷ requests) output end =
-    (mid : S) × (answer : List ℕ) × (rest : List ℕ) × (Step start request answer mid × AnswersInTurn Step mid requests rest end × (output ≡ answer ++ rest))
+    (mid : S) × (answer : List ℕ) × (rest : List ℕ)
+    × (Step start request answer mid × AnswersInTurn Step mid requests rest end × (output ≡ answer ++ rest))
 
--- the output is the transcript of the input: the answers to all its requests, which lead from the state at its start to the one at its end
+-- the output is the transcript of the input: the answers to all its requests, which lead from the state at its start to
+-- the one at its end
 abbrev pub IsTranscript : {S : Type 0} → (S → List ℕ → List ℕ → S → Type 0) → S → List ℕ → List ℕ → S → Type 0
 IsTranscript Step start input output end = AnswersInTurn Step start (requests_in input) output end

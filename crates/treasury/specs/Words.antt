@@ -8,11 +8,16 @@ use Rattle.money_core.specs.declared.cause.Cause.{Cause}
 use Rattle.treasury.specs.Federation.{Federation, IsGoodFederation, book_of}
 use Rattle.treasury.specs.RunEnd.{most_input, Finished, EndsBy, IsLost}
 use Rattle.treasury.specs.Step.{Answers, Loses}
-use Rattle.treasury.specs.History.{Turn, IsRun, history, entered_into, BalancesMove, IsBalancedFederation, AllAssertionsHold, RefusalsLeave}
+use Rattle.treasury.specs.History.{Turn, IsRun, history, entered_into, BalancesMove, IsBalancedFederation, AllAssertionsHold}
+use Rattle.treasury.specs.History.{RefusalsLeave, RefusedLinesLeave}
 
 -- the words that the program knows: it has a version; one of its subcommands has to be given, and `run` is the only one
 abbrev pub known : App
-known = with_subcommand (on_top (λ s. record s { has_version = true; arg_required_else_help = true; subcommand_required = true }) (new_app (codes "treasury"))) (new_shape (codes "run"))
+known = with_subcommand
+    (on_top
+    (λ s. record s { has_version = true; arg_required_else_help = true; subcommand_required = true })
+    (new_app (codes "treasury")))
+    (new_shape (codes "run"))
 
 -- why these words, the program's name first, ask for no run: no reason, or those of which `clap` gives one
 unfoldable pub objections : List (List ℕ) → Kinds
@@ -36,10 +41,12 @@ pub record IsSound (f : Federation) : Type 0 where
   pub balanced : IsBalancedFederation f
   pub asserted : AllAssertionsHold f
 
--- All of the input is answered, at most 64 MiB of it, over a federation that had nothing yet: by turns, one for each request. At their end the
--- state is sound, each book is the accepted entries of its branch, in order, and nothing else, each balance has moved by exactly these, and each
--- reply that is a refusal or `repeated` left the state as it was.
-pub record AnswersAll {R W : Type 0} (remaining : R → Option (List ℕ)) (r0 r1 : R) (contents : W → Option (List ℕ)) (w0 w1 : W) : Type 0 where
+-- All of the input is answered, at most 64 MiB of it, over a federation that had nothing yet: by turns, one for each
+-- request. At their end the state is sound, each book is the accepted entries of its branch, in order, and nothing
+-- else, each balance has moved by exactly these, and each reply that is a refusal or `repeated`, and each whose text is
+-- the line of one, left the state as it was.
+pub record AnswersAll {R W : Type 0} (remaining : R → Option (List ℕ)) (r0 r1 : R)
+    (contents : W → Option (List ℕ)) (w0 w1 : W) : Type 0 where
   pub end : Federation
   pub turns : List Turn
   pub finished : Finished Answers most_input (remaining r0) (remaining r1) (contents w0) (contents w1) nothing end
@@ -48,14 +55,18 @@ pub record AnswersAll {R W : Type 0} (remaining : R → Option (List ℕ)) (r0 r
   pub books : (name : List ℕ) → book_of end name ≡ entered_into name (history nothing turns)
   pub balances : BalancesMove nothing turns
   pub refusals : RefusalsLeave nothing turns
+  pub lines : RefusedLinesLeave nothing turns
 
--- A run over a federation that had nothing yet is cut off by this cause: memory, its input or its output. The state is sound then too, or it
--- is lost: memory was refused while accepted entries were added.
-pub record IsCutOffBy {R W : Type 0} (cause : Cause) (remaining : R → Option (List ℕ)) (r0 r1 : R) (contents : W → Option (List ℕ)) (w0 w1 : W) : Type 0 where
+-- A run over a federation that had nothing yet is cut off by this cause: memory, its input or its output. The state is
+-- sound then too, or it is lost: memory was refused while accepted entries were added.
+pub record IsCutOffBy {R W : Type 0} (cause : Cause) (remaining : R → Option (List ℕ)) (r0 r1 : R)
+    (contents : W → Option (List ℕ)) (w0 w1 : W) : Type 0 where
   pub end : Federation
   pub ends : EndsBy cause Answers Loses most_input (remaining r0) (remaining r1) (contents w0) (contents w1) nothing end
-  pub left : IsSound end ⊎ IsLost cause Answers Loses most_input (remaining r0) (remaining r1) (contents w0) (contents w1) nothing end ends
+  pub left : IsSound end
+      ⊎ IsLost cause Answers Loses most_input (remaining r0) (remaining r1) (contents w0) (contents w1) nothing end ends
 
 -- a run was cut off, or there was no memory for its words, and it read and wrote nothing
 abbrev pub IsCutOff : {R W : Type 0} → (R → Option (List ℕ)) → R → R → (W → Option (List ℕ)) → W → W → Type 0
-IsCutOff remaining r0 r1 contents w0 w1 = ((r1 ≡ r0) × (w1 ≡ w0)) ⊎ ((cause : Cause) × IsCutOffBy cause remaining r0 r1 contents w0 w1)
+IsCutOff remaining r0 r1 contents w0 w1 =
+    ((r1 ≡ r0) × (w1 ≡ w0)) ⊎ ((cause : Cause) × IsCutOffBy cause remaining r0 r1 contents w0 w1)

@@ -4,7 +4,8 @@ ghost use Rattle.std.specs.Prelude.{◌≡◌, ◌↔◌, ◌++◌, IsTrue, OnOk
 ghost use Rattle.std.specs.Result.{IsOkUnless};
 ghost use Rattle.money_core.specs.AmountText.{IsDeclared};
 ghost use Rattle.journal_lines.specs.Date.{IsDayNumber};
-ghost use Rattle.treasury.specs.Answer.{refused_text, line_text, place_text, difference_text, refusal_text, done_text, answer_text, IsPrintableFailure, IsPrintableRefusal, IsPrintableAnswer};
+ghost use Rattle.treasury.specs.Answer.{refused_text, line_text, place_text, difference_text, refusal_text};
+ghost use Rattle.treasury.specs.Answer.{done_text, answer_text, IsPrintableFailure, IsPrintableRefusal, IsPrintableAnswer};
 
 use book_core::{Failure, Place, Refusal};
 use journal_lines::{is_day_number, print_date};

@@ -51,7 +51,8 @@ fn push_balance<L: Ledger>(
 ) -> Result<(), Cause>
     requires known { unit.0 < length styles.now }
     requires room { HasRoom (L.book ledger.now) }
-    ensures ok { OnOk result (out.new.items ≡ out.old.items ++ balance_line styles.now (L.book ledger.now) day account.now unit) }
+    ensures ok { OnOk result (out.new.items
+        ≡ out.old.items ++ balance_line styles.now (L.book ledger.now) day account.now unit) }
     ensures err { OnErr result (out.new.items ≡ out.old.items) }
     ensures memory { IsOkUnless result Cause.OutOfMemory }
 {
@@ -76,7 +77,8 @@ fn push_account<L: Ledger>(
     out: &mut Vec<u8>,
 ) -> Result<(), Cause>
     requires { HasRoom (L.book ledger.now) }
-    ensures ok { OnOk result (out.new.items ≡ out.old.items ++ account_lines styles.now (L.book ledger.now) day account.now) }
+    ensures ok { OnOk result (out.new.items
+        ≡ out.old.items ++ account_lines styles.now (L.book ledger.now) day account.now) }
     ensures err { OnErr result (take (length out.old.items) out.new.items ≡ out.old.items) }
     ensures memory { IsOkUnless result Cause.OutOfMemory }
 {

@@ -1,6 +1,7 @@
 //! The desk: the state of a federation in memory, and what it answers to requests.
 
-ghost use Rattle.std.specs.Prelude.{◌≡◌, ◌↔◌, IsTrue, true, ◌≢◌, ◌++◌, ◌∷◌, [], List, ℕ, Ok, Err, IfOk, IfErr, IfSome, OnOk, OnErr, IsErrOf};
+ghost use Rattle.std.specs.Prelude.{◌≡◌, ◌≢◌, ◌↔◌, IsTrue, true, ℕ, List, [], ◌∷◌, ◌++◌};
+ghost use Rattle.std.specs.Prelude.{Ok, Err, IfOk, IfErr, IfSome, OnOk, OnErr, IsErrOf};
 ghost use Rattle.std.specs.Result.{IsOkUnless};
 ghost use Rattle.money_core.specs.Style.{is_style};
 ghost use Rattle.money_core.specs.Sampling.{style_of};
@@ -150,7 +151,8 @@ impl Desk {
         sample: &str,
         out: &mut Vec<u8>,
     ) -> Result<(), Cause>
-        ensures ok { OnOk result (IsReplied self.old (asked_by_sample (style_of sample.now)) out.old.items out.new.items self.new) }
+        ensures ok { OnOk result
+            (IsReplied self.old (asked_by_sample (style_of sample.now)) out.old.items out.new.items self.new) }
         ensures err { OnErr result ((self.new ≡ self.old) × (out.new.items ≡ out.old.items)) }
         ensures memory { IsOkUnless result Cause.OutOfMemory }
     {
@@ -221,7 +223,8 @@ impl Desk {
     /// without the others some of the entries might break an assertion.
     fn enter(&mut self, accepted: Accepted) -> Result<(), Cause>
         requires { (name : List ℕ) × ((journal : List ℕ) × IsAccepted self.old name journal accepted) }
-        ensures ok { OnOk result ((name journal : List ℕ) (was : IsAccepted self.old name journal accepted) → self.new ≡ done self.old (enter name was.list)) }
+        ensures ok { OnOk result ((name journal : List ℕ) (was : IsAccepted self.old name journal accepted)
+            → self.new ≡ done self.old (enter name was.list)) }
         ensures memory { IsOkUnless result Cause.OutOfMemory }
     {
         let Accepted { place, new } = accepted;
@@ -264,7 +267,8 @@ impl Desk {
         journal: &[u8],
         out: &mut Vec<u8>,
     ) -> Result<(), Shortage>
-        ensures ok { OnOk result (IsAnswered self.old (ForImport name.now journal.now) out.old.items out.new.items self.new) }
+        ensures ok { OnOk result
+            (IsAnswered self.old (ForImport name.now journal.now) out.old.items out.new.items self.new) }
         ensures kept { IsErrOf result Shortage.Kept → (self.new ≡ self.old) × (out.new.items ≡ out.old.items) }
         ensures lost { IsErrOf result Shortage.Lost → MayLose self.old (ForImport name.now journal.now) }
     {

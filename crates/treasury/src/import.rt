@@ -58,7 +58,8 @@ pub fn transactions_of(alloc: Global, text: &[u8], styles: &Styles) -> Result<Ve
 fn entry_of(alloc: Global, located: &Located, styles: &Styles) -> Result<Entry, Refusal>
     requires { IsPrintable styles.now located.now.txn }
     ensures ok { IfOk result (λ entry. legs_of styles.now located.now.txn ≡ Ok entry) }
-    ensures refused { IfErr result (MemoryOr (λ refusal. option_map Refusal.Text (fault_on located.now.line (legs_of styles.now located.now.txn)) ≡ Some refusal)) }
+    ensures refused { IfErr result (MemoryOr (λ refusal.
+        option_map Refusal.Text (fault_on located.now.line (legs_of styles.now located.now.txn)) ≡ Some refusal)) }
 {
     match legs(alloc, &located.txn, styles) {
         Ok(entry) => Ok(entry),
@@ -74,7 +75,8 @@ fn entries_of(alloc: Global, list: &[Located], styles: &Styles) -> Result<Items<
     requires { AllByRecursion (λ (x : Transaction). IsPrintable styles.now x.txn) list.now }
     ensures balanced { IfOk result (λ entries. unbalanced styles.now list.now ≡ None) }
     ensures entries { IfOk result (λ entries. entries ≡ entries_of styles.now list.now) }
-    ensures refused { IfErr result (MemoryOr (λ refusal. option_map Refusal.Text (unbalanced styles.now list.now) ≡ Some refusal)) }
+    ensures refused { IfErr result (MemoryOr (λ refusal.
+        option_map Refusal.Text (unbalanced styles.now list.now) ≡ Some refusal)) }
 {
     let mut entries = Items::empty(alloc);
     'transactions: for located in list {

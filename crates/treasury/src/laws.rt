@@ -1,6 +1,7 @@
 //! What transcripts mean, in the words of the books.
 
 ghost use Rattle.std.specs.Prelude.{◌≡◌, ◌++◌, List, ℕ, None, true, Result, Err, IsErr};
+ghost use Rattle.money_core.specs.declared.day.Day.{Day};
 ghost use Rattle.book_core.specs.declared.refusal.Failure.{Failure};
 ghost use Rattle.book_core.specs.declared.refusal.Refusal.{Refusal as Refused};
 ghost use Rattle.book_core.specs.declared.refusal.Refusal.TheVariants.{ClaimFailed};
@@ -10,9 +11,11 @@ ghost use Rattle.journal_format.specs.declared.txn.Located.{Located};
 ghost use Rattle.treasury.specs.declared.answers.Answer.{Answer};
 ghost use Rattle.treasury.specs.Transcript.{IsTranscript};
 ghost use Rattle.treasury.specs.Federation.{Federation, IsGoodFederation, has_branch, book_of};
-ghost use Rattle.treasury.specs.Asked.{enter};
+ghost use Rattle.treasury.specs.Asked.{enter, balances};
 ghost use Rattle.treasury.specs.Step.{unbalanced, entries_of, reply, after, Replies, Answers};
-ghost use Rattle.treasury.specs.History.{Turn, AreTurns, end_of, IsRun, BooksGrow, BalancesMove, IsBalancedFederation, AllAssertionsHold, BreaksAssertion, RefusalsLeave, IsRefusalOrRepeat};
+ghost use Rattle.treasury.specs.History.{Turn, AreTurns, end_of, IsRun, BooksGrow, BalancesMove, BreaksAssertion};
+ghost use Rattle.treasury.specs.History.{IsBalancedFederation, AllAssertionsHold};
+ghost use Rattle.treasury.specs.History.{RefusalsLeave, IsRefusalOrRepeat, RefusedLinesLeave};
 
 /// A law of transcripts: each has turns, one for each request, whose texts are its output; and such turns have it as
 /// their transcript. Costs nothing.
@@ -45,11 +48,16 @@ pub fn good_law()
 {}
 
 /// Laws of what is refused or repeated: along turns each such reply leaves the state, and so does every line whose
-/// answer is a refusal or `repeated`. Costs nothing.
+/// answer is a refusal or `repeated`. Along a run so does each answer that stands in its output as such a line. A report
+/// leaves the state whatever is replied. Costs nothing.
 pub fn refusal_law()
     ensures turns { (start : Federation) (turns : List Turn) → AreTurns start turns → RefusalsLeave start turns }
     ensures answered { (f : Federation) (line text : List ℕ) (g : Federation)
         → Answers f line text g → IsRefusalOrRepeat text → g ≡ f }
+    ensures along { (start : Federation) (input output : List ℕ) (end : Federation) (turns : List Turn)
+        → IsRun start input output end turns → RefusedLinesLeave start turns }
+    ensures report { (f : Federation) (name : List ℕ) (day : Day) (r : Result Answer Refused)
+        → after f (balances name day) r ≡ f }
 {}
 
 /// Laws of late entries: where transactions would break an assertion of the book, or bring one that does not hold,

@@ -42,7 +42,8 @@ pub fn run_lines<R: Read, W: Write>(
     writer: &mut W,
     desk: &mut Desk,
 ) -> Result<(), Cause>
-    ensures { Ends result Answers Loses most_input R.remaining reader.old reader.new W.contents writer.old writer.new desk.old desk.new }
+    ensures { Ends result Answers Loses most_input
+        R.remaining reader.old reader.new W.contents writer.old writer.new desk.old desk.new }
 {
     run_machine(alloc, reader, writer, desk)
 }

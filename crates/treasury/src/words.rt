@@ -93,7 +93,8 @@ fn status<H: Eprint>(rt: &H, done: Result<(), Cause>) -> u8
 /// Runs from the input to the output, over a federation that has nothing yet.
 fn run<R: Read, W: Write>(alloc: Global, input: &mut R, output: &mut W) -> Result<(), Cause>
     ensures done { OnOk result (AnswersAll R.remaining input.old input.new W.contents output.old output.new) }
-    ensures cut_off { IfErr result (λ cause. IsCutOffBy cause R.remaining input.old input.new W.contents output.old output.new) }
+    ensures cut_off { IfErr result (λ cause.
+        IsCutOffBy cause R.remaining input.old input.new W.contents output.old output.new) }
 {
     let mut desk = Desk::empty(alloc);
     run_law();

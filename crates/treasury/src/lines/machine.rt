@@ -23,7 +23,8 @@ pub trait Machine {
 
     /// Appends the answer to a request, which is no line of blanks alone.
     fn answer(&mut self, alloc: Global, request: &[u8], out: &mut Vec<u8>) -> Result<(), Shortage>
-        ensures ok { OnOk result ((text : List ℕ) × (step self.old request.now text self.new × (out.new.items ≡ out.old.items ++ text))) }
+        ensures ok { OnOk result ((text : List ℕ)
+            × (step self.old request.now text self.new × (out.new.items ≡ out.old.items ++ text))) }
         ensures kept { IsErrOf result Shortage.Kept → self.new ≡ self.old }
         ensures lost { IsErrOf result Shortage.Lost → loses self.old request.now };
 }

@@ -44,7 +44,8 @@ fn serve_line<W: Write, M: Machine>(
     writer: &mut W,
     machine: &mut M,
 ) -> Result<(), Cause>
-    ensures { Serves result M.step M.loses (W.contents writer.old) (W.contents writer.new) machine.old (requests_among (line.now ∷ [])) machine.new }
+    ensures { Serves result M.step M.loses (W.contents writer.old) (W.contents writer.new)
+        machine.old (requests_among (line.now ∷ [])) machine.new }
 {
     if is_blank_text(line) {
         return Ok(());
@@ -69,7 +70,8 @@ fn feed<W: Write, M: Machine>(
     machine: &mut M,
 ) -> Result<(), Cause>
     requires { HasNoLineFeed line.old.items }
-    ensures { Feeds result M.step M.loses (W.contents writer.old) (W.contents writer.new) machine.old (line.old.items ++ bytes.now) line.new.items machine.new }
+    ensures { Feeds result M.step M.loses (W.contents writer.old) (W.contents writer.new)
+        machine.old (line.old.items ++ bytes.now) line.new.items machine.new }
 {
     'feeding: for byte in bytes {
         if *byte == b'\n' {
@@ -100,7 +102,8 @@ pub fn run_machine<R: Read, W: Write, M: Machine>(
     writer: &mut W,
     machine: &mut M,
 ) -> Result<(), Cause>
-    ensures { Ends result M.step M.loses MAX_INPUT R.remaining reader.old reader.new W.contents writer.old writer.new machine.old machine.new }
+    ensures { Ends result M.step M.loses MAX_INPUT
+        R.remaining reader.old reader.new W.contents writer.old writer.new machine.old machine.new }
 {
     let mut chunk = [0u8; CHUNK];
     let mut line = Vec::new(alloc);

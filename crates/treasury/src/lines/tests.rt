@@ -41,7 +41,8 @@ impl Machine for Echo {
     }
 }
 
-/// A reader that gives at most so many bytes at once. Where it is told to, it fails once, before that byte, and then goes on.
+/// A reader that gives at most so many bytes at once. Where it is told to, it fails once, before that byte, and then
+/// goes on.
 #[derive(Drop)]
 struct Slow<'a> {
     text: &'a [u8],
@@ -119,7 +120,8 @@ fn run_echo<R: Read, W: Write>(
     writer: &mut W,
     echo: &mut Echo,
 ) -> Result<(), Cause>
-    ensures { Ends result Echoes LosesAtWord MAX_INPUT R.remaining reader.old reader.new W.contents writer.old writer.new echo.old echo.new }
+    ensures { Ends result Echoes LosesAtWord MAX_INPUT
+        R.remaining reader.old reader.new W.contents writer.old writer.new echo.old echo.new }
 {
     run_machine(alloc, reader, writer, echo)
 }
