@@ -61,8 +61,10 @@ coded_within text short = at (slice_index text 0 == 40)
     closed true =
         let place = position_or_len (λ b. b == 41) inner in
         let rest = after_first (λ b. b == 41) inner in
-        rw (le-ltb 100 (length (before_first (λ b. b == 41) inner)) (omega (arith, short, drop_within 1 text, take_within place inner)),
-            le-ltb 500 (length (trim_end (trim_start rest))) (omega (arith, short, drop_within 1 text, drop_within (place + 1) inner, trim_start_within rest, trim_end_within (trim_start rest)))) refl
+        rw (
+          le-ltb 100 (length (before_first (λ b. b == 41) inner)) (omega (arith, short, drop_within 1 text, take_within place inner)),
+          le-ltb 500 (length (trim_end (trim_start rest))) (omega (arith, short, drop_within 1 text, drop_within (place + 1) inner, trim_start_within rest, trim_end_within (trim_start rest))),
+        ) refl
     closed false = refl
 
     at : (b : Bool) → is_coded_long (if b then closed_code inner else Some (record { code = None; rest = text })) ≡ false
