@@ -8,6 +8,8 @@ mod bytes;
 mod columns;
 mod desk;
 mod entering;
+#[cfg(test)]
+mod fixture;
 mod import;
 mod laws;
 mod lines;

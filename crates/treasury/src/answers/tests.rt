@@ -1,22 +1,9 @@
 //! Answers and their lines, row by row.
 
 use crate::answers::{Answer, answer_line, is_printable};
+use crate::fixture::declared_styles;
 use book_core::{Failure, Place, Refusal};
-use money_core::{Cause, Day, Fault, Mark, Style, Styles, Text, Unit, is_style};
-use std::alloc::Global;
-
-/// The style of `1,000.00 EUR` or, on the left, of `$1,000.00`.
-fn style(alloc: Global, symbol: &str, left: bool) -> Result<Style, Cause> {
-    let symbol = Text::of(alloc, symbol)?;
-    Ok(Style {
-        symbol,
-        left,
-        spaced: !left,
-        mark: Mark::Point,
-        decimals: 2,
-        grouped: true,
-    })
-}
+use money_core::{Cause, Day, Fault, Unit};
 
 /// An assertion that fails on 2024-01-10, at the first leg of the first entry.
 fn failed(unit: Unit, asserted: i64, found: i64) -> Result<Answer, Refusal> {
@@ -41,12 +28,7 @@ fn faulty(line: usize, cause: Cause) -> Result<Answer, Refusal> {
 #[test]
 fn each_answer_has_its_line(rt: HostRuntime) {
     let alloc = rt.alloc();
-    let mut styles = Styles::empty(alloc);
-    for (symbol, left) in [("EUR", false), ("$", true)] {
-        let style = style(alloc, symbol, left).expect(&rt, "memory");
-        assert!(rt; is_style(&style));
-        assert!(rt; styles.declare(style).is_ok());
-    }
+    let styles = declared_styles(&rt, alloc, &[("EUR", false), ("$", true)]);
     let rows = [
         (Ok(Answer::Done), "ok\n"),
         (

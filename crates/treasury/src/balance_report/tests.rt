@@ -5,23 +5,11 @@ ghost use Rattle.book_core.specs.Claim.{failure};
 ghost use Rattle.book_core.specs.GoodBook.{HasRoom, IsFit};
 
 use crate::balance_report::balance_report;
+use crate::fixture::declared_styles;
 use book_core::{Count, Entry, Items, Ledger, Leg, PlainLedger, Refusal};
-use money_core::{Cause, Day, Mark, Style, Styles, Text, Unit, is_style};
+use money_core::{Cause, Day, Text, Unit};
 use std::alloc::Global;
 use std::slice;
-
-/// The style of `1,000.00 EUR` or, on the left, of `$1,000.00`.
-fn style(alloc: Global, symbol: &str, left: bool) -> Result<Style, Cause> {
-    let symbol = Text::of(alloc, symbol)?;
-    Ok(Style {
-        symbol,
-        left,
-        spaced: !left,
-        mark: Mark::Point,
-        decimals: 2,
-        grouped: true,
-    })
-}
 
 /// An entry of two legs, which moves the quantity to one account from the other.
 fn moved(
@@ -71,17 +59,13 @@ fn posted<L: Ledger>(mut ledger: L, entry: Entry) -> Result<L, Refusal>
 #[test]
 fn each_day_has_its_balances(rt: HostRuntime) {
     let alloc = rt.alloc();
-    let mut styles = Styles::empty(alloc);
-    for (symbol, left) in [
+    let symbols = [
         ("EUR", false),
         ("$", true),
         ("€", true),
         ("MEMBERHOURS", false),
-    ] {
-        let style = style(alloc, symbol, left).expect(&rt, "memory");
-        assert!(rt; is_style(&style));
-        assert!(rt; styles.declare(style).is_ok());
-    }
+    ];
+    let styles = declared_styles(&rt, alloc, &symbols);
     let entries = [
         (19_727, "expenses:hall", "assets:bank", 0, 12_000),
         (19_754, "assets:bank", "equity:conversion:$-€:€", 2, 10_000),

@@ -3,6 +3,7 @@
 use crate::request::{Request, read_command, read_line};
 use money_core::{Cause, Copied};
 use std::alloc::Global;
+use std::process::Abort;
 use std::test::Fail;
 
 /// The request in words, or the number of its refusal.
@@ -23,6 +24,16 @@ fn shown(alloc: Global, read: &Result<Request, Cause>) -> Result<String, Fail> {
         Err(cause) => format!(in alloc; "{}", cause.nr())?,
     };
     Ok(text)
+}
+
+/// Asserts that each text is read as this request, or refused by this number.
+fn assert_read(rt: &impl Abort, alloc: Global, rows: &[(&str, &str)]) -> Result<(), Fail> {
+    for (text, want) in rows {
+        let read = read_command(alloc, *text);
+        let found = shown(alloc, &read)?;
+        assert_eq!(rt; found.as_str(), *want, "{text}");
+    }
+    Ok(())
 }
 
 #[test]
@@ -65,12 +76,7 @@ fn a_request_has_its_keys_and_no_other(rt: HostRuntime) -> Result<(), Fail> {
         ("null", "44"),
         ("", "44"),
     ];
-    for (text, want) in rows {
-        let read = read_command(rt.alloc(), text);
-        let found = shown(rt.alloc(), &read)?;
-        assert_eq!(rt; found.as_str(), want, "{text}");
-    }
-    Ok(())
+    assert_read(&rt, rt.alloc(), &rows)
 }
 
 #[test]
@@ -111,12 +117,7 @@ fn each_value_is_a_text(rt: HostRuntime) -> Result<(), Fail> {
         (r#"{"do":"balance","branch":"x","day":"2024-01-05 "}"#, "44"),
         (r#"{"do":"balance","branch":"x","day":""}"#, "44"),
     ];
-    for (text, want) in rows {
-        let read = read_command(rt.alloc(), text);
-        let found = shown(rt.alloc(), &read)?;
-        assert_eq!(rt; found.as_str(), want, "{text}");
-    }
-    Ok(())
+    assert_read(&rt, rt.alloc(), &rows)
 }
 
 #[test]
@@ -151,12 +152,7 @@ fn json_is_read_as_serde_json_reads_it(rt: HostRuntime) -> Result<(), Fail> {
         (r#"{"name":-,"name":"x","do":"branch"}"#, "44"),
         (r#"{"name":1.,"name":"x","do":"branch"}"#, "44"),
     ];
-    for (text, want) in rows {
-        let read = read_command(rt.alloc(), text);
-        let found = shown(rt.alloc(), &read)?;
-        assert_eq!(rt; found.as_str(), want, "{text}");
-    }
-    Ok(())
+    assert_read(&rt, rt.alloc(), &rows)
 }
 
 #[test]
