@@ -18,4 +18,5 @@ pub mod TouchLemmas
 pub mod DayLemmas
 pub mod RaiseLemmas
 pub mod DayPlaceLemmas
+pub mod NextLemmas
 mod WorkedValues

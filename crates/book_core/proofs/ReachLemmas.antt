@@ -22,7 +22,9 @@ use Rattle.book_core.specs.Account.{reaches}
 use Rattle.book_core.specs.Book.{Posted, posted_legs, posted_from, posted}
 use Rattle.book_core.specs.Balance.{balance, counts, total}
 use Rattle.book_core.specs.Claim.{reach_of, is_sole, Asserted, Holds, fault, earlier, first_fault, asserted_claims, asserted_from, failure}
-use Rattle.book_core.specs.Reached.{place_lt, touches, is_touched, reached_claims}
+use Rattle.book_core.specs.Reached.{place_lt, touches, is_touched, is_reached, reached_claims}
+use Rattle.std.proofs.lemmas.List.Elements.{All-contains, All-from_recursion}
+use Rattle.std.specs.Prelude.{Contains, ◌↔◌}
 use Rattle.book_core.proofs.SumLemmas.{total-append}
 use Rattle.book_core.proofs.BookLemmas.{posted_from-append}
 use Rattle.book_core.proofs.ClaimLemmas.{places_total, asserted_from-append, first_fault-append}
@@ -137,6 +139,15 @@ unreached_holds b e x h k holds =
       alone = λ s v n. balance_unreached (reach_of x.claim.kind) b e x.account v (At x.place) (none_counts x v ys after (ap (λ (t : Bool). t || nat_eq v.0 x.claim.unit.0) s) k) ∙ holds.alone s v n;
     }
 
+unreached_held : (b e : List Entry) (x : Asserted) → x.place.entry < length b + 1 → is_touched (posted_from (length b + 1) e) x ≡ false → Holds (b ++ e) x → Holds b x
+unreached_held b e x h k holds =
+    let ys = posted_from (length b + 1) e in
+    let after = after_entries x.place.entry (length b + 1) e h in
+    record {
+      same = sym (balance_unreached (reach_of x.claim.kind) b e x.account x.claim.unit (At x.place) (none_counts x x.claim.unit ys after (same_unit (is_sole x.claim.kind) x.claim.unit.0) k)) ∙ holds.same;
+      alone = λ s v n. sym (balance_unreached (reach_of x.claim.kind) b e x.account v (At x.place) (none_counts x v ys after (ap (λ (t : Bool). t || nat_eq v.0 x.claim.unit.0) s) k)) ∙ holds.alone s v n;
+    }
+
 pub unreached_none : (b e : List Entry) (x : Asserted) → x.place.entry < length b + 1 → is_touched (posted_from (length b + 1) e) x ≡ false → fault b x ≡ None → fault (b ++ e) x ≡ None
 unreached_none b e x h k f = holds_none (b ++ e) x (unreached_holds b e x h k (none_holds b x f))
 
@@ -176,3 +187,12 @@ failure_reached b e h =
     ∙ ap (λ (f : Option Failure). earlier f (first_fault (b ++ e) new))
     (sym (first_filtered (b ++ e) (is_touched (posted_from (length b + 1) e)) old (unreached_all b e old (below_entries (length b + 1) 1 b (omega arith)) (all_hold b old h))))
     ∙ sym (first_fault-append (b ++ e) (filter (is_touched (posted_from (length b + 1) e)) old) new)
+
+-- an assertion of the book that the new entries do not reach holds with them exactly where it did before
+pub unreached_law : (b e : List Entry) (x : Asserted) → Contains (asserted_from 1 b) x → is_reached b e x ≡ false → Holds b x ↔ Holds (b ++ e) x
+unreached_law b e x h k = (unreached_holds b e x below k, unreached_held b e x below k)
+  where
+    below : x.place.entry < length b + 1
+    below =
+        let all = below_entries (length b + 1) 1 b (omega arith) in
+        All-contains (λ (y : Asserted). y.place.entry < length b + 1) (asserted_from 1 b) x (All-from_recursion (λ (y : Asserted). y.place.entry < length b + 1) (asserted_from 1 b) all) h

@@ -1,5 +1,5 @@
 -- Running sums by day that stand for the balances of a book.
-use Rattle.std.specs.Prelude.{◌≡◌, ◌<◌, ◌≤◌, ◌-◌, ℕ, true, ◌&&◌, nat_eq, int_le, if◌then◌else◌, ⊤, List, [], ◌∷◌, length, take, slice_index_or, ℤ, pos, ◌+ℤ◌, ◌≤ℤ◌, neg_ℤ}
+use Rattle.std.specs.Prelude.{◌≡◌, Option, Some, None, ◌<◌, ◌≤◌, ◌-◌, ℕ, true, ◌&&◌, nat_eq, int_le, if◌then◌else◌, ⊤, List, [], ◌∷◌, length, take, slice_index_or, ℤ, pos, ◌+ℤ◌, ◌≤ℤ◌, neg_ℤ}
 use Rattle.money_core.specs.declared.unit.Unit.{Unit as Commodity}
 use Rattle.money_core.specs.declared.day.Day.{Day}
 use Rattle.day_sums.specs.declared.sums.DaySums.{DaySums}
@@ -62,3 +62,8 @@ AreMoved table b = (u : Commodity) → moved_at table u ≡ turnover u b
 -- each leg's commodity is in the table
 abbrev pub AreListed : List ℕ → List Leg → Type 0
 AreListed table legs = AllByRecursion (λ (x : Leg). x.unit.0 < length table) legs
+
+-- the next commodity after one that has a turnover, or an earlier one; none where no later one has
+abbrev pub IsNextMoved : (Commodity → ℕ) → Commodity → Option Commodity → Type 0
+IsNextMoved turnovers unit None = (v : Commodity) → unit.0 < v.0 → turnovers v ≡ 0
+IsNextMoved turnovers unit (Some next) = (unit.0 < next.0) × ((v : Commodity) → unit.0 < v.0 → v.0 < next.0 → turnovers v ≡ 0)

@@ -14,4 +14,5 @@ pub mod PlainLedger
 pub mod DayRows
 pub mod DayPlace
 pub mod Sums
+pub mod Gathered
 pub mod DayLedger

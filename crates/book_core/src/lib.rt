@@ -35,7 +35,7 @@ pub use claim::{Asserted, Claim, ClaimKind, Placed};
 pub use day_ledger::DayLedger;
 pub use entry::Entry;
 pub use fit::{are_fit, is_balanced, is_fit};
-pub use law::{check_good, failure_law, named_law, verdict_law};
+pub use law::{check_good, failure_law, named_law, unreached_law, verdict_law};
 pub use ledger::Ledger;
 pub use leg::Leg;
 pub use money_core::{Cause, Copied, Day, Fault, Items, Same, Text, Unit};

@@ -5,7 +5,8 @@ ghost use Rattle.std.specs.Result.{IsOkUnless};
 ghost use Rattle.std.specs.List.{AllByRecursion, list_any, filter};
 ghost use Rattle.book_core.specs.Book.{posted_legs, posted_from};
 ghost use Rattle.book_core.specs.Claim.{asserted_claims, asserted_from};
-ghost use Rattle.book_core.specs.Reached.{touches, is_touched, places_of, Gathered};
+ghost use Rattle.book_core.specs.Reached.{touches, is_touched};
+ghost use Rattle.book_core.specs.Gathered.{places_of, Gathered};
 ghost use Rattle.book_core.specs.GoodBook.{IsFit};
 
 use crate::account::is_reached;

@@ -1,4 +1,4 @@
-use Rattle.std.proofs.Common.{◌≡◌, List, [], ◌∷◌, ◌++◌, subst, sym, ◌∙◌, refl, ap, ℕ, ◌+◌, length, rules}
+use Rattle.std.proofs.Common.{◌≡◌, List, [], ◌∷◌, ◌++◌, subst, sym, ◌∙◌, refl, ap, ℕ, ◌+◌, length, arith, rules}
 use Rattle.std.proofs.lemmas.List.{with_items_is}
 use Rattle.day_sums.specs.declared.sums.DaySums.{DaySums}
 use Rattle.day_sums.specs.Sums.{SameSums}
@@ -44,5 +44,6 @@ returns-clause-ok c =
       moved =
           subst (λ (t : List ℕ). AreMoved t (b ++ e ∷ [])) (sym moved)
           (moved_add c.args.self.now.moved.items c.list_units.new.table.items c.deref_mut.result.now c.add_legs.new.table b (b ++ e ∷ []) e c.items-legs.result.now c.requires.sums.moved c.list_units.ensures.same c.deref_mut.ensures.value c.add_legs.ensures.moved refl c.items-legs.ensures);
+      few_units = omega (arith, c.list_units.ensures.few, c.add_legs.ensures.len, c.deref_mut.ensures.len, ap (λ (t : List ℕ). length t) moved);
       days = days_add c.args.self.now.days c.put_number.new.self b (b ++ e ∷ []) e (length b + 1) c.requires.sums.days (numbered c) refl refl;
     }
