@@ -1,13 +1,12 @@
 -- A row whose sums are raised from a number on.
-use Rattle.std.proofs.Common.{◌≡◌, ℕ, ◌+◌, ◌-◌, ◌<◌, ◌≤◌, Bool, true, false, nat_eq, ◌||◌, ◌&&◌, List, [], ◌∷◌, ◌++◌, length, map, take, drop, get_or, zero, suc, refl, ap, ◌∙◌, sym, subst, arith, ℤ, pos, negsuc, ◌+ℤ◌, ◌≤ℤ◌, ◌<ℤ◌, set}
-use Rattle.std.specs.Prelude.{if◌then◌else◌, int_lt, int_le, cond, insert, nat_lt}
+use Rattle.std.proofs.Common.{◌≡◌, ℕ, ◌+◌, ◌<◌, ◌≤◌, Bool, true, false, ◌||◌, List, [], ◌∷◌, ◌++◌, length, map, take, drop, get_or, zero, suc, refl, ap, ◌∙◌, sym, subst, arith, ℤ, pos, ◌+ℤ◌, ◌≤ℤ◌, ◌<ℤ◌, set}
+use Rattle.std.specs.Prelude.{if◌then◌else◌, int_lt, int_le, cond}
 use Rattle.std.specs.List.{AllByRecursion, prefix_len}
 use Rattle.std.specs.Ordering.{int_eq}
-use Rattle.std.specs.List.Sorted.{IsPartitionedBy}
 use Rattle.std.proofs.lemmas.Int.{ints}
-use Rattle.std.proofs.lemmas.Bool.Decides.{Decides-int_eq, nat_tests}
+use Rattle.std.proofs.lemmas.Bool.Decides.{Decides-int_eq}
 use Rattle.day_sums.specs.declared.points.Point.{Point}
-use Rattle.day_sums.specs.Points.{sum_at, is_before, is_through, Ascends, has, IsUpTo, SamePoints, RaisedPoints, more, raised_from, blank_point, base_at, is_there}
+use Rattle.day_sums.specs.Points.{sum_at, is_before, Ascends, has, IsUpTo, RaisedPoints, more, raised_from}
 
 abbrev pub raised : ℤ → ℤ → List Point → List Point
 raised d q ps = raised_from (prefix_len (is_before d) ps) q ps

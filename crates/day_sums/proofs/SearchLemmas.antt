@@ -1,14 +1,13 @@
 -- Where a number stands in a row of points, and what the search for it finds.
-use Rattle.std.proofs.Common.{◌≡◌, ℕ, ◌+◌, ◌-◌, ◌<◌, ◌≤◌, Bool, true, false, nat_eq, ◌||◌, ◌&&◌, List, [], ◌∷◌, ◌++◌, length, map, take, drop, get_or, zero, suc, refl, ap, ◌∙◌, sym, subst, arith, ℤ, pos, negsuc, ◌+ℤ◌, ◌≤ℤ◌, ◌<ℤ◌, set}
-use Rattle.std.specs.Prelude.{if◌then◌else◌, int_lt, int_le, cond, insert, nat_lt}
+use Rattle.std.proofs.Common.{◌≡◌, ℕ, ◌+◌, ◌-◌, ◌<◌, ◌≤◌, Bool, true, false, nat_eq, List, [], ◌∷◌, length, get_or, zero, suc, refl, ap, ◌∙◌, sym, arith, ℤ, negsuc, ◌+ℤ◌, ◌≤ℤ◌, ◌<ℤ◌}
+use Rattle.std.specs.Prelude.{if◌then◌else◌, int_lt, int_le, cond}
 use Rattle.std.specs.List.{AllByRecursion, prefix_len}
-use Rattle.std.specs.Ordering.{int_eq}
 use Rattle.std.specs.List.Sorted.{IsPartitionedBy, IsPartitionPoint}
 use Rattle.std.proofs.lemmas.List.Sums.{prefix_len_is}
 use Rattle.std.proofs.lemmas.Int.{ints}
-use Rattle.std.proofs.lemmas.Bool.Decides.{Decides-int_eq, nat_tests}
+use Rattle.std.proofs.lemmas.Bool.Decides.{nat_tests}
 use Rattle.day_sums.specs.declared.points.Point.{Point}
-use Rattle.day_sums.specs.Points.{sum_at, is_before, is_through, Ascends, has, IsUpTo, SamePoints, RaisedPoints, more, raised_from, blank_point, base_at, is_there}
+use Rattle.day_sums.specs.Points.{sum_at, is_before, is_through, Ascends}
 
 -- the point that a search finds has the sum
 pub sum_at-prefix : (z : ℤ) (ps : List Point) (d : ℤ) (x : Point) → sum_at z ps d ≡ (if nat_eq (prefix_len (is_through d) ps) 0 then z else (get_or ps (prefix_len (is_through d) ps - 1) x).sum)

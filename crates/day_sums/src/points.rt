@@ -13,7 +13,7 @@ use std::marker::Model;
 /// A number, and the sum through it.
 #[derive(Clone, Copy, Debug)]
 pub struct Point {
-    pub at: i32,
+    pub at: i64,
     pub sum: i64,
 }
 
@@ -46,7 +46,7 @@ fn count_through(points: &[Point], at: i64) -> usize
     let mut high = points.len();
     'halves: while low < high {
         let middle = low + (high - low) / 2;
-        if i64::from(points[middle].at) <= at {
+        if points[middle].at <= at {
             low = middle + 1;
         } else {
             high = middle;
@@ -56,12 +56,13 @@ fn count_through(points: &[Point], at: i64) -> usize
 }
 
 /// How many points are before a number.
-fn count_before(points: &[Point], at: i32) -> usize
-    requires { Ascends points.now }
+fn count_before(points: &[Point], at: i64) -> usize
+    requires rise { Ascends points.now }
+    requires small { IsUpTo 4294967296 at }
     ensures bound { result ≤ length points.now }
     ensures value { result ≡ prefix_len (is_before at) points.now }
 {
-    count_through(points, i64::from(at) - 1)
+    count_through(points, at - 1)
 }
 
 /// The sum before a place.
@@ -73,7 +74,7 @@ fn sum_before(points: &[Point], place: usize) -> i64
 }
 
 /// Whether a number has its point at a place.
-fn is_there(points: &[Point], place: usize, at: i32) -> bool
+fn is_there(points: &[Point], place: usize, at: i64) -> bool
     ensures { result ≡ is_there at points.now place }
 {
     if place >= points.len() {
@@ -113,7 +114,8 @@ impl Points {
     }
 
     /// Makes a point of the number, with the sum before it, which changes no sum.
-    pub fn open(&mut self, at: i32) -> Result<(), Cause>
+    pub fn open(&mut self, at: i64) -> Result<(), Cause>
+        requires { IsUpTo 4294967296 at }
         ensures same { SamePoints self.old self.new }
         ensures open { OnOk result (has at self.new ≡ true) }
         ensures memory { IsOkUnless result Cause.OutOfMemory }
@@ -128,7 +130,8 @@ impl Points {
     }
 
     /// Adds to each sum from a number on, which has its point.
-    pub fn raise(&mut self, at: i32, qty: i64)
+    pub fn raise(&mut self, at: i64, qty: i64)
+        requires small { IsUpTo 4294967296 at }
         requires open { has at self.old ≡ true }
         requires sums { (d : ℤ) → IsUpTo 40000000000000000 (sum_at (pos 0) self.old d) }
         requires qty { IsUpTo 10000000000000000 qty }

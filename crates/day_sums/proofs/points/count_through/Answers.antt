@@ -1,6 +1,5 @@
-use Rattle.std.proofs.Common.{◌≡◌, ◌/◌, ℕ, ◌≤◌, ◌-◌, ◌+◌, get_or, arith, sym, ap, ◌∙◌, rules, w32, w64, FitsSigned, to_z, of_z, ℤ}
+use Rattle.std.proofs.Common.{◌≡◌, ◌/◌, ℕ, ◌≤◌, ◌-◌, ◌+◌, get_or, arith, sym, ap, ◌∙◌, rules, w64, to_z, of_z, ℤ}
 use Rattle.std.specs.List.{prefix_len}
-use Rattle.std.specs.Prelude.{int_le}
 use Rattle.std.proofs.lemmas.List.Sums.{prefix_len_is}
 use Rattle.std.proofs.lemmas.Int.{to_z-of_z, ints}
 use Rattle.day_sums.proofs.SearchLemmas.{parted_through}
@@ -15,18 +14,12 @@ returns-clause-value c =
     sym (prefix_len_is (is_through a) c.args.points.now c.halves.low blank_point (omega arith) i.passes (λ l. ap (λ (k : ℕ). is_through a (get_or c.args.points.now k blank_point)) e ∙ i.stops (omega arith)))
     ∙ ap (λ (b : ℤ). prefix_len (is_through b) c.args.points.now) (to_z-of_z w64 c.args.at (search rules))
 
--- a number of 32 bits, in 64 bits
-widened : (at r : ℤ) → FitsSigned w32 at → r ≡ to_z w32 (of_z w32 at) → to_z w64 (of_z w64 r) ≡ at
-widened at r fits e =
-    let same : r ≡ at = e ∙ to_z-of_z w32 at fits in
-    ap (λ (z : ℤ). to_z w64 (of_z w64 z)) same ∙ to_z-of_z w64 at (let f = fits in omega (arith, ints))
-
-pub halves-preserved-then-from-at : goal.halves-preserved-then-from-at
-halves-preserved-then-from-at c =
+pub halves-preserved-then-points-middle : goal.halves-preserved-then-points-middle
+halves-preserved-then-points-middle c =
     let i = c.halves.invariant in
     record {
       order = omega arith;
       bound = i.bound;
-      passes = λ k h. parted_through c.args.points.now _ c.requires k _ blank_point (let g : k ≤ c.halves.low + (c.halves.high - c.halves.low) / 2 = omega arith in g) (omega arith) (ap (λ (z : ℤ). int_le z (to_z w64 (of_z w64 c.args.at))) (sym (widened _ c.from.result (search rules) c.from.ensures)) ∙ c.if-from-at.true);
+      passes = λ k h. parted_through c.args.points.now _ c.requires k _ blank_point (let g : k ≤ c.halves.low + (c.halves.high - c.halves.low) / 2 = omega arith in g) (omega arith) (grind (arith, ints, c.if-points-middle.true));
       stops = i.stops;
     }

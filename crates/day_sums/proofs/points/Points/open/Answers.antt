@@ -1,10 +1,10 @@
-use Rattle.std.proofs.Common.{◌≡◌, sym, ap, ◌∙◌, pos, ℤ, ℕ, List, subst, true, false, rules, w32, w64, to_z, of_z}
+use Rattle.std.proofs.Common.{◌≡◌, sym, ap, ◌∙◌, pos, ℤ, List, subst, rules, w64, to_z, of_z}
 use Rattle.std.specs.Prelude.{insert}
 use Rattle.std.specs.List.{prefix_len}
 use Rattle.std.proofs.lemmas.Int.{to_z-of_z}
 use Rattle.day_sums.specs.declared.points.Point.{Point}
-use Rattle.day_sums.specs.Points.{Ascends, SamePoints, has, is_before, is_there, base_at}
-use Rattle.day_sums.proofs.OpenLemmas.{opened, inserted, found_has, ascends_opened, same_opened, has_opened}
+use Rattle.day_sums.specs.Points.{Ascends, SamePoints, is_before, is_there, base_at}
+use Rattle.day_sums.proofs.OpenLemmas.{opened, inserted, ascends_opened, same_opened}
 use Rattle.day_sums.proofs.points.Points.open.Goals as goal
 
 -- the points have the number's point in its place
@@ -12,7 +12,7 @@ now : (c : goal.In_ok-insert) → c.insert.new.self.items ≡ opened (pos 0) c.a
 now c =
     let ps = c.self.inside.points.items in
     let n = c.count_before-place.result in
-    let at = to_z-of_z w32 c.args.at c.ranges.at in
+    let at = to_z-of_z w64 c.args.at (search rules) in
     inserted c.args.at c.sum_before-sum.result ps c.insert.new.self.items n
     (c.count_before-place.ensures.value ∙ ap (λ (a : ℤ). prefix_len (is_before a) c.deref.result.now) at ∙ ap (λ (qs : List Point). prefix_len (is_before c.args.at) qs) c.deref.ensures.value)
     (ap (λ (qs : List Point). is_there c.args.at qs n) (sym c.deref-2.ensures.value) ∙ ap (λ (a : ℤ). is_there a c.deref-2.result.now n) (sym at) ∙ sym c.is_there.ensures ∙ c.if-is_there.false)

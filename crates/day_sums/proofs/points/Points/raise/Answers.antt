@@ -1,4 +1,4 @@
-use Rattle.std.proofs.Common.{◌≡◌, sym, ap, ◌∙◌, pos, ℤ, ℕ, List, length, subst, rules, w32, w64}
+use Rattle.std.proofs.Common.{◌≡◌, sym, ap, ◌∙◌, pos, ℤ, ℕ, List, length, subst, rules, w64}
 use Rattle.std.specs.Vec.{with_items}
 use Rattle.std.specs.List.{prefix_len, AllByRecursion}
 use Rattle.std.proofs.lemmas.Int.{to_z-of_z}
@@ -20,7 +20,7 @@ now c =
     c.raise_from.ensures
     ∙ ap (λ (q : ℤ). raised_from c.count_before-start.result q c.deref_mut.result.now) (to_z-of_z w64 c.args.qty (search rules))
     ∙ ap (λ (qs : List Point). raised_from c.count_before-start.result c.args.qty qs) c.deref_mut.ensures.value
-    ∙ ap (λ (n : ℕ). raised_from n c.args.qty ps) (c.count_before-start.ensures.value ∙ ap (λ (a : ℤ). prefix_len (is_before a) c.deref.result.now) (to_z-of_z w32 c.args.at c.ranges.at) ∙ ap (λ (qs : List Point). prefix_len (is_before c.args.at) qs) c.deref.ensures.value)
+    ∙ ap (λ (n : ℕ). raised_from n c.args.qty ps) (c.count_before-start.ensures.value ∙ ap (λ (a : ℤ). prefix_len (is_before a) c.deref.result.now) (to_z-of_z w64 c.args.at (search rules)) ∙ ap (λ (qs : List Point). prefix_len (is_before c.args.at) qs) c.deref.ensures.value)
 
 items : (c : goal.After-self-1) → (with_items c.self.inside.points c.raise_from.new.points).items ≡ raised c.args.at c.args.qty c.self.inside.points.items
 items c = with_items_is c.self.inside.points c.raise_from.new.points (ap (λ (qs : List Point). length qs) (now c) ∙ length-raised _ c.args.qty c.self.inside.points.items ∙ ap (λ (qs : List Point). length qs) (sym c.deref_mut.ensures.value) ∙ c.deref_mut.ensures.len) ∙ now c

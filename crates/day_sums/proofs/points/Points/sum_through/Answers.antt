@@ -1,4 +1,4 @@
-use Rattle.std.proofs.Common.{◌≡◌, ℕ, ℤ, List, sym, ap, ◌∙◌, pos, rules, w64}
+use Rattle.std.proofs.Common.{ℤ, List, sym, ap, ◌∙◌, pos, rules, w64}
 use Rattle.std.specs.List.{prefix_len}
 use Rattle.std.proofs.lemmas.Int.{to_z-of_z}
 use Rattle.day_sums.specs.declared.points.Point.{Point}
