@@ -1,7 +1,10 @@
-//! Running sums by day, of accounts in commodities (stand-in: takes nothing).
+//! Running sums by day, of accounts in commodities, and numbers by day.
 #![tactic(auto)]
 
+mod names;
 mod numbers;
+mod points;
+mod row;
 mod sums;
 
 pub use money_core::{Cause, Day, Unit};
