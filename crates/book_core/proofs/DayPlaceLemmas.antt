@@ -10,7 +10,7 @@ use Rattle.std.proofs.lemmas.Bool.Decides.{Decides-int_eq}
 use Rattle.money_core.specs.declared.unit.Unit.{Unit as Commodity}
 use Rattle.money_core.specs.declared.day.Day.{Day}
 use Rattle.day_sums.specs.Sums.{day_before}
-use Rattle.day_sums.proofs.DayLemmas.{lt_le}
+use Rattle.day_sums.proofs.SearchLemmas.{lt_le}
 use Rattle.book_core.specs.declared.leg.Leg.{Leg}
 use Rattle.book_core.specs.declared.place.Place.{Place}
 use Rattle.book_core.specs.declared.entry.Entry.{Entry}

@@ -19,4 +19,5 @@ pub mod DayLemmas
 pub mod RaiseLemmas
 pub mod DayPlaceLemmas
 pub mod NextLemmas
+pub mod LateLemmas
 mod WorkedValues

@@ -28,6 +28,12 @@ use std::alloc::Global;
 use std::marker::Model;
 
 /// The ledger that keeps its sums by day, and examines the assertions that new entries reach.
+///
+/// `balance` and `balance_in` are one search; `len`, `accounts` and `empty` cost nothing. `check` is one pass over the
+/// new legs for each of their commodities, and a look at each stored assertion; then, for each assertion that is
+/// reached, two searches and one pass over the legs of its day and the new ones, and for `==` and `==*` as much for each
+/// commodity. `add` is, for each leg and each account that takes it in, a search and the days of one row behind the
+/// entry's own.
 #[derive(Drop)]
 pub struct DayLedger {
     entries: Vec<Entry>,
@@ -85,7 +91,8 @@ fn append_all(claims: &mut Vec<Asserted>, fresh: Vec<Asserted>)
 }
 
 impl DayLedger {
-    /// The first failure by place among the assertions at the places, in the book with the new entries.
+    /// The first failure by place among the assertions at the places, in the book with the new entries, whatever other
+    /// assertions do. Takes no memory. Raises `count` by one for each assertion that it examines.
     pub fn examine(&self, new: &[Entry], places: &[Place], count: &mut Count) -> Option<Failure>
         requires fit { AllByRecursion IsFit new.now }
         requires room { IsWithin (self.now ++ new.now) }
@@ -134,7 +141,7 @@ impl Ledger for DayLedger {
         self.accounts.as_slice()
     }
 
-    /// Examines exactly the assertions that the new entries reach.
+    /// The trait's clauses; and Ok has examined exactly the assertions that the new entries reach.
     fn check(&self, new: &[Entry], count: &mut Count) -> Result<(), Refusal>
         requires fit { AllByRecursion IsFit new.now }
         requires hold { failure self.now ≡ None }
