@@ -19,5 +19,4 @@ pub mod DayLemmas
 pub mod RaiseLemmas
 pub mod DayPlaceLemmas
 pub mod NextLemmas
-pub mod LateLemmas
 mod WorkedValues

@@ -1,19 +1,9 @@
 //! Late entries: what they reach, and what of it fails.
 
-ghost use Rattle.std.specs.Prelude.{◌≡◌, true, Contains, IfOk};
-ghost use Rattle.std.specs.List.{AllByRecursion};
-ghost use Rattle.book_core.specs.Claim.{asserted_from};
-ghost use Rattle.book_core.specs.GoodBook.{IsFit, IsWithin};
-ghost use Rattle.book_core.specs.Gathered.{places_of};
-
 use super::{EUR, USD, at, checked_by, entry, fails, holding};
-use crate::{
-    Cause, ClaimKind, Copied, Count, Day, DayLedger, Entry, Failure, Ledger, Place, PlainLedger,
-    Refusal, Unit, are_fit,
-};
+use crate::{ClaimKind, Day, DayLedger, Entry, Ledger, PlainLedger, Refusal, Unit};
 use std::alloc::Global;
 use std::process::Abort;
-use std::slice::from_ref;
 use std::test::Fail;
 
 /// Both ledgers answer `want`, and the one with sums by day examines so many assertions.
@@ -104,7 +94,10 @@ fn new_entries_count_in_the_order_of_entry(rt: HostRuntime) -> Result<(), Fail> 
             entries.push(entry(
                 alloc,
                 day,
-                &[("assets:bank", EUR, qty), ("income:dues", EUR, -qty)],
+                &[
+                    ("assets:bank", EUR, qty),
+                    ("income:dues", EUR, qty.wrapping_neg()),
+                ],
                 claim,
             )?)?;
         }
@@ -223,86 +216,6 @@ fn a_late_entry_changes_the_balances_from_its_day_on(rt: HostRuntime) -> Result<
     match holding::<DayLedger>(&rt, alloc, &entries) {
         Ok(ledger) => balances(&rt, &ledger),
         Err(refusal) => assert!(rt; false, "{refusal:?}"),
-    }
-    Ok(())
-}
-
-/// Whether an assertion of the entries stands at the place.
-fn has_assertion(entries: &[Entry], place: Place) -> bool
-    ensures { result ≡ true → Contains (places_of (asserted_from 1 entries.now)) place }
-{
-    if place.entry == 0 || place.entry > entries.len() {
-        return false;
-    }
-    let entry = &entries[place.entry - 1];
-    if entry.day.0 != place.day.0 {
-        return false;
-    }
-    for placed in entry.claims.items() {
-        if placed.leg == place.leg {
-            return true;
-        }
-    }
-    false
-}
-
-/// Whether neither the number of entries nor a turnover is over its limit.
-fn is_within(alloc: Global, entries: &[Entry]) -> bool
-    requires { AllByRecursion IsFit entries.now }
-    ensures { result ≡ true → IsWithin entries.now }
-{
-    let ledger = PlainLedger::empty(alloc);
-    let mut count = Count { claims: 0 };
-    match ledger.check(entries, &mut count) {
-        Ok(()) => true,
-        Err(Refusal::ClaimFailed(_)) => true,
-        Err(_) => false,
-    }
-}
-
-/// A ledger that holds the entries, whether or not their assertions hold.
-fn filled(alloc: Global, entries: &[Entry]) -> Result<DayLedger, Cause>
-    requires fit { AllByRecursion IsFit entries.now }
-    requires within { IsWithin entries.now }
-    ensures { IfOk result (λ ledger. ledger ≡ entries.now) }
-{
-    let mut ledger = DayLedger::empty(alloc);
-    for entry in entries {
-        let one = entry.copy()?;
-        ledger.add(one)?;
-    }
-    Ok(ledger)
-}
-
-// A late euro is added although the second assertion fails with it; then each assertion is examined alone.
-#[test]
-fn the_listed_assertion_alone_decides(rt: HostRuntime) -> Result<(), Fail> {
-    let alloc = rt.alloc();
-    let failure = Failure {
-        place: at(20, 2),
-        unit: Unit(EUR),
-        asserted: 1500,
-        found: 1600,
-    };
-    let mut entries = two_assertions(alloc)?;
-    entries.push(entry(
-        alloc,
-        15,
-        &[("assets:bank", EUR, 100), ("income:dues", EUR, -100)],
-        None,
-    )?)?;
-    for (place, want) in [(at(10, 1), None), (at(20, 2), Some(failure))] {
-        let mut count = Count { claims: 7 };
-        assert!(rt; are_fit(&entries));
-        assert!(rt; is_within(alloc, &entries));
-        assert!(rt; has_assertion(&entries, place));
-        let ledger = filled(alloc, &entries)?;
-        assert_eq!(rt;
-            ledger.examine(&[], from_ref(&place), &mut count),
-            want,
-            "{place:?}"
-        );
-        assert_eq!(rt; count.claims, 8);
     }
     Ok(())
 }
