@@ -47,7 +47,7 @@ stray_zero own v z h k = by_test (int_eq z (pos 0)) refl (sym (ap (λ (t : Bool)
     by_test true e f = (Decides-int_eq z (pos 0)).0 e
     by_test false e f = absurd (cc)
 
-zero_stray : (own v : Commodity) (z : ℤ) → (nat_eq v.0 own.0 ≡ false → z ≡ pos 0) → (not (nat_eq v.0 own.0) && not (int_eq z (pos 0))) ≡ false
+pub zero_stray : (own v : Commodity) (z : ℤ) → (nat_eq v.0 own.0 ≡ false → z ≡ pos 0) → (not (nat_eq v.0 own.0) && not (int_eq z (pos 0))) ≡ false
 zero_stray own v z h = by_test (nat_eq v.0 own.0) refl
   where
     by_test : (t : Bool) → nat_eq v.0 own.0 ≡ t → (not t && not (int_eq z (pos 0))) ≡ false
@@ -141,7 +141,7 @@ judged_some x found other amounts f h = by_test (int_eq found x.claim.qty) refl 
     by_test false e k = inl ((λ same. absurd (let t = (Decides-int_eq found x.claim.qty).1 same in cc)), (cc))
 
 -- what a stray commodity is
-stray_parts : (own v : Commodity) (z : ℤ) → (not (nat_eq v.0 own.0) && not (int_eq z (pos 0))) ≡ true → (nat_eq v.0 own.0 ≡ false) × (z ≡ pos 0 → ⊥)
+pub stray_parts : (own v : Commodity) (z : ℤ) → (not (nat_eq v.0 own.0) && not (int_eq z (pos 0))) ≡ true → (nat_eq v.0 own.0 ≡ false) × (z ≡ pos 0 → ⊥)
 stray_parts own v z h = by_tests (nat_eq v.0 own.0) (int_eq z (pos 0)) refl h
   where
     by_tests : (t u : Bool) → int_eq z (pos 0) ≡ u → (not t && not u) ≡ true → (t ≡ false) × (z ≡ pos 0 → ⊥)
@@ -153,7 +153,7 @@ stray_is : (reach : Reach) (b : List Entry) (account : List ℕ) (own : Commodit
 unfolding stray
 stray_is reach b account own limit v h = stray_parts own v (balance reach b account v limit) (least_passes (is_stray reach b account own limit) v (legs_of b) h)
 
-stray_first : (reach : Reach) (b : List Entry) (account : List ℕ) (own : Commodity) (limit : Until) (v : Commodity) → stray reach b account own limit ≡ Some v → (u : Commodity) → u.0 < v.0 → nat_eq u.0 own.0 ≡ false → balance reach b account u limit ≡ pos 0
+pub stray_first : (reach : Reach) (b : List Entry) (account : List ℕ) (own : Commodity) (limit : Until) (v : Commodity) → stray reach b account own limit ≡ Some v → (u : Commodity) → u.0 < v.0 → nat_eq u.0 own.0 ≡ false → balance reach b account u limit ≡ pos 0
 unfolding stray
 stray_first reach b account own limit v h u k n = by_test (has_leg u (legs_of b)) refl (is_stray reach b account own limit u) refl
   where

@@ -11,4 +11,12 @@ pub mod GoodBookLemmas
 pub mod NamedLemmas
 pub mod BalanceLemmas
 pub mod StrayLemmas
+pub mod ExamineLemmas
+pub mod ReachLemmas
+pub mod PlaceLemmas
+pub mod TouchLemmas
+pub mod DayLemmas
+pub mod RaiseLemmas
+pub mod DayPlaceLemmas
+pub mod NextLemmas
 mod WorkedValues

@@ -6,6 +6,13 @@ pub mod Balance
 pub mod Claim
 pub mod GoodBook
 pub mod Named
+pub mod Reached
+pub mod Examine
 -- What mirrors code, for private clauses: nobody has to believe it
 pub mod Query
 pub mod PlainLedger
+pub mod DayRows
+pub mod DayPlace
+pub mod Sums
+pub mod Gathered
+pub mod DayLedger

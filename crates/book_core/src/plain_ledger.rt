@@ -11,11 +11,10 @@ ghost use Rattle.book_core.specs.declared.place.Until.TheVariants.{Through};
 use crate::account::Reach;
 use crate::account_list::{new_accounts, put_accounts};
 use crate::assertion::first_failure;
-use crate::balance::{Query, balance_over};
+use crate::balance::{balance_over, through};
 use crate::book::Book;
 use crate::entry::Entry;
 use crate::ledger::Ledger;
-use crate::place::Until;
 use crate::refusal::{Count, Refusal};
 use crate::turnover::passes_limit;
 use money_core::{Cause, Day, Text, Unit};
@@ -84,13 +83,7 @@ fn balance_through(entries: &[Entry], reach: Reach, account: &str, unit: Unit, d
         old: entries,
         new: &[],
     };
-    let query = Query {
-        reach,
-        account,
-        unit,
-        limit: Until::Through(day),
-    };
-    balance_over(&book, &query)
+    balance_over(&book, &through(reach, account, unit, day))
 }
 
 impl Ledger for PlainLedger {

@@ -1,0 +1,89 @@
+//! A ledger's book with new entries behind it, whose balances are found by sums.
+
+ghost use Rattle.std.specs.Prelude.{◌≡◌};
+ghost use Rattle.book_core.specs.Balance.{turnover};
+ghost use Rattle.book_core.specs.Query.{is_stray_for, stray_for};
+ghost use Rattle.book_core.specs.DayRows.{IsNextMoved};
+
+use crate::balance::{Query, sum_entries};
+use crate::commodity::lower_of;
+use crate::entry::Entry;
+use crate::judging::Balances;
+use crate::sums::Sums;
+use crate::turnover::tally_entries;
+use crate::turnover_table::next_moved;
+use money_core::Unit;
+use std::marker::Model;
+
+/// A book within the limits on count and turnover: entries with their sums, and new ones behind them. Clauses see one
+/// list.
+#[derive(Drop)]
+pub struct DayBook<'a> {
+    pub old: &'a [Entry],
+    pub sums: &'a Sums,
+    pub new: &'a [Entry],
+}
+
+impl<'a> Model for DayBook<'a> {
+    ghost use Rattle.std.specs.Prelude.{◌++◌, List};
+    ghost use Rattle.book_core.specs.declared.entry.Entry.{Entry as Line};
+    ghost use Rattle.book_core.specs.GoodBook.{IsWithin};
+    ghost use Rattle.book_core.specs.Sums.{AreSumsOf};
+
+    ghost Value = { List Line };
+
+    ghost view = { λ b. b.old.now ++ b.new.now };
+
+    ghost invariant = { λ b. IsWithin (b.old.now ++ b.new.now) × AreSumsOf b.sums.now b.old.now };
+}
+
+/// Whether a commodity is another than the one that is asked, and not zero in the account.
+fn strays(book: &DayBook<'_>, query: &Query<'_>, unit: Unit) -> bool
+    ensures { result ≡ is_stray_for query.now book.now unit }
+{
+    if unit.0 == query.unit.0 {
+        return false;
+    }
+    let found = book.found(&Query { unit, ..*query });
+    found != 0
+}
+
+/// The first commodity after `unit` that has a turnover.
+fn next_unit(book: &DayBook<'_>, unit: Unit) -> Option<Unit>
+    ensures { IsNextMoved (λ v. turnover v book.now) unit result }
+{
+    let kept = next_moved(&book.sums.moved, unit);
+    let added = tally_entries(book.new, unit).next;
+    lower_of(kept, added)
+}
+
+/// The first other commodity of the account that is not zero, among those that have a turnover.
+fn first_stray(book: &DayBook<'_>, query: &Query<'_>) -> Option<Unit>
+    ensures { result ≡ stray_for query.now book.now }
+{
+    let mut unit = Unit(0);
+    'units: loop {
+        if strays(book, query, unit) {
+            return Some(unit);
+        }
+        match next_unit(book, unit) {
+            Some(next) => unit = next,
+            None => return None,
+        }
+    }
+}
+
+/// Costs what the balance of the old entries costs, and one pass over the new ones.
+impl<'a> Balances for DayBook<'a> {
+    ghost book = { λ b. b };
+
+    fn found(&self, query: &Query<'_>) -> i64 {
+        let kept = self.sums.balance(self.old, query);
+        let added = sum_entries(query, self.new, self.old.len() + 1);
+        kept + added
+    }
+
+    fn stray(&self, query: &Query<'_>) -> Option<Unit> {
+        first_stray(self, query)
+    }
+}

@@ -1,0 +1,204 @@
+//! The ledger that keeps its assertions, and examines those that new entries reach.
+
+ghost use Rattle.std.specs.Prelude.{◌≡◌, ◌≤◌, ◌+◌, ◌++◌, List, [], ◌∷◌, length, None, OnOk, IfOk, vec_len, vec_capacity};
+ghost use Rattle.std.specs.Result.{IsOkUnless};
+ghost use Rattle.std.specs.List.{AllByRecursion};
+ghost use Rattle.book_core.specs.Claim.{asserted_claims, failure, claims_of, counted};
+ghost use Rattle.book_core.specs.GoodBook.{IsWithin, IsFit, Checks};
+ghost use Rattle.book_core.specs.Examine.{examined, ArePlaces};
+ghost use Rattle.book_core.specs.Reached.{reached};
+
+use crate::account::Reach;
+use crate::account_list::{new_accounts, put_accounts};
+use crate::assertion::account_of;
+use crate::balance::through;
+use crate::claim::Asserted;
+use crate::day_book::DayBook;
+use crate::entry::Entry;
+use crate::examine::first_at;
+use crate::ledger::Ledger;
+use crate::place::Place;
+use crate::plain_ledger::MAX_ENTRIES;
+use crate::reached::reached_places;
+use crate::refusal::{Count, Failure, Refusal};
+use crate::sums::Sums;
+use crate::turnover_table::passes_by;
+use money_core::{Cause, Day, Text, Unit};
+use std::alloc::Global;
+use std::marker::Model;
+
+/// The ledger that keeps its sums by day, and examines the assertions that new entries reach.
+///
+/// `balance` and `balance_in` are one search; `len`, `accounts` and `empty` cost nothing. `check` is one pass over the
+/// new legs for each of their commodities, and a look at each stored assertion; then, for each assertion that is
+/// reached, two searches and one pass over the legs of its day and the new ones, and for `==` and `==*` as much for each
+/// commodity. `add` is, for each leg and each account that takes it in, a search and the days of one row behind the
+/// entry's own.
+#[derive(Drop)]
+pub struct DayLedger {
+    entries: Vec<Entry>,
+    accounts: Vec<Text>,
+    claims: Vec<Asserted>,
+    sums: Sums,
+}
+
+impl Model for DayLedger {
+    ghost use Rattle.std.specs.Prelude.{List};
+    ghost use Rattle.book_core.specs.declared.entry.Entry.{Entry as Line};
+
+    ghost Value = { List Line };
+
+    ghost use Rattle.book_core.specs.DayLedger.{IsDayKept};
+    ghost use Rattle.book_core.specs.Sums.{AreSumsOf};
+
+    ghost view = { λ a. a.entries.items };
+
+    ghost invariant = { λ a. IsDayKept a.entries.items a.accounts.items a.claims.items × AreSumsOf a.sums a.entries.items };
+}
+
+/// The assertions of an entry with their places and accounts.
+fn claims_of_entry(alloc: Global, entry: &Entry, number: usize) -> Result<Vec<Asserted>, Cause>
+    ensures own { IfOk result (λ v. v.items ≡ asserted_claims entry.now.day number entry.now.legs entry.now.claims) }
+    ensures memory { IsOkUnless result Cause.OutOfMemory }
+{
+    let mut claims = Vec::new(alloc);
+    for placed in entry.claims.items() {
+        let place = Place {
+            day: entry.day,
+            entry: number,
+            leg: placed.leg,
+        };
+        let account = Text::of(alloc, account_of(entry.legs.items(), placed.leg))?;
+        claims.push(Asserted {
+            place,
+            account,
+            claim: placed.claim,
+        })?;
+    }
+    Ok(claims)
+}
+
+/// Puts items last. There is room for them.
+fn append_all(claims: &mut Vec<Asserted>, fresh: Vec<Asserted>)
+    requires room { vec_len claims.old + vec_len fresh ≤ vec_capacity claims.old }
+    ensures { claims.new.items ≡ claims.old.items ++ fresh.items }
+{
+    let mut rest = fresh;
+    match claims.append(&mut rest) {
+        Ok(()) => {}
+        Err(_) => unreachable!(),
+    }
+}
+
+impl DayLedger {
+    /// The first failure by place among the assertions at the places, in the book with the new entries, whatever other
+    /// assertions do. Takes no memory. Raises `count` by one for each assertion that it examines.
+    pub fn examine(&self, new: &[Entry], places: &[Place], count: &mut Count) -> Option<Failure>
+        requires fit { AllByRecursion IsFit new.now }
+        requires room { IsWithin (self.now ++ new.now) }
+        requires places { ArePlaces (self.now ++ new.now) places.now }
+        ensures first { result ≡ examined (self.now ++ new.now) places.now }
+        ensures exact { result ≡ None → count.new.claims ≡ counted count.old.claims (length places.now) }
+        ensures least { count.old.claims ≤ count.new.claims }
+        ensures most { count.new.claims ≤ counted count.old.claims (length places.now) }
+    {
+        let book = DayBook {
+            old: &self.entries,
+            sums: &self.sums,
+            new,
+        };
+        first_at(&book, places, count)
+    }
+}
+
+impl Ledger for DayLedger {
+    ghost book = { λ b. b };
+
+    fn empty(alloc: Global) -> Self {
+        DayLedger {
+            entries: Vec::new(alloc),
+            accounts: Vec::new(alloc),
+            claims: Vec::new(alloc),
+            sums: Sums::empty(alloc),
+        }
+    }
+
+    fn len(&self) -> usize {
+        self.entries.len()
+    }
+
+    fn balance(&self, account: &str, unit: Unit, day: Day) -> i64 {
+        self.sums
+            .balance(&self.entries, &through(Reach::Own, account, unit, day))
+    }
+
+    fn balance_in(&self, account: &str, unit: Unit, day: Day) -> i64 {
+        self.sums
+            .balance(&self.entries, &through(Reach::Inside, account, unit, day))
+    }
+
+    fn accounts(&self) -> &[Text] {
+        self.accounts.as_slice()
+    }
+
+    /// The trait's clauses; and Ok has examined exactly the assertions that the new entries reach.
+    fn check(&self, new: &[Entry], count: &mut Count) -> Result<(), Refusal>
+        requires fit { AllByRecursion IsFit new.now }
+        requires hold { failure self.now ≡ None }
+        ensures checks { Checks (self.now ++ new.now) result }
+        ensures exact { OnOk result (count.new.claims ≡ counted count.old.claims (reached self.now new.now)) }
+        ensures least { count.old.claims ≤ count.new.claims }
+        ensures reached { count.new.claims ≤ counted count.old.claims (reached self.now new.now) }
+        ensures most { count.new.claims ≤ counted count.old.claims (claims_of (self.now ++ new.now)) }
+    {
+        let _start = count.claims;
+        if new.len() > MAX_ENTRIES - self.entries.len() {
+            return Err(Refusal::Plain(Cause::Full));
+        }
+        if passes_by(&self.sums.moved, &self.entries, new) {
+            return Err(Refusal::Plain(Cause::Limit));
+        }
+        let alloc = *self.entries.allocator();
+        let places = match reached_places(alloc, &self.entries, &self.claims, new) {
+            Ok(places) => places,
+            Err(cause) => return Err(Refusal::Plain(cause)),
+        };
+        match self.examine(new, &places, count) {
+            Some(failure) => Err(Refusal::ClaimFailed(failure)),
+            None => Ok(()),
+        }
+    }
+
+    // All room is made before a list changes.
+    fn add(&mut self, entry: Entry) -> Result<(), Cause> {
+        let alloc = *self.entries.allocator();
+        let claims = match claims_of_entry(alloc, &entry, self.entries.len() + 1) {
+            Ok(claims) => claims,
+            Err(cause) => return Err(cause),
+        };
+        let fresh = match new_accounts(alloc, &self.accounts, entry.legs.items()) {
+            Ok(fresh) => fresh,
+            Err(cause) => return Err(cause),
+        };
+        if self.claims.reserve(claims.len()).is_err() {
+            return Err(Cause::OutOfMemory);
+        }
+        if self.accounts.reserve(fresh.len()).is_err() {
+            return Err(Cause::OutOfMemory);
+        }
+        if self.entries.reserve(1).is_err() {
+            return Err(Cause::OutOfMemory);
+        }
+        match self.sums.add(&self.entries, &entry) {
+            Ok(()) => {}
+            Err(cause) => return Err(cause),
+        }
+        match self.entries.push(entry) {
+            Ok(()) => {}
+            Err(_) => unreachable!(),
+        }
+        put_accounts(&mut self.accounts, fresh);
+        append_all(&mut self.claims, claims);
+        Ok(())
+    }
+}

@@ -1,0 +1,99 @@
+//! Running sums by day: an entry opens its day in the rows of its accounts, which changes no sum, and then raises them.
+
+ghost use Rattle.std.specs.Prelude.{◌≡◌, OnOk, ℕ, List};
+ghost use Rattle.money_core.specs.declared.day.Day.{Day as Days};
+ghost use Rattle.day_sums.specs.Sums.{SameSums, IsSmall, sum_of};
+ghost use Rattle.book_core.specs.declared.account.Reach.TheVariants.{Inside};
+ghost use Rattle.book_core.specs.DayRows.{IsOpen, AreOpen, Raised, AreRaised, HasRoomFor};
+
+use crate::account::Reach;
+use crate::leg::Leg;
+use day_sums::DaySums;
+use money_core::{Cause, Day, Unit};
+
+/// Opens the day in the rows of an account and of those above it.
+fn open_fronts(rows: &mut DaySums, account: &[u8], unit: Unit, day: Day) -> Result<(), Cause>
+    ensures same { SameSums rows.old rows.new }
+    ensures open { OnOk result (IsOpen Inside rows.new account.now unit day) }
+{
+    for i in 0..account.len() {
+        if account[i] == b':' {
+            rows.open_row(&account[..i], unit, day)?;
+        }
+    }
+    rows.open_row(account, unit, day)
+}
+
+/// Opens the day in the rows of the accounts whose balance takes in the account.
+fn open_account(
+    rows: &mut DaySums,
+    reach: Reach,
+    account: &[u8],
+    unit: Unit,
+    day: Day,
+) -> Result<(), Cause>
+    ensures same { SameSums rows.old rows.new }
+    ensures open { OnOk result (IsOpen reach rows.new account.now unit day) }
+{
+    match reach {
+        Reach::Own => rows.open_row(account, unit, day),
+        Reach::Inside => open_fronts(rows, account, unit, day),
+    }
+}
+
+/// Opens the day in the rows of the accounts whose balance takes in one of the legs.
+pub fn open_legs(rows: &mut DaySums, reach: Reach, legs: &[Leg], day: Day) -> Result<(), Cause>
+    ensures same { SameSums rows.old rows.new }
+    ensures open { OnOk result (AreOpen reach rows.new legs.now day) }
+{
+    for leg in legs {
+        open_account(rows, reach, leg.account.as_str().as_bytes(), leg.unit, day)?;
+    }
+    Ok(())
+}
+
+/// Adds to the sums of an account and of those above it from a day on, which is open there.
+fn raise_fronts(rows: &mut DaySums, account: &[u8], unit: Unit, day: Day, qty: i64)
+    requires open { IsOpen Inside rows.old account.now unit day }
+    requires small { (a : List ℕ) (d : Days) → IsSmall (sum_of rows.old a unit d) }
+    requires qty { IsSmall qty }
+    ensures { Raised Inside account.now unit day qty rows.old rows.new }
+{
+    for i in 0..account.len() {
+        if account[i] == b':' {
+            rows.raise_row(&account[..i], unit, day, qty);
+        }
+    }
+    rows.raise_row(account, unit, day, qty);
+}
+
+/// Adds to the sums of the accounts whose balance takes in the account, from a day on, which is open there.
+fn raise_account(rows: &mut DaySums, reach: Reach, account: &[u8], unit: Unit, day: Day, qty: i64)
+    requires open { IsOpen reach rows.old account.now unit day }
+    requires small { (a : List ℕ) (d : Days) → IsSmall (sum_of rows.old a unit d) }
+    requires qty { IsSmall qty }
+    ensures { Raised reach account.now unit day qty rows.old rows.new }
+{
+    match reach {
+        Reach::Own => rows.raise_row(account, unit, day, qty),
+        Reach::Inside => raise_fronts(rows, account, unit, day, qty),
+    }
+}
+
+/// Adds the legs to the sums of the accounts whose balance takes them in, from a day on, which is open there.
+pub fn raise_legs(rows: &mut DaySums, reach: Reach, legs: &[Leg], day: Day)
+    requires open { AreOpen reach rows.old legs.now day }
+    requires room { HasRoomFor rows.old legs.now }
+    ensures { AreRaised reach legs.now day rows.old rows.new }
+{
+    for leg in legs {
+        raise_account(
+            rows,
+            reach,
+            leg.account.as_str().as_bytes(),
+            leg.unit,
+            day,
+            leg.qty,
+        );
+    }
+}

@@ -1,0 +1,137 @@
+//! Both ledgers over the same entries, drawn from a fixed seed in any date order.
+
+ghost use Rattle.std.specs.Prelude.{◌<◌};
+ghost use Rattle.book_core.specs.GoodBook.{IsGoodBook};
+
+use super::{enter, leg};
+use crate::{
+    Cause, Claim, ClaimKind, Copied, Count, Day, DayLedger, Entry, Items, Ledger, Placed,
+    PlainLedger, Unit,
+};
+use std::alloc::Global;
+use std::process::Abort;
+use std::test::Fail;
+
+const ACCOUNTS: [&str; 6] = ["a", "a:b", "a:b:c", "a:b2", "b", "b:a"];
+
+const KINDS: [ClaimKind; 4] = [
+    ClaimKind::Exact,
+    ClaimKind::Sole,
+    ClaimKind::ExactIn,
+    ClaimKind::SoleIn,
+];
+
+/// A number below the bound, by a linear congruence.
+fn draw(state: &mut u64, bound: u64) -> u64
+    requires { 0 < bound }
+    ensures { result < bound }
+{
+    *state = state
+        .wrapping_mul(6_364_136_223_846_793_005)
+        .wrapping_add(1_442_695_040_888_963_407);
+    (*state >> 33) % bound
+}
+
+fn draw_account(state: &mut u64) -> &'static str {
+    ACCOUNTS[draw(state, 6) as usize]
+}
+
+fn draw_day(state: &mut u64) -> Day {
+    Day(draw(state, 9) as i32)
+}
+
+/// An entry of one to three quantities from one account to another; every other one asserts what the ledger has on
+/// its first leg, or what is drawn.
+fn draw_entry(alloc: Global, state: &mut u64, ledger: &PlainLedger) -> Result<Entry, Cause> {
+    let day = draw_day(state);
+    let mut legs = Items::empty(alloc);
+    for _ in 0..draw(state, 3) + 1 {
+        let unit = draw(state, 3) as u16;
+        let qty = draw(state, 5) as i64 - 2;
+        legs.push(leg(alloc, draw_account(state), unit, qty)?)?;
+        legs.push(leg(alloc, draw_account(state), unit, -qty)?)?;
+    }
+    let mut claims = Items::empty(alloc);
+    if let Some(first) = legs.items().first() {
+        let known = ledger.balance(first.account.as_str(), first.unit, day);
+        let more = draw(state, 3) as i64;
+        let claim = Claim {
+            kind: KINDS[draw(state, 4) as usize],
+            unit: first.unit,
+            qty: known.wrapping_add(first.qty).wrapping_add(more / 2),
+        };
+        if draw(state, 2) == 0 {
+            claims.push(Placed { leg: 1, claim })?;
+        }
+    }
+    Ok(Entry { day, legs, claims })
+}
+
+/// Two ledgers give the same answers about an account.
+fn agree<L: Ledger, M: Ledger>(
+    rt: &impl Abort,
+    one: &L,
+    other: &M,
+    account: &str,
+    unit: Unit,
+    day: Day,
+) {
+    assert_eq!(rt; one.len(), other.len());
+    assert_eq!(rt;
+        one.balance(account, unit, day),
+        other.balance(account, unit, day)
+    );
+    assert_eq!(rt;
+        one.balance_in(account, unit, day),
+        other.balance_in(account, unit, day)
+    );
+    assert_eq!(rt; one.accounts().len(), other.accounts().len());
+    for (name, same) in one.accounts().iter().zip(other.accounts().iter()) {
+        assert_eq!(rt; name.as_str(), same.as_str());
+    }
+}
+
+/// One entry more, where both ledgers take it; they say the same of it.
+fn step(
+    rt: &impl Abort,
+    alloc: Global,
+    state: &mut u64,
+    plain: &mut PlainLedger,
+    by_day: &mut DayLedger,
+) -> Result<(), Fail>
+    requires plain { IsGoodBook plain.old }
+    requires by_day { IsGoodBook by_day.old }
+    ensures plain { IsGoodBook plain.new }
+    ensures by_day { IsGoodBook by_day.new }
+{
+    let one = draw_entry(alloc, state, plain)?;
+    let copy = one.copy()?;
+    let mut examined = Count { claims: 0 };
+    let mut reached = Count { claims: 0 };
+    let answer = enter(rt, plain, one, &mut examined);
+    assert_eq!(rt; enter(rt, by_day, copy, &mut reached), answer);
+    assert!(rt; reached.claims <= examined.claims);
+    agree(
+        rt,
+        plain,
+        by_day,
+        draw_account(state),
+        Unit(draw(state, 3) as u16),
+        draw_day(state),
+    );
+    Ok(())
+}
+
+#[test]
+fn both_ledgers_give_the_same_answers(rt: HostRuntime) -> Result<(), Fail> {
+    let alloc = rt.alloc();
+    let mut state = 20_240_115;
+    for _ in 0..100 {
+        let mut plain = PlainLedger::empty(alloc);
+        let mut by_day = DayLedger::empty(alloc);
+        for _ in 0..12 {
+            step(&rt, alloc, &mut state, &mut plain, &mut by_day)?;
+        }
+    }
+    Ok(())
+}

@@ -1,0 +1,60 @@
+-- A row of numbers that rise, each with the sum through it.
+use Rattle.std.specs.Prelude.{◌≡◌, Bool, true, ℕ, nat_eq, nat_lt, ◌-◌, ◌&&◌, if◌then◌else◌, List, [], ◌∷◌, ◌++◌, length, take, drop, map, slice_index_or, ℤ, pos, ◌+ℤ◌, ◌<ℤ◌, ◌≤ℤ◌, neg_ℤ, ⊤, int_le, int_lt}
+use Rattle.std.specs.List.{AllByRecursion, list_any}
+use Rattle.std.specs.Ordering.{int_eq}
+use Rattle.day_sums.specs.declared.points.Point.{Point}
+
+-- the sum through a number, z being that before the row: it stays from one point to the next
+abbrev pub sum_at : ℤ → List Point → ℤ → ℤ
+sum_at z [] d = z
+sum_at z (p ∷ ps) d = if int_le p.at d then sum_at p.sum ps d else z
+
+-- whether a number has its point
+abbrev pub has : ℤ → List Point → Bool
+has d ps = list_any (λ (p : Point). int_eq p.at d) ps
+
+-- the numbers rise
+abbrev pub Ascends : List Point → Type 0
+Ascends [] = ⊤
+Ascends (p ∷ ps) = AllByRecursion (λ (q : Point). p.at <ℤ q.at) ps × Ascends ps
+
+-- at most m, up or down
+pub record IsUpTo (m : ℕ) (z : ℤ) : Type 0 where
+  pub low : neg_ℤ (pos m) ≤ℤ z
+  pub high : z ≤ℤ pos m
+
+-- the same sums, and what had its point has it still
+pub record SamePoints (old new : List Point) : Type 0 where
+  pub sums : (d : ℤ) → sum_at (pos 0) new d ≡ sum_at (pos 0) old d
+  pub points : (d : ℤ) → has d old ≡ true → has d new ≡ true
+
+-- each sum from `at` on is more by q
+pub record RaisedPoints (at q : ℤ) (old new : List Point) : Type 0 where
+  pub sums : (d : ℤ) → sum_at (pos 0) new d ≡ sum_at (pos 0) old d +ℤ (if int_le at d then q else pos 0)
+  pub points : (d : ℤ) → has d old ≡ true → has d new ≡ true
+
+-- ---- what mirrors code
+
+abbrev pub is_before : ℤ → Point → Bool
+is_before d p = int_lt p.at d
+
+abbrev pub is_through : ℤ → Point → Bool
+is_through d p = int_le p.at d
+
+abbrev pub blank_point : Point
+blank_point = record { at = pos 0; sum = pos 0 }
+
+-- the sum before the k-th point
+abbrev pub base_at : ℤ → List Point → ℕ → ℤ
+base_at z ps k = if nat_eq k 0 then z else (slice_index_or ps (k - 1) blank_point).sum
+
+-- whether a number has its point at the k-th place
+abbrev pub is_there : ℤ → List Point → ℕ → Bool
+is_there d ps k = nat_lt k (length ps) && int_eq (slice_index_or ps k blank_point).at d
+
+abbrev pub more : ℤ → Point → Point
+more q p = record { at = p.at; sum = p.sum +ℤ q }
+
+-- each sum from the k-th point on is more by q
+abbrev pub raised_from : ℕ → ℤ → List Point → List Point
+raised_from k q ps = take k ps ++ map (more q) (drop k ps)
