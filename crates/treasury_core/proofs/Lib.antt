@@ -1,0 +1,15 @@
+pub mod BytesLemmas
+pub mod ChangeLemmas
+pub mod FindLemmas
+pub mod IndexLemmas
+pub mod HeldLemmas
+pub mod HashLemmas
+pub mod FileLemmas
+pub mod HistoryLemmas
+pub mod JoinedLemmas
+pub mod KeepLemmas
+pub mod ReplyLemmas
+pub mod OwnLemmas
+pub mod LockLemmas
+pub mod GrowingLemmas
+pub mod EnteredLemmas

@@ -1,0 +1,19 @@
+//! The machine of commands: a federation's state, and what each command does to it.
+#![tactic(auto)]
+
+mod command;
+mod delta;
+mod law;
+mod record;
+mod state;
+mod transfer;
+
+pub use command::{Answer, Command};
+pub use delta::{Addition, Delta};
+pub use law::{
+    entered_law, good_law, growing_law, joined_law, lock_law, own_journal_law, records_law,
+    unchanged_law,
+};
+pub use record::Record;
+pub use state::{Branch, State};
+pub use transfer::{Receipt, Transfer};
