@@ -3,7 +3,9 @@
 
 mod command;
 mod delta;
+mod index;
 mod law;
+mod mark;
 mod record;
 mod state;
 mod transfer;
@@ -14,6 +16,7 @@ pub use law::{
     entered_law, good_law, growing_law, joined_law, lock_law, own_journal_law, records_law,
     unchanged_law,
 };
+pub use mark::mark_of;
 pub use record::Record;
 pub use state::{Branch, State};
 pub use transfer::{Receipt, Transfer};
