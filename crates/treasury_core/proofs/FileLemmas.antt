@@ -1,5 +1,5 @@
 -- the records of a file: each is good, and the new ones are new
-use Rattle.std.proofs.Common.{◌≡◌, ◌≤◌, ◌<◌, ◌+◌, ◌^◌, ℕ, suc, Bool, true, false, ◌||◌, ◌&&◌, List, [], ◌∷◌, ◌++◌, length, refl, ap, ◌∙◌, sym, subst, arith, append_assoc, append-nil, length-append, Option, Some, None, Ok, Err}
+use Rattle.std.proofs.Common.{◌≡◌, ◌≤◌, ◌<◌, ◌+◌, ◌^◌, ℕ, suc, Bool, true, false, ◌||◌, ◌&&◌, List, [], ◌∷◌, ◌++◌, length, refl, ap, ◌∙◌, sym, subst, arith, append_assoc, append-nil, length-append, map, Option, Some, None, Ok, Err}
 use Rattle.std.specs.Prelude.{if◌then◌else◌, Result, is_some, not}
 use Rattle.std.specs.Option.{option_or}
 use Rattle.std.specs.List.{list_any, count_by, AllByRecursion}
@@ -134,3 +134,7 @@ length-records styles before (x ∷ xs) =
     let front = recorded x.txn (mark_of styles x.txn (number_in styles before x.txn) x.txn.mark) (legs_of styles x.txn) in
     let one = recorded_once x.txn (mark_of styles x.txn (number_in styles before x.txn) x.txn.mark) (legs_of styles x.txn) in
     omega (arith, one, length-records styles (before ++ x.txn ∷ []) xs, length-append front (records_from styles (before ++ x.txn ∷ []) xs))
+
+-- the transactions of a file
+abbrev pub txns_of : List Located → List Txn
+txns_of file = map (λ (x : Located). x.txn) file

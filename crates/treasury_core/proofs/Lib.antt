@@ -3,8 +3,13 @@ pub mod ChangeLemmas
 pub mod FindLemmas
 pub mod IndexLemmas
 pub mod HeldLemmas
+pub mod TransitLemmas
 pub mod HashLemmas
 pub mod FileLemmas
+pub mod CountLemmas
+pub mod RowsLemmas
+pub mod JudgedLemmas
+pub mod DecideLemmas
 pub mod HistoryLemmas
 pub mod JoinedLemmas
 pub mod KeepLemmas

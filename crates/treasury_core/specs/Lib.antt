@@ -7,3 +7,5 @@ pub mod Good
 pub mod History
 -- What mirrors code, for private clauses: nobody has to believe it
 pub mod Kept
+pub mod Counted
+pub mod Judged

@@ -28,7 +28,7 @@ use Rattle.treasury_core.specs.declared.delta.Addition.{Addition}
 use Rattle.treasury_core.specs.declared.delta.Addition.TheVariants as add
 use Rattle.treasury_core.specs.declared.command.Command.{Command}
 use Rattle.treasury_core.specs.declared.command.Command.TheVariants as cmd
-use Rattle.treasury_core.specs.Federation.{Federation, is_branch_name, most_branches, has_branch, records_of, lock_of, entries, book_of}
+use Rattle.treasury_core.specs.Federation.{Federation, is_branch_name, most_branches, has_branch, records_of, lock_of, entries}
 use Rattle.treasury_core.specs.Mark.{is_held, is_repeat, is_product_mark, mark_of, alike}
 use Rattle.treasury_core.specs.Joined.{with_style, with_branch, with_entered, with_locked}
 
@@ -95,12 +95,14 @@ recorded t mark (Err cause) = []
 abbrev pub number_in : List Style → List Txn → Txn → ℕ
 number_in styles before t = alike styles (body_text styles t) before + 1
 
--- the transactions of a file, behind the transactions before them
+-- the record of a transaction of a file, behind the transactions before it
+abbrev pub recorded_in : List Style → List Txn → Txn → List Record
+recorded_in styles before t = recorded t (mark_of styles t (number_in styles before t) t.mark) (legs_of styles t)
+
+-- the records of a file, behind the transactions before it
 abbrev pub records_from : List Style → List Txn → List Located → List Record
 records_from styles before [] = []
-records_from styles before (x ∷ xs) =
-    recorded x.txn (mark_of styles x.txn (number_in styles before x.txn) x.txn.mark) (legs_of styles x.txn)
-    ++ records_from styles (before ++ x.txn ∷ []) xs
+records_from styles before (x ∷ xs) = recorded_in styles before x.txn ++ records_from styles (before ++ x.txn ∷ []) xs
 
 abbrev pub records_in_file : List Style → List Located → List Record
 records_in_file styles file = records_from styles [] file
@@ -109,14 +111,17 @@ records_in_file styles file = records_from styles [] file
 abbrev pub is_transit : Leg → Bool
 is_transit x = is_inside transit x.account
 
--- why a transaction that is no repeat is refused, if it is
-abbrev pub refusal_of : Option Day → List Record → Record → Option Refusal
-refusal_of lock held r =
-    if is_held held r.mark then Some (Plain MarkClash)
-    else if is_product_mark r.mark then Some (Plain ReservedMark)
+-- why a transaction is refused whose mark is not held, if it is
+abbrev pub barred : Option Day → Record → Option Refusal
+barred lock r =
+    if is_product_mark r.mark then Some (Plain ReservedMark)
     else if list_any is_transit r.entry.legs then Some (Plain ReservedAccount)
     else if is_locked lock r.entry.day then Some (Plain Locked)
     else None
+
+-- why a transaction that is no repeat is refused, if it is
+abbrev pub refusal_of : Option Day → List Record → Record → Option Refusal
+refusal_of lock held r = if is_held held r.mark then Some (Plain MarkClash) else barred lock r
 
 -- the first refusal among transactions, taken in turn; those that are new are held by the next ones
 abbrev pub refused_in : List Style → Option Day → List Record → List Record → Option Refusal
@@ -134,12 +139,15 @@ new_in held (r ∷ rs) = if is_held held r.mark then new_in held rs else r ∷ n
 abbrev pub new_records : Federation → List ℕ → List Located → List Record
 new_records f name file = new_in (records_of f name) (records_in_file f.styles file)
 
--- first every transaction has to balance, then each is looked at in turn, then all new ones together
+-- why a file is refused behind records: first every transaction has to balance, then each is looked at in turn, then all new ones together
+abbrev pub file_refusal : List Style → Option Day → List Record → List Located → Option Refusal
+file_refusal styles lock held file =
+    option_or (unbalanced styles file)
+    (option_or (refused_in styles lock held (records_in_file styles file))
+    (verdict (entries held ++ entries (new_in held (records_in_file styles file)))))
+
 abbrev pub enter_refusal : Federation → List ℕ → List Located → Option Refusal
-enter_refusal f name file =
-    option_or (unbalanced f.styles file)
-    (option_or (refused_in f.styles (lock_of f name) (records_of f name) (records_in_file f.styles file))
-    (verdict (book_of f name ++ entries (new_records f name file))))
+enter_refusal f name file = file_refusal f.styles (lock_of f name) (records_of f name) file
 
 -- the counts of new ones and of repeats
 abbrev pub entered : ℕ → ℕ → Answer

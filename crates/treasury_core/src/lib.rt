@@ -2,7 +2,10 @@
 #![tactic(auto)]
 
 mod command;
+mod decision;
 mod delta;
+mod enter;
+mod file;
 mod index;
 mod law;
 mod mark;
@@ -11,6 +14,7 @@ mod state;
 mod transfer;
 
 pub use command::{Answer, Command};
+pub use decision::{MAX_BRANCHES, decide};
 pub use delta::{Addition, Delta};
 pub use law::{
     entered_law, good_law, growing_law, joined_law, lock_law, own_journal_law, records_law,
