@@ -18,3 +18,6 @@ pub mod OwnLemmas
 pub mod LockLemmas
 pub mod GrowingLemmas
 pub mod EnteredLemmas
+pub mod RoomLemmas
+pub mod PlaceLemmas
+pub mod BackLemmas

@@ -9,3 +9,4 @@ pub mod History
 pub mod Kept
 pub mod Counted
 pub mod Judged
+pub mod Room

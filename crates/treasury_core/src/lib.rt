@@ -1,6 +1,7 @@
 //! The machine of commands: a federation's state, and what each command does to it.
 #![tactic(auto)]
 
+mod applying;
 mod command;
 mod decision;
 mod delta;
@@ -13,6 +14,7 @@ mod record;
 mod state;
 mod transfer;
 
+pub use applying::apply;
 pub use command::{Answer, Command};
 pub use decision::{MAX_BRANCHES, decide};
 pub use delta::{Addition, Delta};
