@@ -12,6 +12,8 @@ mod law;
 mod mark;
 mod record;
 mod state;
+#[cfg(test)]
+mod tests;
 mod transfer;
 
 pub use applying::apply;
