@@ -1,0 +1,73 @@
+-- the next state is the state with what the command adds
+use Rattle.std.proofs.Common.{◌≡◌, ℕ, Bool, true, false, List, [], ◌∷◌, ◌++◌, map, refl, ap, ◌∙◌, sym, append_assoc, append-nil, Option, Some, None, Ok, Err}
+use Rattle.std.specs.Prelude.{if◌then◌else◌, Result}
+use Rattle.std.specs.Str.{bytes_eq}
+use Rattle.book_core.specs.declared.refusal.Refusal.{Refusal}
+use Rattle.treasury_core.specs.declared.record.Record.{Record}
+use Rattle.treasury_core.specs.declared.command.Answer.{Answer}
+use Rattle.treasury_core.specs.declared.command.Answer.TheVariants.{Done, Entered, Repeated}
+use Rattle.treasury_core.specs.declared.delta.Addition.{Addition}
+use Rattle.treasury_core.specs.declared.delta.Addition.TheVariants as add
+use Rattle.treasury_core.specs.declared.command.Command.{Command}
+use Rattle.treasury_core.specs.declared.command.Command.TheVariants as cmd
+use Rattle.treasury_core.specs.Federation.{Branch, Federation}
+use Rattle.treasury_core.specs.Joined.{with_records, changed, with_entered, joined, joined_one}
+use Rattle.treasury_core.specs.Step.{done, added, after, delta, reply, new_records}
+use Rattle.treasury_core.specs.History.{Turn, after_turn, state_after, history}
+
+-- one list of records is another
+same_records : (b : Branch) (xs ys : List Record) → xs ≡ ys → (let c : Branch = record b { records = xs } in c) ≡ record b { records = ys }
+same_records b xs ys e = ap (λ (zs : List Record). let c : Branch = record b { records = zs } in c) e
+
+-- no more records
+none_at : (t : Bool) (b : Branch) (xs ys : List Branch) → xs ≡ ys → (if t then with_records [] b ∷ ys else b ∷ xs) ≡ b ∷ ys
+none_at true b xs ys e = ap (λ (c : Branch). c ∷ ys) (same_records b (b.records ++ []) b.records (append-nil b.records))
+none_at false b xs ys e = ap (λ (zs : List Branch). b ∷ zs) e
+
+changed-none : (name : List ℕ) (bs : List Branch) → changed (with_records []) name bs ≡ bs
+changed-none name [] = refl
+changed-none name (b ∷ bs) = none_at (bytes_eq b.name name) b _ bs (changed-none name bs)
+
+pub with_none : (f : Federation) (name : List ℕ) → with_entered f name [] ≡ f
+with_none f name = ap (λ (bs : List Branch). let g : Federation = record f { branches = bs } in g) (changed-none name f.branches)
+
+-- a record, and then more
+more_at : (name : List ℕ) (r : Record) (rs : List Record) (b : Branch) (bs : List Branch) (t : Bool) → bytes_eq b.name name ≡ t
+    → changed (with_records rs) name (changed (with_records (r ∷ [])) name bs) ≡ changed (with_records (r ∷ rs)) name bs
+    → changed (with_records rs) name (if t then with_records (r ∷ []) b ∷ bs else b ∷ changed (with_records (r ∷ [])) name bs) ≡ (if t then with_records (r ∷ rs) b ∷ bs else b ∷ changed (with_records (r ∷ rs)) name bs)
+more_at name r rs b bs true e h = rw e (ap (λ (c : Branch). c ∷ bs) (same_records b ((b.records ++ r ∷ []) ++ rs) (b.records ++ r ∷ rs) (append_assoc b.records (r ∷ []) rs)))
+more_at name r rs b bs false e h = rw e (ap (λ (zs : List Branch). b ∷ zs) h)
+
+pub changed-more : (name : List ℕ) (r : Record) (rs : List Record) (bs : List Branch) → changed (with_records rs) name (changed (with_records (r ∷ [])) name bs) ≡ changed (with_records (r ∷ rs)) name bs
+changed-more name r rs [] = refl
+changed-more name r rs (b ∷ bs) = more_at name r rs b bs (bytes_eq b.name name) refl (changed-more name r rs bs)
+
+pub joined_records : (name : List ℕ) (rs : List Record) (f : Federation) → joined f (map (λ (r : Record). add.Record name r) rs) ≡ with_entered f name rs
+joined_records name [] f = sym (with_none f name)
+joined_records name (r ∷ rs) f =
+    joined_records name rs (with_entered f name (r ∷ []))
+    ∙ ap (λ (bs : List Branch). let g : Federation = record f { branches = bs } in g) (changed-more name r rs f.branches)
+
+done_joined : (f : Federation) (c : Command) → done f c ≡ joined f (added f c)
+unfolding done added
+done_joined f (cmd.Branch name) = refl
+done_joined f (cmd.Commodity style) = refl
+done_joined f (cmd.Enter name file) = sym (joined_records name (new_records f name file) f)
+done_joined f (cmd.Lock name day) = refl
+
+pub after_joined : (f : Federation) (c : Command) (r : Result Answer Refusal) → after f c r ≡ joined f (delta f c r)
+after_joined f c (Ok Done) = done_joined f c
+after_joined f c (Ok (Entered new repeated)) = done_joined f c
+after_joined f c (Ok Repeated) = refl
+after_joined f c (Err refusal) = refl
+
+joined-append : (f : Federation) (xs ys : List Addition) → joined f (xs ++ ys) ≡ joined (joined f xs) ys
+joined-append f [] ys = refl
+joined-append f (x ∷ xs) ys = joined-append (joined_one f x) xs ys
+
+pub run_joined : (f : Federation) (turns : List Turn) → state_after f turns ≡ joined f (history f turns)
+run_joined f [] = refl
+run_joined f (t ∷ ts) =
+    run_joined (after f t.command t.reply) ts
+    ∙ ap (λ (g : Federation). joined g (history (after f t.command t.reply) ts)) (after_joined f t.command t.reply)
+    ∙ sym (joined-append f (delta f t.command t.reply) (history (after f t.command t.reply) ts))

@@ -1,0 +1,12 @@
+use Rattle.std.proofs.Common.{◌≡◌, []}
+use Rattle.std.specs.List.{AllByRecursion}
+use Rattle.treasury_core.specs.Joined.{joined}
+use Rattle.treasury_core.specs.Kept.{federation_of, IsKept}
+use Rattle.treasury_core.proofs.applying.apply.Given as goal
+
+-- with the additions that are left, the state is the one that it was with all
+abbrev pub invariant-additions : goal.invariant-additions
+invariant-additions g l = record {
+  same : joined (federation_of l.styles l.branches.items []) l.addition-iterator.rest.items ≡ joined l.fn.state l.fn.delta;
+  kept : AllByRecursion (IsKept g.L.Ledger.book) l.branches.items;
+}

@@ -1,0 +1,12 @@
+-- What a reader has to believe, in reading order
+pub mod Federation
+pub mod Mark
+pub mod Joined
+pub mod Step
+pub mod Good
+pub mod History
+-- What mirrors code, for private clauses: nobody has to believe it
+pub mod Kept
+pub mod Counted
+pub mod Judged
+pub mod Room

@@ -1,0 +1,22 @@
+-- Mirrors code: what a state must have while additions come to it, one after another.
+use Rattle.std.specs.Prelude.{ℕ, suc, if◌then◌else◌, List, [], ◌∷◌}
+use Rattle.std.specs.List.{AllByRecursion}
+use Rattle.std.specs.Str.{bytes_eq}
+use Rattle.money_core.specs.Style.{AreStyles}
+use Rattle.book_core.specs.GoodBook.{IsFit, IsWithin}
+use Rattle.treasury_core.specs.Federation.{Branch, Federation, entries}
+
+-- where the branch of that name stands, from 0; how many there are where none has it
+abbrev pub name_place : List Branch → List ℕ → ℕ
+name_place [] name = 0
+name_place (b ∷ bs) name = if bytes_eq b.name name then 0 else suc (name_place bs name)
+
+-- a branch whose ledger takes its records: their entries are fit, and within the limits
+pub record HasRoom (b : Branch) : Type 0 where
+  pub fit : AllByRecursion IsFit (entries b.records)
+  pub within : IsWithin (entries b.records)
+
+-- a state of which styles and ledgers take all that it has
+pub record IsRoomy (f : Federation) : Type 0 where
+  pub styles : AreStyles f.styles
+  pub branches : AllByRecursion HasRoom f.branches

@@ -1,0 +1,209 @@
+-- What a command is answered, and the state after it (own rules; docs/RULES.md, "Orders"). The cases stand in the order of the refusals.
+use Rattle.std.specs.Prelude.{◌≡◌, ◌⊎◌, ℕ, ◌+◌, ◌-◌, nat_le, Bool, true, false, not, if◌then◌else◌, List, [], ◌∷◌, ◌++◌, map, length, int_le, int_lt, Option, Some, None, Result, Ok, Err}
+use Rattle.std.specs.Ordering.{int_eq}
+use Rattle.std.specs.List.{list_any}
+use Rattle.std.specs.Option.{option_or}
+use Rattle.money_core.specs.declared.style.Style.{Style}
+use Rattle.money_core.specs.declared.day.Day.{Day}
+use Rattle.money_core.specs.declared.unit.Declared.{Declared}
+use Rattle.money_core.specs.declared.unit.Declared.TheVariants.{New, Same}
+use Rattle.money_core.specs.declared.cause.Cause.{Cause}
+use Rattle.money_core.specs.declared.cause.Cause.TheVariants.{UnknownBranch, BranchName, Full, MarkClash, ReservedMark, ReservedAccount, Locked, LockBack, OutOfMemory}
+use Rattle.money_core.specs.Style.{declared}
+use Rattle.book_core.specs.declared.leg.Leg.{Leg}
+use Rattle.book_core.specs.declared.entry.Entry.{Entry}
+use Rattle.book_core.specs.declared.refusal.Refusal.{Refusal}
+use Rattle.book_core.specs.declared.refusal.Refusal.TheVariants.{Plain, Text}
+use Rattle.book_core.specs.Account.{is_inside}
+use Rattle.book_core.specs.GoodBook.{verdict}
+use Rattle.journal_lines.specs.AccountName.{transit}
+use Rattle.journal_format.specs.declared.txn.Txn.{Txn}
+use Rattle.journal_format.specs.declared.txn.Located.{Located}
+use Rattle.journal_format.specs.CanonicalText.{body_text, marked}
+use Rattle.journal_balance.specs.Legs.{legs_of}
+use Rattle.treasury_core.specs.declared.record.Record.{Record}
+use Rattle.treasury_core.specs.declared.command.Answer.{Answer}
+use Rattle.treasury_core.specs.declared.command.Answer.TheVariants.{Done, Entered, Repeated}
+use Rattle.treasury_core.specs.declared.delta.Addition.{Addition}
+use Rattle.treasury_core.specs.declared.delta.Addition.TheVariants as add
+use Rattle.treasury_core.specs.declared.command.Command.{Command}
+use Rattle.treasury_core.specs.declared.command.Command.TheVariants as cmd
+use Rattle.treasury_core.specs.Federation.{Federation, is_branch_name, most_branches, has_branch, records_of, lock_of, entries}
+use Rattle.treasury_core.specs.Mark.{is_held, is_repeat, is_product_mark, mark_of, alike}
+use Rattle.treasury_core.specs.Joined.{with_style, with_branch, with_entered, with_locked}
+
+-- the answer, unless there is a refusal
+abbrev pub unless : Answer → Option Refusal → Result Answer Refusal
+unless answer None = Ok answer
+unless answer (Some refusal) = Err refusal
+
+-- ---- Branch, Commodity
+
+abbrev pub branch_reply : Federation → List ℕ → Result Answer Refusal
+branch_reply f name =
+    if not (is_branch_name name) then Err (Plain BranchName)
+    else if has_branch f name then Ok Repeated
+    else if nat_le most_branches (length f.branches) then Err (Plain Full)
+    else Ok Done
+
+abbrev pub commodity_reply : Result Declared Cause → Result Answer Refusal
+commodity_reply (Ok (New unit)) = Ok Done
+commodity_reply (Ok (Same unit)) = Ok Repeated
+commodity_reply (Err cause) = Err (Plain cause)
+
+-- ---- Lock
+
+-- the day is on or before the lock day
+abbrev pub is_locked : Option Day → Day → Bool
+is_locked None day = false
+is_locked (Some lock) day = int_le day.0 lock.0
+
+-- the lock day is that day, and it is behind that day
+abbrev pub is_lock : Option Day → Day → Bool
+is_lock None day = false
+is_lock (Some lock) day = int_eq day.0 lock.0
+
+abbrev pub goes_back : Option Day → Day → Bool
+goes_back None day = false
+goes_back (Some lock) day = int_lt day.0 lock.0
+
+abbrev pub lock_reply : Federation → List ℕ → Day → Result Answer Refusal
+lock_reply f name day =
+    if not (has_branch f name) then Err (Plain UnknownBranch)
+    else if is_lock (lock_of f name) day then Ok Repeated
+    else if goes_back (lock_of f name) day then Err (Plain LockBack)
+    else Ok Done
+
+-- ---- Enter
+
+-- the fault of a transaction that has no entry, on the line of its header
+abbrev pub fault_on : ℕ → Result Entry Cause → Option Refusal
+fault_on line (Ok e) = None
+fault_on line (Err cause) = Some (Text (record { line = line; cause = cause }))
+
+-- the first one of a file
+abbrev pub unbalanced : List Style → List Located → Option Refusal
+unbalanced styles [] = None
+unbalanced styles (x ∷ xs) = option_or (fault_on x.line (legs_of styles x.txn)) (unbalanced styles xs)
+
+-- a transaction with its mark and its entry
+abbrev pub recorded : Txn → List ℕ → Result Entry Cause → List Record
+recorded t mark (Ok e) = record { mark = mark; txn = marked t (Some mark); entry = e } ∷ []
+recorded t mark (Err cause) = []
+
+-- which one of the unmarked transactions with its text a transaction is, from 1, behind the transactions before it
+abbrev pub number_in : List Style → List Txn → Txn → ℕ
+number_in styles before t = alike styles (body_text styles t) before + 1
+
+-- the record of a transaction of a file, behind the transactions before it
+abbrev pub recorded_in : List Style → List Txn → Txn → List Record
+recorded_in styles before t = recorded t (mark_of styles t (number_in styles before t) t.mark) (legs_of styles t)
+
+-- the records of a file, behind the transactions before it
+abbrev pub records_from : List Style → List Txn → List Located → List Record
+records_from styles before [] = []
+records_from styles before (x ∷ xs) = recorded_in styles before x.txn ++ records_from styles (before ++ x.txn ∷ []) xs
+
+abbrev pub records_in_file : List Style → List Located → List Record
+records_in_file styles file = records_from styles [] file
+
+-- a leg on `assets:transit` or below it
+abbrev pub is_transit : Leg → Bool
+is_transit x = is_inside transit x.account
+
+-- why a transaction is refused whose mark is not held, if it is
+abbrev pub barred : Option Day → Record → Option Refusal
+barred lock r =
+    if is_product_mark r.mark then Some (Plain ReservedMark)
+    else if list_any is_transit r.entry.legs then Some (Plain ReservedAccount)
+    else if is_locked lock r.entry.day then Some (Plain Locked)
+    else None
+
+-- why a transaction that is no repeat is refused, if it is
+abbrev pub refusal_of : Option Day → List Record → Record → Option Refusal
+refusal_of lock held r = if is_held held r.mark then Some (Plain MarkClash) else barred lock r
+
+-- the first refusal among transactions, taken in turn; those that are new are held by the next ones
+abbrev pub refused_in : List Style → Option Day → List Record → List Record → Option Refusal
+refused_in styles lock held [] = None
+refused_in styles lock held (r ∷ rs) =
+    if is_repeat styles held r then refused_in styles lock held rs
+    else option_or (refusal_of lock held r) (refused_in styles lock (held ++ r ∷ []) rs)
+
+-- the new ones: no record before has their mark
+abbrev pub new_in : List Record → List Record → List Record
+new_in held [] = []
+new_in held (r ∷ rs) = if is_held held r.mark then new_in held rs else r ∷ new_in (held ++ r ∷ []) rs
+
+-- what a file adds to the branch of that name
+abbrev pub new_records : Federation → List ℕ → List Located → List Record
+new_records f name file = new_in (records_of f name) (records_in_file f.styles file)
+
+-- why a file is refused behind records: first every transaction has to balance, then each is looked at in turn, then all new ones together
+abbrev pub file_refusal : List Style → Option Day → List Record → List Located → Option Refusal
+file_refusal styles lock held file =
+    option_or (unbalanced styles file)
+    (option_or (refused_in styles lock held (records_in_file styles file))
+    (verdict (entries held ++ entries (new_in held (records_in_file styles file)))))
+
+abbrev pub enter_refusal : Federation → List ℕ → List Located → Option Refusal
+enter_refusal f name file = file_refusal f.styles (lock_of f name) (records_of f name) file
+
+-- the counts of new ones and of repeats
+abbrev pub entered : ℕ → ℕ → Answer
+entered new all = Entered new (all - new)
+
+abbrev pub enter_reply : Federation → List ℕ → List Located → Result Answer Refusal
+enter_reply f name file =
+    if not (has_branch f name) then Err (Plain UnknownBranch)
+    else unless (entered (length (new_records f name file)) (length file)) (enter_refusal f name file)
+
+-- ---- all commands
+
+-- the reply to a command
+unfoldable pub reply : Federation → Command → Result Answer Refusal
+reply f (cmd.Branch name) = branch_reply f name
+reply f (cmd.Commodity style) = commodity_reply (declared f.styles style)
+reply f (cmd.Enter name file) = enter_reply f name file
+reply f (cmd.Lock name day) = lock_reply f name day
+
+-- the state that a command leaves which is done
+unfoldable pub done : Federation → Command → Federation
+done f (cmd.Branch name) = with_branch f name
+done f (cmd.Commodity style) = with_style f style
+done f (cmd.Enter name file) = with_entered f name (new_records f name file)
+done f (cmd.Lock name day) = with_locked f name day
+
+-- the state after a reply: a refusal or a repeat leaves it
+abbrev pub after : Federation → Command → Result Answer Refusal → Federation
+after f c (Ok Done) = done f c
+after f c (Ok (Entered new repeated)) = done f c
+after f c (Ok Repeated) = f
+after f c (Err refusal) = f
+
+-- a command's step: its reply, and the next state
+pub record Outcome : Type 0 where
+  pub reply : Result Answer Refusal
+  pub next : Federation
+
+abbrev pub step : Federation → Command → Outcome
+step f c = record { reply = reply f c; next = after f c (reply f c) }
+
+-- what a command adds that is done
+unfoldable pub added : Federation → Command → List Addition
+added f (cmd.Branch name) = add.Branch name ∷ []
+added f (cmd.Commodity style) = add.Commodity style ∷ []
+added f (cmd.Enter name file) = map (λ (r : Record). add.Record name r) (new_records f name file)
+added f (cmd.Lock name day) = add.Locked name day ∷ []
+
+-- what it adds by its reply
+abbrev pub delta : Federation → Command → Result Answer Refusal → List Addition
+delta f c (Ok Done) = added f c
+delta f c (Ok (Entered new repeated)) = added f c
+delta f c (Ok Repeated) = []
+delta f c (Err refusal) = []
+
+-- what a decision may answer: the step's reply with what it adds, or 40
+abbrev pub Decides : Federation → Command → Result (Answer × List Addition) Refusal → Type 0
+Decides f c (Ok p) = (reply f c ≡ Ok p.0) × (p.1 ≡ delta f c (Ok p.0))
+Decides f c (Err e) = (e ≡ Plain OutOfMemory) ⊎ (reply f c ≡ Err e)

@@ -1,0 +1,86 @@
+//! What holds of every step and of every run of commands.
+
+ghost use Rattle.std.specs.Prelude.{◌≡◌, ◌≤◌, [], ◌++◌, ◌+◌, ◌+ℤ◌, ℕ, true, List, length, Result, Ok};
+ghost use Rattle.std.specs.List.{AllByRecursion};
+ghost use Rattle.money_core.specs.declared.unit.Unit.{Unit as Commodity};
+ghost use Rattle.money_core.specs.declared.day.Day.{Day};
+ghost use Rattle.book_core.specs.declared.refusal.Refusal.{Refusal};
+ghost use Rattle.book_core.specs.declared.account.Reach.{Reach};
+ghost use Rattle.book_core.specs.declared.place.Until.TheVariants.{Through};
+ghost use Rattle.book_core.specs.Balance.{balance};
+ghost use Rattle.journal_format.specs.declared.txn.Located.{Located};
+ghost use Rattle.treasury_core.specs.declared.command.Command.{Command};
+ghost use Rattle.treasury_core.specs.declared.command.Command.TheVariants.{Enter};
+ghost use Rattle.treasury_core.specs.declared.command.Answer.{Answer};
+ghost use Rattle.treasury_core.specs.declared.command.Answer.TheVariants.{Entered};
+ghost use Rattle.treasury_core.specs.Federation.{Federation, has_branch, records_of, lock_of, entries, book_of};
+ghost use Rattle.treasury_core.specs.Joined.{joined};
+ghost use Rattle.treasury_core.specs.Step.{reply, after, delta, step, new_records, is_locked};
+ghost use Rattle.treasury_core.specs.Good.{Fits, IsGoodState};
+ghost use Rattle.treasury_core.specs.History.{Turn, IsRun, state_after, history, records_among, IsRefusedOrRepeated, IsNew, IsOwnJournal, HasGrown};
+
+/// A law of steps and runs: the empty state is good, and each leaves a good state good. Costs nothing.
+pub fn good_law()
+    ensures empty { IsGoodState (record { styles = []; branches = []; transfers = [] }) }
+    ensures step { (f : Federation) (c : Command) → IsGoodState f → Fits f.styles c → IsGoodState (step f c).next }
+    ensures run { (f : Federation) (turns : List Turn) → IsGoodState f → IsRun f turns → IsGoodState (state_after f turns) }
+{}
+
+/// A law of deltas: the next state is the state with what the command adds, and after a run it is the first state with
+/// all that the accepted commands added. Costs nothing.
+pub fn joined_law()
+    ensures step { (f : Federation) (c : Command) → (step f c).next ≡ joined f (delta f c (reply f c)) }
+    ensures run { (f : Federation) (turns : List Turn) → state_after f turns ≡ joined f (history f turns) }
+{}
+
+/// A law of refusals and repeats: they leave the state, as does a file of repeats alone. Costs nothing.
+pub fn unchanged_law()
+    ensures refused { (f : Federation) (c : Command) (r : Result Answer Refusal) → IsRefusedOrRepeated r → after f c r ≡ f }
+    ensures none_new { (f : Federation) (name : List ℕ) (file : List Located) (repeated : ℕ)
+        → reply f (Enter name file) ≡ Ok (Entered 0 repeated) → (step f (Enter name file)).next ≡ f }
+{}
+
+/// A law of accepted files: what is counted as new comes into the branch, each transaction under a mark that was not
+/// held and is not the product's, without a leg on transit accounts, on a day that is not locked; and each transaction of
+/// the file is counted once. Costs nothing.
+pub fn entered_law()
+    ensures records { (f : Federation) (name : List ℕ) (file : List Located) (new repeated : ℕ)
+        → reply f (Enter name file) ≡ Ok (Entered new repeated)
+        → records_of (step f (Enter name file)).next name ≡ records_of f name ++ new_records f name file }
+    ensures new { (f : Federation) (name : List ℕ) (file : List Located) (new repeated : ℕ)
+        → reply f (Enter name file) ≡ Ok (Entered new repeated) → AllByRecursion (IsNew (lock_of f name) (records_of f name)) (new_records f name file) }
+    ensures counts { (f : Federation) (name : List ℕ) (file : List Located) (new repeated : ℕ)
+        → reply f (Enter name file) ≡ Ok (Entered new repeated)
+        → (length (new_records f name file) ≡ new) × (new + repeated ≡ length file) }
+{}
+
+/// A law of a branch's own journal: entering its own transactions again, with their marks, finds them all there, also
+/// behind a lock. Costs nothing.
+pub fn own_journal_law()
+    ensures { (f : Federation) (name : List ℕ) (file : List Located) → IsGoodState f → has_branch f name ≡ true → IsOwnJournal (records_of f name) file
+        → (reply f (Enter name file) ≡ Ok (Entered 0 (length file))) × ((step f (Enter name file)).next ≡ f) }
+{}
+
+/// A law of runs: a branch's records are its old ones and those that accepted commands added, in order, and each
+/// balance has moved by exactly those. Costs nothing.
+pub fn records_law()
+    ensures records { (f : Federation) (turns : List Turn) (name : List ℕ) → IsRun f turns
+        → records_of (state_after f turns) name ≡ records_of f name ++ records_among name (history f turns) }
+    ensures moved { (f : Federation) (turns : List Turn) (name : List ℕ) (reach : Reach) (account : List ℕ) (unit : Commodity) (day : Day) → IsRun f turns
+        → balance reach (book_of (state_after f turns) name) account unit (Through day)
+        ≡ balance reach (book_of f name) account unit (Through day) +ℤ balance reach (entries (records_among name (history f turns))) account unit (Through day) }
+{}
+
+/// A law of runs: commodities, branches and records stay where they are, and only more come behind them. Costs nothing.
+pub fn growing_law()
+    ensures { (f : Federation) (turns : List Turn) → IsRun f turns → HasGrown f (state_after f turns) }
+{}
+
+/// A law of locks: a day that is locked stays so, and each balance through it stays what it is. Costs nothing.
+pub fn lock_law()
+    ensures locked { (f : Federation) (turns : List Turn) (name : List ℕ) (day : Day) → IsRun f turns
+        → is_locked (lock_of f name) day ≡ true → is_locked (lock_of (state_after f turns) name) day ≡ true }
+    ensures balances { (f : Federation) (turns : List Turn) (name : List ℕ) (day : Day) (reach : Reach) (account : List ℕ) (unit : Commodity) → IsRun f turns
+        → is_locked (lock_of f name) day ≡ true
+        → balance reach (book_of (state_after f turns) name) account unit (Through day) ≡ balance reach (book_of f name) account unit (Through day) }
+{}

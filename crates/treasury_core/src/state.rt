@@ -1,0 +1,106 @@
+//! The state of a federation, over any ledger.
+
+ghost use Rattle.std.specs.Prelude.{◌≡◌, [], MatchOption, IfSome, None, Some};
+ghost use Rattle.std.specs.List.{AllByRecursion};
+ghost use Rattle.treasury_core.specs.Good.{IsGoodState};
+ghost use Rattle.treasury_core.specs.Kept.{branch_of, branches_of, IsKept, AreKept, branch_at};
+
+use crate::record::Record;
+use crate::transfer::Transfer;
+use book_core::Ledger;
+use money_core::{Day, Items, Styles, Text};
+use std::alloc::Global;
+use std::collections::HashMap;
+use std::marker::Model;
+
+/// A branch with its records, and the ledger of their entries.
+#[derive(Drop)]
+pub struct Branch<L: Ledger> {
+    pub name: Text,
+    /// The day through which it is locked, if it is.
+    pub locked: Option<Day>,
+    /// In order of entry.
+    pub records: Items<Record>,
+    pub ledger: L,
+    /// The place of each mark's record.
+    pub(crate) index: HashMap<String, usize>,
+}
+
+/// The state of a federation.
+#[derive(Drop)]
+pub struct State<L: Ledger> {
+    pub(crate) styles: Styles,
+    pub(crate) branches: Vec<Branch<L>>,
+    pub(crate) transfers: Items<Transfer>,
+}
+
+impl<L: Ledger> Model for State<L> {
+    ghost use Rattle.treasury_core.specs.Federation.{Federation};
+    ghost use Rattle.treasury_core.specs.Kept.{federation_of, AreKept};
+
+    ghost Value = { Federation };
+
+    ghost view = { λ s. federation_of s.styles s.branches.items s.transfers };
+
+    ghost invariant = { λ s. AreKept L.book s.styles s.branches.items s.transfers };
+}
+
+impl<L: Ledger> State<L> {
+    /// No commodity, branch or transfer.
+    pub fn empty(alloc: Global) -> Self
+        ensures { result ≡ record { styles = []; branches = []; transfers = [] } }
+    {
+        State {
+            styles: Styles::empty(alloc),
+            branches: Vec::new(alloc),
+            transfers: Items::empty(alloc),
+        }
+    }
+
+    /// Every state is good: a law. Costs nothing.
+    pub fn is_good(&self)
+        ensures { IsGoodState self.now }
+    {
+        let _ = &self.branches;
+    }
+
+    /// The commodities, in order of declaration.
+    pub fn styles(&self) -> &Styles
+        ensures { result.now ≡ self.now.styles }
+    {
+        &self.styles
+    }
+
+    /// The branches, in order.
+    pub fn branches(&self) -> &[Branch<L>]
+        ensures value { branches_of result.now ≡ self.now.branches }
+        // The book of each ledger is the entries of the branch's records.
+        ensures kept { AreKept L.book self.now.styles result.now self.now.transfers }
+    {
+        self.branches.as_slice()
+    }
+
+    /// The transfers, in byte order of their IDs.
+    pub fn transfers(&self) -> &[Transfer]
+        ensures { result.now ≡ self.now.transfers }
+    {
+        self.transfers.items()
+    }
+}
+
+/// The branch of that name.
+pub(crate) fn find_branch<'a, L: Ledger>(
+    branches: &'a [Branch<L>],
+    name: &str,
+) -> Option<&'a Branch<L>>
+    requires { AllByRecursion (IsKept L.book) branches.now }
+    ensures found { MatchOption result (branch_at (branches_of branches.now) name.now ≡ None) (λ b. branch_at (branches_of branches.now) name.now ≡ Some (branch_of b.now)) }
+    ensures kept { IfSome result (λ b. IsKept L.book b.now) }
+{
+    for branch in branches {
+        if branch.name.as_str() == name {
+            return Some(branch);
+        }
+    }
+    None
+}
