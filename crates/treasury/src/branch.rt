@@ -6,14 +6,14 @@ ghost use Rattle.std.specs.List.{list_all, list_any};
 ghost use Rattle.std.specs.Str.{bytes_eq};
 ghost use Rattle.treasury.specs.Federation.{is_name_byte, is_branch_name, has_name, branch_place};
 
-use book_core::PlainLedger;
+use book_core::DayLedger;
 use money_core::Text;
 
 /// The greatest number of bytes of a branch's name.
 const MAX_NAME: usize = 32;
 
 /// The ledger that keeps the book of a branch. It is named here alone.
-pub type Book = PlainLedger;
+pub type Book = DayLedger;
 
 /// A branch: its name, and its book.
 #[derive(Drop)]
