@@ -6,3 +6,4 @@ pub mod RowLemmas
 pub mod RaisedRow
 pub mod NameLemmas
 pub mod SumLemmas
+pub mod TestLemmas

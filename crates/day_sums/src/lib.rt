@@ -6,6 +6,8 @@ mod numbers;
 mod points;
 mod row;
 mod sums;
+#[cfg(test)]
+mod tests;
 
 pub use money_core::{Cause, Day, Unit};
 pub use numbers::DayNumbers;
