@@ -18,6 +18,9 @@ pub mod OwnLemmas
 pub mod LockLemmas
 pub mod GrowingLemmas
 pub mod EnteredLemmas
+pub mod SoundLemmas
+pub mod LateEntryLemmas
+pub mod WorkedHistory
 pub mod RoomLemmas
 pub mod PlaceLemmas
 pub mod BackLemmas

@@ -4,6 +4,7 @@ pub mod Mark
 pub mod Joined
 pub mod Step
 pub mod Good
+pub mod Sound
 pub mod History
 -- What mirrors code, for private clauses: nobody has to believe it
 pub mod Kept

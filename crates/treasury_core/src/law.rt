@@ -1,13 +1,17 @@
 //! What holds of every step and of every run of commands.
 
-ghost use Rattle.std.specs.Prelude.{◌≡◌, ◌≤◌, [], ◌++◌, ◌+◌, ◌+ℤ◌, ℕ, true, List, length, Result, Ok};
+ghost use Rattle.std.specs.Prelude.{◌≡◌, ◌≤◌, [], ◌++◌, ◌+◌, ◌+ℤ◌, ℕ, true, List, length, None, Result, Ok, Err, IsErr};
 ghost use Rattle.std.specs.List.{AllByRecursion};
 ghost use Rattle.money_core.specs.declared.unit.Unit.{Unit as Commodity};
 ghost use Rattle.money_core.specs.declared.day.Day.{Day};
+ghost use Rattle.book_core.specs.declared.refusal.Failure.{Failure};
 ghost use Rattle.book_core.specs.declared.refusal.Refusal.{Refusal};
+ghost use Rattle.book_core.specs.declared.refusal.Refusal.TheVariants.{ClaimFailed};
 ghost use Rattle.book_core.specs.declared.account.Reach.{Reach};
 ghost use Rattle.book_core.specs.declared.place.Until.TheVariants.{Through};
 ghost use Rattle.book_core.specs.Balance.{balance};
+ghost use Rattle.book_core.specs.Claim.{IsFirstFailure};
+ghost use Rattle.book_core.specs.GoodBook.{IsWithin};
 ghost use Rattle.journal_format.specs.declared.txn.Located.{Located};
 ghost use Rattle.treasury_core.specs.declared.command.Command.{Command};
 ghost use Rattle.treasury_core.specs.declared.command.Command.TheVariants.{Enter};
@@ -15,15 +19,23 @@ ghost use Rattle.treasury_core.specs.declared.command.Answer.{Answer};
 ghost use Rattle.treasury_core.specs.declared.command.Answer.TheVariants.{Entered};
 ghost use Rattle.treasury_core.specs.Federation.{Federation, has_branch, records_of, lock_of, entries, book_of};
 ghost use Rattle.treasury_core.specs.Joined.{joined};
-ghost use Rattle.treasury_core.specs.Step.{reply, after, delta, step, new_records, is_locked};
+ghost use Rattle.treasury_core.specs.Step.{reply, after, delta, step, new_records, is_locked, unbalanced, refused_in, records_in_file};
 ghost use Rattle.treasury_core.specs.Good.{Fits, IsGoodState};
-ghost use Rattle.treasury_core.specs.History.{Turn, IsRun, state_after, history, records_among, IsRefusedOrRepeated, IsNew, IsOwnJournal, HasGrown};
+ghost use Rattle.treasury_core.specs.Sound.{EachBalances, EachAssertionHolds, BreaksAssertion};
+ghost use Rattle.treasury_core.specs.History.{Turn, Replies, IsRun, state_after, history, records_among, IsRefusedOrRepeated, IsNew, IsOwnJournal, HasGrown};
 
 /// A law of steps and runs: the empty state is good, and each leaves a good state good. Costs nothing.
 pub fn good_law()
     ensures empty { IsGoodState (record { styles = []; branches = []; transfers = [] }) }
     ensures step { (f : Federation) (c : Command) → IsGoodState f → Fits f.styles c → IsGoodState (step f c).next }
     ensures run { (f : Federation) (turns : List Turn) → IsGoodState f → IsRun f turns → IsGoodState (state_after f turns) }
+{}
+
+/// A law of good states: in each branch every commodity sums to zero, and every stored assertion holds at its place, in
+/// the book as it is. Costs nothing.
+pub fn sound_law()
+    ensures balanced { (f : Federation) → IsGoodState f → EachBalances f }
+    ensures asserted { (f : Federation) → IsGoodState f → EachAssertionHolds f }
 {}
 
 /// A law of deltas: the next state is the state with what the command adds, and after a run it is the first state with
@@ -52,6 +64,22 @@ pub fn entered_law()
     ensures counts { (f : Federation) (name : List ℕ) (file : List Located) (new repeated : ℕ)
         → reply f (Enter name file) ≡ Ok (Entered new repeated)
         → (length (new_records f name file) ≡ new) × (new + repeated ≡ length file) }
+{}
+
+/// A law of late entries: a file that would break an assertion of the book, or brings one that does not hold, is refused,
+/// and nothing changes. Where nothing else is wrong with it, the refusal is 29, and names the first assertion by place that
+/// would not hold. Costs nothing.
+pub fn late_entry_law()
+    ensures refused { (f : Federation) (name : List ℕ) (file : List Located) (r : Result Answer Refusal)
+        → BreaksAssertion (book_of f name) (entries (new_records f name file)) → Replies f (Enter name file) r
+        → IsErr r × (after f (Enter name file) r ≡ f) }
+    ensures named { (f : Federation) (name : List ℕ) (file : List Located)
+        → has_branch f name ≡ true → unbalanced f.styles file ≡ None
+        → refused_in f.styles (lock_of f name) (records_of f name) (records_in_file f.styles file) ≡ None
+        → IsWithin (book_of f name ++ entries (new_records f name file))
+        → BreaksAssertion (book_of f name) (entries (new_records f name file))
+        → (first : Failure) × ((reply f (Enter name file) ≡ Err (ClaimFailed first))
+        × IsFirstFailure (book_of f name ++ entries (new_records f name file)) first) }
 {}
 
 /// A law of a branch's own journal: entering its own transactions again, with their marks, finds them all there, also

@@ -21,8 +21,8 @@ pub use command::{Answer, Command};
 pub use decision::{MAX_BRANCHES, decide};
 pub use delta::{Addition, Delta};
 pub use law::{
-    entered_law, good_law, growing_law, joined_law, lock_law, own_journal_law, records_law,
-    unchanged_law,
+    entered_law, good_law, growing_law, joined_law, late_entry_law, lock_law, own_journal_law,
+    records_law, sound_law, unchanged_law,
 };
 pub use mark::mark_of;
 pub use record::Record;

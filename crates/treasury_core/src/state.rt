@@ -1,7 +1,9 @@
 //! The state of a federation, over any ledger.
 
-ghost use Rattle.std.specs.Prelude.{◌≡◌, [], MatchOption, IfSome, None, Some};
+ghost use Rattle.std.specs.Prelude.{◌≡◌, [], true, false, MatchOption, IfSome, None, Some};
 ghost use Rattle.std.specs.List.{AllByRecursion};
+ghost use Rattle.book_core.specs.GoodBook.{IsGoodBook};
+ghost use Rattle.treasury_core.specs.Federation.{has_branch, book_of};
 ghost use Rattle.treasury_core.specs.Good.{IsGoodState};
 ghost use Rattle.treasury_core.specs.Kept.{branch_of, branches_of, IsKept, AreKept, branch_at};
 
@@ -78,6 +80,19 @@ impl<L: Ledger> State<L> {
         ensures kept { AreKept L.book self.now.styles result.now self.now.transfers }
     {
         self.branches.as_slice()
+    }
+
+    /// The ledger of the branch of that name, if there is one: its book, a good one, is the entries of the branch's records.
+    pub fn ledger(&self, name: &str) -> Option<&L>
+        ensures found { MatchOption result (has_branch self.now name.now ≡ false)
+            (λ ledger. (has_branch self.now name.now ≡ true) × (L.book ledger.now ≡ book_of self.now name.now)) }
+        ensures good { IfSome result (λ ledger. IsGoodBook (L.book ledger.now)) }
+    {
+        self.is_good();
+        match find_branch(self.branches(), name) {
+            Some(branch) => Some(&branch.ledger),
+            None => None,
+        }
     }
 
     /// The transfers, in byte order of their IDs.
