@@ -1,96 +1,109 @@
--- What a line asks is read from its text, and the reply to it leads from a good state to a good state.
-use Rattle.std.proofs.Common.{◌≡◌, ℕ, List, Bool, true, false, not, Option, Some, None, Result, Ok, Err, length, refl, sym, subst, inl, inr, if◌then◌else◌, nat_le}
-use Rattle.std.specs.Prelude.{⊤}
-use Rattle.std.specs.List.{AllByRecursion}
+-- What a line asks for was read, so that its command fits: a style that a sample has, a day of the years 1 to 9999, transactions that can be printed.
+use Rattle.std.proofs.Common.{◌≡◌, ◌≤◌, ◌<◌, ◌^◌, ℕ, List, Bool, true, false, Option, Some, None, Result, Ok, Err, length, arith, refl, sym, subst, inl, inr, if◌then◌else◌, option_map, option_and_then}
+use Rattle.std.specs.Prelude.{codes}
+use Rattle.std.specs.Str.{is_utf8}
+use Rattle.serde_json.specs.Data.{Data}
+use Rattle.serde_json.specs.Read.{read}
+use Rattle.money_core.specs.declared.day.Day.{Day}
 use Rattle.money_core.specs.declared.style.Style.{Style}
-use Rattle.money_core.specs.declared.unit.Declared.{Declared}
-use Rattle.money_core.specs.declared.unit.Declared.TheVariants.{New, Same}
-use Rattle.money_core.specs.declared.cause.Cause.{Cause}
-use Rattle.money_core.specs.Style.{is_style, declared}
+use Rattle.money_core.specs.Style.{is_style}
 use Rattle.money_core.specs.Sampling.{style_of}
 use Rattle.money_core.proofs.SampleLemmas.{style_spelled}
 use Rattle.money_core.proofs.StyleSamples.{is_style_iff}
+use Rattle.journal_lines.specs.DateReading.{date_of}
+use Rattle.journal_lines.specs.Date.{IsDayNumber}
+use Rattle.journal_lines.proofs.DateLemmas.{dates_bound}
 use Rattle.book_core.specs.declared.refusal.Refusal.{Refusal}
+use Rattle.book_core.specs.declared.refusal.Refusal.TheVariants.{Plain, Text}
 use Rattle.journal_format.specs.declared.txn.Located.{Located}
-use Rattle.journal_format.specs.Printable.{IsPrintable}
+use Rattle.journal_format.specs.Pieces.{Reads}
 use Rattle.journal_format.proofs.ReadLemmas.{read_printable}
+use Rattle.treasury_core.specs.declared.command.Command.{Command as AnyCommand}
+use Rattle.treasury_core.specs.declared.command.Command.TheVariants as cmd
+use Rattle.treasury_core.specs.Good.{IsFile, Fits}
 use Rattle.treasury.specs.declared.request.Request.{Request}
-use Rattle.treasury.specs.declared.request.Request.TheVariants.{Branch as ForBranch, Commodity as ForCommodity, Import as ForImport, Balance as ForBalance}
-use Rattle.treasury.specs.declared.answers.Answer.{Answer}
-use Rattle.treasury.specs.declared.answers.Answer.TheVariants.{Done, Entered, Repeated}
-use Rattle.treasury.specs.Federation.{Federation, is_branch_name, has_branch, most_branches, IsGoodFederation}
-use Rattle.treasury.specs.Asked.{Asked, new_branch, new_commodity, enter, balances, nothing, asked_by_sample, RequestAsks, Asks}
-use Rattle.treasury.specs.Step.{branch_reply, commodity_reply, enter_refusal, balances_reply, unless, reply, after, Replies, Answers}
-use Rattle.treasury.proofs.FederationLemmas.{IsGoodFederation-with_branch, IsGoodFederation-declared, IsGoodFederation-entered}
+use Rattle.treasury.specs.declared.request.Request.TheVariants.{Branch as ForBranch, Commodity as ForCommodity, Import as ForImport, Lock as ForLock, Balance as ForBalance}
+use Rattle.treasury.specs.declared.asking.Asked.{Asked}
+use Rattle.treasury.specs.declared.asking.Asked.TheVariants.{Command, Balances}
+use Rattle.treasury.specs.Request.{text_at, day_at, is_form, form, request_of, spelled, HasDayNumbers}
+use Rattle.treasury.specs.Asked.{asked_by_sample, RequestAsks, Asks}
 
--- ---- what is asked was read
+-- ---- the days of a request that is spelled
 
--- a style that can be declared, and transactions that can be printed
-abbrev pub IsRead : List Style → Asked → Type 0
-IsRead styles (new_branch name) = ⊤
-IsRead styles (new_commodity style) = is_style style ≡ true
-IsRead styles (enter name list) = AllByRecursion (λ (x : Located). IsPrintable styles x.txn) list
-IsRead styles (balances name day) = ⊤
-IsRead styles (nothing refusal) = ⊤
+one_of : (t : Bool) (x y : Option Request) (request : Request) (P : Type 0) → (if t then x else y) ≡ Some request → (x ≡ Some request → P) → (y ≡ Some request → P) → P
+one_of true x y request P e a b = a e
+one_of false x y request P e a b = b e
 
-sample_read : (styles : List Style) (sample : List ℕ) (o : Option Style) → style_of sample ≡ o → IsRead styles (asked_by_sample o)
-sample_read styles sample None h = tt
-sample_read styles sample (Some style) h = (is_style_iff style (is_style style) refl).1 (sample, style_spelled sample style h)
+by_text : (make : List ℕ → Request) (o : Option (List ℕ)) (request : Request) → option_map make o ≡ Some request → (name : List ℕ) × (make name ≡ request)
+by_text make None request e = absurd cc
+by_text make (Some name) request e = (name, cc)
 
-request_read : (styles : List Style) (request : Request) (asked : Asked) → RequestAsks styles request asked → IsRead styles asked
-request_read styles (ForBranch name) asked h = subst (IsRead styles) (sym h) tt
-request_read styles (ForCommodity sample) asked h = subst (IsRead styles) (sym h) (sample_read styles sample (style_of sample) refl)
-request_read styles (ForImport name journal) asked (inl reads) = subst (IsRead styles) (sym reads.1.1) (read_printable styles journal reads.0 reads.1.0)
-request_read styles (ForImport name journal) asked (inr fault) = subst (IsRead styles) (sym fault.1.1) tt
-request_read styles (ForBalance name day) asked h = subst (IsRead styles) (sym h) tt
+by_texts : (make : List ℕ → Option Request) (o : Option (List ℕ)) (request : Request) → option_and_then make o ≡ Some request → (name : List ℕ) × (make name ≡ Some request)
+by_texts make None request e = absurd cc
+by_texts make (Some name) request e = (name, e)
 
-pub asked_read : (styles : List Style) (line : List ℕ) (asked : Asked) → Asks styles line asked → IsRead styles asked
-asked_read styles line asked (inl spelled) = request_read styles spelled.0 asked spelled.1.1
-asked_read styles line asked (inr none) = subst (IsRead styles) (sym none.1) tt
+day_bound : (key : List ℕ) (d : Data) (day : Day) → day_at key d ≡ Some day → IsDayNumber day
+day_bound key d day e = by_date (text_at key d) e
+  where
+    by_date : (o : Option (List ℕ)) → option_and_then date_of o ≡ Some day → IsDayNumber day
+    by_date None e = absurd cc
+    by_date (Some text) e = dates_bound text day e
 
--- ---- the reply to what is asked
+by_day : (key : List ℕ) (d : Data) (make : Day → Request) (request : Request) → option_map make (day_at key d) ≡ Some request → (day : Day) × ((make day ≡ request) × IsDayNumber day)
+by_day key d make request e = found (day_at key d) refl e
+  where
+    found : (o : Option Day) → day_at key d ≡ o → option_map make o ≡ Some request → (day : Day) × ((make day ≡ request) × IsDayNumber day)
+    found None at e = absurd cc
+    found (Some day) at e = (day, (cc, day_bound key d day at))
 
-branch_not_entered : (bad held full : Bool) (e g : Refusal) (n m : ℕ) → (if bad then Err e else if held then Ok Repeated else if full then Err g else Ok Done) ≡ Ok (Entered n m) → ⊥
-branch_not_entered true held full e g n m h = absurd cc
-branch_not_entered false true full e g n m h = absurd cc
-branch_not_entered false false true e g n m h = absurd cc
-branch_not_entered false false false e g n m h = absurd cc
+form_days : (word : List ℕ) (d : Data) (request : Request) → form word d ≡ Some request → HasDayNumbers request
+form_days word d request e =
+    one_of (is_form (codes "branch") 2 word d) _ _ request (HasDayNumbers request) e (λ h. let b = by_text ForBranch (text_at (codes "name") d) request h in subst HasDayNumbers b.1 tt) (λ e1.
+    one_of (is_form (codes "commodity") 2 word d) _ _ request (HasDayNumbers request) e1 (λ h. let c = by_text ForCommodity (text_at (codes "sample") d) request h in subst HasDayNumbers c.1 tt) (λ e2.
+    one_of (is_form (codes "import") 3 word d) _ _ request (HasDayNumbers request) e2
+    (λ h. let b = by_texts (λ branch. option_map (ForImport branch) (text_at (codes "journal") d)) (text_at (codes "branch") d) request h in
+    let j = by_text (ForImport b.0) (text_at (codes "journal") d) request b.1 in subst HasDayNumbers j.1 tt) (λ e3.
+    one_of (is_form (codes "lock") 3 word d) _ _ request (HasDayNumbers request) e3
+    (λ h. let b = by_texts (λ branch. option_map (ForLock branch) (day_at (codes "day") d)) (text_at (codes "branch") d) request h in
+    let l = by_day (codes "day") d (ForLock b.0) request b.1 in subst HasDayNumbers l.1.0 l.1.1) (λ e4.
+    one_of (is_form (codes "balance") 3 word d) _ _ request (HasDayNumbers request) e4
+    (λ h. let b = by_texts (λ branch. option_map (ForBalance branch) (day_at (codes "day") d)) (text_at (codes "branch") d) request h in
+    let l = by_day (codes "day") d (ForBalance b.0) request b.1 in subst HasDayNumbers l.1.0 l.1.1) (λ e5. absurd cc)))))
 
-branch_good : (f : Federation) (name : List ℕ) (r : Result Answer Refusal) → branch_reply f name ≡ r → IsGoodFederation f → IsGoodFederation (after f (new_branch name) r)
-branch_good f name (Ok Done) h ok = IsGoodFederation-with_branch f name ok h
-branch_good f name (Ok Repeated) h ok = ok
-branch_good f name (Ok (Entered n m)) h ok = absurd (branch_not_entered (not (is_branch_name name)) (has_branch f name) (nat_le most_branches (length f.branches)) _ _ n m h)
-branch_good f name (Err refusal) h ok = ok
+request_days : (o : Option Data) (request : Request) → option_and_then request_of o ≡ Some request → HasDayNumbers request
+request_days None request e = absurd cc
+request_days (Some d) request e = by_word (text_at (codes "do") d) e
+  where
+    by_word : (w : Option (List ℕ)) → option_and_then (λ word. form word d) w ≡ Some request → HasDayNumbers request
+    by_word None e = absurd cc
+    by_word (Some word) e = form_days word d request e
 
-commodity_good : (f : Federation) (style : Style) (d : Result Declared Cause) → declared f.styles style ≡ d → is_style style ≡ true → IsGoodFederation f
-    → IsGoodFederation (after f (new_commodity style) (commodity_reply d))
-commodity_good f style (Ok (New unit)) h is ok = IsGoodFederation-declared f style unit ok is h
-commodity_good f style (Ok (Same unit)) h is ok = ok
-commodity_good f style (Err cause) h is ok = ok
+spelled_days : (bytes : List ℕ) (request : Request) → spelled bytes ≡ Some request → HasDayNumbers request
+unfolding spelled
+spelled_days bytes request e = one_of (is_utf8 bytes) _ _ request (HasDayNumbers request) e (λ h. request_days (read bytes) request h) (λ h. absurd cc)
 
-enter_good : (f : Federation) (name : List ℕ) (list : List Located) (o : Option Refusal) → enter_refusal f name list ≡ o → AllByRecursion (λ (x : Located). IsPrintable f.styles x.txn) list
-    → IsGoodFederation f → IsGoodFederation (after f (enter name list) (unless (Entered (length list) 0) o))
-enter_good f name list None h printable ok = IsGoodFederation-entered f name list ok printable h
-enter_good f name list (Some refusal) h printable ok = ok
+-- ---- the command that is asked for
 
-balances_good : (f : Federation) (asked : Asked) (r : Result Answer Refusal) → after f asked (Ok Done) ≡ f → IsGoodFederation f → IsGoodFederation (after f asked r)
-balances_good f asked (Ok Done) h ok = subst IsGoodFederation (sym h) ok
-balances_good f asked (Ok Repeated) h ok = ok
-balances_good f asked (Ok (Entered n m)) h ok = subst IsGoodFederation (sym h) ok
-balances_good f asked (Err refusal) h ok = ok
+sample_fits : (styles : List Style) (sample : List ℕ) (o : Option Style) (c : AnyCommand) → style_of sample ≡ o → asked_by_sample o ≡ Ok (Command c) → Fits styles c
+sample_fits styles sample None c h e = absurd cc
+sample_fits styles sample (Some style) c h e =
+    let same : c ≡ cmd.Commodity style = cc in
+    subst (Fits styles) (sym same) ((is_style_iff style (is_style style) refl).1 (sample, style_spelled sample style h))
 
--- each thing that is asked and done keeps the good state, and what is not done leaves it
-pub reply_good : (f : Federation) (asked : Asked) → IsRead f.styles asked → IsGoodFederation f → IsGoodFederation (after f asked (reply f asked))
-reply_good f (new_branch name) read ok = branch_good f name (branch_reply f name) refl ok
-reply_good f (new_commodity style) read ok = commodity_good f style (declared f.styles style) refl read ok
-reply_good f (enter name list) read ok = enter_good f name list (enter_refusal f name list) refl read ok
-reply_good f (balances name day) read ok = balances_good f (balances name day) (balances_reply f name) refl ok
-reply_good f (nothing refusal) read ok = ok
+pub file_fits : (styles : List Style) (text : List ℕ) (list : List Located) → Reads styles text list → IsFile styles list
+file_fits styles text list reads = record { few = (let few = reads.have.few in omega (arith, few)); printable = read_printable styles text list reads }
 
-pub after_good : (f : Federation) (line : List ℕ) (asked : Asked) (r : Result Answer Refusal) → Asks f.styles line asked → Replies f asked r → IsGoodFederation f → IsGoodFederation (after f asked r)
-after_good f line asked r asks (inl same) ok =
-    subst (λ (s : Result Answer Refusal). IsGoodFederation (after f asked s)) (sym same) (reply_good f asked (asked_read f.styles line asked asks) ok)
-after_good f line asked r asks (inr memory) ok = subst (λ (s : Result Answer Refusal). IsGoodFederation (after f asked s)) (sym memory) ok
+request_fits : (styles : List Style) (request : Request) (c : AnyCommand) → HasDayNumbers request → RequestAsks styles request (Ok (Command c)) → Fits styles c
+request_fits styles (ForBranch name) c days h = let same : c ≡ cmd.Branch name = cc in subst (Fits styles) (sym same) tt
+request_fits styles (ForCommodity sample) c days h = sample_fits styles sample (style_of sample) c refl (sym h)
+request_fits styles (ForImport name journal) c days (inl reads) =
+    let e = reads.1.1 in
+    let same : c ≡ cmd.Enter name reads.0 = cc in
+    subst (Fits styles) (sym same) (file_fits styles journal reads.0 reads.1.0)
+request_fits styles (ForImport name journal) c days (inr fault) = absurd (let e = fault.1.1 in cc)
+request_fits styles (ForLock name day) c days h = let same : c ≡ cmd.Lock name day = cc in subst (Fits styles) (sym same) days
+request_fits styles (ForBalance name day) c days h = absurd cc
 
-pub answers_good : (f : Federation) (line text : List ℕ) (g : Federation) → Answers f line text g → IsGoodFederation f → IsGoodFederation g
-answers_good f line text g a ok = subst IsGoodFederation (sym a.state) (after_good f line a.asked a.reply a.asks a.replies ok)
+pub asked_fits : (styles : List Style) (line : List ℕ) (c : AnyCommand) → Asks styles line (Ok (Command c)) → Fits styles c
+asked_fits styles line c (inl asks) = request_fits styles asks.0 c (spelled_days line asks.0 asks.1.0) asks.1.1
+asked_fits styles line c (inr none) = absurd (let e = none.1 in cc)

@@ -1,36 +1,31 @@
--- What came into the books along turns, step by step; that turns are what a transcript has; and that a good state stays good.
-use Rattle.std.proofs.Common.{◌≡◌, ◌++◌, ℕ, List, [], ◌∷◌, Bool, true, false, ◌||◌, Option, Some, None, Result, Ok, Err, length, map, arith, refl, ap, ◌∙◌, sym, subst, inl, inr, append_assoc, append-nil, slice_index, if◌then◌else◌, pos, ◌+ℤ◌}
-use Rattle.std.specs.List.{AllByRecursion, list_any}
-use Rattle.std.specs.Str.{bytes_eq}
-use Rattle.std.proofs.lemmas.Bool.{cases_Bool}
-use Rattle.std.proofs.lemmas.Int.{ints}
-use Rattle.std.proofs.lemmas.Slice.Eq.{bytes_eq-Decides}
-use Rattle.money_core.specs.declared.unit.Unit.{Unit as Commodity}
+-- That turns are what a transcript has; that their commands are a run of the machine of commands; and what leaves the state.
+use Rattle.std.proofs.Common.{◌≡◌, ◌++◌, ◌^◌, ◌≤◌, ◌<◌, ℕ, List, [], ◌∷◌, Option, Some, None, Result, Ok, Err, length, map, arith, refl, ap, ◌∙◌, sym, subst, inl, inr, slice_index}
+use Rattle.std.specs.Prelude.{⊤}
 use Rattle.money_core.specs.declared.style.Style.{Style}
-use Rattle.money_core.specs.declared.day.Day.{Day}
-use Rattle.money_core.specs.declared.cause.Cause.TheVariants.{OutOfMemory}
-use Rattle.book_core.specs.declared.leg.Leg.{Leg}
-use Rattle.book_core.specs.declared.entry.Entry.{Entry}
+use Rattle.money_core.specs.Style.{is_style}
+use Rattle.money_core.specs.Sampling.{style_of}
+use Rattle.money_core.proofs.SampleLemmas.{style_spelled}
+use Rattle.money_core.proofs.StyleSamples.{is_style_iff}
 use Rattle.book_core.specs.declared.refusal.Refusal.{Refusal}
-use Rattle.book_core.specs.declared.refusal.Refusal.TheVariants.{Plain}
-use Rattle.book_core.specs.declared.place.Until.TheVariants.{Through}
-use Rattle.book_core.specs.Book.{legs_of}
-use Rattle.book_core.specs.Balance.{balance, value}
-use Rattle.book_core.specs.Claim.{asserted_from, Holds}
-use Rattle.book_core.specs.GoodBook.{IsFit, IsBalanced}
-use Rattle.book_core.proofs.BalanceLemmas.{balance-append}
-use Rattle.journal_format.specs.declared.txn.Located.{Located}
-use Rattle.treasury.specs.declared.branch.Branch.{Branch}
-use Rattle.treasury.specs.declared.answers.Answer.{Answer}
-use Rattle.treasury.specs.declared.answers.Answer.TheVariants.{Done, Entered, Repeated}
-use Rattle.treasury.specs.Federation.{Federation, has_name, book_in, book_of, IsGoodBranch, IsGoodFederation}
-use Rattle.treasury.specs.Asked.{Asked, new_branch, new_commodity, enter, balances, nothing}
+use Rattle.journal_format.proofs.ReadLemmas.{read_printable}
+use Rattle.treasury_core.specs.declared.command.Answer.{Answer}
+use Rattle.treasury_core.specs.declared.command.Answer.TheVariants.{Done, Entered, Repeated}
+use Rattle.treasury_core.specs.declared.command.Command.TheVariants as cmd
+use Rattle.treasury_core.specs.Federation.{Federation}
+use Rattle.treasury_core.specs.Good.{Fits, IsGoodState}
+use Rattle.treasury_core.proofs.ReplyLemmas.{run_good}
+use Rattle.treasury_core.specs.History.{Turn as CommandTurn, IsRun as IsCommandRun, state_after, IsRefusedOrRepeated}
+use Rattle.treasury.specs.declared.request.Request.{Request}
+use Rattle.treasury.specs.declared.request.Request.TheVariants.{Branch as ForBranch, Commodity as ForCommodity, Import as ForImport, Lock as ForLock, Balance as ForBalance}
+use Rattle.treasury.specs.declared.asking.Asked.{Asked}
+use Rattle.treasury.specs.declared.asking.Asked.TheVariants.{Command, Balances}
+use Rattle.treasury.specs.Request.{spelled, HasDayNumbers}
+use Rattle.treasury.specs.Asked.{asked_by_sample, RequestAsks, Asks}
 use Rattle.treasury.specs.Answer.{answer_text}
-use Rattle.treasury.specs.Step.{unless, entries_of, enter_refusal, with_entries, done, reply, after, reply_text, Replies, Answers}
+use Rattle.treasury.specs.Step.{after, reply_text, Replies, Answers}
 use Rattle.treasury.specs.Transcript.{requests_in, AnswersInTurn, IsTranscript}
-use Rattle.treasury.specs.History.{Turn, after_turn, AreTurns, end_of, texts_of, IsRun, Accepted, accepted_by, history, entered_into, BooksGrow, BalancesMove, IsBalancedFederation, AllAssertionsHold, is_refusal_or_repeat, RefusalsLeave, IsRefusalOrRepeat, RefusedLinesLeave}
-use Rattle.treasury.proofs.FederationLemmas.{is_accepted}
-use Rattle.treasury.proofs.AskedLemmas.{after_good}
+use Rattle.treasury.specs.History.{Turn, after_turn, AreTurns, end_of, texts_of, IsRun, command_if, commands_of, RefusalsLeave, IsRefusalOrRepeat, RefusedLinesLeave}
+use Rattle.treasury.proofs.AskedLemmas.{asked_fits}
 
 -- ---- a transcript has turns, and turns have a transcript
 
@@ -77,153 +72,45 @@ transcript_of start input output end turns run =
     let t2 = subst (λ (xs : List ℕ). AnswersInTurn Answers start (requests_in input) xs (end_of start turns)) (sym run.written) t1 in
     subst (λ (f : Federation). AnswersInTurn Answers start (requests_in input) output f) (sym run.left) t2
 
--- ---- the book of a name
+-- ---- the commands of turns are a run
 
-if-same : {X : Type 0} (t : Bool) (x : X) → (if t then x else x) ≡ x
-if-same true x = refl
-if-same false x = refl
-
-if-append : {X : Type 0} (t : Bool) (x y z : List X) → (if t then x ++ z else y) ≡ (if t then x else y) ++ (if t then z else [])
-if-append true x y z = refl
-if-append false x y z = sym (append-nil y)
-
-if-other : {X : Type 0} (t : Bool) (x y z add : List X) → (t ≡ true → add ≡ []) → z ≡ y ++ add → (if t then x else z) ≡ (if t then x else y) ++ add
-if-other {X = X} true x y z add none h = sym (ap (λ (w : List X). x ++ w) (none refl) ∙ append-nil x)
-if-other false x y z add none h = h
-
--- a new branch has no entries
-book_in-snoc : (bs : List Branch) (new name : List ℕ) → book_in (bs ++ record { name = new; book = [] } ∷ []) name ≡ book_in bs name
-book_in-snoc [] new name = if-same (bytes_eq new name) []
-book_in-snoc (b ∷ bs) new name = ap (λ (es : List Entry). if bytes_eq b.name name then b.book else es) (book_in-snoc bs new name)
-
--- what is entered into the branch of a name comes into the book of that name alone
-abbrev added : List ℕ → List Entry → List ℕ → List Entry
-added to new name = if bytes_eq to name then new else []
-
-added_elsewhere : (b to name : List ℕ) (new : List Entry) → bytes_eq b to ≡ false → bytes_eq b name ≡ true → added to new name ≡ []
-added_elsewhere b to name new other same = elim (cases_Bool (bytes_eq to name)) [
-  | inl yes_ ↦ absurd (
-      let e : b ≡ to = (bytes_eq-Decides b name).0 same ∙ sym ((bytes_eq-Decides to name).0 yes_) in
-      let t : bytes_eq b to ≡ true = (bytes_eq-Decides b to).1 e in
-      cc)
-  | inr no_ ↦ ap (λ (t : Bool). if t then new else []) no_
-]
-
-book_in-with_entries : (to name : List ℕ) (new : List Entry) (bs : List Branch) → list_any (has_name to) bs ≡ true
-    → book_in (with_entries to new bs) name ≡ book_in bs name ++ added to new name
-book_in-with_entries to name new [] there = absurd cc
-book_in-with_entries to name new (b ∷ bs) there = here (bytes_eq b.name to) refl there (book_in-with_entries to name new bs)
+pub commands_run : (start : Federation) (turns : List Turn) → AreTurns start turns → IsCommandRun start (commands_of turns)
+commands_run start [] h = tt
+commands_run start (t ∷ ts) h = with_first t.asked t.reply h.0 h.1 h.2 (λ f k. commands_run f ts k)
   where
-    here : (t : Bool) → bytes_eq b.name to ≡ t → (t || list_any (has_name to) bs) ≡ true
-        → (list_any (has_name to) bs ≡ true → book_in (with_entries to new bs) name ≡ book_in bs name ++ added to new name)
-        → book_in (if t then record b { book = b.book ++ new } ∷ bs else b ∷ with_entries to new bs) name ≡ book_in (b ∷ bs) name ++ added to new name
-    here true is h later =
-        if-append (bytes_eq b.name name) b.book (book_in bs name) new
-        ∙ ap (λ (s : List ℕ). book_in (b ∷ bs) name ++ added s new name) ((bytes_eq-Decides b.name to).0 is)
-    here false is h later =
-        if-other (bytes_eq b.name name) b.book (book_in bs name) (book_in (with_entries to new bs) name) (added to new name)
-        (added_elsewhere b.name to name new is) (later h)
+    with_first : (asked : Result Asked Refusal) (r : Result Answer Refusal) → Asks start.styles t.line asked → Replies start asked r → AreTurns (after start asked r) ts
+        → ((f : Federation) → AreTurns f ts → IsCommandRun f (commands_of ts)) → IsCommandRun start (command_if asked r ++ commands_of ts)
+    with_first (Ok (Command c)) r asks replies follow rest = (asked_fits start.styles t.line c asks, replies, rest (after start (Ok (Command c)) r) follow)
+    with_first (Ok (Balances name day)) r asks replies follow rest = rest start follow
+    with_first (Err refusal) r asks replies follow rest = rest start follow
 
--- ---- the books after a turn
+pub commands_end : (start : Federation) (turns : List Turn) → end_of start turns ≡ state_after start (commands_of turns)
+commands_end start [] = refl
+commands_end start (t ∷ ts) = with_first t.asked t.reply (λ f. commands_end f ts)
+  where
+    with_first : (asked : Result Asked Refusal) (r : Result Answer Refusal) → ((f : Federation) → end_of f ts ≡ state_after f (commands_of ts))
+        → end_of (after start asked r) ts ≡ state_after start (command_if asked r ++ commands_of ts)
+    with_first (Ok (Command c)) r rest = rest (after start (Ok (Command c)) r)
+    with_first (Ok (Balances name day)) r rest = rest start
+    with_first (Err refusal) r rest = rest start
 
-abbrev Grows : Federation → Asked → Result Answer Refusal → List ℕ → Type 0
-Grows f asked r name = book_of (after f asked r) name ≡ book_of f name ++ entered_into name (accepted_by f asked r)
+pub turns_good : (start : Federation) (turns : List Turn) → AreTurns start turns → IsGoodState start → IsGoodState (end_of start turns)
+turns_good start turns h ok = subst IsGoodState (sym (commands_end start turns)) (run_good start (commands_of turns) ok (commands_run start turns h))
 
-book_kept : (f : Federation) (asked : Asked) (name : List ℕ) → book_of (done f asked) name ≡ book_of f name → (r : Result Answer Refusal)
-    → book_of (after f asked r) name ≡ book_of f name ++ []
-book_kept f asked name same (Ok Done) = same ∙ sym (append-nil (book_of f name))
-book_kept f asked name same (Ok Repeated) = sym (append-nil (book_of f name))
-book_kept f asked name same (Ok (Entered n m)) = same ∙ sym (append-nil (book_of f name))
-book_kept f asked name same (Err refusal) = sym (append-nil (book_of f name))
-
-grows_enter : (f : Federation) (to : List ℕ) (list : List Located) (o : Option Refusal) (name : List ℕ) → enter_refusal f to list ≡ o
-    → Grows f (enter to list) (unless (Entered (length list) 0) o) name
-grows_enter f to list None name h =
-    book_in-with_entries to name (entries_of f.styles list) f.branches (is_accepted f to list h).there
-    ∙ ap (λ (es : List Entry). book_of f name ++ es) (sym (append-nil (added to (entries_of f.styles list) name)))
-grows_enter f to list (Some refusal) name h = sym (append-nil (book_of f name))
-
-grows : (f : Federation) (asked : Asked) (name : List ℕ) → Grows f asked (reply f asked) name
-grows f (new_branch new) name = book_kept f (new_branch new) name (book_in-snoc f.branches new name) (reply f (new_branch new))
-grows f (new_commodity style) name = book_kept f (new_commodity style) name refl (reply f (new_commodity style))
-grows f (enter to list) name = grows_enter f to list (enter_refusal f to list) name refl
-grows f (balances at day) name = book_kept f (balances at day) name refl (reply f (balances at day))
-grows f (nothing refusal) name = sym (append-nil (book_of f name))
-
--- a refusal accepts nothing
-none_accepted : (f : Federation) (asked : Asked) (refusal : Refusal) → accepted_by f asked (Err refusal) ≡ []
-none_accepted f (new_branch name) refusal = refl
-none_accepted f (new_commodity style) refusal = refl
-none_accepted f (enter to list) refusal = refl
-none_accepted f (balances at day) refusal = refl
-none_accepted f (nothing other) refusal = refl
-
-replied_grows : (f : Federation) (asked : Asked) (r : Result Answer Refusal) (name : List ℕ) → Replies f asked r → Grows f asked r name
-replied_grows f asked r name (inl same) = subst (λ (s : Result Answer Refusal). Grows f asked s name) (sym same) (grows f asked name)
-replied_grows f asked r name (inr memory) = subst (λ (s : Result Answer Refusal). Grows f asked s name) (sym memory)
-    (sym (append-nil (book_of f name)) ∙ ap (λ (xs : List Accepted). book_of f name ++ entered_into name xs) (sym (none_accepted f asked (Plain OutOfMemory))))
-
--- ---- the books along turns
-
-entered_into-append : (name : List ℕ) (xs ys : List Accepted) → entered_into name (xs ++ ys) ≡ entered_into name xs ++ entered_into name ys
-entered_into-append name [] ys = refl
-entered_into-append name (x ∷ xs) ys =
-    let first : List Entry = if bytes_eq x.branch name then x.entries else [] in
-    ap (λ (es : List Entry). first ++ es) (entered_into-append name xs ys) ∙ sym (append_assoc first (entered_into name xs) (entered_into name ys))
-
-pub books_grow : (start : Federation) (turns : List Turn) → AreTurns start turns → BooksGrow start turns
-books_grow start [] h = λ name. sym (append-nil (book_of start name))
-books_grow start (t ∷ ts) h = λ name.
-    let now : List Accepted = accepted_by start t.asked t.reply in
-    let later : List Accepted = history (after_turn start t) ts in
-    books_grow (after_turn start t) ts h.2 name
-    ∙ ap (λ (es : List Entry). es ++ entered_into name later) (replied_grows start t.asked t.reply name h.1)
-    ∙ append_assoc (book_of start name) (entered_into name now) (entered_into name later)
-    ∙ ap (λ (es : List Entry). book_of start name ++ es) (sym (entered_into-append name now later))
-
-pub balances_move : (start : Federation) (turns : List Turn) → AreTurns start turns → BalancesMove start turns
-balances_move start turns h = λ name reach account unit day.
-    ap (λ (b : List Entry). balance reach b account unit (Through day)) (books_grow start turns h name)
-    ∙ balance-append reach (book_of start name) (entered_into name (history start turns)) account unit day
-
--- ---- a good state stays good
-
-pub turns_good : (start : Federation) (turns : List Turn) → AreTurns start turns → IsGoodFederation start → IsGoodFederation (end_of start turns)
-turns_good start [] h ok = ok
-turns_good start (t ∷ ts) h ok = turns_good (after_turn start t) ts h.2 (after_good start t.line t.asked t.reply h.0 h.1 ok)
-
--- the books of a good state sum to zero
-value-append : (unit : Commodity) (xs ys : List Leg) → value unit (xs ++ ys) ≡ value unit xs +ℤ value unit ys
-value-append unit [] ys = omega (arith, ints)
-value-append unit (x ∷ xs) ys = let h = value-append unit xs ys in omega (arith, ints)
-
-value-fit : (unit : Commodity) (b : List Entry) → AllByRecursion IsFit b → value unit (legs_of b) ≡ pos 0
-value-fit unit [] h = refl
-value-fit unit (e ∷ es) h = omega (arith, ints, value-append unit e.legs (legs_of es), h.0.balanced unit, value-fit unit es h.1)
-
-balanced_branches : (styles : List Style) (bs : List Branch) → AllByRecursion (IsGoodBranch styles) bs → AllByRecursion (λ (b : Branch). IsBalanced (legs_of b.book)) bs
-balanced_branches styles [] h = tt
-balanced_branches styles (b ∷ bs) h = ((λ unit. value-fit unit b.book h.0.book.fit), balanced_branches styles bs h.1)
-
-pub good_balanced : (f : Federation) → IsGoodFederation f → IsBalancedFederation f
-good_balanced f ok = balanced_branches f.styles f.branches ok.good
-
--- and their assertions hold
-asserted_branches : (styles : List Style) (bs : List Branch) → AllByRecursion (IsGoodBranch styles) bs
-    → AllByRecursion (λ (b : Branch). AllByRecursion (Holds b.book) (asserted_from 1 b.book)) bs
-asserted_branches styles [] h = tt
-asserted_branches styles (b ∷ bs) h = (h.0.book.hold, asserted_branches styles bs h.1)
-
-pub good_asserted : (f : Federation) → IsGoodFederation f → AllAssertionsHold f
-good_asserted f ok = asserted_branches f.styles f.branches ok.good
+pub answers_good : (f : Federation) (line text : List ℕ) (g : Federation) → Answers f line text g → IsGoodState f → IsGoodState g
+answers_good f line text g a ok =
+    let turn : Turn = record { line = line; asked = a.asked; reply = a.reply } in
+    subst IsGoodState (sym a.state) (turns_good f (turn ∷ []) (a.asks, a.replies, tt) ok)
 
 -- ---- a refusal and a repeat leave the state
 
-reply_leaves : (f : Federation) (asked : Asked) (r : Result Answer Refusal) → is_refusal_or_repeat r ≡ true → after f asked r ≡ f
-reply_leaves f asked (Ok Done) h = absurd cc
-reply_leaves f asked (Ok Repeated) h = refl
-reply_leaves f asked (Ok (Entered n m)) h = absurd cc
-reply_leaves f asked (Err refusal) h = refl
+reply_leaves : (f : Federation) (asked : Result Asked Refusal) (r : Result Answer Refusal) → IsRefusedOrRepeated r → after f asked r ≡ f
+reply_leaves f (Ok (Command c)) (Ok Done) h = absurd h
+reply_leaves f (Ok (Command c)) (Ok Repeated) h = refl
+reply_leaves f (Ok (Command c)) (Ok (Entered n m)) h = absurd h
+reply_leaves f (Ok (Command c)) (Err refusal) h = refl
+reply_leaves f (Ok (Balances name day)) r h = refl
+reply_leaves f (Err refusal) r h = refl
 
 pub turns_leave : (start : Federation) (turns : List Turn) → RefusalsLeave start turns
 turns_leave start [] = tt
@@ -242,19 +129,13 @@ not_entered : (f : Federation) (n m : ℕ) (P : Type 0) → IsRefusalOrRepeat (a
 unfolding answer_text
 not_entered f n m P h = let e : 111 ≡ 114 = says_no (answer_text f.styles (Ok (Entered n m))) h in absurd (omega (arith, e))
 
-told_leaves : (f : Federation) (asked : Asked) (r : Result Answer Refusal) → IsRefusalOrRepeat (reply_text f asked r) → after f asked r ≡ f
-told_leaves f asked (Ok Repeated) h = refl
-told_leaves f asked (Err refusal) h = refl
-told_leaves f (new_branch name) (Ok Done) h = not_done f _ h
-told_leaves f (new_commodity style) (Ok Done) h = not_done f _ h
-told_leaves f (enter to list) (Ok Done) h = not_done f _ h
-told_leaves f (balances name day) (Ok Done) h = refl
-told_leaves f (nothing refusal) (Ok Done) h = refl
-told_leaves f (new_branch name) (Ok (Entered n m)) h = not_entered f n m _ h
-told_leaves f (new_commodity style) (Ok (Entered n m)) h = not_entered f n m _ h
-told_leaves f (enter to list) (Ok (Entered n m)) h = not_entered f n m _ h
-told_leaves f (balances name day) (Ok (Entered n m)) h = refl
-told_leaves f (nothing refusal) (Ok (Entered n m)) h = refl
+told_leaves : (f : Federation) (asked : Result Asked Refusal) (r : Result Answer Refusal) → IsRefusalOrRepeat (reply_text f asked r) → after f asked r ≡ f
+told_leaves f (Ok (Command c)) (Ok Done) h = not_done f _ h
+told_leaves f (Ok (Command c)) (Ok Repeated) h = refl
+told_leaves f (Ok (Command c)) (Ok (Entered n m)) h = not_entered f n m _ h
+told_leaves f (Ok (Command c)) (Err refusal) h = refl
+told_leaves f (Ok (Balances name day)) r h = refl
+told_leaves f (Err refusal) r h = refl
 
 pub answered_leaves : (f : Federation) (line text : List ℕ) (g : Federation) → Answers f line text g → IsRefusalOrRepeat text → g ≡ f
 answered_leaves f line text g a h = a.state ∙ told_leaves f a.asked a.reply (subst IsRefusalOrRepeat a.text h)
@@ -262,10 +143,3 @@ answered_leaves f line text g a h = a.state ∙ told_leaves f a.asked a.reply (s
 pub lines_leave : (start : Federation) (turns : List Turn) → RefusedLinesLeave start turns
 lines_leave start [] = tt
 lines_leave start (t ∷ ts) = (told_leaves start t.asked t.reply, lines_leave (after_turn start t) ts)
-
--- a report leaves the state, whatever is replied
-pub report_leaves : (f : Federation) (name : List ℕ) (day : Day) (r : Result Answer Refusal) → after f (balances name day) r ≡ f
-report_leaves f name day (Ok Done) = refl
-report_leaves f name day (Ok Repeated) = refl
-report_leaves f name day (Ok (Entered n m)) = refl
-report_leaves f name day (Err refusal) = refl

@@ -8,17 +8,11 @@ pub mod AccountOrder
 pub mod BalanceLemmas
 pub mod UnitLemmas
 pub mod VerdictLemmas
-pub mod FederationLemmas
-pub mod LookupLemmas
 pub mod PrintableLemmas
 pub mod AskedLemmas
-pub mod EnteringLemmas
-pub mod ImportLemmas
-pub mod EnterLemmas
 pub mod ReplyLemmas
 pub mod AnswerLemmas
 pub mod HistoryLemmas
-pub mod LateEntryLemmas
 pub mod RunEndLemmas
 pub mod WorkedHistory
 pub mod WordLemmas

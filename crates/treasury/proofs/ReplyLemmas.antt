@@ -1,72 +1,23 @@
--- What a reply leaves, and what it says, of each thing that is asked.
-use Rattle.std.proofs.Common.{◌≡◌, ◌++◌, ◌⊎◌, ℕ, List, [], ◌∷◌, Bool, true, false, not, Option, Some, None, Result, Ok, Err, refl, ap, ◌∙◌, sym, inl, inr, length, if◌then◌else◌, nat_le, suc, append_assoc, OnOk}
-use Rattle.std.specs.List.{list_any}
-use Rattle.money_core.specs.declared.style.Style.{Style}
+-- What a reply leaves, and what it says, of a command and of a report.
+use Rattle.std.proofs.Common.{◌≡◌, ◌++◌, ◌⊎◌, ℕ, List, Bool, true, false, not, Result, Ok, Err, refl, ap, ◌∙◌, sym, subst, inl, inr, if◌then◌else◌, append_assoc, OnOk}
 use Rattle.money_core.specs.declared.day.Day.{Day}
-use Rattle.money_core.specs.declared.unit.Declared.{Declared}
-use Rattle.money_core.specs.declared.unit.Declared.TheVariants.{New, Same}
-use Rattle.money_core.specs.declared.cause.Cause.{Cause}
 use Rattle.money_core.specs.declared.cause.Cause.TheVariants.{OutOfMemory, UnknownBranch}
-use Rattle.money_core.specs.Style.{declared, after as styles_after}
 use Rattle.book_core.specs.declared.entry.Entry.{Entry}
 use Rattle.book_core.specs.declared.refusal.Refusal.{Refusal}
 use Rattle.book_core.specs.declared.refusal.Refusal.TheVariants.{Plain}
-use Rattle.treasury.specs.declared.branch.Branch.{Branch}
-use Rattle.treasury.specs.declared.answers.Answer.{Answer}
-use Rattle.treasury.specs.declared.answers.Answer.TheVariants.{Done, Repeated, Entered}
-use Rattle.treasury.specs.Federation.{Federation, is_branch_name, has_name, has_branch, book_of, most_branches}
-use Rattle.journal_format.specs.declared.txn.Located.{Located}
-use Rattle.treasury.specs.declared.import.Accepted.{Accepted}
-use Rattle.treasury.specs.declared.request.Request.TheVariants.{Import as ForImport}
-use Rattle.treasury.specs.Asked.{Asked, new_branch, new_commodity, enter, balances}
+use Rattle.treasury_core.specs.declared.command.Answer.{Answer}
+use Rattle.treasury_core.specs.declared.command.Answer.TheVariants.{Done, Entered, Repeated}
+use Rattle.treasury_core.specs.declared.command.Command.{Command as AnyCommand}
+use Rattle.treasury_core.specs.declared.delta.Addition.{Addition}
+use Rattle.treasury_core.specs.Federation.{Federation, has_branch, book_of}
+use Rattle.treasury_core.specs.Joined.{joined}
+use Rattle.treasury_core.specs.Step.{Decides, step, reply as command_reply, after as after_command}
+use Rattle.treasury.specs.declared.asking.Asked.{Asked}
+use Rattle.treasury.specs.declared.asking.Asked.TheVariants.{Command, Balances}
 use Rattle.treasury.specs.Answer.{answer_text}
 use Rattle.treasury.specs.BalanceReport.{report_text}
-use Rattle.treasury.specs.Step.{unless, entries_of, branch_reply, commodity_reply, enter_refusal, reply, done, after, reply_text}
-use Rattle.treasury.specs.Replied.{IsReplied, IsAnswered, MayLose, MemoryOr, IsAccepted, IsRefused}
-use Rattle.treasury.proofs.LookupLemmas.{IsThere}
-
--- a new branch that is not done leaves the state
-left_by : (f : Federation) (asked : Asked) (bad held full : Bool) (e g : Refusal) → ((if bad then Err e else if held then Ok Repeated else if full then Err g else Ok Done) ≡ Ok Done → ⊥)
-    → after f asked (if bad then Err e else if held then Ok Repeated else if full then Err g else Ok Done) ≡ f
-left_by f asked true held full e g h = refl
-left_by f asked false true full e g h = refl
-left_by f asked false false true e g h = refl
-left_by f asked false false false e g h = absurd (h refl)
-
-pub branch_left : (f : Federation) (name : List ℕ) → (branch_reply f name ≡ Ok Done → ⊥) → after f (new_branch name) (branch_reply f name) ≡ f
-branch_left f name h = left_by f (new_branch name) (not (is_branch_name name)) (has_branch f name) (nat_le most_branches (length f.branches)) _ _ h
-
--- what a declaration leaves is the state after its reply
-declared_after : (f : Federation) (style : Style) (d : Result Declared Cause)
-    → record f { styles = styles_after f.styles style d } ≡ after f (new_commodity style) (commodity_reply d)
-declared_after f style (Ok (New unit)) = refl
-declared_after f style (Ok (Same unit)) = refl
-declared_after f style (Err cause) = refl
-
-pub commodity_after : (f : Federation) (style : Style) (r : Result Declared Cause) (new : List Style) → (r ≡ declared f.styles style) ⊎ (r ≡ Err OutOfMemory) → (r ≡ Err OutOfMemory → ⊥)
-    → new ≡ styles_after f.styles style r → record f { styles = new } ≡ after f (new_commodity style) (reply f (new_commodity style))
-commodity_after f style r new (inr memory) h kept = absurd (h memory)
-commodity_after f style r new (inl same) h kept =
-    ap (λ (styles : List Style). record f { styles = styles }) (kept ∙ ap (styles_after f.styles style) same) ∙ declared_after f style (declared f.styles style)
-
--- a report on a branch that is there, and one on a branch that is not
-pub report_there : (f : Federation) (name : List ℕ) (day : Day) (place : ℕ) (t : IsThere f.branches name place)
-    → reply_text f (balances name day) (reply f (balances name day)) ≡ report_text f.styles t.branch.book day ++ answer_text f.styles (Ok Done)
-report_there f name day place t =
-    ap (λ (b : Bool). reply_text f (balances name day) (if not b then Err (Plain UnknownBranch) else Ok Done)) t.has
-    ∙ ap (λ (book : List Entry). report_text f.styles book day ++ answer_text f.styles (Ok Done)) t.book
-
-pub report_nowhere : (f : Federation) (name : List ℕ) (day : Day) → list_any (has_name name) f.branches ≡ false
-    → reply_text f (balances name day) (reply f (balances name day)) ≡ answer_text f.styles (Err (Plain UnknownBranch))
-report_nowhere f name day h = ap (λ (b : Bool). reply_text f (balances name day) (if not b then Err (Plain UnknownBranch) else Ok Done)) h
-
--- a report leaves the state
-balances_after : (f : Federation) (name : List ℕ) (day : Day) (b : Bool) → after f (balances name day) (if not b then Err (Plain UnknownBranch) else Ok Done) ≡ f
-balances_after f name day true = refl
-balances_after f name day false = refl
-
-pub report_leaves : (f : Federation) (name : List ℕ) (day : Day) → after f (balances name day) (reply f (balances name day)) ≡ f
-report_leaves f name day = balances_after f name day (has_branch f name)
+use Rattle.treasury.specs.Step.{reply, after, reply_text, IsDone}
+use Rattle.treasury.specs.Replied.{IsReplied}
 
 pub on_ok : {T E : Type 0} (r : Result T E) (A B : Type 0) → OnOk r A → (A → B) → OnOk r B
 on_ok (Ok x) A B a f = f a
@@ -76,58 +27,48 @@ pub on_ok2 : {T E : Type 0} (r : Result T E) (A B C : Type 0) → OnOk r A → O
 on_ok2 (Ok x) A B C a b f = f a b
 on_ok2 (Err e) A B C a b f = tt
 
--- a report on a branch that is there, behind what was written before, and one on a branch that is not
-pub replied_there : (f : Federation) (name : List ℕ) (day : Day) (place : ℕ) (t : IsThere f.branches name place) (b : Branch) (before mid written : List ℕ) → b ≡ t.branch
-    → mid ≡ before ++ report_text f.styles b.book day → written ≡ mid ++ answer_text f.styles (Ok Done) → IsReplied f (balances name day) before written f
-replied_there f name day place t b before mid written same h k = record {
+-- ---- a report on a branch that is there, and one on a branch that is not
+
+pub replied_there : (f : Federation) (name : List ℕ) (day : Day) (book : List Entry) (before mid written : List ℕ) → has_branch f name ≡ true → book ≡ book_of f name
+    → mid ≡ before ++ report_text f.styles book day → written ≡ mid ++ answer_text f.styles (Ok Done) → IsReplied f (Ok (Balances name day)) before written f
+replied_there f name day book before mid written there same h k = record {
   text =
       k ∙ (ap (λ (xs : List ℕ). xs ++ answer_text f.styles (Ok Done)) h
-      ∙ (append_assoc before (report_text f.styles b.book day) (answer_text f.styles (Ok Done))
-      ∙ (ap (λ (c : Branch). before ++ (report_text f.styles c.book day ++ answer_text f.styles (Ok Done))) same
-      ∙ ap (λ (xs : List ℕ). before ++ xs) (sym (report_there f name day place t)))));
-  state = sym (report_leaves f name day);
+      ∙ (append_assoc before (report_text f.styles book day) (answer_text f.styles (Ok Done))
+      ∙ (ap (λ (b : List Entry). before ++ (report_text f.styles b day ++ answer_text f.styles (Ok Done))) same
+      ∙ ap (λ (t : Bool). before ++ reply_text f (Ok (Balances name day)) (if not t then Err (Plain UnknownBranch) else Ok Done)) (sym there))));
+  state = refl;
 }
 
-pub replied_nowhere : (f : Federation) (name : List ℕ) (day : Day) (before written : List ℕ) → list_any (has_name name) f.branches ≡ false
-    → written ≡ before ++ answer_text f.styles (Err (Plain UnknownBranch)) → IsReplied f (balances name day) before written f
+pub replied_nowhere : (f : Federation) (name : List ℕ) (day : Day) (before written : List ℕ) → has_branch f name ≡ false
+    → written ≡ before ++ answer_text f.styles (Err (Plain UnknownBranch)) → IsReplied f (Ok (Balances name day)) before written f
 replied_nowhere f name day before written none h = record {
-  text = h ∙ ap (λ (xs : List ℕ). before ++ xs) (sym (report_nowhere f name day none));
-  state = sym (report_leaves f name day);
+  text = h ∙ ap (λ (t : Bool). before ++ reply_text f (Ok (Balances name day)) (if not t then Err (Plain UnknownBranch) else Ok Done)) (sym none);
+  state = refl;
 }
 
--- a refused import
-pub answered_refusal : (f : Federation) (name journal : List ℕ) (refusal : Refusal) (before written : List ℕ) → MemoryOr (IsRefused f name journal) refusal → (refusal ≡ Plain OutOfMemory → ⊥)
-    → written ≡ before ++ answer_text f.styles (Err refusal) → IsAnswered f (ForImport name journal) before written f
-answered_refusal f name journal refusal before written (inl memory) other h = absurd (other memory)
-answered_refusal f name journal refusal before written (inr r) other h = record {
-  asked = r.asked;
-  asks = r.asks;
-  replied = record {
-    text = h ∙ ap (λ (s : Result Answer Refusal). before ++ reply_text f r.asked s) (sym r.refused);
-    state = sym (ap (λ (s : Result Answer Refusal). after f r.asked s) r.refused);
-  };
+-- ---- a command that is refused, repeated, or done
+
+pub replied_refusal : (f : Federation) (c : AnyCommand) (refusal : Refusal) (before written : List ℕ) → (refusal ≡ Plain OutOfMemory) ⊎ (command_reply f c ≡ Err refusal) → (refusal ≡ Plain OutOfMemory → ⊥)
+    → written ≡ before ++ answer_text f.styles (Err refusal) → IsReplied f (Ok (Command c)) before written f
+replied_refusal f c refusal before written (inl memory) other h = absurd (other memory)
+replied_refusal f c refusal before written (inr e) other h = record {
+  text = h ∙ ap (λ (r : Result Answer Refusal). before ++ reply_text f (Ok (Command c)) r) (sym e);
+  state = sym (ap (λ (r : Result Answer Refusal). after_command f c r) e);
 }
 
--- an accepted one
-entered_reply : (f : Federation) (name : List ℕ) (list : List Located) → enter_refusal f name list ≡ None → reply f (enter name list) ≡ Ok (Entered (length list) 0)
-entered_reply f name list h = ap (λ (o : Option Refusal). unless (Entered (length list) 0) o) h
-
-length-entries_of : (styles : List Style) (list : List Located) → length (entries_of styles list) ≡ length list
-length-entries_of styles [] = refl
-length-entries_of styles (x ∷ xs) = ap (λ (n : ℕ). suc n) (length-entries_of styles xs)
-
-pub answered_accepted : (f g : Federation) (name journal : List ℕ) (accepted : Accepted) (before written : List ℕ) (a : IsAccepted f name journal accepted)
-    → written ≡ before ++ answer_text f.styles (Ok (Entered (length accepted.new) 0)) → g ≡ done f (enter name a.list) → IsAnswered f (ForImport name journal) before written g
-answered_accepted f g name journal accepted before written a h k = record {
-  asked = enter name a.list;
-  asks = inl (a.list, (a.reads, refl));
-  replied = record {
-    text =
-        h ∙ (ap (λ (n : ℕ). before ++ answer_text f.styles (Ok (Entered n 0))) (ap (λ (es : List Entry). length es) a.new ∙ length-entries_of f.styles a.list)
-        ∙ ap (λ (s : Result Answer Refusal). before ++ reply_text f (enter name a.list) s) (sym (entered_reply f name a.list a.allowed)));
-    state = k ∙ sym (ap (λ (s : Result Answer Refusal). after f (enter name a.list) s) (entered_reply f name a.list a.allowed));
-  };
+pub replied_answer : (f g : Federation) (c : AnyCommand) (a : Answer) (before written : List ℕ) → command_reply f c ≡ Ok a → written ≡ before ++ answer_text f.styles (Ok a)
+    → g ≡ after_command f c (Ok a) → IsReplied f (Ok (Command c)) before written g
+replied_answer f g c a before written e h k = record {
+  text = h ∙ ap (λ (r : Result Answer Refusal). before ++ reply_text f (Ok (Command c)) r) (sym e);
+  state = k ∙ sym (ap (λ (r : Result Answer Refusal). after_command f c r) e);
 }
 
-pub accepted_loses : (f : Federation) (name journal : List ℕ) (accepted : Accepted) → IsAccepted f name journal accepted → MayLose f (ForImport name journal)
-accepted_loses f name journal accepted a = record { name = name; list = a.list; asks = inl (a.list, (a.reads, refl)); accepted = a.allowed }
+-- where the additions are joined to the state
+pub joined_after : (f g : Federation) (c : AnyCommand) (a : Answer) (delta : List Addition) → command_reply f c ≡ Ok a → joined f delta ≡ (step f c).next → g ≡ joined f delta → g ≡ after_command f c (Ok a)
+joined_after f g c a delta e h k = k ∙ (h ∙ ap (λ (r : Result Answer Refusal). after_command f c r) e)
+
+pub done_by : (f : Federation) (c : AnyCommand) (a : Answer) → command_reply f c ≡ Ok a → (a ≡ Repeated → ⊥) → IsDone (command_reply f c)
+done_by f c Done e other = subst IsDone (sym e) tt
+done_by f c (Entered new repeated) e other = subst IsDone (sym e) tt
+done_by f c Repeated e other = absurd (other refl)

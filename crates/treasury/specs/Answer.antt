@@ -10,8 +10,8 @@ use Rattle.book_core.specs.declared.place.Place.{Place}
 use Rattle.book_core.specs.declared.refusal.Failure.{Failure}
 use Rattle.book_core.specs.declared.refusal.Refusal.{Refusal}
 use Rattle.book_core.specs.declared.refusal.Refusal.TheVariants.{Plain, Text, ClaimFailed}
-use Rattle.treasury.specs.declared.answers.Answer.{Answer}
-use Rattle.treasury.specs.declared.answers.Answer.TheVariants.{Done, Entered, Repeated}
+use Rattle.treasury_core.specs.declared.command.Answer.{Answer}
+use Rattle.treasury_core.specs.declared.command.Answer.TheVariants.{Done, Entered, Repeated}
 
 -- the number and the name of a refusal
 abbrev pub refused_text : Cause → List ℕ

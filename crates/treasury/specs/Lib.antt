@@ -2,7 +2,6 @@
 pub mod Request
 pub mod Transcript
 pub mod RunEnd
-pub mod Federation
 pub mod Asked
 pub mod Step
 pub mod Answer

@@ -1,63 +1,34 @@
--- Mirrors code: what is written and kept once a request is replied to, and what is decided of an import.
-use Rattle.std.specs.Prelude.{◌≡◌, ℕ, List, ◌++◌, Option, Some, None, option_map, Err, ◌⊎◌}
-use Rattle.std.specs.Option.{option_or}
+-- Mirrors code: what is written and kept once what is asked is replied to.
+use Rattle.std.specs.Prelude.{◌≡◌, ◌⊎◌, ⊤, ℕ, List, ◌++◌, Result, Ok, Err}
 use Rattle.money_core.specs.declared.style.Style.{Style}
 use Rattle.money_core.specs.declared.cause.Cause.TheVariants.{OutOfMemory}
-use Rattle.money_core.specs.declared.cause.Fault.{Fault}
-use Rattle.book_core.specs.declared.entry.Entry.{Entry}
 use Rattle.book_core.specs.declared.refusal.Refusal.{Refusal}
-use Rattle.book_core.specs.declared.refusal.Refusal.TheVariants.{Plain, Text}
-use Rattle.book_core.specs.GoodBook.{verdict}
-use Rattle.journal_format.specs.declared.txn.Located.{Located}
-use Rattle.journal_format.specs.Pieces.{Reads}
-use Rattle.journal_format.specs.Fault.{IsFirstFault}
-use Rattle.treasury.specs.declared.import.Accepted.{Accepted}
-use Rattle.treasury.specs.declared.request.Request.{Request}
-use Rattle.treasury.specs.Federation.{Federation, branch_place}
-use Rattle.treasury.specs.Asked.{Asked, enter, JournalAsks, RequestAsks}
-use Rattle.treasury.specs.Step.{unbalanced, entries_of, enter_refusal, reply, after, reply_text}
+use Rattle.book_core.specs.declared.refusal.Refusal.TheVariants.{Plain}
+use Rattle.treasury_core.specs.declared.command.Command.{Command as AnyCommand}
+use Rattle.treasury_core.specs.Federation.{Federation}
+use Rattle.treasury_core.specs.Good.{Fits}
+use Rattle.treasury_core.specs.Step.{reply as command_reply}
+use Rattle.treasury.specs.declared.asking.Asked.{Asked}
+use Rattle.treasury.specs.declared.asking.Asked.TheVariants.{Command, Balances}
+use Rattle.treasury.specs.Answer.{IsPrintableRefusal}
+use Rattle.treasury.specs.Step.{reply, after, reply_text, IsDone}
 
 -- what is asked is replied to: the text of the reply stands behind what was written before, and the state is the one
 -- after it
-pub record IsReplied (f : Federation) (asked : Asked) (before written : List ℕ) (g : Federation) : Type 0 where
+pub record IsReplied (f : Federation) (asked : Result Asked Refusal) (before written : List ℕ) (g : Federation) : Type 0 where
   pub text : written ≡ before ++ reply_text f asked (reply f asked)
   pub state : g ≡ after f asked (reply f asked)
 
--- a request is: what it asks is replied to
-pub record IsAnswered (f : Federation) (request : Request) (before written : List ℕ) (g : Federation) : Type 0 where
-  pub asked : Asked
-  pub asks : RequestAsks f.styles request asked
-  pub replied : IsReplied f asked before written g
+-- the state may be lost at what is asked: it is a command that is done
+abbrev pub MayLose : Federation → Result Asked Refusal → Type 0
+MayLose f asked = (c : AnyCommand) × ((asked ≡ Ok (Command c)) × IsDone (command_reply f c))
 
--- a request at which the state may be lost: it asks to enter transactions that are not refused
-pub record MayLose (f : Federation) (request : Request) : Type 0 where
-  pub name : List ℕ
-  pub list : List Located
-  pub asks : RequestAsks f.styles request (enter name list)
-  pub accepted : enter_refusal f name list ≡ None
+-- what is asked can be answered: its command fits the commodities, its refusal can be printed
+abbrev pub IsReady : List Style → Result Asked Refusal → Type 0
+IsReady styles (Ok (Command c)) = Fits styles c
+IsReady styles (Ok (Balances name day)) = ⊤
+IsReady styles (Err refusal) = IsPrintableRefusal styles refusal
 
--- a refusal is want of memory, or the one that is meant
-abbrev pub MemoryOr : (Refusal → Type 0) → Refusal → Type 0
-MemoryOr Meant refusal = (refusal ≡ Plain OutOfMemory) ⊎ Meant refusal
-
--- the refusal names the first fault of a text
-abbrev pub NamesFault : List Style → List ℕ → Refusal → Type 0
-NamesFault styles text refusal = (fault : Fault) × (IsFirstFault styles text fault × (refusal ≡ Text fault))
-
--- why transactions are refused whose branch has that book
-abbrev pub refusal_in : List Style → List Entry → List Located → Option Refusal
-refusal_in styles book list = option_or (option_map Text (unbalanced styles list)) (verdict (book ++ entries_of styles list))
-
--- an import that is accepted: its list, the place of its branch, and the entries of the list
-pub record IsAccepted (f : Federation) (name journal : List ℕ) (accepted : Accepted) : Type 0 where
-  pub list : List Located
-  pub reads : Reads f.styles journal list
-  pub allowed : enter_refusal f name list ≡ None
-  pub place : branch_place f.branches name ≡ Some accepted.place
-  pub new : accepted.new ≡ entries_of f.styles list
-
--- an import that is refused
-pub record IsRefused (f : Federation) (name journal : List ℕ) (refusal : Refusal) : Type 0 where
-  pub asked : Asked
-  pub asks : JournalAsks f.styles name journal asked
-  pub refused : reply f asked ≡ Err refusal
+-- what is asked is what is meant, or want of memory
+abbrev pub OrMemory : (Result Asked Refusal → Type 0) → Result Asked Refusal → Type 0
+OrMemory Meant asked = (asked ≡ Err (Plain OutOfMemory)) ⊎ Meant asked

@@ -10,7 +10,7 @@ use Rattle.money_core.specs.declared.day.Day.{Day}
 use Rattle.journal_lines.specs.Date.{IsDayNumber}
 use Rattle.journal_lines.specs.DateReading.{date_of}
 use Rattle.treasury.specs.declared.request.Request.{Request}
-use Rattle.treasury.specs.declared.request.Request.TheVariants.{Branch, Commodity, Import, Balance}
+use Rattle.treasury.specs.declared.request.Request.TheVariants.{Branch, Commodity, Import, Lock, Balance}
 
 -- the text at a key of an object
 abbrev pub text_at : List ℕ → Data → Option (List ℕ)
@@ -45,6 +45,8 @@ form word d =
     else if is_form (codes "commodity") 2 word d then option_map Commodity (text_at (codes "sample") d)
     else if is_form (codes "import") 3 word d
     then option_and_then (λ branch. option_map (Import branch) (text_at (codes "journal") d)) (text_at (codes "branch") d)
+    else if is_form (codes "lock") 3 word d
+    then option_and_then (λ branch. option_map (Lock branch) (day_at (codes "day") d)) (text_at (codes "branch") d)
     else if is_form (codes "balance") 3 word d
     then option_and_then (λ branch. option_map (Balance branch) (day_at (codes "day") d)) (text_at (codes "branch") d)
     else None
@@ -62,4 +64,5 @@ abbrev pub HasDayNumbers : Request → Type 0
 HasDayNumbers (Branch name) = ⊤
 HasDayNumbers (Commodity sample) = ⊤
 HasDayNumbers (Import branch journal) = ⊤
+HasDayNumbers (Lock branch day) = IsDayNumber day
 HasDayNumbers (Balance branch day) = IsDayNumber day

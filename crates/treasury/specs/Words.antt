@@ -5,11 +5,18 @@ use Rattle.clap.specs.Kinds.{Kinds, IsAmong}
 use Rattle.clap.specs.Faults.{fault_of}
 use Rattle.clap.specs.declared.error.kind.ErrorKind.TheVariants.{DisplayHelp, DisplayVersion}
 use Rattle.money_core.specs.declared.cause.Cause.{Cause}
-use Rattle.treasury.specs.Federation.{Federation, IsGoodFederation, book_of}
+use Rattle.money_core.specs.declared.unit.Unit.{Unit as Commodity}
+use Rattle.money_core.specs.declared.day.Day.{Day}
+use Rattle.book_core.specs.declared.account.Reach.{Reach}
+use Rattle.book_core.specs.declared.place.Until.TheVariants.{Through}
+use Rattle.book_core.specs.Balance.{balance}
+use Rattle.treasury_core.specs.Federation.{Federation, records_of, entries, book_of}
+use Rattle.treasury_core.specs.Good.{IsGoodState}
+use Rattle.treasury_core.specs.Sound.{EachBalances, EachAssertionHolds}
+use Rattle.treasury_core.specs.History.{IsRun as IsCommandRun, state_after, history, records_among}
 use Rattle.treasury.specs.RunEnd.{most_input, Finished, EndsBy, IsLost}
 use Rattle.treasury.specs.Step.{Answers, Loses}
-use Rattle.treasury.specs.History.{Turn, IsRun, history, entered_into, BalancesMove, IsBalancedFederation, AllAssertionsHold}
-use Rattle.treasury.specs.History.{RefusalsLeave, RefusedLinesLeave}
+use Rattle.treasury.specs.History.{Turn, IsRun, commands_of, RefusalsLeave, RefusedLinesLeave}
 
 -- the words that the program knows: it has a version; one of its subcommands has to be given, and `run` is the only one
 abbrev pub known : App
@@ -33,27 +40,31 @@ MayAskForHelp words = IsAmong DisplayHelp (objections words) ⊎ IsAmong Display
 
 -- a federation that has nothing yet
 abbrev pub nothing : Federation
-nothing = record { styles = []; branches = [] }
+nothing = record { styles = []; branches = []; transfers = [] }
 
 -- the state is good, in each branch every commodity sums to zero, and every stored assertion holds at its place
 pub record IsSound (f : Federation) : Type 0 where
-  pub good : IsGoodFederation f
-  pub balanced : IsBalancedFederation f
-  pub asserted : AllAssertionsHold f
+  pub good : IsGoodState f
+  pub balanced : EachBalances f
+  pub asserted : EachAssertionHolds f
 
 -- All of the input is answered, at most 64 MiB of it, over a federation that had nothing yet: by turns, one for each
--- request. At their end the state is sound, each book is the accepted entries of its branch, in order, and nothing
--- else, each balance has moved by exactly these, and each reply that is a refusal or `repeated`, and each whose text is
--- the line of one, left the state as it was.
+-- request. Their commands are a run, and at its end the state is sound, each branch has the records that accepted
+-- commands added, in order, and nothing else, each balance is that of exactly their entries, and each reply that is a
+-- refusal or `repeated`, and each whose text is the line of one, left the state as it was.
 pub record AnswersAll {R W : Type 0} (remaining : R → Option (List ℕ)) (r0 r1 : R)
     (contents : W → Option (List ℕ)) (w0 w1 : W) : Type 0 where
   pub end : Federation
   pub turns : List Turn
   pub finished : Finished Answers most_input (remaining r0) (remaining r1) (contents w0) (contents w1) nothing end
   pub run : IsRun nothing finished.seen finished.written end turns
+  pub commands : IsCommandRun nothing (commands_of turns)
+  pub left : end ≡ state_after nothing (commands_of turns)
   pub sound : IsSound end
-  pub books : (name : List ℕ) → book_of end name ≡ entered_into name (history nothing turns)
-  pub balances : BalancesMove nothing turns
+  pub records : (name : List ℕ) → records_of end name ≡ records_among name (history nothing (commands_of turns))
+  pub balances : (name : List ℕ) (reach : Reach) (account : List ℕ) (unit : Commodity) (day : Day)
+      → balance reach (book_of end name) account unit (Through day)
+      ≡ balance reach (entries (records_among name (history nothing (commands_of turns)))) account unit (Through day)
   pub refusals : RefusalsLeave nothing turns
   pub lines : RefusedLinesLeave nothing turns
 

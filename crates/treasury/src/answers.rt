@@ -1,4 +1,4 @@
-//! What a command answers, and its line.
+//! The line of an answer.
 
 ghost use Rattle.std.specs.Prelude.{◌≡◌, ◌↔◌, ◌++◌, IsTrue, OnOk, OnErr, IfOk};
 ghost use Rattle.std.specs.Result.{IsOkUnless};
@@ -11,17 +11,7 @@ use book_core::{Failure, Place, Refusal};
 use journal_lines::{is_day_number, print_date};
 use money_core::{Cause, Styles, is_declared, print_amount};
 use std::alloc::{AllocError, Global};
-
-/// What a command answers that is not refused.
-#[derive(Clone, Copy, Debug, PartialEq, Eq)]
-pub enum Answer {
-    /// It is done.
-    Done,
-    /// The transactions of a journal are entered: so many new ones; so many were there before.
-    Entered { new: usize, repeated: usize },
-    /// It was done before.
-    Repeated,
-}
+use treasury_core::Answer;
 
 /// Whether the date and the amounts of a failed assertion can be printed.
 fn is_printable_failure(styles: &Styles, failure: &Failure) -> bool

@@ -1,16 +1,14 @@
 //! The program `treasury`: a federation's requests from standard input, their answers to standard output.
 #![tactic(auto)]
 
+mod answering;
 mod answers;
+mod asking;
 mod balance_report;
-mod branch;
 mod bytes;
 mod columns;
-mod desk;
-mod entering;
 #[cfg(test)]
 mod fixture;
-mod import;
 mod laws;
 mod lines;
 mod request;

@@ -18,6 +18,8 @@ pub enum Request {
     Commodity { sample: Text },
     /// The transactions of a journal's text, into the branch of that name.
     Import { branch: Text, journal: Bytes },
+    /// A lock of the branch of that name through the day.
+    Lock { branch: Text, day: Day },
     /// The balances of the branch of that name through the day.
     Balance { branch: Text, day: Day },
 }
@@ -37,6 +39,10 @@ impl Copied for Request {
                 let branch = branch.copy()?;
                 let journal = journal.copy()?;
                 Ok(Request::Import { branch, journal })
+            }
+            Request::Lock { branch, day } => {
+                let branch = branch.copy()?;
+                Ok(Request::Lock { branch, day: *day })
             }
             Request::Balance { branch, day } => {
                 let branch = branch.copy()?;

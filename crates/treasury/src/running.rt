@@ -1,30 +1,29 @@
-//! The run of a desk over the lines of a reader.
+//! The run of a federation's state over the lines of a reader.
 
 ghost use Rattle.treasury.specs.RunEnd.{most_input, Ends};
 ghost use Rattle.treasury.specs.Step.{Answers, Loses};
 
-use crate::desk::Desk;
+use crate::answering::{answer_asked, answer_memory};
+use crate::asking::asked_by_line;
 use crate::lines::{Machine, Shortage, run_machine};
-use crate::request::read_line;
+use book_core::Ledger;
 use journal_format::reading_law;
 use money_core::Cause;
 use std::alloc::Global;
 use std::io::{Read, Write};
+use treasury_core::State;
 
-impl Machine for Desk {
+impl<L: Ledger> Machine for State<L> {
     ghost step = { Answers };
 
     ghost loses = { Loses };
 
     fn answer(&mut self, alloc: Global, request: &[u8], out: &mut Vec<u8>) -> Result<(), Shortage> {
         reading_law();
-        let asked = match read_line(alloc, request) {
-            Ok(asked) => asked,
-            Err(cause) => return self.refuse(alloc, cause, out),
-        };
-        match self.perform(alloc, &asked, out) {
+        let asked = asked_by_line(alloc, self.styles(), request);
+        match answer_asked(alloc, self, asked, out) {
             Ok(()) => Ok(()),
-            Err(Shortage::Kept) => self.refuse(alloc, Cause::OutOfMemory, out),
+            Err(Shortage::Kept) => answer_memory(alloc, self, out),
             Err(Shortage::Lost) => Err(Shortage::Lost),
         }
     }
@@ -35,15 +34,15 @@ impl Machine for Desk {
 /// On `Ok` all input was read, and what was written is its transcript. 45 comes where a read fails, whatever its error,
 /// or where the input goes on past 64 MiB: the complete lines before that are answered. 46 comes where a write fails or
 /// takes nothing: the last answer may be cut off. 40 comes where there is no memory for an answer, or where it is refused
-/// while the entries of an accepted import are added: only then nothing is said of the desk.
-pub fn run_lines<R: Read, W: Write>(
+/// while a command that was decided is being done: only then nothing is said of the state.
+pub fn run_lines<R: Read, W: Write, L: Ledger>(
     alloc: Global,
     reader: &mut R,
     writer: &mut W,
-    desk: &mut Desk,
+    state: &mut State<L>,
 ) -> Result<(), Cause>
     ensures { Ends result Answers Loses most_input
-        R.remaining reader.old reader.new W.contents writer.old writer.new desk.old desk.new }
+        R.remaining reader.old reader.new W.contents writer.old writer.new state.old state.new }
 {
-    run_machine(alloc, reader, writer, desk)
+    run_machine(alloc, reader, writer, state)
 }

@@ -8,14 +8,20 @@ ghost use Rattle.treasury.specs.Words.{known, AskForRun, MayAskForHelp, AnswersA
 #[cfg(test)]
 mod tests;
 
-use crate::desk::Desk;
-use crate::laws::{balances_law, books_law, good_law, late_entry_law, refusal_law, run_law};
+use crate::laws::{commands_law, refusal_law, run_law};
 use crate::running::run_lines;
+use book_core::DayLedger;
 use clap::error::ErrorKind;
 use clap::{Command, Error};
 use money_core::Cause;
 use std::alloc::{AllocError, Global};
 use std::io::{Read, Write};
+use treasury_core::{
+    State, good_law, growing_law, late_entry_law, lock_law, records_law, sound_law,
+};
+
+/// The ledger that keeps the book of a branch. It is named here alone.
+type Book = DayLedger;
 
 /// The version that `--version` shows.
 const VERSION: &str = "0.2.0";
@@ -36,6 +42,7 @@ const EXAMPLE_RUN: &str = r#"Requests:
   {"do":"branch","name":NAME}                    a new branch
   {"do":"commodity","sample":AMOUNT}             a new commodity, in the style of the amount
   {"do":"import","branch":NAME,"journal":TEXT}   a journal's transactions, into the branch
+  {"do":"lock","branch":NAME,"day":DAY}          no more entries through the day
   {"do":"balance","branch":NAME,"day":DAY}       the branch's balances through the day
 
 Each is answered by a line that begins with ok, repeated or refused; a balance report stands above its ok.
@@ -96,14 +103,17 @@ fn run<R: Read, W: Write>(alloc: Global, input: &mut R, output: &mut W) -> Resul
     ensures cut_off { IfErr result (λ cause.
         IsCutOffBy cause R.remaining input.old input.new W.contents output.old output.new) }
 {
-    let mut desk = Desk::empty(alloc);
+    let mut state: State<Book> = State::empty(alloc);
     run_law();
-    books_law();
-    balances_law();
-    good_law();
+    commands_law();
     refusal_law();
+    good_law();
+    sound_law();
+    records_law();
+    growing_law();
+    lock_law();
     late_entry_law();
-    run_lines(alloc, input, output, &mut desk)
+    run_lines(alloc, input, output, &mut state)
 }
 
 /// Writes the text of help or of the version to the output.

@@ -1,9 +1,10 @@
 //! Answers and their lines, row by row.
 
-use crate::answers::{Answer, answer_line, is_printable};
+use crate::answers::{answer_line, is_printable};
 use crate::fixture::declared_styles;
 use book_core::{Failure, Place, Refusal};
 use money_core::{Cause, Day, Fault, Unit};
+use treasury_core::Answer;
 
 /// An assertion that fails on 2024-01-10, at the first leg of the first entry.
 fn failed(unit: Unit, asserted: i64, found: i64) -> Result<Answer, Refusal> {

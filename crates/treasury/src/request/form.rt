@@ -16,6 +16,7 @@ pub enum Form<'a> {
     Branch { name: &'a str },
     Commodity { sample: &'a str },
     Import { branch: &'a str, journal: &'a str },
+    Lock { branch: &'a str, day: Day },
     Balance { branch: &'a str, day: Day },
 }
 
@@ -62,6 +63,10 @@ pub fn form_of<'a>(value: &'a Value) -> Option<Form<'a>>
         let branch = text_at(value, "branch")?;
         let journal = text_at(value, "journal")?;
         Some(Form::Import { branch, journal })
+    } else if word == "lock" && keys == 3 {
+        let branch = text_at(value, "branch")?;
+        let day = day_at(value, "day")?;
+        Some(Form::Lock { branch, day })
     } else if word == "balance" && keys == 3 {
         let branch = text_at(value, "branch")?;
         let day = day_at(value, "day")?;

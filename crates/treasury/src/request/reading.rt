@@ -31,6 +31,10 @@ fn owned(alloc: Global, form: Form) -> Result<Request, Cause>
             let journal = Bytes::of(alloc, journal.as_bytes())?;
             Ok(Request::Import { branch, journal })
         }
+        Form::Lock { branch, day } => {
+            let branch = Text::of(alloc, branch)?;
+            Ok(Request::Lock { branch, day })
+        }
         Form::Balance { branch, day } => {
             let branch = Text::of(alloc, branch)?;
             Ok(Request::Balance { branch, day })

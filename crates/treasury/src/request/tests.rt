@@ -18,6 +18,9 @@ fn shown(alloc: Global, read: &Result<Request, Cause>) -> Result<String, Fail> {
             };
             format!(in alloc; "import {} {journal}", branch.as_str())?
         }
+        Ok(Request::Lock { branch, day }) => {
+            format!(in alloc; "lock {} {}", branch.as_str(), day.0)?
+        }
         Ok(Request::Balance { branch, day }) => {
             format!(in alloc; "balance {} {}", branch.as_str(), day.0)?
         }
@@ -68,7 +71,16 @@ fn a_request_has_its_keys_and_no_other(rt: HostRuntime) -> Result<(), Fail> {
         (r#"{"do":"balance","branch":"north"}"#, "44"),
         (r#"{"do":"Branch","name":"x"}"#, "44"),
         (r#"{"do":"","name":"x"}"#, "44"),
-        (r#"{"do":"lock","branch":"north","day":"2024-02-29"}"#, "44"),
+        (
+            r#"{"do":"lock","branch":"north","day":"2024-02-29"}"#,
+            "lock north 19782",
+        ),
+        (r#"{"do":"lock","branch":"north"}"#, "44"),
+        (r#"{"do":"lock","branch":"north","day":"2024-02-30"}"#, "44"),
+        (
+            r#"{"do":"close","branch":"north","day":"2024-02-29"}"#,
+            "44",
+        ),
         (r#"{"do":"transit","day":"2024-02-29"}"#, "44"),
         ("{}", "44"),
         ("[]", "44"),
@@ -176,7 +188,7 @@ fn arrays_and_objects_nest_127_deep(rt: HostRuntime) -> Result<(), Fail> {
 
 #[test]
 fn a_line_is_utf8_and_its_request_has_equal_copies(rt: HostRuntime) -> Result<(), Fail> {
-    let rows: [(&[u8], &str); 6] = [
+    let rows: [(&[u8], &str); 7] = [
         (b"{\"do\":\"branch\",\"name\":\"\xc3\xa9\"}", "branch é"),
         (
             b"{\"do\":\"commodity\",\"sample\":\"1. X\"}",
@@ -185,6 +197,10 @@ fn a_line_is_utf8_and_its_request_has_equal_copies(rt: HostRuntime) -> Result<()
         (
             b"{\"do\":\"import\",\"branch\":\"x\",\"journal\":\"a\\nb\"}",
             "import x a\nb",
+        ),
+        (
+            b"{\"do\":\"lock\",\"branch\":\"x\",\"day\":\"1970-01-02\"}",
+            "lock x 1",
         ),
         (
             b"{\"do\":\"balance\",\"branch\":\"x\",\"day\":\"1970-01-01\"}\r",

@@ -3,6 +3,7 @@
 mod assertions;
 mod journals;
 mod manual;
+mod marks;
 
 use crate::words::run_words;
 use std::alloc::{AllocError, Global};

@@ -28,7 +28,7 @@ fn every_assertion_holds_behind_every_import(rt: HostRuntime) -> Result<(), Fail
                 count,
                 "2024-01-08 a\n    assets:bank  1.00 EUR\n    income:dues\n\n2024-01-09 b\n    assets:bank  -1.00 EUR\n    income:dues\n",
                 LATE,
-                "2024-01-09 b\n    assets:bank  -1.00 EUR\n    income:dues\n",
+                "2024-01-09 c\n    assets:bank  -1.00 EUR\n    income:dues\n",
             ],
             "ok 1 new, 0 repeated\nok 2 new, 0 repeated\nrefused 29 ClaimFailed at 2024-01-10 entry 1 leg 1: asserted 10.00 EUR, found 11.00 EUR\nrefused 29 ClaimFailed at 2024-01-10 entry 1 leg 1: asserted 10.00 EUR, found 9.00 EUR\n",
             "           10.00 EUR  assets:bank\n          -10.00 EUR  income:dues\n",

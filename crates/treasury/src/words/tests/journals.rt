@@ -8,7 +8,7 @@ use std::test::Fail;
 // (journals, their answers, the balances behind them)
 #[test]
 fn a_journal_is_taken_or_refused_as_a_whole(rt: HostRuntime) -> Result<(), Fail> {
-    let rows: [(&[&str], &str, &str); 12] = [
+    let rows: [(&[&str], &str, &str); 11] = [
         (&[""], "ok 0 new, 0 repeated\n", ""),
         (&["2024-01-05 note"], "ok 1 new, 0 repeated\n", ""),
         (
@@ -68,23 +68,14 @@ fn a_journal_is_taken_or_refused_as_a_whole(rt: HostRuntime) -> Result<(), Fail>
             "refused 10 Decimals line 2\nrefused 8 Amount line 2\nrefused 9 UnknownCommodity line 2\nrefused 8 Amount line 2\n",
             "",
         ),
-        // A journal without line end, one whose lines end in CR LF, and one with lines that are skipped.
+        // A journal without line end, the same with lines that end in CR LF, and one with lines that are skipped.
         (
             &[
                 "2024-01-05 x\n    a:x  1.00 EUR\n    a:y",
                 "2024-01-05 x\r\n    a:x  1.00 EUR\r\n    a:y\r\n",
                 "account a:x\n    ; type:A\npayee x\ntag due\nP 2024-01-05 EUR $1.10\n2024-01-05 * (7) x ; due:friday\n    ! a:x  1.00 EUR\n    ; paid\n    a:y\n\ncomment\n2024-13-01 z\nend comment\n",
             ],
-            "ok 1 new, 0 repeated\nok 1 new, 0 repeated\nok 1 new, 0 repeated\n",
-            "            3.00 EUR  a:x\n           -3.00 EUR  a:y\n",
-        ),
-        // A mark is read, and a journal that is sent again is taken again.
-        (
-            &[
-                "2024-01-05 x\n    ; bookid:r-1\n    a:x  1.00 EUR\n    a:y\n",
-                "2024-01-05 x\n    ; bookid:r-1\n    a:x  1.00 EUR\n    a:y\n",
-            ],
-            "ok 1 new, 0 repeated\nok 1 new, 0 repeated\n",
+            "ok 1 new, 0 repeated\nok 0 new, 1 repeated\nok 1 new, 0 repeated\n",
             "            2.00 EUR  a:x\n           -2.00 EUR  a:y\n",
         ),
     ];
@@ -301,11 +292,12 @@ fn a_text_has_limits(rt: HostRuntime) -> Result<(), Fail> {
 /// Eleven imports of 5,000 transactions: the book is full with the tenth.
 #[test]
 fn a_branch_has_50_000_entries(rt: HostRuntime) -> Result<(), Fail> {
-    let journal = journal_of(rt.alloc(), "", "2024-01-05\n", 5000, "")?;
-    let request = import_of(rt.alloc(), journal.as_str())?;
     let mut requests = String::new(rt.alloc());
     let mut answers = String::new(rt.alloc());
     for number in 0..11u32 {
+        let header = format!(in rt.alloc(); "2024-01-05 {number}\n")?;
+        let journal = journal_of(rt.alloc(), "", header.as_str(), 5000, "")?;
+        let request = import_of(rt.alloc(), journal.as_str())?;
         requests.push_str(request.as_str())?;
         let answer = if number < 10 {
             "ok 5000 new, 0 repeated\n"

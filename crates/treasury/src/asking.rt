@@ -1,0 +1,85 @@
+//! What a request asks, once its texts are read: a command, or a report.
+
+ghost use Rattle.std.specs.Prelude.{◌≡◌};
+ghost use Rattle.money_core.specs.Sampling.{style_of};
+ghost use Rattle.treasury.specs.Asked.{asked_by_sample, JournalAsks, RequestAsks, Asks};
+ghost use Rattle.treasury.specs.Request.{HasDayNumbers};
+ghost use Rattle.treasury.specs.Replied.{IsReady, OrMemory};
+
+use crate::request::{Request, read_line};
+use book_core::Refusal;
+use journal_format::read_journal;
+use money_core::{Cause, Day, Items, Styles, Text, read_style};
+use std::alloc::Global;
+use treasury_core::Command;
+
+/// What is asked of the treasury.
+#[derive(Drop)]
+pub enum Asked {
+    Command(Command),
+    /// The balances of the branch of that name through the day.
+    Balances(Text, Day),
+}
+
+/// Want of memory.
+const NO_MEMORY: Refusal = Refusal::Plain(Cause::OutOfMemory);
+
+/// Asks for a commodity in the style that the sample spells.
+fn asked_by_sample(alloc: Global, styles: &Styles, sample: &str) -> Result<Asked, Refusal>
+    ensures asks { OrMemory (λ asked. asked ≡ asked_by_sample (style_of sample.now)) result }
+    ensures ready { IsReady styles.now result }
+{
+    match read_style(alloc, sample) {
+        Ok(style) => Ok(Asked::Command(Command::Commodity(style))),
+        Err(Cause::OutOfMemory) => Err(NO_MEMORY),
+        Err(_) => Err(Refusal::Plain(Cause::Amount)),
+    }
+}
+
+/// Asks to enter the transactions that the journal's text has.
+fn asked_by_journal(
+    alloc: Global,
+    styles: &Styles,
+    name: Text,
+    journal: &[u8],
+) -> Result<Asked, Refusal>
+    ensures asks { OrMemory (JournalAsks styles.now name journal.now) result }
+    ensures ready { IsReady styles.now result }
+{
+    match read_journal(alloc, journal, styles) {
+        Ok(list) => Ok(Asked::Command(Command::Enter(name, Items::from_vec(list)))),
+        Err(fault) => match fault.cause {
+            Cause::OutOfMemory => Err(NO_MEMORY),
+            _ => Err(Refusal::Text(fault)),
+        },
+    }
+}
+
+/// What the request asks, or the first fault of its texts; 40 for want of memory.
+fn asked_by_request(alloc: Global, styles: &Styles, request: Request) -> Result<Asked, Refusal>
+    requires { HasDayNumbers request }
+    ensures asks { OrMemory (RequestAsks styles.now request) result }
+    ensures ready { IsReady styles.now result }
+{
+    match request {
+        Request::Branch { name } => Ok(Asked::Command(Command::Branch(name))),
+        Request::Commodity { sample } => asked_by_sample(alloc, styles, sample.as_str()),
+        Request::Import { branch, journal } => {
+            asked_by_journal(alloc, styles, branch, journal.as_bytes())
+        }
+        Request::Lock { branch, day } => Ok(Asked::Command(Command::Lock(branch, day))),
+        Request::Balance { branch, day } => Ok(Asked::Balances(branch, day)),
+    }
+}
+
+/// What the line asks: a command that fits the commodities, or a report. 44 where it spells no request, then the first fault
+/// of its texts; 40 for want of memory. Each of these refusals can be printed.
+pub fn asked_by_line(alloc: Global, styles: &Styles, line: &[u8]) -> Result<Asked, Refusal>
+    ensures asks { OrMemory (Asks styles.now line.now) result }
+    ensures ready { IsReady styles.now result }
+{
+    match read_line(alloc, line) {
+        Ok(request) => asked_by_request(alloc, styles, request),
+        Err(cause) => Err(Refusal::Plain(cause)),
+    }
+}
