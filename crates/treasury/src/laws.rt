@@ -1,12 +1,17 @@
 //! What transcripts mean, in the words of the machine of commands.
 
-ghost use Rattle.std.specs.Prelude.{◌≡◌, List, ℕ};
+ghost use Rattle.std.specs.Prelude.{◌≡◌, List, ℕ, Result, Ok};
+ghost use Rattle.money_core.specs.declared.day.Day.{Day};
+ghost use Rattle.book_core.specs.declared.refusal.Refusal.{Refusal as Refused};
+ghost use Rattle.treasury_core.specs.declared.command.Answer.{Answer};
 ghost use Rattle.treasury_core.specs.Federation.{Federation};
 ghost use Rattle.treasury_core.specs.History.{IsRun as IsCommandRun, state_after};
 ghost use Rattle.treasury.specs.Transcript.{IsTranscript};
-ghost use Rattle.treasury.specs.Step.{Answers};
+ghost use Rattle.treasury.specs.Step.{after, Answers};
 ghost use Rattle.treasury.specs.History.{Turn, AreTurns, end_of, IsRun, commands_of};
 ghost use Rattle.treasury.specs.History.{RefusalsLeave, IsRefusalOrRepeat, RefusedLinesLeave};
+
+use crate::asking::Asked;
 
 /// A law of transcripts: each has turns, one for each request, whose texts are its output; and such turns have it as
 /// their transcript. Costs nothing.
@@ -25,12 +30,14 @@ pub fn commands_law()
 {}
 
 /// Laws of what is refused or repeated: along turns each such reply leaves the state, and so does every line whose
-/// answer is a refusal or `repeated`. Along a run so does each answer that stands in its output as such a line. Costs
-/// nothing.
+/// answer is a refusal or `repeated`. Along a run so does each answer that stands in its output as such a line. A report
+/// leaves the state whatever is replied. Costs nothing.
 pub fn refusal_law()
     ensures turns { (start : Federation) (turns : List Turn) → AreTurns start turns → RefusalsLeave start turns }
     ensures answered { (f : Federation) (line text : List ℕ) (g : Federation)
         → Answers f line text g → IsRefusalOrRepeat text → g ≡ f }
     ensures along { (start : Federation) (input output : List ℕ) (end : Federation) (turns : List Turn)
         → IsRun start input output end turns → RefusedLinesLeave start turns }
+    ensures report { (f : Federation) (name : List ℕ) (day : Day) (r : Result Answer Refused)
+        → after f (Ok (Asked.Balances name day)) r ≡ f }
 {}

@@ -8,6 +8,8 @@ use std::alloc::Global;
 use std::process::Abort;
 use std::test::Fail;
 
+mod ledgers;
+
 const HALL: &str = "2024-01-05 hall\n    expenses:hall  120.00 EUR\n    assets:bank  -120.00 EUR\n";
 
 const RENT: &str =

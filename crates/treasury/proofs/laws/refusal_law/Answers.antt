@@ -1,3 +1,4 @@
+use Rattle.std.proofs.Common.{refl}
 use Rattle.treasury.proofs.HistoryLemmas.{turns_leave, answered_leaves, lines_leave}
 use Rattle.treasury.proofs.laws.refusal_law.Goals as goal
 
@@ -9,3 +10,6 @@ returns-clause-answered c = answered_leaves
 
 pub returns-clause-along : goal.returns-clause-along
 returns-clause-along c = λ start _ _ _ turns _. lines_leave start turns
+
+pub returns-clause-report : goal.returns-clause-report
+returns-clause-report c = λ f name day r. refl

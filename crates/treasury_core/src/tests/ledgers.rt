@@ -1,0 +1,128 @@
+//! The machine over each ledger, and over one that never has memory to check.
+
+use super::{HALL, JANUARY_5, enter_all, entered, file, lock, perform, refused, sizes, start};
+use crate::{Answer, State};
+use book_core::{Count, DayLedger, Entry, Failure, Ledger, Place, PlainLedger, Refusal};
+use money_core::{Cause, Day, Text, Unit};
+use std::alloc::Global;
+use std::process::Abort;
+
+/// A ledger that is refused memory whenever it checks.
+#[derive(Drop)]
+struct Exhausted {
+    ledger: PlainLedger,
+}
+
+impl Ledger for Exhausted {
+    ghost book = { λ l. l.ledger };
+
+    fn empty(alloc: Global) -> Self {
+        Exhausted {
+            ledger: PlainLedger::empty(alloc),
+        }
+    }
+
+    fn len(&self) -> usize {
+        self.ledger.len()
+    }
+
+    fn balance(&self, account: &str, unit: Unit, day: Day) -> i64 {
+        self.ledger.balance(account, unit, day)
+    }
+
+    fn balance_in(&self, account: &str, unit: Unit, day: Day) -> i64 {
+        self.ledger.balance_in(account, unit, day)
+    }
+
+    fn accounts(&self) -> &[Text] {
+        self.ledger.accounts()
+    }
+
+    fn check(&self, _new: &[Entry], _count: &mut Count) -> Result<(), Refusal> {
+        Err(Refusal::Plain(Cause::OutOfMemory))
+    }
+
+    fn add(&mut self, entry: Entry) -> Result<(), Cause> {
+        self.ledger.add(entry)
+    }
+}
+
+/// That 11.00 EUR were found where 10.00 EUR were asserted, on 2024-01-10.
+fn found_eleven() -> Refusal {
+    Refusal::ClaimFailed(Failure {
+        place: Place {
+            day: Day(JANUARY_5 + 5),
+            entry: 1,
+            leg: 1,
+        },
+        unit: Unit(0),
+        asserted: 1000,
+        found: 1100,
+    })
+}
+
+/// Asserts what files with an assertion, a late receipt and repeats are answered, over any ledger.
+fn assert_decided<L: Ledger>(rt: &impl Abort, alloc: Global, state: State<L>) {
+    let rows = [
+        (
+            "2024-01-10 count\n    assets:bank  10.00 EUR = 10.00 EUR\n    income:dues\n",
+            entered(1, 0),
+        ),
+        (
+            "2024-01-09 late\n    assets:bank  1.00 EUR\n    income:dues\n",
+            Err(found_eleven()),
+        ),
+        (
+            "2024-01-08 a\n    assets:bank  1.00 EUR\n    income:dues\n\n2024-01-09 b\n    assets:bank  -1.00 EUR\n    income:dues\n",
+            entered(2, 0),
+        ),
+        (
+            "2024-01-10 late\n    assets:bank  1.00 EUR\n    income:dues\n\n2024-01-09 b\n    assets:bank  -1.00 EUR\n    income:dues\n",
+            entered(1, 1),
+        ),
+    ];
+    let now = enter_all(rt, alloc, state, &rows);
+    assert_eq!(rt; sizes(&now, 0), (4, 4));
+    let ledger = now.ledger("north").expect(rt, "a branch");
+    for (day, wanted) in [(2, 0), (3, 100), (4, 0), (5, 1100)] {
+        let found = ledger.balance("assets:bank", Unit(0), Day(JANUARY_5 + day));
+        assert_eq!(rt; found, wanted);
+    }
+    assert!(rt; now.ledger("west").is_none());
+}
+
+#[test]
+fn both_ledgers_decide_the_same(rt: HostRuntime) {
+    let alloc = rt.alloc();
+    let plain: State<PlainLedger> = start(&rt, alloc);
+    assert_decided(&rt, alloc, plain);
+    let by_day: State<DayLedger> = start(&rt, alloc);
+    assert_decided(&rt, alloc, by_day);
+}
+
+/// Only a file with something new asks the ledger.
+#[test]
+fn what_the_ledger_has_no_memory_for_is_answered_40(rt: HostRuntime) {
+    let alloc = rt.alloc();
+    let state: State<Exhausted> = start(&rt, alloc);
+    let state = enter_all(
+        &rt,
+        alloc,
+        state,
+        &[
+            ("", entered(0, 0)),
+            (HALL, refused(Cause::OutOfMemory)),
+            (HALL, refused(Cause::OutOfMemory)),
+            (
+                "2024-01-07 x\n    ; bookid:in:x\n    a:x  1.00 EUR\n    a:y\n",
+                refused(Cause::ReservedMark),
+            ),
+        ],
+    );
+    assert_eq!(rt; sizes(&state, 0), (0, 0));
+    let (state, reply) = perform(&rt, alloc, state, &lock(&rt, alloc, "north", JANUARY_5));
+    assert_eq!(rt; reply, Ok(Answer::Done));
+    let command = file(&rt, alloc, "north", HALL, state.styles());
+    let (_, reply) = perform(&rt, alloc, state, &command);
+    assert_eq!(rt; reply, refused(Cause::Locked));
+}
