@@ -3,7 +3,9 @@
 use crate::answers::{answer_line, is_printable};
 use crate::fixture::declared_styles;
 use book_core::{Failure, Place, Refusal};
-use money_core::{Cause, Day, Fault, Unit};
+use money_core::{Cause, Day, Fault, Styles, Unit};
+use std::alloc::Global;
+use std::process::Abort;
 use treasury_core::Answer;
 
 /// An assertion that fails on 2024-01-10, at the first leg of the first entry.
@@ -24,6 +26,28 @@ fn failed(unit: Unit, asserted: i64, found: i64) -> Result<Answer, Refusal> {
 /// A fault of a journal's text.
 fn faulty(line: usize, cause: Cause) -> Result<Answer, Refusal> {
     Err(Refusal::Text(Fault { line, cause }))
+}
+
+/// Asserts that the lines are appended for the answers.
+fn assert_written(
+    rt: &impl Abort,
+    alloc: Global,
+    styles: &Styles,
+    rows: &[(Result<Answer, Refusal>, &str)],
+) {
+    let mut out = Vec::new(alloc);
+    let mut all = Vec::new(alloc);
+    for (answer, wanted) in rows {
+        assert!(rt; is_printable(answer, styles));
+        assert_eq!(rt;
+            answer_line(alloc, answer, styles, &mut out),
+            Ok(()),
+            "{wanted}"
+        );
+        all.extend_from_slice(wanted.as_bytes())
+            .expect(rt, "memory");
+        assert_eq!(rt; out, all, "{wanted}");
+    }
 }
 
 #[test]
@@ -67,18 +91,6 @@ fn each_answer_has_its_line(rt: HostRuntime) {
             "refused 29 ClaimFailed at 2024-01-10 entry 1 leg 1: asserted $0.00, found $1.00\n",
         ),
     ];
-    let mut out = Vec::new(alloc);
-    let mut all = Vec::new(alloc);
-    for (answer, wanted) in rows {
-        assert!(rt; is_printable(&answer, &styles));
-        assert_eq!(rt;
-            answer_line(alloc, &answer, &styles, &mut out),
-            Ok(()),
-            "{wanted}"
-        );
-        all.extend_from_slice(wanted.as_bytes())
-            .expect(&rt, "memory");
-        assert_eq!(rt; out, all, "{wanted}");
-    }
+    assert_written(&rt, alloc, &styles, &rows);
     assert!(rt; !is_printable(&failed(Unit(2), 0, 100), &styles));
 }

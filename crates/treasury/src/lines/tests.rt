@@ -7,6 +7,7 @@ use crate::lines::{MAX_INPUT, Machine, Shortage, run_machine};
 use money_core::Cause;
 use std::alloc::Global;
 use std::io::{self, Read, Write};
+use std::process::Abort;
 use std::test::Fail;
 
 /// Answers each request with itself and a line feed, and counts them. It has no memory for `kept`, and is lost at `lost`.
@@ -126,6 +127,24 @@ fn run_echo<R: Read, W: Write>(
     run_machine(alloc, reader, writer, echo)
 }
 
+/// Asserts that the run over each input ends so, writes this, and answers so many.
+fn assert_echoed(
+    rt: &impl Abort,
+    alloc: Global,
+    wanted: Result<(), Cause>,
+    rows: &[(&[u8], &[u8], u64)],
+) {
+    for (input, want, count) in rows {
+        let mut reader = *input;
+        let mut writer = Vec::new(alloc);
+        let mut echo = Echo { answered: 0 };
+        let ended = run_echo(alloc, &mut reader, &mut writer, &mut echo);
+        assert!(rt; ended == wanted);
+        assert_eq!(rt; writer.as_slice(), *want);
+        assert_eq!(rt; echo.answered, *count);
+    }
+}
+
 #[test]
 fn a_line_ends_in_lf_or_cr_lf(rt: HostRuntime) -> Result<(), Fail> {
     let rows: [(&[u8], &[u8], u64); 13] = [
@@ -143,15 +162,7 @@ fn a_line_ends_in_lf_or_cr_lf(rt: HostRuntime) -> Result<(), Fail> {
         (b"a\rb\n", b"a\rb\n", 1),
         (b"\xff\x00\n", b"\xff\x00\n", 1),
     ];
-    for (input, want, count) in rows {
-        let mut reader = input;
-        let mut writer = Vec::new(rt.alloc());
-        let mut echo = Echo { answered: 0 };
-        let ended = run_echo(rt.alloc(), &mut reader, &mut writer, &mut echo);
-        assert!(rt; ended.is_ok());
-        assert_eq!(rt; writer.as_slice(), want);
-        assert_eq!(rt; echo.answered, count);
-    }
+    assert_echoed(&rt, rt.alloc(), Ok(()), &rows);
     Ok(())
 }
 
@@ -192,6 +203,31 @@ fn a_line_may_come_in_parts(rt: HostRuntime) -> Result<(), Fail> {
     Ok(())
 }
 
+/// Asserts that the run over a reader that fails before that byte writes this, and answers so many.
+fn assert_broken(
+    rt: &impl Abort,
+    alloc: Global,
+    input: &[u8],
+    before: usize,
+    kind: io::ErrorKind,
+    want: &[u8],
+    count: u64,
+) {
+    let mut reader = Slow {
+        text: input,
+        at_once: 3,
+        fails: Some((before, kind)),
+    };
+    let mut writer = Vec::new(alloc);
+    let mut echo = Echo { answered: 0 };
+    let ended = run_echo(alloc, &mut reader, &mut writer, &mut echo);
+    assert!(rt; ended == Err(Cause::ReadFault));
+    assert!(rt; input.ends_with(reader.text));
+    assert_eq!(rt; reader.text.len() + before, input.len());
+    assert_eq!(rt; writer.as_slice(), want);
+    assert_eq!(rt; echo.answered, count);
+}
+
 /// A body that reads again behind a failed read would answer more, or end otherwise.
 #[test]
 fn a_read_that_fails_leaves_the_complete_lines_answered(rt: HostRuntime) -> Result<(), Fail> {
@@ -213,19 +249,8 @@ fn a_read_that_fails_leaves_the_complete_lines_answered(rt: HostRuntime) -> Resu
         (b"a\nb\nc\n", 4, io::ErrorKind::TimedOut, b"a\nb\n", 2),
         (b"a\nb\nc\n", 5, io::ErrorKind::BrokenPipe, b"a\nb\n", 2),
     ];
-    for (input, before, kind, want, count) in rows {
-        let mut reader = Slow {
-            text: input,
-            at_once: 3,
-            fails: Some((before, kind)),
-        };
-        let mut writer = Vec::new(rt.alloc());
-        let mut echo = Echo { answered: 0 };
-        let ended = run_echo(rt.alloc(), &mut reader, &mut writer, &mut echo);
-        assert!(rt; ended == Err(Cause::ReadFault));
-        assert!(rt; reader.text == &input[before..]);
-        assert_eq!(rt; writer.as_slice(), want);
-        assert_eq!(rt; echo.answered, count);
+    for (input, before, kind, want, count) in &rows {
+        assert_broken(&rt, rt.alloc(), *input, *before, *kind, *want, *count);
     }
     Ok(())
 }
@@ -287,14 +312,6 @@ fn want_of_memory_ends_the_run_between_two_requests(rt: HostRuntime) -> Result<(
         (b"a\nlost\nb\n", b"a\n", 0),
         (b"a\nlost", b"a\n", 0),
     ];
-    for (input, want, count) in rows {
-        let mut reader = input;
-        let mut writer = Vec::new(rt.alloc());
-        let mut echo = Echo { answered: 0 };
-        let ended = run_echo(rt.alloc(), &mut reader, &mut writer, &mut echo);
-        assert!(rt; ended == Err(Cause::OutOfMemory));
-        assert_eq!(rt; writer.as_slice(), want);
-        assert_eq!(rt; echo.answered, count);
-    }
+    assert_echoed(&rt, rt.alloc(), Err(Cause::OutOfMemory), &rows);
     Ok(())
 }

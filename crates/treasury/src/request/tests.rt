@@ -186,6 +186,21 @@ fn arrays_and_objects_nest_127_deep(rt: HostRuntime) -> Result<(), Fail> {
     Ok(())
 }
 
+/// Asserts that each line is read as this request, and so is its copy, or refused by this number.
+fn assert_lines_read(rt: &impl Abort, alloc: Global, rows: &[(&[u8], &str)]) -> Result<(), Fail> {
+    for (line, want) in rows {
+        let read = read_line(alloc, *line);
+        let found = shown(alloc, &read)?;
+        assert_eq!(rt; found.as_str(), *want);
+        if let Ok(request) = &read {
+            let copy = request.copy();
+            let found = shown(alloc, &copy)?;
+            assert_eq!(rt; found.as_str(), *want);
+        }
+    }
+    Ok(())
+}
+
 #[test]
 fn a_line_is_utf8_and_its_request_has_equal_copies(rt: HostRuntime) -> Result<(), Fail> {
     let rows: [(&[u8], &str); 7] = [
@@ -209,15 +224,5 @@ fn a_line_is_utf8_and_its_request_has_equal_copies(rt: HostRuntime) -> Result<()
         (b"{\"do\":\"branch\",\"name\":\"\xff\"}", "44"),
         (b"{\"do\":\"branch\",\"name\":\"x\"}\xc3", "44"),
     ];
-    for (line, want) in rows {
-        let read = read_line(rt.alloc(), line);
-        let found = shown(rt.alloc(), &read)?;
-        assert_eq!(rt; found.as_str(), want);
-        if let Ok(request) = &read {
-            let copy = request.copy();
-            let found = shown(rt.alloc(), &copy)?;
-            assert_eq!(rt; found.as_str(), want);
-        }
-    }
-    Ok(())
+    assert_lines_read(&rt, rt.alloc(), &rows)
 }

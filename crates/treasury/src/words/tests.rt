@@ -117,6 +117,28 @@ fn assert_imported(
     assert_answered(rt, requests.as_str(), str::from_utf8(wanted.as_slice())?)
 }
 
+/// Asserts it of each row: journals, their answers, the balances behind them.
+fn assert_all_imported(
+    rt: &(impl Abort + Eprint + AllocGlobal),
+    rows: &[(&[&str], &str, &str)],
+) -> Result<(), Fail> {
+    for (journals, answers, balances) in rows {
+        assert_imported(rt, *journals, *answers, *balances)?;
+    }
+    Ok(())
+}
+
+/// Asserts it of each row: requests behind the opening, their answers.
+fn assert_all_answered(
+    rt: &(impl Abort + Eprint + AllocGlobal),
+    rows: &[(&str, &str)],
+) -> Result<(), Fail> {
+    for (requests, answers) in rows {
+        assert_answered(rt, *requests, *answers)?;
+    }
+    Ok(())
+}
+
 /// A reader that fails once its first text is read, and then goes on with the second.
 #[derive(Drop)]
 struct Broken<'a> {
@@ -170,6 +192,27 @@ fn writer_of(alloc: Global, room: usize) -> Kept {
     }
 }
 
+/// Asserts of each row, words, that they end with this status, and write a text that begins so and has this part.
+fn assert_done(
+    rt: &(impl Abort + Eprint + AllocGlobal),
+    rows: &[(&[&str], u8, &str, &str)],
+) -> Result<(), Fail> {
+    for (words, status, begin, part) in rows {
+        let line = command_line(rt.alloc(), *words)?;
+        let mut input: &[u8] = b"";
+        let mut output = Vec::new(rt.alloc());
+        let ended = run_words(rt, line.as_slice(), &mut input, &mut output);
+        assert_eq!(rt; ended, *status, "{words:?}");
+        let text = str::from_utf8(output.as_slice())
+            .ok()
+            .ok_or("bytes that are no text")?;
+        assert!(rt; text.starts_with(*begin), "{text}");
+        assert!(rt; text.contains(*part), "{text}");
+        assert_eq!(rt; text.is_empty(), begin.is_empty());
+    }
+    Ok(())
+}
+
 #[test]
 fn words_say_what_is_done(rt: HostRuntime) -> Result<(), Fail> {
     let rows: [(&[&str], u8, &str, &str); 11] = [
@@ -205,20 +248,7 @@ fn words_say_what_is_done(rt: HostRuntime) -> Result<(), Fail> {
             "refused 21 BranchName\n",
         ),
     ];
-    for (words, status, begin, part) in rows {
-        let line = command_line(rt.alloc(), words)?;
-        let mut input: &[u8] = b"";
-        let mut output = Vec::new(rt.alloc());
-        let ended = run_words(&rt, line.as_slice(), &mut input, &mut output);
-        assert_eq!(rt; ended, status, "{words:?}");
-        let text = str::from_utf8(output.as_slice())
-            .ok()
-            .ok_or("bytes that are no text")?;
-        assert!(rt; text.starts_with(begin), "{text}");
-        assert!(rt; text.contains(part), "{text}");
-        assert_eq!(rt; text.is_empty(), begin.is_empty());
-    }
-    Ok(())
+    assert_done(&rt, &rows)
 }
 
 // (requests behind the opening, their answers)
@@ -282,8 +312,15 @@ fn requests_are_answered_in_turn(rt: HostRuntime) -> Result<(), Fail> {
             "ok 1 new, 0 repeated\nok 1 new, 0 repeated\nrefused 29 ClaimFailed at 2024-01-10 entry 1 leg 1: asserted 10.00 EUR, found 11.00 EUR\n",
         ),
     ];
+    assert_all_answered(&rt, &rows)
+}
+
+/// Asserts that the inputs have these answers.
+fn assert_run(rt: &(impl Abort + Eprint + AllocGlobal), rows: &[(&str, &str)]) -> Result<(), Fail> {
     for (requests, answers) in rows {
-        assert_answered(&rt, requests, answers)?;
+        let (ended, found) = run_over(rt, requests.as_bytes())?;
+        assert_eq!(rt; ended, 0, "{requests}");
+        assert!(rt; found.as_slice() == answers.as_bytes(), "{requests}");
     }
     Ok(())
 }
@@ -300,12 +337,7 @@ fn lines_end_in_lf_or_cr_lf_and_blank_ones_are_skipped(rt: HostRuntime) -> Resul
         ),
         ("x\n\ny", "refused 44 Request\nrefused 44 Request\n"),
     ];
-    for (requests, answers) in rows {
-        let (ended, found) = run_over(&rt, requests.as_bytes())?;
-        assert_eq!(rt; ended, 0, "{requests}");
-        assert!(rt; found.as_slice() == answers.as_bytes(), "{requests}");
-    }
-    Ok(())
+    assert_run(&rt, &rows)
 }
 
 #[test]

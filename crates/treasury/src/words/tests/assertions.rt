@@ -1,6 +1,6 @@
 //! Balance assertions of journals that are imported into north, with late entries.
 
-use super::assert_imported;
+use super::assert_all_imported;
 use std::test::Fail;
 
 /// A late entry of 1.00 EUR, under an assertion of the day behind it.
@@ -81,10 +81,7 @@ fn every_assertion_holds_behind_every_import(rt: HostRuntime) -> Result<(), Fail
             "",
         ),
     ];
-    for (journals, answers, balances) in rows {
-        assert_imported(&rt, journals, answers, balances)?;
-    }
-    Ok(())
+    assert_all_imported(&rt, &rows)
 }
 
 // hledger manual, "Assertions and commodities", "Assertions and subaccounts"; that `==` asks that every other commodity is
@@ -137,8 +134,5 @@ fn an_assertion_looks_at_its_accounts_and_commodities(rt: HostRuntime) -> Result
             "           10.00 EUR  assets:bank\n               $1.00  assets:bank2\n          -10.00 EUR  income:dues\n              $-1.00  income:dues\n",
         ),
     ];
-    for (journals, answers, balances) in rows {
-        assert_imported(&rt, journals, answers, balances)?;
-    }
-    Ok(())
+    assert_all_imported(&rt, &rows)
 }

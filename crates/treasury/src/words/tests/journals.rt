@@ -1,6 +1,6 @@
 //! Journals that are imported into north, and what they are answered.
 
-use super::{assert_answered, assert_imported, import_of};
+use super::{assert_all_imported, assert_answered, import_of};
 use std::alloc::{AllocError, Global};
 use std::test::Fail;
 
@@ -79,10 +79,7 @@ fn a_journal_is_taken_or_refused_as_a_whole(rt: HostRuntime) -> Result<(), Fail>
             "            2.00 EUR  a:x\n           -2.00 EUR  a:y\n",
         ),
     ];
-    for (journals, answers, balances) in rows {
-        assert_imported(&rt, journals, answers, balances)?;
-    }
-    Ok(())
+    assert_all_imported(&rt, &rows)
 }
 
 // hledger manual, "Costs", "Equity conversion postings"; that every cost gets them, and their names, are own rules.
@@ -140,10 +137,7 @@ fn an_exchange_gets_its_conversion_postings(rt: HostRuntime) -> Result<(), Fail>
             "          100.00 EUR  assets:bank\n          100.00 EUR  assets:cash\n            $-270.00  assets:cash\n         -100.00 EUR  equity:conversion\n             $135.00  equity:conversion\n             $135.00  equity:conversion:$-EUR:$\n         -100.00 EUR  equity:conversion:$-EUR:EUR\n",
         ),
     ];
-    for (journals, answers, balances) in rows {
-        assert_imported(&rt, journals, answers, balances)?;
-    }
-    Ok(())
+    assert_all_imported(&rt, &rows)
 }
 
 /// Under a commodity with a symbol that is not ASCII.
@@ -222,10 +216,7 @@ fn a_leg_and_a_turnover_have_limits(rt: HostRuntime) -> Result<(), Fail> {
             "25,000,000,000,000.02 EUR  a:x\n              $-2.00  a:y\n               $2.00  equity:conversion:$-EUR:$\n-25,000,000,000,000.02 EUR  equity:conversion:$-EUR:EUR\n",
         ),
     ];
-    for (journals, answers, balances) in rows {
-        assert_imported(&rt, journals, answers, balances)?;
-    }
-    Ok(())
+    assert_all_imported(&rt, &rows)
 }
 
 /// A journal of that many lines between two texts.

@@ -1,6 +1,6 @@
 //! Marks, repeats and locks of journals that are imported.
 
-use super::{FIRST_DAY, assert_answered, assert_imported};
+use super::{FIRST_DAY, assert_all_answered, assert_all_imported, assert_answered};
 use std::test::Fail;
 
 const HALL: &str = "2024-01-05 hall\n    expenses:hall  120.00 EUR\n    assets:bank  -120.00 EUR\n";
@@ -103,10 +103,7 @@ fn a_transaction_is_taken_once(rt: HostRuntime) -> Result<(), Fail> {
             "            3.00 EUR  a:x\n           -3.00 EUR  a:y\n",
         ),
     ];
-    for (journals, answers, balances) in rows {
-        assert_imported(&rt, journals, answers, balances)?;
-    }
-    Ok(())
+    assert_all_imported(&rt, &rows)
 }
 
 /// Behind the first day: an entry of north through the lock day, and one behind it.
@@ -175,8 +172,5 @@ fn a_locked_day_takes_no_entries(rt: HostRuntime) -> Result<(), Fail> {
             "ok 1 new, 0 repeated\nok\nrefused 24 MarkClash\nrefused 25 ReservedMark\nrefused 26 ReservedAccount\nrefused 27 Locked\nok 1 new, 1 repeated\n",
         ),
     ];
-    for (requests, answers) in rows {
-        assert_answered(&rt, requests, answers)?;
-    }
-    Ok(())
+    assert_all_answered(&rt, &rows)
 }
