@@ -6,7 +6,30 @@ use crate::{
     is_description, is_remark, is_reserved, kind, print_comment, print_date, print_header,
     read_date, read_header, tags,
 };
+use std::alloc::Global;
+use std::process::Abort;
 use std::test::Fail;
+
+/// The lines of a text, each with its number.
+fn lines_of(alloc: Global, text: &[u8]) -> Result<Vec<u8>, Fail> {
+    let mut seen = Vec::new(alloc);
+    for (number, line) in Lines::new(text) {
+        seen.extend_from_slice(number.to_string(alloc)?.as_bytes())?;
+        seen.push(b':')?;
+        seen.extend_from_slice(line)?;
+        seen.push(b'|')?;
+    }
+    Ok(seen)
+}
+
+/// Asserts the lines of each text.
+fn assert_lines(rt: &impl Abort, alloc: Global, rows: &[(&str, &str)]) -> Result<(), Fail> {
+    for (text, expected) in rows {
+        let seen = lines_of(alloc, text.as_bytes())?;
+        assert_eq!(rt; seen.as_slice(), expected.as_bytes(), "{text:?}");
+    }
+    Ok(())
+}
 
 #[test]
 fn a_line_ends_at_lf_with_one_cr_before_it(rt: HostRuntime) -> Result<(), Fail> {
@@ -21,17 +44,14 @@ fn a_line_ends_at_lf_with_one_cr_before_it(rt: HostRuntime) -> Result<(), Fail> 
         ("a\nb", "1:a|2:b|"),
         ("\n\nc", "1:|2:|3:c|"),
     ];
-    for (text, expected) in rows {
-        let mut seen = Vec::new(rt.alloc());
-        for (number, line) in Lines::new(text.as_bytes()) {
-            seen.extend_from_slice(number.to_string(rt.alloc())?.as_bytes())?;
-            seen.push(b':')?;
-            seen.extend_from_slice(line)?;
-            seen.push(b'|')?;
-        }
-        assert_eq!(rt; seen.as_slice(), expected.as_bytes(), "{text:?}");
+    assert_lines(&rt, rt.alloc(), &rows)
+}
+
+/// Asserts the kind of each line.
+fn assert_kinds(rt: &impl Abort, rows: &[(&str, LineKind)]) {
+    for (line, expected) in rows {
+        assert_eq!(rt; kind(line.as_bytes()), *expected, "{line:?}");
     }
-    Ok(())
 }
 
 #[test]
@@ -58,11 +78,16 @@ fn a_line_is_told_by_its_first_byte_or_word(rt: HostRuntime) {
         ("Price", LineKind::Unknown),
         ("include other.journal", LineKind::Unknown),
     ];
-    for (line, expected) in rows {
-        assert_eq!(rt; kind(line.as_bytes()), expected, "{line:?}");
-    }
+    assert_kinds(&rt, &rows);
     assert!(rt; is_block_end(b"end comment \t"));
     assert!(rt; !is_block_end(b"end comments"));
+}
+
+/// Asserts the day that each text is.
+fn assert_dates(rt: &impl Abort, rows: &[(&str, Option<Day>)]) {
+    for (text, expected) in rows {
+        assert_eq!(rt; read_date(text.as_bytes()), *expected, "{text:?}");
+    }
 }
 
 #[test]
@@ -87,31 +112,46 @@ fn a_date_is_read_in_three_spellings(rt: HostRuntime) {
         ("2024-01-05 ", None),
         ("", None),
     ];
-    for (text, expected) in rows {
-        assert_eq!(rt; read_date(text.as_bytes()), expected, "{text:?}");
+    assert_dates(&rt, &rows);
+}
+
+/// Asserts how the day is printed behind a `>`.
+fn assert_date_printed(
+    rt: &impl Abort,
+    alloc: Global,
+    day: Day,
+    expected: &str,
+) -> Result<(), Fail> {
+    let mut out = Vec::from_slice(alloc, b">")?;
+    if is_day_number(day) {
+        assert!(rt; print_date(alloc, day, &mut out) == Ok(()));
     }
+    assert_eq!(rt; out.as_slice(), expected.as_bytes());
+    Ok(())
 }
 
 #[test]
 fn a_date_is_printed_in_ten_bytes(rt: HostRuntime) -> Result<(), Fail> {
     let rows = [
-        (Day(19727), "2024-01-05"),
-        (Day(0), "1970-01-01"),
-        (Day(-719_162), "0001-01-01"),
-        (Day(2_932_896), "9999-12-31"),
+        (Day(19727), ">2024-01-05"),
+        (Day(0), ">1970-01-01"),
+        (Day(-719_162), ">0001-01-01"),
+        (Day(2_932_896), ">9999-12-31"),
     ];
     for (day, expected) in rows {
-        let mut out = Vec::new(rt.alloc());
-        out.push(b'>')?;
-        if is_day_number(day) {
-            let printed = print_date(rt.alloc(), day, &mut out);
-            assert!(rt; printed == Ok(()));
-        }
-        assert_eq!(rt; &out.as_slice()[1..], expected.as_bytes());
+        assert_date_printed(&rt, rt.alloc(), day, expected)?;
     }
     assert!(rt; !is_day_number(Day(-719_163)));
     assert!(rt; !is_day_number(Day(2_932_897)));
     Ok(())
+}
+
+/// The bytes of a text that may be absent.
+fn bytes_of(text: Option<&str>) -> Option<&[u8]> {
+    match text {
+        Some(text) => Some(text.as_bytes()),
+        None => None,
+    }
 }
 
 /// The header of 2024-01-05 with these parts.
@@ -124,9 +164,16 @@ fn header<'a>(
     Header {
         day: Day(19727),
         status,
-        code: code.map(|text| text.as_bytes()),
+        code: bytes_of(code),
         description: description.as_bytes(),
-        comment: comment.map(|text| text.as_bytes()),
+        comment: bytes_of(comment),
+    }
+}
+
+/// Asserts the header that each line is.
+fn assert_headers(rt: &impl Abort, rows: &[(&str, Header<'_>)]) {
+    for (line, expected) in rows {
+        assert_eq!(rt; read_header(line.as_bytes()), Ok(*expected), "{line:?}");
     }
 }
 
@@ -169,8 +216,13 @@ fn a_header_has_a_date_and_four_optional_parts(rt: HostRuntime) {
         ("2024-01-05 * ! x", header(cleared, None, "! x", None)),
         ("2024-01-05 (a) * x", header(None, Some("a"), "* x", None)),
     ];
-    for (line, expected) in rows {
-        assert_eq!(rt; read_header(line.as_bytes()), Ok(expected), "{line:?}");
+    assert_headers(&rt, &rows);
+}
+
+/// Asserts the first fault of each line.
+fn assert_no_headers(rt: &impl Abort, rows: &[(&str, Cause)]) {
+    for (line, cause) in rows {
+        assert_eq!(rt; read_header(line.as_bytes()), Err(*cause), "{line:?}");
     }
 }
 
@@ -185,9 +237,15 @@ fn a_header_is_refused_by_its_first_fault(rt: HostRuntime) {
         ("2024-01-05 (x", Cause::Header),
         ("2024-01-05 (x ; )", Cause::Header),
     ];
-    for (line, cause) in rows {
-        assert_eq!(rt; read_header(line.as_bytes()), Err(cause), "{line:?}");
-    }
+    assert_no_headers(&rt, &rows);
+}
+
+/// So many letters between two texts.
+fn line_with(alloc: Global, front: &str, count: usize, behind: &str) -> Result<Vec<u8>, Fail> {
+    let mut line = Vec::from_slice(alloc, front.as_bytes())?;
+    line.extend_from_slice(vec![in alloc; b'a'; count]?.as_slice())?;
+    line.extend_from_slice(behind.as_bytes())?;
+    Ok(line)
 }
 
 #[test]
@@ -200,19 +258,27 @@ fn the_parts_of_a_header_have_limits(rt: HostRuntime) -> Result<(), Fail> {
         ("2024-13-05 (x ; ", 900, "", true),
     ];
     for (front, most, behind, has_fault) in rows {
-        for count in [most, most + 1] {
-            let mut line = Vec::from_slice(rt.alloc(), front.as_bytes())?;
-            line.extend_from_slice(vec![in rt.alloc(); b'a'; count]?.as_slice())?;
-            line.extend_from_slice(behind.as_bytes())?;
-            let read = read_header(line.as_slice());
-            if count > most {
-                assert_eq!(rt; read.err(), Some(Cause::TooLong), "{front:?}");
-            } else {
-                assert_eq!(rt; read.is_err(), has_fault, "{front:?}");
-            }
-        }
+        let line = line_with(rt.alloc(), front, most, behind)?;
+        assert_eq!(rt;
+            read_header(line.as_slice()).is_err(),
+            has_fault,
+            "{front:?}"
+        );
+        let line = line_with(rt.alloc(), front, most + 1, behind)?;
+        assert_eq!(rt;
+            read_header(line.as_slice()),
+            Err(Cause::TooLong),
+            "{front:?}"
+        );
     }
     Ok(())
+}
+
+/// Asserts of each text whether it is an account name.
+fn assert_accounts(rt: &impl Abort, rows: &[(&str, bool)]) {
+    for (name, expected) in rows {
+        assert_eq!(rt; is_account(name.as_bytes()), *expected, "{name:?}");
+    }
 }
 
 #[test]
@@ -237,12 +303,17 @@ fn an_account_name_is_well_formed(rt: HostRuntime) -> Result<(), Fail> {
         ("(a)", false),
         ("[a]", false),
     ];
-    for (name, expected) in rows {
-        assert_eq!(rt; is_account(name.as_bytes()), expected, "{name:?}");
-    }
+    assert_accounts(&rt, &rows);
     assert!(rt; is_account(vec![in rt.alloc(); b'a'; 200]?.as_slice()));
     assert!(rt; !is_account(vec![in rt.alloc(); b'a'; 201]?.as_slice()));
     Ok(())
+}
+
+/// Asserts of each account whether it is reserved.
+fn assert_reserved(rt: &impl Abort, rows: &[(&str, bool)]) {
+    for (account, expected) in rows {
+        assert_eq!(rt; is_reserved(account.as_bytes()), *expected, "{account:?}");
+    }
 }
 
 #[test]
@@ -255,9 +326,28 @@ fn the_transit_account_and_those_below_are_reserved(rt: HostRuntime) {
         ("Assets:transit", false),
         ("x:assets:transit", false),
     ];
-    for (account, expected) in rows {
-        assert_eq!(rt; is_reserved(account.as_bytes()), expected, "{account:?}");
+    assert_reserved(&rt, &rows);
+}
+
+/// The tags of a comment.
+fn tags_of(alloc: Global, comment: &[u8]) -> Result<Vec<u8>, Fail> {
+    let mut seen = Vec::new(alloc);
+    for (name, value) in tags(comment) {
+        seen.extend_from_slice(name)?;
+        seen.push(b'=')?;
+        seen.extend_from_slice(value)?;
+        seen.push(b'|')?;
     }
+    Ok(seen)
+}
+
+/// Asserts the tags of each comment.
+fn assert_tags(rt: &impl Abort, alloc: Global, rows: &[(&str, &str)]) -> Result<(), Fail> {
+    for (comment, expected) in rows {
+        let seen = tags_of(alloc, comment.as_bytes())?;
+        assert_eq!(rt; seen.as_slice(), expected.as_bytes(), "{comment:?}");
+    }
+    Ok(())
 }
 
 #[test]
@@ -273,17 +363,7 @@ fn a_tag_is_a_word_before_a_colon(rt: HostRuntime) -> Result<(), Fail> {
         ("x,y_1:\t2 ,", "y_1=2|"),
         ("", ""),
     ];
-    for (comment, expected) in rows {
-        let mut seen = Vec::new(rt.alloc());
-        for (name, value) in tags(comment.as_bytes()) {
-            seen.extend_from_slice(name)?;
-            seen.push(b'=')?;
-            seen.extend_from_slice(value)?;
-            seen.push(b'|')?;
-        }
-        assert_eq!(rt; seen.as_slice(), expected.as_bytes(), "{comment:?}");
-    }
-    Ok(())
+    assert_tags(&rt, rt.alloc(), &rows)
 }
 
 #[test]
@@ -311,6 +391,33 @@ fn measured(status: Option<Status>, code: Option<&[u8]>, description: &[u8]) -> 
     }
 }
 
+/// Asserts how a header is printed behind what was there, that it is so long, and that it reads back.
+fn assert_header_printed(
+    rt: &impl Abort,
+    alloc: Global,
+    parts: &Header<'_>,
+    expected: &str,
+) -> Result<(), Fail> {
+    let mut out = Vec::from_slice(alloc, b">")?;
+    if is_day_number(parts.day) {
+        let printed = print_header(
+            parts.day,
+            parts.status,
+            parts.code,
+            parts.description,
+            &mut out,
+        );
+        assert!(rt; printed == Ok(()));
+    }
+    assert!(rt; out.as_slice().strip_prefix(b">".as_slice()) == Some(expected.as_bytes()));
+    assert_eq!(rt;
+        measured(parts.status, parts.code, parts.description),
+        expected.len()
+    );
+    assert_eq!(rt; read_header(expected.as_bytes()), Ok(*parts));
+    Ok(())
+}
+
 #[test]
 fn a_header_is_printed_as_it_reads(rt: HostRuntime) -> Result<(), Fail> {
     let rows = [
@@ -327,24 +434,23 @@ fn a_header_is_printed_as_it_reads(rt: HostRuntime) -> Result<(), Fail> {
     ];
     for (status, code, description, expected) in rows {
         let parts = header(status, code, description, None);
-        let mut out = Vec::from_slice(rt.alloc(), b">")?;
-        if is_day_number(parts.day) {
-            let printed = print_header(
-                parts.day,
-                parts.status,
-                parts.code,
-                parts.description,
-                &mut out,
-            );
-            assert!(rt; printed == Ok(()));
-        }
-        assert_eq!(rt; &out.as_slice()[1..], expected.as_bytes());
-        assert_eq!(rt;
-            measured(parts.status, parts.code, parts.description),
-            expected.len()
-        );
-        assert_eq!(rt; read_header(expected.as_bytes()), Ok(parts));
+        assert_header_printed(&rt, rt.alloc(), &parts, expected)?;
     }
+    Ok(())
+}
+
+/// Asserts how a comment is printed behind what was there, that it is so long, and that it reads back.
+fn assert_comment_printed(
+    rt: &impl Abort,
+    alloc: Global,
+    text: &[u8],
+    expected: &[u8],
+) -> Result<(), Fail> {
+    let mut out = Vec::from_slice(alloc, b">")?;
+    assert!(rt; print_comment(text, &mut out) == Ok(()));
+    assert!(rt; out.as_slice().strip_prefix(b">".as_slice()) == Some(expected));
+    assert_eq!(rt; comment_len(text), expected.len());
+    assert_eq!(rt; comment_of(expected), Some(text));
     Ok(())
 }
 
@@ -356,14 +462,19 @@ fn a_comment_is_printed_as_it_reads(rt: HostRuntime) -> Result<(), Fail> {
         ("a ; b:c", "    ; a ; b:c"),
     ];
     for (text, expected) in rows {
-        let mut out = Vec::from_slice(rt.alloc(), b">")?;
-        let printed = print_comment(text.as_bytes(), &mut out);
-        assert!(rt; printed == Ok(()));
-        assert_eq!(rt; &out.as_slice()[1..], expected.as_bytes());
-        assert_eq!(rt; comment_len(text.as_bytes()), expected.len());
-        assert_eq!(rt; comment_of(expected.as_bytes()), Some(text.as_bytes()));
+        assert_comment_printed(&rt, rt.alloc(), text.as_bytes(), expected.as_bytes())?;
     }
     Ok(())
+}
+
+/// Asserts of each text whether it is a comment, a code, a description.
+fn assert_tests(rt: &impl Abort, rows: &[(&str, bool, bool, bool)]) {
+    for (text, comment, code, description) in rows {
+        let bytes = text.as_bytes();
+        assert_eq!(rt; is_comment(bytes), *comment, "{text:?}");
+        assert_eq!(rt; is_code(Some(bytes)), *code, "{text:?}");
+        assert_eq!(rt; is_description(None, None, bytes), *description, "{text:?}");
+    }
 }
 
 #[test]
@@ -379,12 +490,7 @@ fn texts_that_read_back_pass_their_tests(rt: HostRuntime) -> Result<(), Fail> {
         ("x\ty", true, true, true),
         ("x\u{7f}", false, false, false),
     ];
-    for (text, comment, code, description) in rows {
-        let bytes = text.as_bytes();
-        assert_eq!(rt; is_comment(bytes), comment, "{text:?}");
-        assert_eq!(rt; is_code(Some(bytes)), code, "{text:?}");
-        assert_eq!(rt; is_description(None, None, bytes), description, "{text:?}");
-    }
+    assert_tests(&rt, &rows);
     assert!(rt; is_description(Some(Status::Cleared), None, b"* x"));
     assert!(rt; is_description(None, Some(b"a"), b"(x"));
     assert!(rt; is_clean(b"a\tb"));

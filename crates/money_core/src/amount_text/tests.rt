@@ -7,6 +7,7 @@ use crate::reading::read_amount;
 use crate::styles::Styles;
 use crate::unit::Unit;
 use std::alloc::Global;
+use std::process::Abort;
 
 /// A line of what the text is read as and printed as, behind what the vector holds.
 fn reprint(alloc: Global, text: &str, styles: &Styles, out: &mut Vec<u8>) -> Result<(), Cause> {
@@ -18,11 +19,27 @@ fn reprint(alloc: Global, text: &str, styles: &Styles, out: &mut Vec<u8>) -> Res
     print_amount(alloc, unit, quantity, styles, out)
 }
 
-// (as it is written, as it is printed)
+/// Asserts that the text is printed so, and that both read as the same amount.
+fn assert_printed(rt: &impl Abort, alloc: Global, styles: &Styles, text: &str, printed: &str) {
+    let mut out = Vec::new(alloc);
+    assert_eq!(rt; reprint(alloc, text, styles, &mut out), Ok(()), "{text}");
+    assert_eq!(rt; out.as_slice(), printed.as_bytes(), "{text}");
+    assert!(rt;
+        read_amount(printed, styles) == read_amount(text, styles),
+        "{text}"
+    );
+}
+
+/// Asserts it of each row: as it is written, as it is printed.
+fn assert_all_printed(rt: &impl Abort, alloc: Global, rows: &[(&str, &str)]) {
+    let styles = declared_styles(rt, alloc);
+    for (text, printed) in rows {
+        assert_printed(rt, alloc, &styles, *text, *printed);
+    }
+}
+
 #[test]
 fn an_amount_is_printed_in_its_commoditys_style(rt: HostRuntime) {
-    let alloc = rt.alloc();
-    let styles = declared_styles(&rt, alloc);
     let rows = [
         ("1000 EUR", "1,000.00 EUR"),
         ("-70.00 EUR", "-70.00 EUR"),
@@ -47,15 +64,7 @@ fn an_amount_is_printed_in_its_commoditys_style(rt: HostRuntime) {
         ("CHF 1.234,5", "CHF 1.234,500000"),
         ("-0,000001CHF", "CHF -0,000001"),
     ];
-    for (text, printed) in rows {
-        let mut out = Vec::new(alloc);
-        assert_eq!(rt; reprint(alloc, text, &styles, &mut out), Ok(()), "{text}");
-        assert_eq!(rt; out.as_slice(), printed.as_bytes(), "{text}");
-        assert!(rt;
-            read_amount(printed, &styles) == read_amount(text, &styles),
-            "{text}"
-        );
-    }
+    assert_all_printed(&rt, rt.alloc(), &rows);
 }
 
 #[test]

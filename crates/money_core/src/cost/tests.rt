@@ -7,6 +7,8 @@ use crate::fixture::declared_styles;
 use crate::price_text::read_price;
 use crate::reading::read_amount;
 use crate::styles::Styles;
+use std::alloc::Global;
+use std::process::Abort;
 
 /// What the amount costs at the price, both as they are written.
 fn cost(amount: &str, price: &str, styles: &Styles) -> Result<i64, Cause> {
@@ -22,10 +24,16 @@ fn cost(amount: &str, price: &str, styles: &Styles) -> Result<i64, Cause> {
     cost_of(quantity, unit, &price, styles)
 }
 
-// (amount, price, its cost in smallest units)
+/// Asserts the cost of each row: an amount, a price, what it costs in smallest units.
+fn assert_costs(rt: &impl Abort, alloc: Global, rows: &[(&str, &str, Result<i64, Cause>)]) {
+    let styles = declared_styles(rt, alloc);
+    for (amount, price, wanted) in rows {
+        assert_eq!(rt; cost(*amount, *price, &styles), *wanted, "{amount} {price}");
+    }
+}
+
 #[test]
 fn a_cost_is_exact_or_refused(rt: HostRuntime) {
-    let styles = declared_styles(&rt, rt.alloc());
     let rows = [
         ("€100", "@ $1.35", Ok(13_500)),
         ("€-100", "@ $1.35", Ok(-13_500)),
@@ -54,14 +62,11 @@ fn a_cost_is_exact_or_refused(rt: HostRuntime) {
             Err(Cause::CostNotExact),
         ),
     ];
-    for (amount, price, wanted) in rows {
-        assert_eq!(rt; cost(amount, price, &styles), wanted, "{amount} {price}");
-    }
+    assert_costs(&rt, rt.alloc(), &rows);
 }
 
 #[test]
 fn a_cost_over_the_limit_is_refused_before_a_rest(rt: HostRuntime) {
-    let styles = declared_styles(&rt, rt.alloc());
     let rows = [
         (
             "10000000000000000 JPY",
@@ -105,7 +110,5 @@ fn a_cost_over_the_limit_is_refused_before_a_rest(rt: HostRuntime) {
             Ok(10_000_000_000_000_000),
         ),
     ];
-    for (amount, price, wanted) in rows {
-        assert_eq!(rt; cost(amount, price, &styles), wanted, "{amount} {price}");
-    }
+    assert_costs(&rt, rt.alloc(), &rows);
 }

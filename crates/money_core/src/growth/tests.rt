@@ -4,7 +4,19 @@ use crate::fixture::declared_styles;
 use crate::growth::growth_law;
 use crate::reading::read_amount;
 use crate::sample::read_style;
+use crate::styles::Styles;
 use crate::unit::Unit;
+use std::process::Abort;
+
+/// Asserts what each text is read as.
+fn assert_read(rt: &impl Abort, styles: &Styles, rows: &[(&str, Unit, i64)]) {
+    for (text, unit, quantity) in rows {
+        assert!(rt;
+            read_amount(*text, styles) == Ok((*unit, *quantity)),
+            "{text}"
+        );
+    }
+}
 
 #[test]
 fn an_amount_is_read_the_same_under_more_commodities(rt: HostRuntime) {
@@ -14,20 +26,10 @@ fn an_amount_is_read_the_same_under_more_commodities(rt: HostRuntime) {
         ("1,234.50 EUR", Unit(0), 123_450),
         ("CHF -1", Unit(5), -1_000_000),
     ];
-    for (text, unit, quantity) in rows {
-        assert!(rt;
-            read_amount(text, &styles) == Ok((unit, quantity)),
-            "{text}"
-        );
-    }
+    assert_read(&rt, &styles, &rows);
     assert_eq!(rt; styles.len(), 6);
     let style = read_style(rt.alloc(), "1.0 GBP").expect(&rt, "a sample");
     assert!(rt; styles.declare(style).is_ok());
     assert_eq!(rt; styles.len(), 7);
-    for (text, unit, quantity) in rows {
-        assert!(rt;
-            read_amount(text, &styles) == Ok((unit, quantity)),
-            "{text}"
-        );
-    }
+    assert_read(&rt, &styles, &rows);
 }

@@ -4,38 +4,51 @@ use crate::cause::Cause;
 use crate::items::{Copied, Items};
 use crate::text::Text;
 use std::alloc::Global;
+use std::process::Abort;
 
-/// A list of the given texts and its copy.
-fn two_lists<T: Copied>(alloc: Global, items: Vec<T>) -> Result<(Items<T>, Items<T>), Cause> {
+/// An equal value, through the bound.
+fn copied<T: Copied>(item: &T) -> Result<T, Cause> {
+    item.copy()
+}
+
+/// A list of the texts.
+fn list_of(rt: &impl Abort, alloc: Global, words: &[&str]) -> Items<Text> {
     let mut list = Items::empty(alloc);
-    for item in items {
-        list.push(item)?;
+    for word in words {
+        let text = Text::of(alloc, *word).expect(rt, "memory");
+        list.push(text).expect(rt, "memory");
     }
-    let copy = list.copy()?;
-    Ok((list, copy))
+    list
+}
+
+/// Asserts that a text holds the word, and its copy, and one of a string.
+fn assert_text(rt: &impl Abort, alloc: Global, word: &str) {
+    let text = Text::of(alloc, word).expect(rt, "memory");
+    let copy = copied(&text).expect(rt, "memory");
+    assert_eq!(rt; copy.as_str(), word);
+    copy.is_text();
+    let string = String::from_str(alloc, word).expect(rt, "memory");
+    assert_eq!(rt; Text::from_string(string).as_str(), word);
+}
+
+/// Asserts that the texts are the words.
+fn assert_words(rt: &impl Abort, texts: &[Text], words: &[&str]) {
+    assert_eq!(rt; texts.len(), words.len());
+    for (text, word) in texts.iter().zip(words) {
+        assert_eq!(rt; text.as_str(), *word);
+    }
 }
 
 #[test]
 fn a_copy_holds_equal_items_in_order(rt: HostRuntime) {
     let alloc = rt.alloc();
-    let mut texts = Vec::new(alloc);
-    for word in ["assets", "", "€", "assets"] {
-        let text = Text::of(alloc, word).expect(&rt, "memory");
-        let copy = text.copy().expect(&rt, "memory");
-        assert_eq!(rt; copy.as_str(), word);
-        copy.is_text();
-        let string = String::from_str(alloc, word).expect(&rt, "memory");
-        assert_eq!(rt; Text::from_string(string).as_str(), word);
-        texts.push(text).expect(&rt, "memory");
-    }
-    let (list, copy) = two_lists(alloc, texts).expect(&rt, "memory");
     let words = ["assets", "", "€", "assets"];
-    assert_eq!(rt; list.items().len(), words.len());
-    assert_eq!(rt; copy.items().len(), words.len());
-    for (item, word) in list.items().iter().zip(words) {
-        assert_eq!(rt; item.as_str(), word);
+    for word in words {
+        assert_text(&rt, alloc, word);
     }
-    for (item, word) in copy.into_vec().iter().zip(words) {
-        assert_eq!(rt; item.as_str(), word);
-    }
+    let list = list_of(&rt, alloc, &words);
+    let copy = copied(&list).expect(&rt, "memory");
+    assert_words(&rt, list.items(), &words);
+    assert_words(&rt, copy.items(), &words);
+    assert_words(&rt, copy.into_vec().as_slice(), &words);
 }

@@ -5,11 +5,34 @@ use crate::fixture::declared_styles;
 use crate::length::{amount_len, price_len};
 use crate::price::{Price, is_price};
 use crate::unit::Unit;
+use std::alloc::Global;
+use std::process::Abort;
+
+/// Asserts the length of each amount: its commodity's number, its quantity, the length.
+fn assert_amount_lens(rt: &impl Abort, alloc: Global, rows: &[(u16, i64, usize)]) {
+    let styles = declared_styles(rt, alloc);
+    for (unit, quantity, wanted) in rows {
+        assert!(rt; is_declared(Unit(*unit), *quantity, &styles));
+        assert_eq!(rt;
+            amount_len(Unit(*unit), *quantity, &styles),
+            *wanted,
+            "{unit} {quantity}"
+        );
+    }
+}
+
+/// Asserts the length of each price.
+fn assert_price_lens(rt: &impl Abort, alloc: Global, rows: &[(Price, usize)]) {
+    let styles = declared_styles(rt, alloc);
+    for (price, wanted) in rows {
+        assert!(rt; is_price(price, &styles));
+        assert_eq!(rt; price_len(price, &styles), *wanted, "{price:?}");
+    }
+}
 
 // Texts such as `-1,234.50 EUR`, `1,000. JPY`, `-1000 "kg2"` and `CHF -0,000001`.
 #[test]
 fn an_amount_is_as_long_as_its_text(rt: HostRuntime) {
-    let styles = declared_styles(&rt, rt.alloc());
     let rows = [
         (0, 0, 8),
         (0, -123_450, 13),
@@ -22,20 +45,12 @@ fn an_amount_is_as_long_as_its_text(rt: HostRuntime) {
         (0, -10_000_000_000_000_000, 27),
         (4, 10_000_000_000_000_000, 23),
     ];
-    for (unit, quantity, wanted) in rows {
-        assert!(rt; is_declared(Unit(unit), quantity, &styles));
-        assert_eq!(rt;
-            amount_len(Unit(unit), quantity, &styles),
-            wanted,
-            "{unit} {quantity}"
-        );
-    }
+    assert_amount_lens(&rt, rt.alloc(), &rows);
 }
 
 // `@ 1.10 EUR`, `@ 0.000000000001 EUR`, `@@ 1,000.00 EUR`, `@@ 7 "kg2"`.
 #[test]
 fn a_price_is_as_long_as_its_text(rt: HostRuntime) {
-    let styles = declared_styles(&rt, rt.alloc());
     let rows = [
         (
             Price::Each {
@@ -68,8 +83,5 @@ fn a_price_is_as_long_as_its_text(rt: HostRuntime) {
             10,
         ),
     ];
-    for (price, wanted) in rows {
-        assert!(rt; is_price(&price, &styles));
-        assert_eq!(rt; price_len(&price, &styles), wanted, "{price:?}");
-    }
+    assert_price_lens(&rt, rt.alloc(), &rows);
 }

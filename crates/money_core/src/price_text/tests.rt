@@ -8,6 +8,7 @@ use crate::price_text::{print_price, read_price};
 use crate::styles::Styles;
 use crate::unit::Unit;
 use std::alloc::Global;
+use std::process::Abort;
 
 fn each(unit: u16, digits: u64, decimals: u8) -> Result<Price, Cause> {
     Ok(Price::Each {
@@ -24,9 +25,16 @@ fn total(unit: u16, quantity: u64) -> Result<Price, Cause> {
     })
 }
 
+/// Asserts what each text is read as.
+fn assert_read(rt: &impl Abort, alloc: Global, rows: &[(&str, Result<Price, Cause>)]) {
+    let styles = declared_styles(rt, alloc);
+    for (text, wanted) in rows {
+        assert_eq!(rt; read_price(*text, &styles), *wanted, "{text}");
+    }
+}
+
 #[test]
 fn a_unit_cost_is_kept_without_zeros_at_its_end(rt: HostRuntime) {
-    let styles = declared_styles(&rt, rt.alloc());
     let rows = [
         ("@ $1.35", each(1, 135, 2)),
         ("@$1.3", each(1, 130, 2)),
@@ -56,14 +64,11 @@ fn a_unit_cost_is_kept_without_zeros_at_its_end(rt: HostRuntime) {
         ("@ $1 ", Err(Cause::Amount)),
         ("@ @ $1", Err(Cause::Amount)),
     ];
-    for (text, wanted) in rows {
-        assert_eq!(rt; read_price(text, &styles), wanted, "{text}");
-    }
+    assert_read(&rt, rt.alloc(), &rows);
 }
 
 #[test]
 fn a_total_cost_has_the_declared_decimals(rt: HostRuntime) {
-    let styles = declared_styles(&rt, rt.alloc());
     let rows = [
         ("@@ $0", total(1, 0)),
         ("@@ $-0.00", total(1, 0)),
@@ -78,9 +83,7 @@ fn a_total_cost_has_the_declared_decimals(rt: HostRuntime) {
         ("@@@ $1", Err(Cause::Amount)),
         ("@@", Err(Cause::Amount)),
     ];
-    for (text, wanted) in rows {
-        assert_eq!(rt; read_price(text, &styles), wanted, "{text}");
-    }
+    assert_read(&rt, rt.alloc(), &rows);
 }
 
 /// Appends the price that the text is.
@@ -92,11 +95,30 @@ fn reprint(alloc: Global, text: &str, styles: &Styles, out: &mut Vec<u8>) -> Res
     print_price(alloc, &price, styles, out)
 }
 
-// (as it is written, as it is printed)
+/// Asserts that the text is printed so, and that both read as the same price.
+fn assert_printed(rt: &impl Abort, alloc: Global, styles: &Styles, text: &str, printed: &str) {
+    let mut out = Vec::new(alloc);
+    assert_eq!(rt; reprint(alloc, text, styles, &mut out), Ok(()), "{text}");
+    assert_eq!(rt; out.as_slice(), printed.as_bytes(), "{text}");
+    assert!(rt;
+        read_price(printed, styles) == read_price(text, styles),
+        "{text}"
+    );
+}
+
+/// Asserts it of each row: as it is written, as it is printed; the texts, one behind the other, begin as given.
+fn assert_all_printed(rt: &impl Abort, alloc: Global, rows: &[(&str, &str)], begin: &[u8]) {
+    let styles = declared_styles(rt, alloc);
+    let mut all = Vec::new(alloc);
+    for (text, printed) in rows {
+        assert_printed(rt, alloc, &styles, *text, *printed);
+        assert_eq!(rt; reprint(alloc, *text, &styles, &mut all), Ok(()), "{text}");
+    }
+    assert!(rt; all.as_slice().starts_with(begin));
+}
+
 #[test]
 fn a_price_is_printed_in_its_commoditys_style(rt: HostRuntime) {
-    let alloc = rt.alloc();
-    let styles = declared_styles(&rt, alloc);
     let rows = [
         ("@$1.35", "@ $1.35"),
         ("@ 1.3500 $", "@ $1.35"),
@@ -111,21 +133,7 @@ fn a_price_is_printed_in_its_commoditys_style(rt: HostRuntime) {
         ("@@ 1000 JPY", "@@ 1,000. JPY"),
         ("@@ CHF 1000", "@@ CHF 1.000,000000"),
     ];
-    let mut all = Vec::new(alloc);
-    for (text, printed) in rows {
-        let mut out = Vec::new(alloc);
-        assert_eq!(rt; reprint(alloc, text, &styles, &mut out), Ok(()), "{text}");
-        assert_eq!(rt; out.as_slice(), printed.as_bytes(), "{text}");
-        assert!(rt;
-            read_price(printed, &styles) == read_price(text, &styles),
-            "{text}"
-        );
-        assert_eq!(rt; reprint(alloc, text, &styles, &mut all), Ok(()), "{text}");
-    }
-    assert!(rt;
-        all.as_slice()
-            .starts_with(b"@ $1.35@ $1.35@ $1.3456".as_slice())
-    );
+    assert_all_printed(&rt, rt.alloc(), &rows, b"@ $1.35@ $1.35@ $1.3456");
 }
 
 /// The copy of an item, through the bound.
@@ -133,9 +141,18 @@ fn copy_of<T: Copied>(item: &T) -> Result<T, Cause> {
     item.copy()
 }
 
+/// Asserts of each whether it is a price, and that its copy is equal.
+fn assert_are_prices(rt: &impl Abort, alloc: Global, rows: &[(Result<Price, Cause>, bool)]) {
+    let styles = declared_styles(rt, alloc);
+    for (price, wanted) in rows {
+        let price = (*price).expect(rt, "a price");
+        assert_eq!(rt; is_price(&price, &styles), *wanted, "{price:?}");
+        assert_eq!(rt; copy_of(&price), Ok(price));
+    }
+}
+
 #[test]
 fn a_price_of_no_text_is_none(rt: HostRuntime) {
-    let styles = declared_styles(&rt, rt.alloc());
     let rows = [
         (each(1, 135, 2), true),
         (each(1, 1350, 3), false),
@@ -147,9 +164,5 @@ fn a_price_of_no_text_is_none(rt: HostRuntime) {
         (total(3, 10_000_000_000_000_001), false),
         (each(6, 1, 2), false),
     ];
-    for (price, wanted) in rows {
-        let price = price.expect(&rt, "a price");
-        assert_eq!(rt; is_price(&price, &styles), wanted, "{price:?}");
-        assert_eq!(rt; copy_of(&price), Ok(price));
-    }
+    assert_are_prices(&rt, rt.alloc(), &rows);
 }

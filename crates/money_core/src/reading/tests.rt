@@ -1,11 +1,11 @@
 //! Amounts under declared commodities, row by row.
 
 use crate::cause::Cause;
+use crate::fixture::declared;
 use crate::reading::read_amount;
-use crate::sample::read_style;
 use crate::styles::Styles;
 use crate::unit::Unit;
-use std::alloc::Global;
+use std::process::Abort;
 
 const EUR: Unit = Unit(0);
 
@@ -13,20 +13,18 @@ const DOLLAR: Unit = Unit(1);
 
 const KRONA: Unit = Unit(2);
 
-/// The commodities of these samples, in their order.
-fn declared(alloc: Global, samples: &[&str]) -> Result<Styles, Cause> {
-    let mut styles = Styles::empty(alloc);
-    for sample in samples {
-        styles.declare(read_style(alloc, sample)?)?;
+/// Asserts what each text is read as under these styles.
+fn assert_read(rt: &impl Abort, styles: &Styles, rows: &[(&str, Result<(Unit, i64), Cause>)]) {
+    for (text, wanted) in rows {
+        assert_eq!(rt; read_amount(*text, styles), *wanted, "{text}");
     }
-    Ok(styles)
 }
 
 // hledger manual, "Amounts", "Commodity", "Decimal marks, digit group marks".
 #[test]
 fn an_amount_has_a_quantity_or_a_first_fault(rt: HostRuntime) {
-    let styles = declared(rt.alloc(), &["1,000.00 EUR", "$1,000.00", "1.000,00 kr"]);
-    let styles = styles.expect(&rt, "three samples");
+    let samples = ["1,000.00 EUR", "$1,000.00", "1.000,00 kr"];
+    let styles = declared(&rt, rt.alloc(), &samples);
     let rows = [
         ("1.500 EUR", Ok((EUR, 150))),
         ("1.505 EUR", Err(Cause::Decimals)),
@@ -68,35 +66,36 @@ fn an_amount_has_a_quantity_or_a_first_fault(rt: HostRuntime) {
         ("\"\"1", Err(Cause::Amount)),
         ("1 \"a  b\"", Err(Cause::Amount)),
     ];
-    for (text, wanted) in rows {
-        assert_eq!(rt; read_amount(text, &styles), wanted, "{text}");
-    }
+    assert_read(&rt, &styles, &rows);
 }
 
-// A commodity that is not declared, and texts that are long or not ASCII.
+// A commodity that is not declared, and texts that are not ASCII.
 #[test]
 fn an_undeclared_symbol_is_named_where_the_form_is_right(rt: HostRuntime) {
     let styles = Styles::empty(rt.alloc());
     let rows = [
-        ("5 GBP", Cause::UnknownCommodity),
-        ("1.0,0 X", Cause::UnknownCommodity),
-        ("1,0.0 X", Cause::UnknownCommodity),
-        ("1.0,0.0 X", Cause::Amount),
-        ("1.23456789 X", Cause::UnknownCommodity),
-        ("1 ABCDEFGHIJKLMNOPQRSTUVWX", Cause::UnknownCommodity),
-        ("1 ABCDEFGHIJKLMNOPQRSTUVWXY", Cause::Amount),
-        ("€1", Cause::UnknownCommodity),
-        ("1 \"a b\"", Cause::UnknownCommodity),
-        ("1 \"a\u{a0}b\"", Cause::UnknownCommodity),
-        ("1 a\u{a0}b", Cause::Amount),
-        ("1 a\u{3000}b", Cause::Amount),
-        ("1 \" a\"", Cause::Amount),
-        ("1 \"a;b\"", Cause::Amount),
-        ("1 \"a\tb\"", Cause::Amount),
+        ("5 GBP", Err(Cause::UnknownCommodity)),
+        ("1.0,0 X", Err(Cause::UnknownCommodity)),
+        ("1,0.0 X", Err(Cause::UnknownCommodity)),
+        ("1.0,0.0 X", Err(Cause::Amount)),
+        ("1.23456789 X", Err(Cause::UnknownCommodity)),
+        ("1 ABCDEFGHIJKLMNOPQRSTUVWX", Err(Cause::UnknownCommodity)),
+        ("1 ABCDEFGHIJKLMNOPQRSTUVWXY", Err(Cause::Amount)),
+        ("€1", Err(Cause::UnknownCommodity)),
+        ("1 \"a b\"", Err(Cause::UnknownCommodity)),
+        ("1 \"a\u{a0}b\"", Err(Cause::UnknownCommodity)),
+        ("1 a\u{a0}b", Err(Cause::Amount)),
+        ("1 a\u{3000}b", Err(Cause::Amount)),
+        ("1 \" a\"", Err(Cause::Amount)),
+        ("1 \"a;b\"", Err(Cause::Amount)),
+        ("1 \"a\tb\"", Err(Cause::Amount)),
     ];
-    for (text, wanted) in rows {
-        assert_eq!(rt; read_amount(text, &styles), Err(wanted), "{text}");
-    }
+    assert_read(&rt, &styles, &rows);
+}
+
+#[test]
+fn a_number_may_be_long(rt: HostRuntime) {
+    let styles = Styles::empty(rt.alloc());
     let nines = [b'9'; 1000];
     let nines = std::str::from_utf8(&nines).expect(&rt, "digits");
     assert_eq!(rt; read_amount(nines, &styles), Err(Cause::Amount));
@@ -105,6 +104,6 @@ fn an_undeclared_symbol_is_named_where_the_form_is_right(rt: HostRuntime) {
         read_amount(nines.as_str(), &styles),
         Err(Cause::UnknownCommodity)
     );
-    let styles = declared(rt.alloc(), &["1.00 EUR"]).expect(&rt, "a sample");
+    let styles = declared(&rt, rt.alloc(), &["1.00 EUR"]);
     assert_eq!(rt; read_amount(nines.as_str(), &styles), Err(Cause::Amount));
 }

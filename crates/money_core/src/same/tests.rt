@@ -5,6 +5,7 @@ use crate::items::Items;
 use crate::same::Same;
 use crate::text::Text;
 use std::alloc::Global;
+use std::process::Abort;
 
 fn are_equal<T: Same>(x: &T, y: &T) -> bool {
     x.is_same(y)
@@ -19,9 +20,17 @@ fn list_of(alloc: Global, words: &[&str]) -> Result<Items<Text>, Cause> {
     Ok(list)
 }
 
+/// Asserts of each two lists whether they are equal.
+fn assert_same(rt: &impl Abort, alloc: Global, rows: &[(&[&str], &[&str], bool)]) {
+    for (words, others, want) in rows {
+        let list = list_of(alloc, *words).expect(rt, "memory");
+        let other = list_of(alloc, *others).expect(rt, "memory");
+        assert_eq!(rt; are_equal(&list, &other), *want, "{words:?} and {others:?}");
+    }
+}
+
 #[test]
 fn lists_are_equal_where_their_texts_are_in_one_order(rt: HostRuntime) {
-    let alloc = rt.alloc();
     let rows: [(&[&str], &[&str], bool); 7] = [
         (&[], &[], true),
         (&["assets", "€"], &["assets", "€"], true),
@@ -31,9 +40,5 @@ fn lists_are_equal_where_their_texts_are_in_one_order(rt: HostRuntime) {
         (&["assets"], &["Assets"], false),
         (&["assets"], &["asset"], false),
     ];
-    for (words, others, want) in rows {
-        let list = list_of(alloc, words).expect(&rt, "memory");
-        let other = list_of(alloc, others).expect(&rt, "memory");
-        assert_eq!(rt; are_equal(&list, &other), want, "{words:?} and {others:?}");
-    }
+    assert_same(&rt, rt.alloc(), &rows);
 }

@@ -1,8 +1,34 @@
 //! Samples, row by row.
 
 use crate::cause::Cause;
+use crate::fixture::{Fields, has_fields};
 use crate::mark::Mark;
 use crate::sample::read_style;
+use std::alloc::Global;
+use std::process::Abort;
+
+/// Whether the text is a sample of the style of these fields.
+fn is_spelled(alloc: Global, text: &str, wanted: Fields<'_>) -> bool {
+    match read_style(alloc, text) {
+        Ok(style) => has_fields(&style, wanted),
+        Err(_) => false,
+    }
+}
+
+/// Whether the text is refused with 8.
+fn is_refused(alloc: Global, text: &str) -> bool {
+    match read_style(alloc, text) {
+        Ok(_) => false,
+        Err(cause) => cause == Cause::Amount,
+    }
+}
+
+/// Asserts the style that each text is a sample of.
+fn assert_spelled(rt: &impl Abort, alloc: Global, rows: &[(&str, Fields<'_>)]) {
+    for (text, wanted) in rows {
+        assert!(rt; is_spelled(alloc, *text, *wanted), "{text}");
+    }
+}
 
 // hledger manual, "Commodity display style"; the decimal mark of a sample is an own rule.
 #[test]
@@ -48,16 +74,13 @@ fn a_sample_spells_one_style(rt: HostRuntime) {
             ("EUR", right, spaced, Mark::Point, 2, plain),
         ),
     ];
-    for (text, wanted) in rows {
-        let style = read_style(rt.alloc(), text).expect(&rt, text);
-        assert_eq!(rt; style.symbol.as_str(), wanted.0, "{text}");
-        assert_eq!(rt; (style.left, style.spaced), (wanted.1, wanted.2), "{text}");
-        assert_eq!(rt;
-            (style.mark, style.decimals),
-            (wanted.3, wanted.4),
-            "{text}"
-        );
-        assert_eq!(rt; style.grouped, wanted.5, "{text}");
+    assert_spelled(&rt, rt.alloc(), &rows);
+}
+
+/// Asserts that none of the texts is a sample.
+fn assert_refused(rt: &impl Abort, alloc: Global, rows: &[&str]) {
+    for text in rows {
+        assert!(rt; is_refused(alloc, *text), "{text}");
     }
 }
 
@@ -87,8 +110,5 @@ fn no_sample_is_refused(rt: HostRuntime) {
         "\"a 1.0",
         "ABCDEFGHIJKLMNOPQRSTUVWXY1.0",
     ];
-    for text in rows {
-        let refused = read_style(rt.alloc(), text).err();
-        assert_eq!(rt; refused, Some(Cause::Amount), "{text}");
-    }
+    assert_refused(&rt, rt.alloc(), &rows);
 }

@@ -1,30 +1,35 @@
 //! Declarations, row by row.
 
 use crate::cause::Cause;
+use crate::fixture::style_of;
 use crate::mark::Mark;
-use crate::style::{Style, is_style};
+use crate::style::is_style;
 use crate::styles::Styles;
-use crate::text::Text;
 use crate::unit::{Declared, Unit};
 use std::alloc::Global;
+use std::process::Abort;
 
-/// The style of `1,000.00 EUR`, with another symbol and number of decimals.
-fn style(alloc: Global, symbol: &str, decimals: u8) -> Result<Style, Cause> {
-    let symbol = Text::of(alloc, symbol)?;
-    Ok(Style {
-        symbol,
-        left: false,
-        spaced: true,
-        mark: Mark::Point,
-        decimals,
-        grouped: true,
-    })
+/// Asserts what a declaration of each symbol with so many decimals is answered, in turn.
+fn assert_declared(
+    rt: &impl Abort,
+    alloc: Global,
+    styles: &mut Styles,
+    rows: &[(&str, u8, Result<Declared, Cause>)],
+) {
+    for (symbol, decimals, wanted) in rows {
+        let style = style_of(
+            rt,
+            alloc,
+            (*symbol, false, true, Mark::Point, *decimals, true),
+        );
+        assert!(rt; is_style(&style));
+        assert_eq!(rt; styles.declare(style), *wanted, "{symbol}");
+    }
 }
 
 #[test]
 fn a_symbol_is_declared_once(rt: HostRuntime) {
-    let alloc = rt.alloc();
-    let mut styles = Styles::empty(alloc);
+    let mut styles = Styles::empty(rt.alloc());
     let rows = [
         ("EUR", 2, Ok(Declared::New(Unit(0)))),
         ("EUR", 2, Ok(Declared::Same(Unit(0)))),
@@ -33,11 +38,7 @@ fn a_symbol_is_declared_once(rt: HostRuntime) {
         ("$", 2, Ok(Declared::Same(Unit(1)))),
         ("eur", 2, Ok(Declared::New(Unit(2)))),
     ];
-    for (symbol, decimals, wanted) in rows {
-        let style = style(alloc, symbol, decimals).expect(&rt, "memory");
-        assert!(rt; is_style(&style));
-        assert_eq!(rt; styles.declare(style), wanted, "{symbol}");
-    }
+    assert_declared(&rt, rt.alloc(), &mut styles, &rows);
     assert_eq!(rt; styles.find("$"), Some(Unit(1)));
     assert_eq!(rt; styles.find("GBP"), None);
     let held = styles.style(Unit(2)).expect(&rt, "a style");
@@ -49,11 +50,10 @@ fn a_symbol_is_declared_once(rt: HostRuntime) {
 fn a_seventeenth_commodity_is_refused(rt: HostRuntime) {
     let alloc = rt.alloc();
     let mut styles = Styles::empty(alloc);
-    let symbols = [
+    for symbol in [
         "A", "B", "C", "D", "E", "F", "G", "H", "I", "J", "K", "L", "M", "N", "O", "P",
-    ];
-    for symbol in symbols {
-        let style = style(alloc, symbol, 0).expect(&rt, "memory");
+    ] {
+        let style = style_of(&rt, alloc, (symbol, false, true, Mark::Point, 0, true));
         assert!(rt; is_style(&style));
         assert!(rt; styles.declare(style).is_ok());
     }
@@ -62,9 +62,5 @@ fn a_seventeenth_commodity_is_refused(rt: HostRuntime) {
         ("P", 0, Ok(Declared::Same(Unit(15)))),
         ("P", 1, Err(Cause::CommodityExists)),
     ];
-    for (symbol, decimals, wanted) in rows {
-        let style = style(alloc, symbol, decimals).expect(&rt, "memory");
-        assert!(rt; is_style(&style));
-        assert_eq!(rt; styles.declare(style), wanted, "{symbol}");
-    }
+    assert_declared(&rt, rt.alloc(), &mut styles, &rows);
 }

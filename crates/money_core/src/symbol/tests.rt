@@ -1,6 +1,14 @@
 //! Symbols as texts, row by row.
 
 use crate::symbol::{name_part_law, read_symbol};
+use std::process::Abort;
+
+/// Asserts which symbol each text is.
+fn assert_read(rt: &impl Abort, rows: &[(&str, Option<&str>)]) {
+    for (text, wanted) in rows {
+        assert!(rt; read_symbol(*text) == *wanted, "{text}");
+    }
+}
 
 // hledger manual, "Commodity"; which characters need quotes, and the length, are own rules.
 #[test]
@@ -23,7 +31,5 @@ fn a_symbol_is_bare_or_in_quotes(rt: HostRuntime) {
         ("\"a  b\"", None),
         ("\"a:b\"", None),
     ];
-    for (text, wanted) in rows {
-        assert!(rt; read_symbol(text) == wanted, "{text}");
-    }
+    assert_read(&rt, &rows);
 }
