@@ -1,10 +1,8 @@
 -- what the ledger with sums by day keeps
-use Rattle.std.proofs.Common.{◌≡◌, ℕ, ◌+◌, List, [], ◌∷◌, ◌++◌, length, ap, ◌∙◌, sym, subst, append-nil}
+use Rattle.std.proofs.Common.{◌≡◌, ℕ, ◌+◌, List, [], ◌∷◌, ◌++◌, ap, ◌∙◌, sym, subst, append-nil}
 use Rattle.std.specs.List.{AllByRecursion}
 use Rattle.book_core.specs.declared.entry.Entry.{Entry}
-use Rattle.book_core.specs.Claim.{Asserted, asserted_claims, asserted_from}
 use Rattle.book_core.specs.GoodBook.{IsFit}
-use Rattle.book_core.proofs.ClaimLemmas.{asserted_from-append}
 use Rattle.book_core.proofs.GoodBookLemmas.{fit-append}
 use Rattle.std.proofs.Common.{ℤ, pos, ◌+ℤ◌, ◌≤◌, arith}
 use Rattle.std.specs.Prelude.{if◌then◌else◌, int_le}
@@ -21,11 +19,6 @@ use Rattle.book_core.specs.GoodBook.{IsWithin, most_turnover}
 use Rattle.book_core.specs.DayRows.{AreSums, AreRaised, HasRoomFor, moved_at, AreMoved}
 use Rattle.book_core.proofs.BookLemmas.{turnover-append}
 use Rattle.book_core.proofs.BalanceLemmas.{balance-append, balance-entry, balance-nil, balance_within}
-
-pub claims_add : (es more : List Entry) (e : Entry) (claims grown after fresh : List Asserted) → more ≡ es ++ e ∷ [] → claims ≡ asserted_from 1 es → grown ≡ claims → fresh ≡ asserted_claims e.day (length es + 1) e.legs e.claims → after ≡ grown ++ fresh → after ≡ asserted_from 1 more
-claims_add es more e claims grown after fresh d f g h k =
-    k ∙ ap (λ (xs : List Asserted). xs ++ fresh) (g ∙ f) ∙ ap (λ (xs : List Asserted). asserted_from 1 es ++ xs) h
-    ∙ sym (ap (asserted_from 1) d ∙ asserted_from-append 1 es (e ∷ []) ∙ ap (λ (xs : List Asserted). asserted_from 1 es ++ xs) (append-nil (asserted_claims e.day (length es + 1) e.legs e.claims)))
 
 pub fit_add : (es more : List Entry) (e : Entry) → more ≡ es ++ e ∷ [] → AllByRecursion IsFit es → IsFit e → AllByRecursion IsFit more
 fit_add es more e d h k = subst (AllByRecursion IsFit) (sym d) (fit-append es (e ∷ []) h (k, tt))

@@ -1,5 +1,5 @@
 -- the balance at a place, by the sum before its day and the legs of its day
-use Rattle.std.proofs.Common.{◌≡◌, ℕ, ◌+◌, ◌-◌, ◌<◌, ◌≤◌, Bool, true, false, ◌&&◌, List, [], ◌∷◌, ◌++◌, length, get_or, drop, drop-cons, add-one, zero, suc, arith, refl, ap, ◌∙◌, sym, subst, nat_eq, ℤ, pos, negsuc, ◌+ℤ◌, ◌≤ℤ◌, Ordering}
+use Rattle.std.proofs.Common.{◌≡◌, ℕ, ◌+◌, ◌-◌, ◌<◌, ◌≤◌, Bool, true, false, ◌&&◌, List, [], ◌∷◌, ◌++◌, length, get_or, drop, drop-cons, add-one, zero, suc, arith, refl, ap, ◌∙◌, sym, nat_eq, ℤ, pos, negsuc, ◌+ℤ◌, ◌≤ℤ◌, Ordering}
 use Rattle.std.specs.Prelude.{if◌then◌else◌, int_le, int_lt, cond}
 use Rattle.std.specs.List.{AllByRecursion}
 use Rattle.std.specs.Ordering.{int_eq, int_cmp, nat_cmp, ordering_then, is_le}

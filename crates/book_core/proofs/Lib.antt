@@ -14,7 +14,8 @@ pub mod StrayLemmas
 pub mod ExamineLemmas
 pub mod ReachLemmas
 pub mod PlaceLemmas
-pub mod TouchLemmas
+pub mod TouchedLemmas
+pub mod ClaimIndexLemmas
 pub mod DayLemmas
 pub mod RaiseLemmas
 pub mod DayPlaceLemmas

@@ -13,7 +13,6 @@ use Rattle.book_core.specs.Balance.{balance, moved, turnover}
 use Rattle.book_core.specs.Claim.{lower, least_unit, stray}
 use Rattle.book_core.specs.Query.{is_stray_for, stray_for}
 use Rattle.book_core.specs.DayRows.{IsNextMoved, moved_at, AreMoved}
-use Rattle.book_core.proofs.SumLemmas.{Within}
 use Rattle.book_core.proofs.BookLemmas.{one_unit, none_moves, turnover-append}
 use Rattle.book_core.proofs.BalanceLemmas.{balance_within}
 use Rattle.book_core.proofs.CommodityLemmas.{is_after, has_leg, passes_not, least_passes, least_le}

@@ -14,5 +14,6 @@ pub mod PlainLedger
 pub mod DayRows
 pub mod DayPlace
 pub mod Sums
+pub mod ClaimIndex
 pub mod Gathered
 pub mod DayLedger

@@ -1,18 +1,16 @@
 //! The ledger that keeps its assertions, and examines those that new entries reach.
 
-ghost use Rattle.std.specs.Prelude.{◌≡◌, ◌≤◌, ◌+◌, ◌++◌, List, [], ◌∷◌, length, None, OnOk, IfOk, vec_len, vec_capacity};
-ghost use Rattle.std.specs.Result.{IsOkUnless};
+ghost use Rattle.std.specs.Prelude.{◌≡◌, ◌≤◌, ◌++◌, length, None, OnOk};
 ghost use Rattle.std.specs.List.{AllByRecursion};
-ghost use Rattle.book_core.specs.Claim.{asserted_claims, failure, claims_of, counted};
+ghost use Rattle.book_core.specs.Claim.{failure, claims_of, counted};
 ghost use Rattle.book_core.specs.GoodBook.{IsWithin, IsFit, Checks};
 ghost use Rattle.book_core.specs.Examine.{examined, ArePlaces};
 ghost use Rattle.book_core.specs.Reached.{reached};
 
 use crate::account::Reach;
 use crate::account_list::{new_accounts, put_accounts};
-use crate::assertion::account_of;
 use crate::balance::through;
-use crate::claim::Asserted;
+use crate::claim_index::put_claims;
 use crate::day_book::DayBook;
 use crate::entry::Entry;
 use crate::examine::first_at;
@@ -23,6 +21,7 @@ use crate::reached::reached_places;
 use crate::refusal::{Count, Failure, Refusal};
 use crate::sums::Sums;
 use crate::turnover_table::passes_by;
+use day_sums::NamedSpots;
 use money_core::{Cause, Day, Text, Unit};
 use std::alloc::Global;
 use std::marker::Model;
@@ -30,15 +29,15 @@ use std::marker::Model;
 /// The ledger that keeps its sums by day, and examines the assertions that new entries reach.
 ///
 /// `balance` and `balance_in` are one search; `len`, `accounts` and `empty` cost nothing. `check` is one pass over the
-/// new legs for each of their commodities, and a look at each stored assertion; then, for each assertion that is
-/// reached, two searches and one pass over the legs of its day and the new ones, and for `==` and `==*` as much for each
-/// commodity. `add` is, for each leg and each account that takes it in, a search and the days of one row behind the
-/// entry's own.
+/// new legs for each of their commodities, a search for each account that takes in one of them, and a look at the
+/// assertions of these accounts behind the first new day; then, for each assertion that is reached, two searches and one
+/// pass over the legs of its day and the new ones, and for `==` and `==*` as much for each commodity. `add` is, for each
+/// leg and each account that takes it in, a search and the days of one row behind the entry's own.
 #[derive(Drop)]
 pub struct DayLedger {
     entries: Vec<Entry>,
     accounts: Vec<Text>,
-    claims: Vec<Asserted>,
+    claims: NamedSpots,
     sums: Sums,
 }
 
@@ -53,41 +52,7 @@ impl Model for DayLedger {
 
     ghost view = { λ a. a.entries.items };
 
-    ghost invariant = { λ a. IsDayKept a.entries.items a.accounts.items a.claims.items × AreSumsOf a.sums a.entries.items };
-}
-
-/// The assertions of an entry with their places and accounts.
-fn claims_of_entry(alloc: Global, entry: &Entry, number: usize) -> Result<Vec<Asserted>, Cause>
-    ensures own { IfOk result (λ v. v.items ≡ asserted_claims entry.now.day number entry.now.legs entry.now.claims) }
-    ensures memory { IsOkUnless result Cause.OutOfMemory }
-{
-    let mut claims = Vec::new(alloc);
-    for placed in entry.claims.items() {
-        let place = Place {
-            day: entry.day,
-            entry: number,
-            leg: placed.leg,
-        };
-        let account = Text::of(alloc, account_of(entry.legs.items(), placed.leg))?;
-        claims.push(Asserted {
-            place,
-            account,
-            claim: placed.claim,
-        })?;
-    }
-    Ok(claims)
-}
-
-/// Puts items last. There is room for them.
-fn append_all(claims: &mut Vec<Asserted>, fresh: Vec<Asserted>)
-    requires room { vec_len claims.old + vec_len fresh ≤ vec_capacity claims.old }
-    ensures { claims.new.items ≡ claims.old.items ++ fresh.items }
-{
-    let mut rest = fresh;
-    match claims.append(&mut rest) {
-        Ok(()) => {}
-        Err(_) => unreachable!(),
-    }
+    ghost invariant = { λ a. IsDayKept a.entries.items a.accounts.items a.claims × AreSumsOf a.sums a.entries.items };
 }
 
 impl DayLedger {
@@ -118,7 +83,7 @@ impl Ledger for DayLedger {
         DayLedger {
             entries: Vec::new(alloc),
             accounts: Vec::new(alloc),
-            claims: Vec::new(alloc),
+            claims: NamedSpots::empty(alloc),
             sums: Sums::empty(alloc),
         }
     }
@@ -172,22 +137,19 @@ impl Ledger for DayLedger {
     // All room is made before a list changes.
     fn add(&mut self, entry: Entry) -> Result<(), Cause> {
         let alloc = *self.entries.allocator();
-        let claims = match claims_of_entry(alloc, &entry, self.entries.len() + 1) {
-            Ok(claims) => claims,
-            Err(cause) => return Err(cause),
-        };
         let fresh = match new_accounts(alloc, &self.accounts, entry.legs.items()) {
             Ok(fresh) => fresh,
             Err(cause) => return Err(cause),
         };
-        if self.claims.reserve(claims.len()).is_err() {
-            return Err(Cause::OutOfMemory);
-        }
         if self.accounts.reserve(fresh.len()).is_err() {
             return Err(Cause::OutOfMemory);
         }
         if self.entries.reserve(1).is_err() {
             return Err(Cause::OutOfMemory);
+        }
+        match put_claims(&mut self.claims, &entry, self.entries.len() + 1) {
+            Ok(()) => {}
+            Err(cause) => return Err(cause),
         }
         match self.sums.add(&self.entries, &entry) {
             Ok(()) => {}
@@ -198,7 +160,6 @@ impl Ledger for DayLedger {
             Err(_) => unreachable!(),
         }
         put_accounts(&mut self.accounts, fresh);
-        append_all(&mut self.claims, claims);
         Ok(())
     }
 }

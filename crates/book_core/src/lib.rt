@@ -7,6 +7,7 @@ mod assertion;
 mod balance;
 mod book;
 mod claim;
+mod claim_index;
 mod commodity;
 mod day_balance;
 mod day_book;

@@ -6,4 +6,5 @@ pub mod RowLemmas
 pub mod RaisedRow
 pub mod NameLemmas
 pub mod SumLemmas
+pub mod SpotLemmas
 pub mod TestLemmas

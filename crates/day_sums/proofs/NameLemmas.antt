@@ -7,7 +7,7 @@ use Rattle.std.specs.Ordering.{is_eq, nat_cmp}
 use Rattle.std.specs.Cmp.{eq_by_cmp_equiv}
 use Rattle.std.specs.Cmp.Lexicographic.{slice_cmp, nat_list_cmp_total, nat_list_eq_equiv}
 use Rattle.std.specs.Str.{bytes_eq}
-use Rattle.std.specs.BTreeMap.{BTreeMap, UpdatesBy}
+use Rattle.std.specs.BTreeMap.{BTreeMap, UpdatesBy, get_by}
 use Rattle.std.specs.Map.{lookup, IsKeyTest, AreApart, KeepsOthers}
 use Rattle.std.proofs.lemmas.Map.Text.{is_eq-slice_cmp}
 use Rattle.std.proofs.lemmas.Slice.Eq.{bytes_eq-Decides}
@@ -24,8 +24,19 @@ apart bs cs ks n y = is_eq-slice_cmp cs ks ∙ nat_list_eq_equiv.symm cs ks ∙ 
 abbrev pub vec_cmp : Vec ℕ Global → Vec ℕ Global → Ordering
 vec_cmp x y = slice_cmp nat_cmp x.items y.items
 
+-- what stands under a name
+abbrev pub under : {V : Type 0} → List ℕ → BTreeMap (Vec ℕ Global) V → Option V
+under name m = get_by (λ k. slice_cmp nat_cmp name k.items) m
+
+abbrev pub Puts : {V : Type 0} → List ℕ → BTreeMap (Vec ℕ Global) V → BTreeMap (Vec ℕ Global) V → V → Type 0
+Puts name m n v = UpdatesBy vec_cmp (λ (k : Vec ℕ Global). slice_cmp nat_cmp name k.items) m n (Some v)
+
+-- under another name stands what stood there
+pub under_other : {V : Type 0} (name : List ℕ) (m n : BTreeMap (Vec ℕ Global) V) (v : V) → Puts name m n v → (a : List ℕ) → bytes_eq name a ≡ false → under a n ≡ under a m
+under_other name m n v h a e = other_entries _ _ _ _ h.3 _ (λ x y. (eq_by_cmp_equiv nat_list_cmp_total).congr a x.items y.items) (λ k. apart name a k.items e)
+
 abbrev pub Writes : List ℕ → BTreeMap (Vec ℕ Global) Kept → BTreeMap (Vec ℕ Global) Kept → Kept → Type 0
-Writes name m n r = UpdatesBy vec_cmp (λ (k : Vec ℕ Global). slice_cmp nat_cmp name k.items) m n (Some r)
+Writes name m n r = Puts name m n r
 
 abbrev pub in_row : Option Kept → Kept
 in_row o = unwrap_or o ([], [])
@@ -36,7 +47,7 @@ row_own name m n r h = ap in_row h.1
 
 -- another name has the row that it had
 pub row_other : (name : List ℕ) (m n : BTreeMap (Vec ℕ Global) Kept) (r : Kept) → Writes name m n r → (a : List ℕ) → bytes_eq name a ≡ false → row_at n a ≡ row_at m a
-row_other name m n r h a e = ap in_row (other_entries _ _ _ _ h.3 _ (λ x y. (eq_by_cmp_equiv nat_list_cmp_total).congr a x.items y.items) (λ k. apart name a k.items e))
+row_other name m n r h a e = ap in_row (under_other name m n r h a e)
 
 pub same_rows : (name : List ℕ) (m n : BTreeMap (Vec ℕ Global) Kept) (r : Kept) → Writes name m n r → SameRow (row_at m name) r → (a : List ℕ) → SameRow (row_at m a) (row_at n a)
 same_rows name m n r h same a = by_test (bytes_eq name a) refl

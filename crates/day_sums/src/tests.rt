@@ -6,7 +6,7 @@ ghost use Rattle.money_core.specs.declared.day.Day.{Day as Days};
 ghost use Rattle.day_sums.specs.Points.{IsUpTo};
 ghost use Rattle.day_sums.specs.Sums.{sum_of};
 
-use crate::{Cause, Day, DayNumbers, DaySums, Unit};
+use crate::{Cause, Day, DayNumbers, DaySums, NamedSpots, Spot, Unit};
 use std::alloc::Global;
 
 const EUR: Unit = Unit(0);
@@ -141,4 +141,46 @@ fn numbers_stand_under_their_day_in_order(rt: HostRuntime) {
     for (day, numbers) in rows {
         assert_eq!(rt; days.numbers_of(Day(day)), numbers, "{day}");
     }
+}
+
+// The last of them is put where another is. Wanted: account, day, the numbers behind it.
+#[test]
+fn spots_stand_under_their_account_in_the_order_of_days(rt: HostRuntime) {
+    let mut spots = NamedSpots::empty(rt.alloc());
+    for (account, day, number) in [
+        ("a", 10, 1),
+        ("b", 12, 2),
+        ("a", 12, 3),
+        ("a", -4, 4),
+        ("a", 10, 5),
+    ] {
+        let spot = Spot {
+            day: Day(day),
+            number,
+            part: 7,
+        };
+        spots
+            .put_spot(account.as_bytes(), spot)
+            .expect(&rt, "memory");
+    }
+    let rows: [(&str, i32, &[usize]); 6] = [
+        ("a", i32::MIN, &[4, 1, 5, 3]),
+        ("a", -4, &[1, 5, 3]),
+        ("a", 9, &[1, 5, 3]),
+        ("a", 10, &[3]),
+        ("a", 12, &[]),
+        ("b", 0, &[2]),
+    ];
+    for (account, day, numbers) in rows {
+        let row = spots
+            .row_of(account.as_bytes())
+            .expect(&rt, "an account that has a row");
+        let behind = spots.spots_behind(row, Day(day));
+        assert_eq!(rt; behind.len(), numbers.len(), "{account} {day}");
+        for (spot, number) in behind.iter().zip(numbers.iter()) {
+            assert_eq!(rt; spot.number, *number, "{account} {day}");
+            assert_eq!(rt; spot.part, 7);
+        }
+    }
+    assert_eq!(rt; spots.row_of(b"c"), None);
 }

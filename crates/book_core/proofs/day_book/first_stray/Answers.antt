@@ -1,7 +1,5 @@
-use Rattle.std.proofs.Common.{◌≡◌, false, Some, None, sym, ◌∙◌, subst, rules, Option}
-use Rattle.money_core.specs.declared.unit.Unit.{Unit as Commodity}
+use Rattle.std.proofs.Common.{Some, None, sym, ◌∙◌, subst, rules}
 use Rattle.book_core.specs.Balance.{turnover}
-use Rattle.book_core.specs.Query.{is_stray_for}
 use Rattle.book_core.specs.DayRows.{IsNextMoved}
 use Rattle.book_core.proofs.NextLemmas.{below_moved, none_strays, first_strays}
 use Rattle.book_core.proofs.day_book.first_stray.Goals as goal

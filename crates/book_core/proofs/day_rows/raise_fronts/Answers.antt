@@ -1,4 +1,4 @@
-use Rattle.std.proofs.Common.{◌≡◌, ℤ, subst, rules, to_z, of_z, w64, take, ◌∙◌, refl}
+use Rattle.std.proofs.Common.{◌≡◌, ℤ, subst, rules, to_z, of_z, w64, take}
 use Rattle.std.proofs.lemmas.Int.{to_z-of_z}
 use Rattle.book_core.specs.declared.account.Reach.TheVariants.{Inside}
 use Rattle.book_core.specs.DayRows.{Raised}
