@@ -33,3 +33,5 @@ pub mod EnteredLemmas
 pub mod RoomLemmas
 pub mod PlaceLemmas
 pub mod BackLemmas
+pub mod SearchLemmas
+pub mod TransferReplyLemmas

@@ -18,14 +18,14 @@ use Rattle.treasury_core.proofs.AskedLemmas.{HaveOwnIds}
 use Rattle.treasury_core.proofs.TransferLemmas.{all-inserted}
 
 -- behind the ID
-abbrev AreBehind : List ℕ → List Transfer → Type 0
+abbrev pub AreBehind : List ℕ → List Transfer → Type 0
 AreBehind id ts = AllByRecursion (λ (x : Transfer). name_cmp id x.id ≡ Less) ts
 
 -- a smaller name is another
-other_than : (a b : List ℕ) → name_cmp a b ≡ Less → bytes_eq b a ≡ false
+pub other_than : (a b : List ℕ) → name_cmp a b ≡ Less → bytes_eq b a ≡ false
 other_than a b h = other_bytes a b (sym (is_eq-slice_cmp a b) ∙ ap is_eq h)
 
-none_like : (id : List ℕ) (ts : List Transfer) → AreBehind id ts → list_any (has_id id) ts ≡ false
+pub none_like : (id : List ℕ) (ts : List Transfer) → AreBehind id ts → list_any (has_id id) ts ≡ false
 none_like id [] h = refl
 none_like id (t ∷ ts) h = rw (other_than id t.id h.0, none_like id ts h.1) refl
 
@@ -35,11 +35,11 @@ own_ids [] h = tt
 own_ids (t ∷ ts) h = (none_like t.id ts h.0, own_ids ts h.1)
 
 -- one more
-all_after : (a b : List ℕ) (ts : List Transfer) → name_cmp a b ≡ Less → AreBehind b ts → AreBehind a ts
+pub all_after : (a b : List ℕ) (ts : List Transfer) → name_cmp a b ≡ Less → AreBehind b ts → AreBehind a ts
 all_after a b [] e h = tt
 all_after a b (x ∷ xs) e h = (names_total.trans a b x.id e h.0, all_after a b xs e h.1)
 
-not_less : (a b : List ℕ) → is_lt (name_cmp a b) ≡ false → name_cmp a b ≡ Less → ⊥
+pub not_less : (a b : List ℕ) → is_lt (name_cmp a b) ≡ false → name_cmp a b ≡ Less → ⊥
 not_less a b e h = let k : true ≡ false = sym (ap is_lt h) ∙ e in cc
 
 not_same : (a b : List ℕ) → bytes_eq b a ≡ false → b ≡ a → ⊥

@@ -1,5 +1,5 @@
 -- the transactions of transfers can be printed, and do what their two postings say
-use Rattle.std.proofs.Common.{◌≡◌, ◌≤◌, ◌<◌, ◌+◌, ◌-◌, ◌&&◌, ◌||◌, ◌==◌, nat_eq, ℕ, zero, suc, Bool, true, false, List, [], ◌∷◌, ◌++◌, length, ℤ, pos, ◌+ℤ◌, ◌-ℤ◌, refl, ap, ◌∙◌, sym, subst, arith, Option, Some, None, Ok, length-append, append_assoc, negsuc}
+use Rattle.std.proofs.Common.{◌≡◌, ◌≤◌, ◌<◌, ◌+◌, ◌-◌, ◌&&◌, ◌||◌, ◌==◌, nat_eq, ℕ, zero, suc, Bool, true, false, List, [], ◌∷◌, ◌++◌, length, ℤ, pos, ◌+ℤ◌, ◌-ℤ◌, refl, ap, ◌∙◌, sym, subst, arith, Option, Some, None, Ok, length-append, append_assoc}
 use Rattle.std.specs.Prelude.{codes, not, nat_lt, nat_le, slice_index, unsigned_abs, int_le, if◌then◌else◌}
 use Rattle.std.specs.List.{list_all, slice_split, All, AllByRecursion}
 use Rattle.std.specs.Char.{is_ascii_lowercase, is_ascii_digit}
@@ -18,7 +18,7 @@ use Rattle.money_core.specs.Style.{AreStyles}
 use Rattle.money_core.specs.Amount.{limit}
 use Rattle.book_core.specs.declared.leg.Leg.{Leg}
 use Rattle.book_core.specs.Balance.{value}
-use Rattle.book_core.specs.GoodBook.{IsBalanced}
+use Rattle.book_core.specs.GoodBook.{IsFit}
 use Rattle.journal_lines.specs.Blank.{is_blank, is_trimmed}
 use Rattle.journal_lines.specs.Date.{IsDayNumber}
 use Rattle.journal_lines.specs.Comment.{has_no}
@@ -221,7 +221,8 @@ transit_is_account from to v w l m =
     let short : nat_le (length (transit_account from to)) 200 ≡ true = grind (arith, nat_tests) in
     let bytes : list_all is_account_byte rest ≡ true =
     list_all-append is_account_byte from (58 ∷ to) ∙ and_from _ _ (passes_all is_account_byte (λ b p. p.account) from v.plain) (and_from _ _ refl (passes_all is_account_byte (λ b p. p.account) to w.plain)) in
-    and_from _ _ (and_from _ _ (and_from _ _ (and_from _ _ short (two_parts from to v w)) bytes) (ap not (no_gap_pair from to v w))) refl
+    let gaps : (is_gap 58 rest || has_gap rest) ≡ false = rw (gap_free 58 rest refl) (no_gap_pair from to v w) in
+    and_from _ _ (and_from _ _ (and_from _ _ (and_from _ _ short (two_parts from to v w)) bytes) (ap not gaps)) refl
 
 pub transit_is_utf8 : (from to : List ℕ) → IsWord from → IsWord to → is_utf8 (transit_account from to) ≡ true
 transit_is_utf8 from to v w =
@@ -235,9 +236,7 @@ is_posting_of : (styles : List Style) (account : List ℕ) (unit : Commodity) (q
 is_posting_of styles account unit q h k a = rw (h, k, a) refl
 
 same_size : (q : ℤ) → unsigned_abs (pos 0 -ℤ q) ≡ unsigned_abs q
-same_size (pos zero) = refl
-same_size (pos (suc n)) = refl
-same_size (negsuc n) = refl
+same_size q = omega (arith, ints)
 
 amount_back : (styles : List Style) (unit : Commodity) (q : ℤ) → is_amount styles unit q ≡ true → is_amount styles unit (pos 0 -ℤ q) ≡ true
 amount_back styles unit q h = ap (λ (n : ℕ). nat_lt unit.0 (length styles) && nat_le n limit) (same_size q) ∙ h
@@ -249,14 +248,18 @@ balanced_at false q = refl
 line_small : (styles : List Style) → AreStyles styles → (p : Posting) → is_posting styles p ≡ true → p.comments ≡ [] → postings_size styles (p ∷ []) ≤ 500
 line_small styles are p h none =
     let small = posting_small styles p h in
-    let amount = part_length styles are p.amount p.price p.claim small.1.1.0 in
-    omega (arith, posting_size styles p, line_is styles p, ap remarks_size none, no_remarks, small.0, small.1.0, amount)
+    let amount = part_length styles are p.amount p.price p.claim small.2 in
+    omega (arith, posting_size styles p, line_is styles p, ap remarks_size none, no_remarks, small.0, small.1, amount)
+
+-- an entry of two such legs is fit
+pub pair_fit : (day : Day) (a b : List ℕ) (unit : Commodity) (q : ℤ) → IsFit (record { day = day; legs = leg a unit q ∷ leg b unit (pos 0 -ℤ q) ∷ []; claims = [] })
+pair_fit day a b unit q = record { balanced = λ u. balanced_at (nat_eq unit.0 u.0) q; on_legs = tt; apart = tt }
 
 -- what such a transaction has to be
 pub record IsPair (styles : List Style) (mark : List ℕ) (day : Day) (description : List ℕ) (a b : List ℕ) (unit : Commodity) (q : ℤ) : Type 0 where
-  pub mark : is_mark mark ≡ true
-  pub day : IsDayNumber day
-  pub description : IsDescribed description
+  pub mark_fits : is_mark mark ≡ true
+  pub day_fits : IsDayNumber day
+  pub described : IsDescribed description
   pub first : is_account a ≡ true
   pub first_utf8 : is_utf8 a ≡ true
   pub second : is_account b ≡ true
@@ -277,7 +280,7 @@ pair_good styles mark day description a b unit q are h =
       body_size styles r.txn,
       head_is r.txn,
       header_small day None None description,
-      h.description.few,
+      h.described.few,
       no_remarks,
       postings-append styles (posting x ∷ []) (posting y ∷ []),
       line_small styles are (posting x) p refl,
@@ -288,10 +291,10 @@ pair_good styles mark day description a b unit q are h =
     record {
       marked = refl;
       printable = record {
-        header = record { number = h.day; code_ok = refl; description_ok = h.description.fits };
+        header = record { number = h.day_fits; code_ok = refl; description_ok = h.described.fits };
         code = refl;
-        description = h.description.utf8;
-        mark = h.mark;
+        description = h.described.utf8;
+        mark = h.mark_fits;
         comments = refl;
         postings = and_from _ _ p (and_from _ _ s refl);
         few = omega arith;
@@ -318,9 +321,9 @@ dispatch_good styles t are h =
     let source = name_word t.source h.source in
     let target = name_word t.target h.target in
     pair_good styles (out_mark t) t.day (codes "transfer " ++ (t.id ++ (codes " to " ++ t.target))) (transit_account t.source t.target) t.payer t.unit t.qty are (record {
-      mark = mark_of_id (codes "out:") t.id refl (omega arith) id;
-      day = h.day;
-      description = described (codes " to ") t.id t.target refl refl refl (omega arith) id target.0;
+      mark_fits = mark_of_id (codes "out:") t.id refl (omega arith) id;
+      day_fits = h.day;
+      described = described (codes " to ") t.id t.target refl refl refl (omega arith) id target.0;
       first = transit_is_account t.source t.target source.0 target.0 source.1 target.1;
       first_utf8 = transit_is_utf8 t.source t.target source.0 target.0;
       second = h.payer;
@@ -328,7 +331,7 @@ dispatch_good styles t are h =
       amount = h.amount;
     })
 
-amount_of : (styles : List Style) (account : List ℕ) (unit : Commodity) (q : ℤ) → is_posting styles (posting (leg account unit q)) ≡ true → is_amount styles unit q ≡ true
+pub amount_of : (styles : List Style) (account : List ℕ) (unit : Commodity) (q : ℤ) → is_posting styles (posting (leg account unit q)) ≡ true → is_amount styles unit q ≡ true
 amount_of styles account unit q h =
     let one = and_parts (is_account account && is_utf8 account && is_value styles (Some (unit, q)) None None) _ h in
     let two = and_parts (is_account account && is_utf8 account) (is_value styles (Some (unit, q)) None None) one.0 in
@@ -343,9 +346,9 @@ receipt_good styles t r are id_fits source_fits target_fits sent day payee utf8 
     let target = name_word t.target target_fits in
     let dispatched = and_parts (is_posting styles (posting (leg (transit_account t.source t.target) t.unit t.qty))) _ sent.printable.postings in
     pair_good styles (in_mark t) r.day (codes "transfer " ++ (t.id ++ (codes " from " ++ t.source))) r.payee (transit_account t.source t.target) t.unit t.qty are (record {
-      mark = mark_of_id (codes "in:") t.id refl (omega arith) id;
-      day = day;
-      description = described (codes " from ") t.id t.source refl refl refl (omega arith) id source.0;
+      mark_fits = mark_of_id (codes "in:") t.id refl (omega arith) id;
+      day_fits = day;
+      described = described (codes " from ") t.id t.source refl refl refl (omega arith) id source.0;
       first = payee;
       first_utf8 = utf8;
       second = transit_is_account t.source t.target source.0 target.0 source.1 target.1;

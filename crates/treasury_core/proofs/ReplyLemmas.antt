@@ -285,7 +285,7 @@ taken f r a is h =
 late_from : (s r : ℤ) → int_lt r s ≡ false → int_le s r ≡ true
 late_from s r h = grind (arith, ints)
 
-found_transfer : (P : Transfer → Type 0) (id : List ℕ) (ts : List Transfer) (t : Transfer) → find (has_id id) ts ≡ Some t → AllByRecursion P ts → P t × (t.id ≡ id)
+pub found_transfer : (P : Transfer → Type 0) (id : List ℕ) (ts : List Transfer) (t : Transfer) → find (has_id id) ts ≡ Some t → AllByRecursion P ts → P t × (t.id ≡ id)
 found_transfer P id [] t e h = absurd cc
 found_transfer P id (x ∷ xs) t e h = found_at (bytes_eq x.id id) refl e (found_transfer P id xs t) h
   where

@@ -157,9 +157,9 @@ pub fn apply<L: Ledger>(alloc: Global, state: State<L>, delta: Delta) -> Result<
     let State {
         mut styles,
         mut branches,
-        transfers,
+        transfers: list,
     } = state;
-    let mut transfers = transfers.into_vec();
+    let mut transfers = list.into_vec();
     'additions: for addition in delta.into_items().into_vec() {
         apply_one(alloc, &mut styles, &mut branches, &mut transfers, addition)?;
     }

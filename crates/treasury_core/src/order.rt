@@ -25,7 +25,9 @@ pub(crate) fn find_transfer<'a>(transfers: &'a [Transfer], id: &str) -> Option<&
     requires { AreAscending transfers.now }
     ensures { option_copied result ≡ find (has_id id.now) transfers.now }
 {
-    let transfer = transfers.get(place_of(transfers, id))?;
+    let Some(transfer) = transfers.get(place_of(transfers, id)) else {
+        return None;
+    };
     if transfer.id.as_str() == id {
         Some(transfer)
     } else {

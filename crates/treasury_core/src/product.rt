@@ -1,9 +1,8 @@
 //! The transactions that the treasury makes itself.
 
-ghost use Rattle.std.specs.Prelude.{◌≡◌, ◌≤◌, unsigned_abs, pos, ◌-ℤ◌, [], ◌∷◌, IfOk, None, Some};
+ghost use Rattle.std.specs.Prelude.{◌≡◌, ◌≤◌, unsigned_abs, [], ◌∷◌, ◌++◌, codes, IfOk};
 ghost use Rattle.std.specs.Result.{IsOkUnless};
 ghost use Rattle.money_core.specs.Amount.{limit};
-ghost use Rattle.book_core.specs.GoodBook.{IsFit};
 ghost use Rattle.journal_balance.specs.Legs.{leg};
 ghost use Rattle.treasury_core.specs.Transfer.{transit_account, posting, product_record, dispatch_record, receipt_record};
 
@@ -15,12 +14,42 @@ use money_core::{Cause, Copied, Day, Items, Text, Unit};
 use std::alloc::Global;
 
 /// The account of what is on its way from one branch to another.
-fn transit_account(alloc: Global, from: &str, to: &str) -> Result<Text, Cause>
+fn transit_account(alloc: Global, from: &Text, to: &Text) -> Result<Text, Cause>
     ensures value { IfOk result (λ account. account ≡ transit_account from.now to.now) }
     ensures memory { IsOkUnless result Cause.OutOfMemory }
 {
+    let from = from.as_str();
+    let to = to.as_str();
     let account = format!(in alloc; "assets:transit:{from}:{to}")?;
     Ok(Text::from_string(account))
+}
+
+/// The mark of a transfer's record: `out:ID` or `in:ID`.
+fn mark_of(alloc: Global, front: &str, id: &Text) -> Result<Text, Cause>
+    ensures value { IfOk result (λ mark. mark ≡ front.now ++ id.now) }
+    ensures memory { IsOkUnless result Cause.OutOfMemory }
+{
+    let id = id.as_str();
+    let mark = format!(in alloc; "{front}{id}")?;
+    Ok(Text::from_string(mark))
+}
+
+/// The description of a transfer's record: `transfer ID to BRANCH` or `transfer ID from BRANCH`.
+fn description_of(alloc: Global, id: &Text, link: &str, branch: &Text) -> Result<Text, Cause>
+    ensures value { IfOk result (λ text. text ≡ codes "transfer " ++ (id.now ++ (link.now ++ branch.now))) }
+    ensures memory { IsOkUnless result Cause.OutOfMemory }
+{
+    let id = id.as_str();
+    let branch = branch.as_str();
+    let text = format!(in alloc; "transfer {id}{link}{branch}")?;
+    Ok(Text::from_string(text))
+}
+
+/// A leg of that quantity.
+fn leg(account: Text, unit: Unit, qty: i64) -> Leg
+    ensures { result ≡ leg account unit qty }
+{
+    Leg { account, unit, qty }
 }
 
 /// A posting of a leg's amount alone.
@@ -100,22 +129,13 @@ pub(crate) fn dispatch_record(alloc: Global, transfer: &Transfer) -> Result<Reco
     ensures value { IfOk result (λ row. row ≡ dispatch_record transfer.now) }
     ensures memory { IsOkUnless result Cause.OutOfMemory }
 {
-    let id = transfer.id.as_str();
-    let target = transfer.target.as_str();
-    let mark = format!(in alloc; "out:{id}")?;
-    let description = format!(in alloc; "transfer {id} to {target}")?;
-    let transit = Leg {
-        account: transit_account(alloc, transfer.source.as_str(), target)?,
-        unit: transfer.unit,
-        qty: transfer.qty,
-    };
-    let payer = Leg {
-        account: transfer.payer.copy()?,
-        unit: transfer.unit,
-        qty: -transfer.qty,
-    };
-    let (mark, description) = (Text::from_string(mark), Text::from_string(description));
-    product_record(alloc, mark, transfer.day, description, transit, payer)
+    let mark = mark_of(alloc, "out:", &transfer.id)?;
+    let description = description_of(alloc, &transfer.id, " to ", &transfer.target)?;
+    let transit = transit_account(alloc, &transfer.source, &transfer.target)?;
+    let payer = transfer.payer.copy()?;
+    let gets = leg(transit, transfer.unit, transfer.qty);
+    let pays = leg(payer, transfer.unit, -transfer.qty);
+    product_record(alloc, mark, transfer.day, description, gets, pays)
 }
 
 /// The record of a receipt in its target's book.
@@ -128,20 +148,11 @@ pub(crate) fn receipt_record(
     ensures value { IfOk result (λ row. row ≡ receipt_record transfer.now receipt.now) }
     ensures memory { IsOkUnless result Cause.OutOfMemory }
 {
-    let id = transfer.id.as_str();
-    let source = transfer.source.as_str();
-    let mark = format!(in alloc; "in:{id}")?;
-    let description = format!(in alloc; "transfer {id} from {source}")?;
-    let payee = Leg {
-        account: receipt.payee.copy()?,
-        unit: transfer.unit,
-        qty: transfer.qty,
-    };
-    let transit = Leg {
-        account: transit_account(alloc, source, transfer.target.as_str())?,
-        unit: transfer.unit,
-        qty: -transfer.qty,
-    };
-    let (mark, description) = (Text::from_string(mark), Text::from_string(description));
-    product_record(alloc, mark, receipt.day, description, payee, transit)
+    let mark = mark_of(alloc, "in:", &transfer.id)?;
+    let description = description_of(alloc, &transfer.id, " from ", &transfer.source)?;
+    let payee = receipt.payee.copy()?;
+    let transit = transit_account(alloc, &transfer.source, &transfer.target)?;
+    let gets = leg(payee, transfer.unit, transfer.qty);
+    let pays = leg(transit, transfer.unit, -transfer.qty);
+    product_record(alloc, mark, receipt.day, description, gets, pays)
 }
