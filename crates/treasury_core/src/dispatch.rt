@@ -86,11 +86,7 @@ fn transfer_of(dispatch: &Dispatch) -> Result<Transfer, Cause>
 }
 
 /// What a dispatch adds, where its source's book stays good with it.
-fn sent<L: Ledger>(
-    alloc: Global,
-    source: &Branch<L>,
-    dispatch: &Dispatch,
-) -> Result<Delta, Refusal>
+fn sent<L: Ledger>(alloc: Global, source: &Branch<L>, dispatch: &Dispatch) -> Result<Delta, Refusal>
     requires good { IsGoodBook (L.book source.now.ledger) }
     requires small { unsigned_abs dispatch.now.qty ≤ limit }
     ensures value { IfOk result (λ delta. delta ≡ Addition.Record dispatch.now.source (dispatch_record (transfer_of dispatch.now)) ∷ Addition.Dispatched (transfer_of dispatch.now) ∷ []) }
