@@ -1,7 +1,8 @@
 //! What holds of every step and of every run of commands.
 
-ghost use Rattle.std.specs.Prelude.{◌≡◌, ◌≤◌, [], ◌++◌, ◌+◌, ◌+ℤ◌, ℕ, true, List, length, Result, Ok};
+ghost use Rattle.std.specs.Prelude.{◌≡◌, ◌≤◌, [], ◌++◌, ◌+◌, ◌+ℤ◌, ◌≤ℤ◌, ℕ, pos, true, false, List, length, Result, Ok};
 ghost use Rattle.std.specs.List.{AllByRecursion};
+ghost use Rattle.std.specs.Str.{bytes_eq};
 ghost use Rattle.money_core.specs.declared.unit.Unit.{Unit as Commodity};
 ghost use Rattle.money_core.specs.declared.day.Day.{Day};
 ghost use Rattle.book_core.specs.declared.refusal.Refusal.{Refusal};
@@ -14,10 +15,11 @@ ghost use Rattle.treasury_core.specs.declared.command.Command.TheVariants.{Enter
 ghost use Rattle.treasury_core.specs.declared.command.Answer.{Answer};
 ghost use Rattle.treasury_core.specs.declared.command.Answer.TheVariants.{Entered};
 ghost use Rattle.treasury_core.specs.Federation.{Federation, has_branch, records_of, lock_of, entries, book_of};
+ghost use Rattle.treasury_core.specs.Transfer.{open_amount};
 ghost use Rattle.treasury_core.specs.Joined.{joined};
 ghost use Rattle.treasury_core.specs.Step.{reply, after, delta, step, new_records, is_locked};
 ghost use Rattle.treasury_core.specs.Good.{Fits, IsGoodState};
-ghost use Rattle.treasury_core.specs.History.{Turn, IsRun, state_after, history, records_among, IsRefusedOrRepeated, IsNew, IsOwnJournal, HasGrown};
+ghost use Rattle.treasury_core.specs.History.{Turn, IsRun, state_after, history, records_among, IsRefusedOrRepeated, IsNew, IsOwnJournal, HasGrown, AddsUp};
 
 /// A law of steps and runs: the empty state is good, and each leaves a good state good. Costs nothing.
 pub fn good_law()
@@ -83,4 +85,11 @@ pub fn lock_law()
     ensures balances { (f : Federation) (turns : List Turn) (name : List ℕ) (day : Day) (reach : Reach) (account : List ℕ) (unit : Commodity) → IsRun f turns
         → is_locked (lock_of f name) day ≡ true
         → balance reach (book_of (state_after f turns) name) account unit (Through day) ≡ balance reach (book_of f name) account unit (Through day) }
+{}
+
+/// A law of good states: for two branches that differ, in every commodity and through every day, the balances of their
+/// transit account in the books of both add up to the open amount, which is never negative. Costs nothing.
+pub fn transit_law()
+    ensures adds_up { (f : Federation) (from to : List ℕ) → IsGoodState f → has_branch f from ≡ true → has_branch f to ≡ true → bytes_eq from to ≡ false → AddsUp f from to }
+    ensures low { (f : Federation) (from to : List ℕ) (unit : Commodity) (day : Day) → IsGoodState f → pos 0 ≤ℤ open_amount f.transfers from to unit day }
 {}
