@@ -27,7 +27,7 @@ filtered_at r rs m true t e f g h = ap (λ (o : Option Record). cond (bytes_eq r
 filtered_at r rs m false true e f g h = let k = ap is_transfer_mark (same_bytes r.mark m f) in absurd cc
 filtered_at r rs m false false e f g h = h ∙ sym (ap (λ (b : Bool). cond b (Some r) (held rs m)) f)
 
-held-filter : (rs : List Record) (m : List ℕ) → is_transfer_mark m ≡ true → held (filter is_of_transfer rs) m ≡ held rs m
+pub held-filter : (rs : List Record) (m : List ℕ) → is_transfer_mark m ≡ true → held (filter is_of_transfer rs) m ≡ held rs m
 held-filter [] m g = refl
 held-filter (r ∷ rs) m g = filtered_at r rs m (is_transfer_mark r.mark) (bytes_eq r.mark m) refl refl g (held-filter rs m g)
 

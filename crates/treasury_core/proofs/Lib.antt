@@ -35,3 +35,5 @@ pub mod PlaceLemmas
 pub mod BackLemmas
 pub mod SearchLemmas
 pub mod TransferReplyLemmas
+pub mod ElsewhereLemmas
+pub mod PrintedLemmas

@@ -150,7 +150,7 @@ received_is None d q = refl
 received_is (Some r) d q = refl
 
 -- no text is two
-never_both : (x f t : List ℕ) → bytes_eq f t ≡ false → (bytes_eq x f && bytes_eq x t) ≡ false
+pub never_both : (x f t : List ℕ) → bytes_eq f t ≡ false → (bytes_eq x f && bytes_eq x t) ≡ false
 never_both x f t e = by_tests (bytes_eq x f) (bytes_eq x t) refl refl
   where
     by_tests : (a b : Bool) → bytes_eq x f ≡ a → bytes_eq x t ≡ b → (a && b) ≡ false

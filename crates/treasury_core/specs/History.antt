@@ -10,6 +10,7 @@ use Rattle.book_core.specs.declared.place.Until.TheVariants.{Through}
 use Rattle.book_core.specs.declared.refusal.Refusal.{Refusal}
 use Rattle.book_core.specs.declared.refusal.Refusal.TheVariants.{Plain}
 use Rattle.book_core.specs.Balance.{balance}
+use Rattle.journal_format.specs.declared.txn.Txn.{Txn}
 use Rattle.journal_format.specs.declared.txn.Located.{Located}
 use Rattle.treasury_core.specs.declared.record.Record.{Record}
 use Rattle.treasury_core.specs.declared.command.Answer.{Answer}
@@ -94,6 +95,14 @@ pub record IsOwn (rs : List Record) (x : Located) : Type 0 where
 -- a file of a branch's own transactions, in any order, each as often as one likes
 abbrev pub IsOwnJournal : List Record → List Located → Type 0
 IsOwnJournal rs file = AllByRecursion (IsOwn rs) file
+
+-- each of the later records is one of the first ones
+abbrev pub AreAmong : List Record → List Record → Type 0
+AreAmong all rs = AllByRecursion (λ (r : Record). IsAmong r all) rs
+
+-- the transactions of records, with their marks
+abbrev pub txns_in : List Record → List Txn
+txns_in rs = map (λ (r : Record). r.txn) rs
 
 -- the names of branches, in order
 abbrev pub names_of : List Branch → List (List ℕ)

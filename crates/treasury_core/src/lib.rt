@@ -26,8 +26,8 @@ pub use command::{Answer, Command, Dispatch, Receive};
 pub use decision::{MAX_BRANCHES, decide};
 pub use delta::{Addition, Delta};
 pub use law::{
-    entered_law, good_law, growing_law, joined_law, lock_law, own_journal_law, records_law,
-    transit_law, unchanged_law,
+    entered_law, good_law, growing_law, joined_law, lock_law, other_journal_law, own_journal_law,
+    printed_journal_law, records_law, transit_law, unchanged_law,
 };
 pub use mark::mark_of;
 pub use record::Record;
