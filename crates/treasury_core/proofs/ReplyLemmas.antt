@@ -21,6 +21,8 @@ use Rattle.book_core.specs.declared.refusal.Refusal.{Refusal}
 use Rattle.book_core.specs.declared.refusal.Refusal.TheVariants.{Plain}
 use Rattle.book_core.specs.GoodBook.{verdict}
 use Rattle.journal_lines.specs.AccountName.{is_account}
+use Rattle.std.specs.Str.{is_utf8}
+use Rattle.std.proofs.lemmas.Bool.{and_parts}
 use Rattle.journal_format.specs.declared.txn.Located.{Located}
 use Rattle.journal_format.specs.Printable.{is_amount}
 use Rattle.treasury_core.specs.declared.record.Record.{Record}
@@ -34,7 +36,7 @@ use Rattle.treasury_core.specs.declared.command.Command.{Command}
 use Rattle.treasury_core.specs.declared.command.Command.TheVariants as cmd
 use Rattle.treasury_core.specs.Federation.{Branch, Federation, is_branch_name, has_branch, records_in, records_of, lock_of, entries, book_of}
 use Rattle.treasury_core.specs.Mark.{HaveOwnMarks}
-use Rattle.treasury_core.specs.Transfer.{is_id, is_reserved, has_id, dispatch_record, receipt_record}
+use Rattle.treasury_core.specs.Transfer.{is_id, is_account_text, is_reserved, has_id, dispatch_record, receipt_record}
 use Rattle.treasury_core.specs.Joined.{with_entered, with_received}
 use Rattle.treasury_core.specs.Step.{unless, reply, done, after, new_records, records_in_file, unbalanced, refused_in, is_lock, goes_back, is_locked, commodity_reply, transfer_at, transfer_of, is_dispatched_so, receipt_of, is_received_so, receipt_reply, receipt_records}
 use Rattle.treasury_core.specs.Good.{Fits, IsGoodBranch, IsGoodRecord, IsGoodTransfer, IsGoodState}
@@ -164,7 +166,7 @@ pub record IsSent (f : Federation) (d : Dispatch) : Type 0 where
   pub apart : bytes_eq d.source d.target ≡ false
   pub id : is_id d.id ≡ true
   pub free : transfer_at f d.id ≡ None
-  pub account : is_account d.account ≡ true
+  pub account : is_account_text d.account ≡ true
   pub clear : is_reserved d.account ≡ false
   pub positive : int_le d.qty (pos 0) ≡ false
   pub unlocked : is_locked (lock_of f d.source) d.day ≡ false
@@ -184,7 +186,7 @@ sent f d a is h =
     let fresh = not_repeated (is_dispatched_so d (transfer_at f d.id)) _ a is id.1 in
     let free = passes (is_some (transfer_at f d.id)) _ _ a fresh.1 in
     let none = no_refusal Done a _ free.1 in
-    let account = keeps_to (is_account d.account) _ _ none in
+    let account = keeps_to (is_account_text d.account) _ _ none in
     let clear = misses (is_reserved d.account) _ _ account.1 in
     let amount = misses (int_le d.qty (pos 0)) _ _ clear.1 in
     let unlocked = misses (is_locked (lock_of f d.source) d.day) _ _ amount.1 in
@@ -219,22 +221,29 @@ amount_is styles unit q h = and_from (nat_lt unit.0 (length styles)) (nat_le (un
 name_known : (f : Federation) (name : List ℕ) → IsGoodState f → has_branch f name ≡ true → is_branch_name name ≡ true
 name_known f name good h = known (λ (n : List ℕ). is_branch_name n ≡ true) f.branches name (names_of (λ (n : List ℕ). is_branch_name n ≡ true) f.branches (λ b k. k.named) good.branches) h
 
+-- the record of a dispatch can be printed, and has its entry
+pub dispatch_record_good : (f : Federation) (d : Dispatch) → IsGoodState f → Fits f.styles (cmd.Dispatch d) → has_branch f d.source ≡ true → has_branch f d.target ≡ true → is_id d.id ≡ true
+    → is_account_text d.account ≡ true → IsGoodRecord f.styles (dispatch_record (transfer_of d))
+dispatch_record_good f d good fits source target id written =
+    let account = and_parts (is_account d.account) (is_utf8 d.account) written in
+    let writable : IsWritable f.styles (transfer_of d) = record {
+      id = id;
+      source = name_known f d.source good source;
+      target = name_known f d.target good target;
+      day = fits.day;
+      amount = amount_is f.styles d.unit d.qty fits.amount;
+      payer = account.0;
+      utf8 = account.1;
+    } in
+    dispatch_good f.styles (transfer_of d) good.styles writable
+
 done_dispatch : (f : Federation) (d : Dispatch) (a : Answer) → IsDone a → IsGoodState f → Fits f.styles (cmd.Dispatch d) → reply f (cmd.Dispatch d) ≡ Ok a → IsGoodState (done f (cmd.Dispatch d))
 unfolding done
 done_dispatch f d a is good fits h =
     let s = sent f d a is h in
     let positive = positive_from d.qty s.positive in
-    let writable : IsWritable f.styles (transfer_of d) = record {
-      id = s.id;
-      source = name_known f d.source good s.source;
-      target = name_known f d.target good s.target;
-      day = fits.day;
-      amount = amount_is f.styles d.unit d.qty fits.amount;
-      payer = s.account;
-      utf8 = fits.text;
-    } in
     let fair : IsGoodTransfer f.branches (transfer_of d) = record { id = s.id; source = s.source; target = s.target; apart = s.apart; positive = positive; payer = s.clear; later = tt } in
-    good_dispatched f (transfer_of d) good refl fair (none_found (has_id d.id) f.transfers s.free) (dispatch_good f.styles (transfer_of d) good.styles writable) s.passes
+    good_dispatched f (transfer_of d) good refl fair (none_found (has_id d.id) f.transfers s.free) (dispatch_record_good f d good fits s.source s.target s.id s.account) s.passes
 
 -- a receipt that was accepted
 pub record IsTaken (f : Federation) (r : Receive) : Type 0 where
@@ -242,7 +251,7 @@ pub record IsTaken (f : Federation) (r : Receive) : Type 0 where
   pub found : transfer_at f r.id ≡ Some transfer
   pub target : bytes_eq transfer.target r.branch ≡ true
   pub none : transfer.receipt ≡ None
-  pub account : is_account r.account ≡ true
+  pub account : is_account_text r.account ≡ true
   pub clear : is_reserved r.account ≡ false
   pub late : int_lt r.day.0 transfer.day.0 ≡ false
   pub unlocked : is_locked (lock_of f r.branch) r.day ≡ false
@@ -259,7 +268,7 @@ taken_at f r a (Some t) is e h =
     let fresh = not_repeated (is_received_so r t.receipt) _ a is target.1 in
     let none = passes (is_some t.receipt) _ _ a fresh.1 in
     let unrefused = no_refusal Done a _ none.1 in
-    let account = keeps_to (is_account r.account) _ _ unrefused in
+    let account = keeps_to (is_account_text r.account) _ _ unrefused in
     let clear = misses (is_reserved r.account) _ _ account.1 in
     let late = misses (int_lt r.day.0 t.day.0) _ _ clear.1 in
     let unlocked = misses (is_locked (lock_of f r.branch) r.day) _ _ late.1 in
@@ -293,6 +302,15 @@ found_transfer P id (x ∷ xs) t e h = found_at (bytes_eq x.id id) refl e (found
     found_at true g e k h = subst (λ y. P y × (y.id ≡ id)) (let s : x ≡ t = cc in s) (h.0, same_bytes x.id id g)
     found_at false g e k h = k e h.1
 
+-- the record of a receipt can be printed, and has its entry
+pub receipt_record_good : (f : Federation) (r : Receive) (t : Transfer) → IsGoodState f → Fits f.styles (cmd.Receive r) → transfer_at f r.id ≡ Some t → is_account_text r.account ≡ true
+    → IsGoodRecord f.styles (receipt_record t (receipt_of r))
+receipt_record_good f r t good fits found written =
+    let fair = found_transfer (IsGoodTransfer f.branches) r.id f.transfers t found good.transfers in
+    let here : find (has_id t.id) f.transfers ≡ Some t = ap (λ (m : List ℕ). find (has_id m) f.transfers) fair.1 ∙ found in
+    let account = and_parts (is_account r.account) (is_utf8 r.account) written in
+    receipt_good f.styles t (receipt_of r) good.styles fair.0.id (name_known f t.source good fair.0.source) (name_known f t.target good fair.0.target) (dispatch_written f t good here fair.0) fits.day account.0 account.1
+
 received_good : (f : Federation) (r : Receive) (a : Answer) → IsGoodState f → Fits f.styles (cmd.Receive r) → (got : IsTaken f r)
     → IsGoodState (with_received (with_entered f r.branch (receipt_record got.transfer (receipt_of r) ∷ [])) r.id (receipt_of r))
 received_good f r a good fits got =
@@ -300,7 +318,7 @@ received_good f r a good fits got =
     let fair = found_transfer (IsGoodTransfer f.branches) r.id f.transfers t got.found good.transfers in
     let here : find (has_id t.id) f.transfers ≡ Some t = ap (λ (m : List ℕ). find (has_id m) f.transfers) fair.1 ∙ got.found in
     let name = same_bytes t.target r.branch got.target in
-    let written = receipt_good f.styles t (receipt_of r) good.styles fair.0.id (name_known f t.source good fair.0.source) (name_known f t.target good fair.0.target) (dispatch_written f t good here fair.0) fits.day got.account fits.text in
+    let written = receipt_record_good f r t good fits got.found got.account in
     let passes_ : verdict (book_of f t.target ++ (receipt_record t (receipt_of r)).entry ∷ []) ≡ None = ap (λ (m : List ℕ). verdict (book_of f m ++ (receipt_record t (receipt_of r)).entry ∷ [])) name ∙ got.passes in
     let result = good_received f t (receipt_of r) good here got.none fair.0 (late_from t.day.0 r.day.0 got.late, got.clear) written passes_ in
     let P : List ℕ → List ℕ → Type 0 = λ m n. IsGoodState (with_received (with_entered f m (receipt_record t (receipt_of r) ∷ [])) n (receipt_of r)) in

@@ -1,7 +1,7 @@
 -- When a state is good, and which commands fit (own rules; docs/RULES.md, "Branches", "Books", "Marks and repeats", "Transfers").
 use Rattle.std.specs.Prelude.{◌≡◌, ◌≤◌, ◌<◌, ◌^◌, ℕ, true, false, List, [], ◌∷◌, length, filter, pos, int_le, Option, Some, None, Ok, ⊤}
 use Rattle.std.specs.List.{list_any, AllByRecursion}
-use Rattle.std.specs.Str.{bytes_eq, is_utf8}
+use Rattle.std.specs.Str.{bytes_eq}
 use Rattle.std.specs.declared.cmp.Ordering.TheVariants.{Less}
 use Rattle.money_core.specs.declared.style.Style.{Style}
 use Rattle.money_core.specs.Style.{is_style, AreStyles}
@@ -92,15 +92,13 @@ pub record IsFile (styles : List Style) (file : List Located) : Type 0 where
 pub record IsDispatch (styles : List Style) (d : Dispatch) : Type 0 where
   pub day : IsDayNumber d.day
   pub amount : IsDeclared styles d.unit d.qty
-  pub text : is_utf8 d.account ≡ true
 
 -- a receipt on a day of the years 1 to 9999
 pub record IsReceive (r : Receive) : Type 0 where
   pub day : IsDayNumber r.day
-  pub text : is_utf8 r.account ≡ true
 
 -- what a command has to be that is decided: a style that a sample has, days of the years 1 to 9999, declared commodities, quantities within the limit,
--- transactions that can be printed; texts are UTF-8 by their type
+-- transactions that can be printed
 abbrev pub Fits : List Style → Command → Type 0
 Fits styles (cmd.Branch name) = ⊤
 Fits styles (cmd.Commodity style) = is_style style ≡ true

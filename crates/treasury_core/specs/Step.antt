@@ -15,7 +15,6 @@ use Rattle.book_core.specs.declared.entry.Entry.{Entry}
 use Rattle.book_core.specs.declared.refusal.Refusal.{Refusal}
 use Rattle.book_core.specs.declared.refusal.Refusal.TheVariants.{Plain, Text}
 use Rattle.book_core.specs.GoodBook.{verdict}
-use Rattle.journal_lines.specs.AccountName.{is_account}
 use Rattle.journal_format.specs.declared.txn.Txn.{Txn}
 use Rattle.journal_format.specs.declared.txn.Located.{Located}
 use Rattle.journal_format.specs.CanonicalText.{body_text, marked}
@@ -33,7 +32,7 @@ use Rattle.treasury_core.specs.declared.command.Command.{Command}
 use Rattle.treasury_core.specs.declared.command.Command.TheVariants as cmd
 use Rattle.treasury_core.specs.Federation.{Federation, is_branch_name, most_branches, has_branch, records_of, lock_of, entries}
 use Rattle.treasury_core.specs.Mark.{is_held, is_repeat, is_product_mark, mark_of, alike}
-use Rattle.treasury_core.specs.Transfer.{is_id, is_reserved, is_transit, has_id, dispatch_record, receipt_record}
+use Rattle.treasury_core.specs.Transfer.{is_id, is_account_text, is_reserved, is_transit, has_id, dispatch_record, receipt_record}
 use Rattle.treasury_core.specs.Joined.{with_style, with_branch, with_entered, with_locked, with_dispatched, with_received}
 
 -- the answer, unless there is a refusal
@@ -177,7 +176,7 @@ is_dispatched_so d (Some t) =
 -- why a dispatch is refused, whose ID no transfer has, by what its source holds, if it is
 abbrev pub dispatch_refusal : Option Day → List Record → Dispatch → Option Refusal
 dispatch_refusal lock held d =
-    if not (is_account d.account) then Some (Plain BadAccount)
+    if not (is_account_text d.account) then Some (Plain BadAccount)
     else if is_reserved d.account then Some (Plain ReservedAccount)
     else if int_le d.qty (pos 0) then Some (Plain BadAmount)
     else if is_locked lock d.day then Some (Plain Locked)
@@ -207,7 +206,7 @@ is_received_so r (Some held) = int_eq held.day.0 r.day.0 && bytes_eq held.payee 
 -- why the receipt of a transfer is refused, that was not received yet, by what its target holds, if it is
 abbrev pub receipt_refusal : Option Day → List Record → Transfer → Receive → Option Refusal
 receipt_refusal lock held t r =
-    if not (is_account r.account) then Some (Plain BadAccount)
+    if not (is_account_text r.account) then Some (Plain BadAccount)
     else if is_reserved r.account then Some (Plain ReservedAccount)
     else if int_lt r.day.0 t.day.0 then Some (Plain TooEarly)
     else if is_locked lock r.day then Some (Plain Locked)

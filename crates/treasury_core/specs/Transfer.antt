@@ -2,12 +2,12 @@
 use Rattle.std.specs.Prelude.{ℕ, nat_eq, nat_lt, nat_le, ◌==◌, Bool, true, false, ◌&&◌, ◌||◌, if◌then◌else◌, List, [], ◌∷◌, ◌++◌, codes, length, ℤ, pos, ◌+ℤ◌, ◌-ℤ◌, int_le, Option, Some, None}
 use Rattle.std.specs.Char.{is_ascii_digit, is_ascii_alphabetic}
 use Rattle.std.specs.List.{list_all}
-use Rattle.std.specs.Str.{bytes_eq}
+use Rattle.std.specs.Str.{bytes_eq, is_utf8}
 use Rattle.money_core.specs.declared.unit.Unit.{Unit as Commodity}
 use Rattle.money_core.specs.declared.day.Day.{Day}
 use Rattle.book_core.specs.declared.leg.Leg.{Leg}
 use Rattle.book_core.specs.Account.{is_inside, colon}
-use Rattle.journal_lines.specs.AccountName.{transit}
+use Rattle.journal_lines.specs.AccountName.{is_account, transit}
 use Rattle.journal_format.specs.declared.posting.Posting.{Posting}
 use Rattle.journal_balance.specs.Legs.{leg}
 use Rattle.treasury_core.specs.declared.record.Record.{Record}
@@ -25,6 +25,10 @@ most_id_bytes = 64
 -- an ID: 1 to 64 such bytes
 abbrev pub is_id : List ℕ → Bool
 is_id id = nat_lt 0 (length id) && nat_le (length id) most_id_bytes && list_all is_id_byte id
+
+-- a well-formed account, which is text
+abbrev pub is_account_text : List ℕ → Bool
+is_account_text account = is_account account && is_utf8 account
 
 -- the account is `assets:transit` or below it
 abbrev pub is_reserved : List ℕ → Bool

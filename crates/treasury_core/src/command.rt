@@ -84,7 +84,6 @@ impl Dispatch {
     fn fits(&self, styles: &Styles) -> bool
         ensures { IsTrue result ↔ IsDispatch styles.now self.now }
     {
-        self.account.is_text();
         is_day_number(self.day) && is_declared(self.unit, self.qty, styles)
     }
 }
@@ -94,7 +93,6 @@ impl Receive {
     fn fits(&self) -> bool
         ensures { IsTrue result ↔ IsReceive self.now }
     {
-        self.account.is_text();
         is_day_number(self.day)
     }
 }

@@ -14,13 +14,12 @@ ghost use Rattle.treasury_core.specs.Kept.{IsKept};
 use crate::command::{Command, Dispatch};
 use crate::decision::{Decision, has_branch, recorded, repeated, settled};
 use crate::delta::{Addition, Delta};
-use crate::enter::{is_locked, is_reserved_account};
+use crate::enter::{is_account_text, is_locked, is_reserved_account};
 use crate::order::find_transfer;
 use crate::product::dispatch_record;
 use crate::state::{Branch, State, find_branch};
 use crate::transfer::Transfer;
 use book_core::{Ledger, Refusal};
-use journal_lines::is_account;
 use money_core::{Cause, Copied};
 use std::alloc::Global;
 
@@ -119,7 +118,7 @@ fn judged<L: Ledger>(
     ensures passes { OnOk result (dispatch_refusal source.now.locked source.now.records dispatch.now ≡ None) }
     ensures err { IfErr result (λ e. (e ≡ Refusal.Plain Cause.OutOfMemory) ⊎ (dispatch_refusal source.now.locked source.now.records dispatch.now ≡ Some e)) }
 {
-    if !is_account(dispatch.account.as_str().as_bytes()) {
+    if !is_account_text(&dispatch.account) {
         return Err(Refusal::Plain(Cause::BadAccount));
     }
     if is_reserved_account(dispatch.account.as_str()) {

@@ -7,7 +7,7 @@ ghost use Rattle.std.specs.Str.{bytes_eq};
 ghost use Rattle.journal_format.specs.CanonicalText.{body_text};
 ghost use Rattle.journal_format.specs.Printable.{IsPrintable};
 ghost use Rattle.treasury_core.specs.Mark.{held, is_repeat, is_product_mark, HaveOwnMarks};
-ghost use Rattle.treasury_core.specs.Transfer.{is_reserved, is_transit};
+ghost use Rattle.treasury_core.specs.Transfer.{is_account_text, is_reserved, is_transit};
 ghost use Rattle.treasury_core.specs.Step.{is_locked, barred, refusal_of, refused_in, new_in};
 ghost use Rattle.treasury_core.specs.Good.{IsGoodRecord};
 ghost use Rattle.treasury_core.specs.Kept.{IsIndexOf};
@@ -17,8 +17,8 @@ use crate::index::{find_mark, push_marked};
 use crate::mark::text_of;
 use crate::record::Record;
 use book_core::{Leg, Refusal};
-use journal_lines::is_reserved;
-use money_core::{Cause, Day, Items, Styles};
+use journal_lines::{is_account, is_reserved};
+use money_core::{Cause, Day, Items, Styles, Text};
 use std::alloc::Global;
 use std::collections::HashMap;
 
@@ -27,6 +27,14 @@ fn is_product_mark(mark: &str) -> bool
     ensures { result ≡ is_product_mark mark.now }
 {
     mark.starts_with("out:") || mark.starts_with("in:") || mark.starts_with("close:")
+}
+
+/// Whether the account is well formed.
+pub(crate) fn is_account_text(account: &Text) -> bool
+    ensures { result ≡ is_account_text account.now }
+{
+    account.is_text();
+    is_account(account.as_str().as_bytes())
 }
 
 /// Whether the account is `assets:transit` or below it.

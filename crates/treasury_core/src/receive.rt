@@ -14,13 +14,12 @@ use crate::command::{Command, Receive};
 use crate::decision::{Decision, recorded, repeated, settled};
 use crate::delta::{Addition, Delta};
 use crate::dispatch::is_id;
-use crate::enter::{is_locked, is_reserved_account};
+use crate::enter::{is_account_text, is_locked, is_reserved_account};
 use crate::order::find_transfer;
 use crate::product::receipt_record;
 use crate::state::{Branch, State, find_branch};
 use crate::transfer::{Receipt, Transfer};
 use book_core::{Ledger, Refusal};
-use journal_lines::is_account;
 use money_core::{Cause, Copied};
 use std::alloc::Global;
 
@@ -95,7 +94,7 @@ fn judged<L: Ledger>(
     ensures passes { OnOk result (receipt_refusal target.now.locked target.now.records transfer.now receive.now ≡ None) }
     ensures err { IfErr result (λ e. (e ≡ Refusal.Plain Cause.OutOfMemory) ⊎ (receipt_refusal target.now.locked target.now.records transfer.now receive.now ≡ Some e)) }
 {
-    if !is_account(receive.account.as_str().as_bytes()) {
+    if !is_account_text(&receive.account) {
         return Err(Refusal::Plain(Cause::BadAccount));
     }
     if is_reserved_account(receive.account.as_str()) {
