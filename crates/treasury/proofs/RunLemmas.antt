@@ -1,7 +1,7 @@
 -- A run, from one read to the next, and how it ends.
 use Rattle.std.proofs.Common.{◌≡◌, ◌≢◌, ◌≤◌, ◌+◌, ◌-◌, ℕ, List, [], ◌∷◌, ◌++◌, ◌⊎◌, inl, inr, take, length, Option, arith, sym, subst, ap, ◌∙◌, append_assoc, append-nil, refl, length-append}
 use Rattle.std.proofs.KnownBytes.{Appends-trans, Appends-nil, Consumes-nil, Consumes-trans, Consumes-kept}
-use Rattle.std.proofs.lemmas.List.Elements.{All-nil, All-push}
+use Rattle.std.proofs.lemmas.List.Elements.{All-nil, All-append}
 use Rattle.std.specs.Io.KnownBytes.{Appends, Consumes, IsAtEnd, Keeps}
 use Rattle.std.specs.Str.Lines.{strip_carriage_return}
 use Rattle.money_core.specs.declared.cause.Cause.{Cause}
@@ -27,14 +27,14 @@ whole_none Step w s seen line same part = record {
   appended = Appends-nil w;
 }
 
--- one more byte of a line
-pub whole_byte : {S : Type 0} (Step : Stepping S) (w0 w1 : Option (List ℕ)) (s t : S) (seen line seen' line' : List ℕ) (b : ℕ) → AnswersWhole Step w0 w1 s seen line t → b ≢ 10 → seen' ≡ seen ++ (b ∷ []) → line' ≡ line ++ (b ∷ []) → AnswersWhole Step w0 w1 s seen' line' t
-whole_byte Step w0 w1 s t seen line seen' line' b so_far other more longer = record {
+-- further bytes of a line
+pub whole_part : {S : Type 0} (Step : Stepping S) (w0 w1 : Option (List ℕ)) (s t : S) (seen line part line' : List ℕ) → AnswersWhole Step w0 w1 s seen line t → HasNoLineFeed part → line' ≡ line ++ part → AnswersWhole Step w0 w1 s (seen ++ part) line' t
+whole_part Step w0 w1 s t seen line part line' so_far plain longer = record {
   whole = so_far.whole;
   written = so_far.written;
-  split = more ∙ ap (λ x. x ++ (b ∷ [])) so_far.split ∙ append_assoc so_far.whole line (b ∷ []) ∙ sym (ap (λ x. so_far.whole ++ x) longer);
+  split = ap (λ x. x ++ part) so_far.split ∙ append_assoc so_far.whole line part ∙ sym (ap (λ x. so_far.whole ++ x) longer);
   complete = so_far.complete;
-  part = (let P : List ℕ → Type 0 = λ x. HasNoLineFeed x in subst P (sym longer) (All-push (λ x. x ≢ 10) line b so_far.part other));
+  part = (let P : List ℕ → Type 0 = λ x. HasNoLineFeed x in subst P (sym longer) (All-append (λ x. x ≢ 10) line part so_far.part plain));
   transcript = so_far.transcript;
   appended = so_far.appended;
 }

@@ -4,6 +4,7 @@ mod assertions;
 mod journals;
 mod manual;
 mod marks;
+mod transfers;
 
 use crate::words::run_words;
 use std::alloc::{AllocError, Global};
