@@ -13,11 +13,18 @@ pub use reading::{read_command, read_line};
 #[derive(Debug, Drop)]
 pub enum Request {
     /// A new branch of that name.
-    Branch { name: Text },
+    Branch {
+        name: Text,
+    },
     /// A new commodity, in the style that the sample amount shows.
-    Commodity { sample: Text },
+    Commodity {
+        sample: Text,
+    },
     /// The transactions of a journal's text, into the branch of that name.
-    Import { branch: Text, journal: Bytes },
+    Import {
+        branch: Text,
+        journal: Bytes,
+    },
     /// Money on its way from one branch to another, paid by the account of the first on that day.
     Dispatch {
         id: Text,
@@ -35,9 +42,15 @@ pub enum Request {
         account: Text,
     },
     /// A lock of the branch of that name through the day.
-    Lock { branch: Text, day: Day },
+    Lock {
+        branch: Text,
+        day: Day,
+    },
     /// The balances of the branch of that name through the day.
-    Balance { branch: Text, day: Day },
+    Balance {
+        branch: Text,
+        day: Day,
+    },
 }
 
 impl Copied for Request {

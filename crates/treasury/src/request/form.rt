@@ -13,9 +13,16 @@ use serde_json::Value;
 /// A request whose texts are those of a JSON value.
 #[derive(Clone, Copy, Drop)]
 pub enum Form<'a> {
-    Branch { name: &'a str },
-    Commodity { sample: &'a str },
-    Import { branch: &'a str, journal: &'a str },
+    Branch {
+        name: &'a str,
+    },
+    Commodity {
+        sample: &'a str,
+    },
+    Import {
+        branch: &'a str,
+        journal: &'a str,
+    },
     Dispatch {
         id: &'a str,
         from: &'a str,
@@ -30,8 +37,14 @@ pub enum Form<'a> {
         day: Day,
         account: &'a str,
     },
-    Lock { branch: &'a str, day: Day },
-    Balance { branch: &'a str, day: Day },
+    Lock {
+        branch: &'a str,
+        day: Day,
+    },
+    Balance {
+        branch: &'a str,
+        day: Day,
+    },
 }
 
 /// The text at a key.

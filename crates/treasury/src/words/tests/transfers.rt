@@ -6,7 +6,7 @@ use std::test::Fail;
 // (requests behind the opening, their answers)
 #[test]
 fn a_transfer_is_dispatched_once_and_received_once(rt: HostRuntime) -> Result<(), Fail> {
-    let rows = [
+    const ROWS: &[(&str, &str)] = &[
         (
             r#"{"do":"dispatch","id":"t7","from":"north","to":"south","day":"2024-03-01","amount":"50.00 EUR","account":"assets:bank"}
 {"do":"dispatch","id":"t7","from":"north","to":"south","day":"2024-03-01","amount":"50.00 EUR","account":"assets:bank"}
@@ -49,13 +49,13 @@ fn a_transfer_is_dispatched_once_and_received_once(rt: HostRuntime) -> Result<()
             "ok\nok\nrefused 24 MarkClash\nrefused 24 MarkClash\nrefused 24 MarkClash\nrefused 24 MarkClash\nrefused 24 MarkClash\nrefused 24 MarkClash\nrefused 24 MarkClash\nok\nrefused 24 MarkClash\nrepeated\n",
         ),
     ];
-    assert_all_answered(&rt, &rows)
+    assert_all_answered(&rt, ROWS)
 }
 
 // Each request has two faults that stand beside each other in the order. (requests behind the opening, their answers)
 #[test]
 fn a_dispatch_is_refused_in_order(rt: HostRuntime) -> Result<(), Fail> {
-    let rows = [
+    const ROWS: &[(&str, &str)] = &[
         (
             r#"{"do":"dispatch","id":"t","from":"west","to":"east","day":"2024-03-01","amount":"5","account":"a:x"}
 {"do":"dispatch","id":"t","from":"west","to":"east","day":"2024-03-01","amount":"5 GBP","account":"a:x"}
@@ -101,13 +101,13 @@ fn a_dispatch_is_refused_in_order(rt: HostRuntime) -> Result<(), Fail> {
             "ok\nrefused 39 BadId\nok\n",
         ),
     ];
-    assert_all_answered(&rt, &rows)
+    assert_all_answered(&rt, ROWS)
 }
 
 // As above.
 #[test]
 fn a_receipt_is_refused_in_order(rt: HostRuntime) -> Result<(), Fail> {
-    let rows = [(
+    const ROWS: &[(&str, &str)] = &[(
         r#"{"do":"branch","name":"west"}
 {"do":"dispatch","id":"t","from":"north","to":"south","day":"2024-03-10","amount":"5 EUR","account":"a:x"}
 {"do":"dispatch","id":"u","from":"north","to":"south","day":"2024-03-10","amount":"5 EUR","account":"a:x"}
@@ -133,5 +133,5 @@ fn a_receipt_is_refused_in_order(rt: HostRuntime) -> Result<(), Fail> {
 {"do":"receive","id":"u","branch":"south","day":"2024-03-20","account":"a:x"}"#,
         "ok\nok\nok\nok\nrefused 20 UnknownBranch\nrefused 39 BadId\nrefused 31 UnknownTransfer\nrefused 32 WrongBranch\nok\nrefused 33 AlreadyReceived\nrefused 33 AlreadyReceived\nrefused 33 AlreadyReceived\nrefused 33 AlreadyReceived\nrefused 32 WrongBranch\nrefused 37 BadAccount\nrefused 26 ReservedAccount\nrefused 34 TooEarly\nrefused 27 Locked\nok 1 new, 0 repeated\nrefused 29 ClaimFailed at 2024-03-20 entry 2 leg 1: asserted 5.00 EUR, found 10.00 EUR\nok\nok\nrepeated\n",
     )];
-    assert_all_answered(&rt, &rows)
+    assert_all_answered(&rt, ROWS)
 }
