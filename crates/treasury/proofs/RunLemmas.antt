@@ -211,6 +211,31 @@ stops_later OutOfMemory Step Loses AtEnd w0 w1 w2 s m t seen line new so_far nex
 stops_later WriteFault Step Loses AtEnd w0 w1 w2 s m t seen line new so_far next = torn_later Step AtEnd w0 w1 w2 s m t seen line new so_far next
 stops_later _ Step Loses AtEnd w0 w1 w2 s m t seen line new so_far next = absurd next
 
+-- ---- the lines of further bytes, one after another
+
+-- a line that a feed ends is answered, and the bytes behind it are left
+pub fed_further : {S : Type 0} (Step : Stepping S) (w0 w1 w2 : Option (List ℕ)) (s m t : S) (seen line front next rest all line' : List ℕ) → AnswersWhole Step w0 w1 s seen line m
+    → AnswersWhole Step w1 w2 m ((line ++ front) ++ 10 ∷ []) line' t → rest ≡ front ++ (10 ∷ next) → all ≡ seen ++ rest
+    → (x : List ℕ) × (AnswersWhole Step w0 w2 s x line' t × (all ≡ x ++ next))
+fed_further {S = S} Step w0 w1 w2 s m t seen line front next rest all line' so_far ended cut split =
+    let new = front ++ 10 ∷ [] in
+    let P : List ℕ → Type 0 = λ x. AnswersWhole Step w1 w2 m x line' t in (
+      seen ++ new,
+      (
+        whole_further Step w0 w1 w2 s m t seen line new line' so_far (subst P (append_assoc line front (10 ∷ [])) ended),
+        split ∙ ap (λ x. seen ++ x) (cut ∙ sym (append_assoc front (10 ∷ []) next)) ∙ sym (append_assoc seen new next),
+      ),
+    )
+
+-- the answers stop at a line that a feed ends
+pub fed_stops : {S : Type 0} (cause : Cause) (Step : Stepping S) (Loses : S → List ℕ → Type 0) (w0 w1 w2 : Option (List ℕ)) (s m t : S) (seen line front next rest all : List ℕ) → AnswersWhole Step w0 w1 s seen line m
+    → ((more : List ℕ) → StopsBy cause Step Loses ⊥ w1 w2 m ((line ++ front) ++ 10 ∷ more) t) → rest ≡ front ++ (10 ∷ next) → all ≡ seen ++ rest → StopsBy cause Step Loses ⊥ w0 w2 s all t
+fed_stops cause Step Loses w0 w1 w2 s m t seen line front next rest all so_far failed cut split =
+    let P : List ℕ → Type 0 = λ x. StopsBy cause Step Loses ⊥ w1 w2 m x t in
+    let Q : List ℕ → Type 0 = λ x. StopsBy cause Step Loses ⊥ w0 w2 s x t in
+    subst Q (sym (split ∙ ap (λ x. seen ++ x) cut))
+    (stops_later cause Step Loses ⊥ w0 w1 w2 s m t seen line (front ++ (10 ∷ next)) so_far (subst P (append_assoc line front (10 ∷ next)) (failed next)))
+
 -- ---- one read after another
 
 -- what was read so far, and how many bytes may still be read

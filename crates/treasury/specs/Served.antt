@@ -1,10 +1,10 @@
 -- Mirrors code: one line that is served, and further bytes of an input.
-use Rattle.std.specs.Prelude.{◌≡◌, ◌<◌, ℕ, List, [], ◌∷◌, ◌++◌, ◌⊎◌, Option, Some, None, take, get_or, length, Result, MatchResult, MatchOption}
+use Rattle.std.specs.Prelude.{◌≡◌, ℕ, ◌==◌, List, [], ◌∷◌, ◌++◌, ◌⊎◌, Option, take, position, Result, MatchResult}
 use Rattle.std.specs.Io.KnownBytes.{Appends}
 use Rattle.money_core.specs.declared.cause.Cause.{Cause}
 use Rattle.money_core.specs.declared.cause.Cause.TheVariants.{OutOfMemory, WriteFault}
 use Rattle.treasury.specs.Transcript.{AnswersInTurn}
-use Rattle.treasury.specs.RunEnd.{HasNoLineFeed, AnswersWhole, StopsBy}
+use Rattle.treasury.specs.RunEnd.{AnswersWhole, StopsBy}
 
 -- the writer got the answers to these requests
 pub record Served {S : Type 0} (Step : S → List ℕ → List ℕ → S → Type 0)
@@ -52,10 +52,9 @@ Feeds result Step Loses w0 w1 start seen begun end = MatchResult result
     (λ _. AnswersWhole Step w0 w1 start seen begun end)
     (λ cause. StopsBy cause Step Loses ⊥ w0 w1 start seen end)
 
--- the first line feed of a text stands there; without one there is none
-abbrev pub IsFeedPlace : Option ℕ → List ℕ → Type 0
-IsFeedPlace o text =
-    MatchOption o (HasNoLineFeed text) (λ i. (i < length text) × HasNoLineFeed (take i text) × (get_or text i 0 ≡ 10))
+-- where the first line feed of a text stands
+abbrev pub feed_place : List ℕ → Option ℕ
+feed_place text = position (λ b. b == 10) text
 
 -- the line, which a line feed ends, is answered, or the answers stop there, whatever stands behind it
 abbrev pub EndsLine : {T S : Type 0} → Result T Cause → (S → List ℕ → List ℕ → S → Type 0) → (S → List ℕ → Type 0)

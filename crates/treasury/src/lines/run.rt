@@ -1,10 +1,10 @@
 //! The run over all lines of a reader.
 
-ghost use Rattle.std.specs.Prelude.{◌≡◌, ◌∷◌, ◌++◌, []};
+ghost use Rattle.std.specs.Prelude.{◌≡◌, ◌==◌, ◌∷◌, ◌++◌, [], position};
 ghost use Rattle.std.specs.Str.Lines.{strip_carriage_return};
 ghost use Rattle.treasury.specs.Transcript.{is_blank_text, requests_among};
 ghost use Rattle.treasury.specs.RunEnd.{HasNoLineFeed, Ends};
-ghost use Rattle.treasury.specs.Served.{Serves, Feeds, EndsLine, IsFeedPlace};
+ghost use Rattle.treasury.specs.Served.{Serves, Feeds, EndsLine, feed_place};
 
 use crate::lines::machine::Machine;
 use crate::lines::write::write_whole;
@@ -63,7 +63,7 @@ fn serve_line<W: Write, M: Machine>(
 
 /// Where the first line feed stands, if there is one.
 fn feed_place(bytes: &[u8]) -> Option<usize>
-    ensures { IsFeedPlace result bytes.now }
+    ensures { result ≡ feed_place bytes.now }
 {
     bytes.iter().position(|byte| *byte == b'\n')
 }
@@ -81,8 +81,9 @@ fn end_line<W: Write, M: Machine>(
     ensures { EndsLine result M.step M.loses (W.contents writer.old) (W.contents writer.new)
         machine.old (line.old.items ++ bytes.now) line.new.items machine.new }
 {
-    if line.extend_from_slice(bytes).is_err() {
-        return Err(Cause::OutOfMemory);
+    match line.extend_from_slice(bytes) {
+        Ok(()) => {}
+        Err(_) => return Err(Cause::OutOfMemory),
     }
     match serve_line(
         alloc,
@@ -111,11 +112,17 @@ fn feed<W: Write, M: Machine>(
         machine.old (line.old.items ++ bytes.now) line.new.items machine.new }
 {
     let mut rest = bytes;
-    'feeding: while let Some(place) = feed_place(rest) {
-        match end_line(alloc, &rest[..place], line, writer, machine) {
-            Ok(()) => rest = &rest[place + 1..],
+    'feeding: loop {
+        let place = match feed_place(rest) {
+            Some(place) => place,
+            None => break,
+        };
+        let (front, back) = rest.split_at(place);
+        match end_line(alloc, front, line, writer, machine) {
+            Ok(()) => {}
             Err(cause) => return Err(cause),
         }
+        rest = back.split_at(1).1;
     }
     match line.extend_from_slice(rest) {
         Ok(()) => Ok(()),

@@ -223,7 +223,7 @@ fn assert_broken(
     let ended = run_echo(alloc, &mut reader, &mut writer, &mut echo);
     assert!(rt; ended == Err(Cause::ReadFault));
     assert!(rt; input.ends_with(reader.text));
-    assert_eq!(rt; reader.text.len() + before, input.len());
+    assert_eq!(rt; reader.text.len(), input.len().saturating_sub(before));
     assert_eq!(rt; writer.as_slice(), want);
     assert_eq!(rt; echo.answered, count);
 }

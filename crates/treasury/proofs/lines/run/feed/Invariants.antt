@@ -1,4 +1,4 @@
-use Rattle.std.proofs.Common.{◌≡◌, ◌++◌, ℕ, List}
+use Rattle.std.proofs.Common.{◌≡◌, ◌++◌, ℕ, List, length}
 use Rattle.treasury.specs.RunEnd.{AnswersWhole}
 use Rattle.treasury.proofs.lines.run.feed.Given as goal
 
@@ -8,3 +8,6 @@ invariant-feeding g l =
     (seen : List ℕ)
     × (AnswersWhole g.M.Machine.step (g.W.Write.contents l.initial.writer) (g.W.Write.contents l.writer) l.initial.machine seen l.line.items l.machine
     × (l.initial.line.items ++ l.initial.bytes ≡ seen ++ l.rest))
+
+abbrev pub decreases-feeding : goal.decreases-feeding
+decreases-feeding g l = length l.rest
