@@ -251,8 +251,9 @@ fn added(alloc: Global, name: &Text, row: Record, other: Addition) -> Result<Del
     ensures memory { IsOkUnless result Cause.OutOfMemory }
 {
     let name = name.copy()?;
+    let first = Addition::Record(name, row);
     let mut list = Items::empty(alloc);
-    list.push(Addition::Record(name, row))?;
+    list.push(first)?;
     list.push(other)?;
     Ok(Delta::of(list))
 }
