@@ -5,6 +5,7 @@ use Rattle.money_core.specs.declared.style.Style.{Style}
 use Rattle.money_core.specs.declared.cause.Cause.TheVariants.{OutOfMemory, Request as NoRequest}
 use Rattle.money_core.specs.declared.cause.Fault.{Fault}
 use Rattle.money_core.specs.Sampling.{style_of}
+use Rattle.money_core.specs.Reading.{amount}
 use Rattle.book_core.specs.declared.refusal.Refusal.{Refusal}
 use Rattle.book_core.specs.declared.refusal.Refusal.TheVariants.{Plain, Text}
 use Rattle.journal_format.specs.declared.txn.Located.{Located}
@@ -14,11 +15,11 @@ use Rattle.journal_format.specs.Fault.{IsFirstFault}
 use Rattle.treasury_core.specs.declared.command.Command.TheVariants as cmd
 use Rattle.treasury_core.specs.Federation.{Federation}
 use Rattle.treasury.specs.declared.request.Request.{Request}
-use Rattle.treasury.specs.declared.request.Request.TheVariants.{Branch as ForBranch, Commodity as ForCommodity, Import as ForImport, Lock as ForLock, Balance as ForBalance}
+use Rattle.treasury.specs.declared.request.Request.TheVariants.{Branch as ForBranch, Commodity as ForCommodity, Import as ForImport, Dispatch as ForDispatch, Receive as ForReceive, Lock as ForLock, Balance as ForBalance}
 use Rattle.treasury.specs.declared.asking.Asked.{Asked}
 use Rattle.treasury.specs.declared.asking.Asked.TheVariants.{Command, Balances}
 use Rattle.treasury.specs.Request.{spelled}
-use Rattle.treasury.specs.Asked.{asked_by_sample, JournalAsks, RequestAsks, Asks}
+use Rattle.treasury.specs.Asked.{asked_by_sample, asked_by_amount, JournalAsks, RequestAsks, Asks}
 use Rattle.treasury.specs.Answer.{answer_text}
 use Rattle.treasury.specs.Step.{reply, after, reply_text, Answers, Loses}
 use Rattle.treasury.specs.Replied.{IsReplied, OrMemory, MayLose}
@@ -40,6 +41,8 @@ request_asks : ReadsAll → (styles : List Style) (request : Request) → (asked
 request_asks law styles (ForBranch name) = (Ok (Command (cmd.Branch name)), refl)
 request_asks law styles (ForCommodity sample) = (asked_by_sample (style_of sample), refl)
 request_asks law styles (ForImport name journal) = journal_asks law styles name journal
+request_asks law styles (ForDispatch id from to day text account) = (asked_by_amount id from to day account (amount styles text), refl)
+request_asks law styles (ForReceive id name day account) = (Ok (Command (cmd.Receive (record { id = id; branch = name; day = day; account = account }))), refl)
 request_asks law styles (ForLock name day) = (Ok (Command (cmd.Lock name day)), refl)
 request_asks law styles (ForBalance name day) = (Ok (Balances name day), refl)
 

@@ -1,11 +1,15 @@
 -- The lines of a text that is put together of whole lines and the beginning of one.
-use Rattle.std.proofs.Common.{◌≡◌, ◌≢◌, ℕ, Bool, true, false, cond, List, [], ◌∷◌, ◌++◌, inl, inr, map, length, sym, ap, ◌∙◌, append_assoc, append-nil, refl, subst, ◌<◌, ◌+◌, take, drop, get_or, add-one}
+use Rattle.std.proofs.Common.{◌≡◌, ◌≢◌, ℕ, Bool, true, false, cond, List, [], ◌∷◌, ◌++◌, inl, inr, map, length, sym, ap, ◌∙◌, append_assoc, append-nil, refl, subst, ◌<◌, ◌+◌, take, drop, get_or, add-one, suc, position, length-take, Option, Some, None}
 use Rattle.std.proofs.lemmas.Bool.Decides.{nat_tests}
-use Rattle.std.proofs.Math.Seq.{drop-cons}
-use Rattle.std.proofs.lemmas.List.{take-append-drop, take_more}
-use Rattle.std.proofs.lemmas.List.Elements.{All-weaker, filter-append}
+use Rattle.std.proofs.Math.Seq.{split_at}
+use Rattle.std.proofs.lemmas.Grind.{common_steps}
+use Rattle.std.proofs.lemmas.List.{drop-drop}
+use Rattle.std.proofs.lemmas.List.Elements.{All-weaker, All-from_get_or, filter-append}
+use Rattle.std.proofs.lemmas.List.Quantifiers.{position-Some}
+use Rattle.std.proofs.lemmas.List.Sums.{fails_before_first}
+use Rattle.money_core.proofs.PositionLemmas.{position-none}
 use Rattle.std.proofs.lemmas.List.Splits.{slice_split_at, slice_split_none}
-use Rattle.std.specs.Prelude.{◌==◌, not, All, if◌then◌else◌}
+use Rattle.std.specs.Prelude.{◌==◌, not, All, if◌then◌else◌, MatchOption}
 use Rattle.std.specs.List.{slice_split, onto_first}
 use Rattle.std.specs.Str.Lines.{lines, lines_of_parts, strip_carriage_return}
 use Rattle.std.proofs.Common.{arith}
@@ -107,16 +111,31 @@ transcript-append Step a b c whole text o1 o2 complete first second =
     let P : List (List ℕ) → Type 0 = λ requests. AnswersInTurn Step a requests (o1 ++ o2) c in
     subst P (sym (requests-append whole text complete)) (answers-append Step a b c (requests_in whole) (requests_in text) o1 o2 first second)
 
-drop_at : (s : List ℕ) (i : ℕ) → i < length s → drop i s ≡ get_or s i 0 ∷ drop (i + 1) s
-drop_at s i h = rw (add-one, drop-cons s i 0) refl
+-- a text cut at one of its line feeds
+pub cut_at_feed : (text : List ℕ) (i : ℕ) → i < length text → get_or text i 0 ≡ 10 → text ≡ take i text ++ (10 ∷ drop (i + 1) text)
+cut_at_feed text i within feed = rw add-one (split_at text i 0 within ∙ ap (λ b. take i text ++ (b ∷ drop (suc i) text)) feed)
 
--- a text behind another, cut before and behind one byte
-pub seen_split : (begun bytes : List ℕ) (i : ℕ) → i < length bytes → begun ++ bytes ≡ (begun ++ take i bytes) ++ (get_or bytes i 0 ∷ drop (i + 1) bytes)
-seen_split begun bytes i within =
-    ap (λ x. begun ++ x) (sym (take-append-drop i bytes)) ∙ sym (append_assoc begun (take i bytes) (drop i bytes))
-    ∙ ap (λ x. (begun ++ take i bytes) ++ x) (drop_at bytes i within)
+-- the place of the first line feed
+other_byte : (b : ℕ) → (b == 10) ≡ false → b ≢ 10
+other_byte b e = grind (arith, nat_tests)
 
--- one byte more of it
-pub seen_more : (begun bytes : List ℕ) (i : ℕ) → i < length bytes → begun ++ take (i + 1) bytes ≡ (begun ++ take i bytes) ++ (get_or bytes i 0 ∷ [])
-seen_more begun bytes i within =
-    ap (λ x. begun ++ x) (take_more bytes i 0 within) ∙ sym (append_assoc begun (take i bytes) (get_or bytes i 0 ∷ []))
+-- the first line feed of a text stands there; without one there is none
+abbrev pub IsFeedPlace : Option ℕ → List ℕ → Type 0
+IsFeedPlace o text =
+    MatchOption o (HasNoLineFeed text) (λ i. (i < length text) × HasNoLineFeed (take i text) × (get_or text i 0 ≡ 10))
+
+pub first_feed : (text : List ℕ) (o : Option ℕ) → position (λ b. b == 10) text ≡ o → IsFeedPlace o text
+first_feed text None e =
+    let all = position-none (λ (b : ℕ). b == 10) text e in
+    All-from_get_or (λ b. b ≢ 10) text 0 (λ i lt. other_byte (get_or text i 0) (fails_before_first (λ (b : ℕ). b == 10) text i 0 (omega (arith, all))))
+first_feed text (Some i) e =
+    let at = position-Some (λ (b : ℕ). b == 10) text i 0 e in
+    let part = All-from_get_or (λ b. b ≢ 10) (take i text) 0 (λ k lt.
+    let below : k < i = (let h = length-take i text in omega (arith, h)) in
+    let same : get_or (take i text) k 0 ≡ get_or text k 0 = grind (arith, common_steps, below) in
+    other_byte (get_or (take i text) k 0) (rw same (at.2 k below))) in
+    (at.0, part, grind (arith, nat_tests, at.1))
+
+-- what stands behind a line feed
+pub behind_feed : (text : List ℕ) (i : ℕ) → drop 1 (drop i text) ≡ drop (i + 1) text
+behind_feed text i = simp drop-drop

@@ -1,6 +1,7 @@
 -- A refusal can be printed: a failed assertion of a book names a date, a commodity and quantities of its entries.
 use Rattle.std.proofs.Common.{◌≡◌, ◌≤◌, ◌<◌, ◌⊎◌, ◌++◌, List, [], ◌∷◌, length, Option, Some, None, Result, Ok, Err, ℤ, pos, arith, refl, ap, sym, subst, inl, inr, ℕ, Bool, true, false, not, nat_le}
-use Rattle.std.specs.Prelude.{Contains, unsigned_abs, if◌then◌else◌}
+use Rattle.std.specs.Prelude.{Contains, unsigned_abs, if◌then◌else◌, int_le, int_lt, is_some}
+use Rattle.std.specs.Str.{bytes_eq}
 use Rattle.std.specs.List.{AllByRecursion, list_any}
 use Rattle.std.specs.Option.{option_or}
 use Rattle.money_core.specs.declared.style.Style.{Style}
@@ -9,7 +10,7 @@ use Rattle.money_core.specs.declared.unit.Declared.{Declared}
 use Rattle.money_core.specs.declared.unit.Declared.TheVariants.{New, Same}
 use Rattle.money_core.specs.declared.day.Day.{Day}
 use Rattle.money_core.specs.declared.cause.Cause.{Cause}
-use Rattle.money_core.specs.declared.cause.Cause.TheVariants.{OutOfMemory}
+use Rattle.money_core.specs.declared.cause.Cause.TheVariants.{OutOfMemory, UnknownTransfer}
 use Rattle.money_core.specs.Amount.{limit}
 use Rattle.money_core.specs.AmountText.{IsDeclared}
 use Rattle.money_core.specs.Style.{declared}
@@ -36,12 +37,16 @@ use Rattle.treasury_core.specs.declared.command.Answer.TheVariants.{Done, Repeat
 use Rattle.treasury_core.specs.declared.command.Command.{Command}
 use Rattle.treasury_core.specs.declared.command.Command.TheVariants as cmd
 use Rattle.treasury_core.specs.Federation.{Federation, is_branch_name, most_branches, has_branch, records_of, lock_of, entries, book_of}
+use Rattle.treasury_core.specs.declared.command.Dispatch.{Dispatch}
+use Rattle.treasury_core.specs.declared.command.Receive.{Receive}
+use Rattle.treasury_core.specs.declared.transfer.Transfer.{Transfer}
 use Rattle.treasury_core.specs.Mark.{is_held, is_repeat, is_product_mark}
-use Rattle.treasury_core.specs.Step.{unless, commodity_reply, is_locked, is_lock, goes_back, fault_on, unbalanced, records_in_file, is_transit, barred, refusal_of, refused_in, new_records, enter_refusal, reply}
+use Rattle.treasury_core.specs.Transfer.{is_id, is_account_text, is_reserved, is_transit, dispatch_record, receipt_record}
+use Rattle.treasury_core.specs.Step.{unless, commodity_reply, is_locked, is_lock, goes_back, fault_on, unbalanced, records_in_file, barred, refusal_of, refused_in, new_records, enter_refusal, transfer_at, transfer_of, is_dispatched_so, dispatch_refusal, dispatch_reply, receipt_of, is_received_so, receipt_refusal, receipt_reply, receive_reply, reply}
 use Rattle.treasury_core.specs.Good.{IsGoodRecord, IsGoodState, Fits}
 use Rattle.treasury_core.proofs.LateEntryLemmas.{all_at}
 use Rattle.treasury_core.proofs.OwnLemmas.{of_branch}
-use Rattle.treasury_core.proofs.ReplyLemmas.{new_good}
+use Rattle.treasury_core.proofs.ReplyLemmas.{new_good, dispatch_record_good, receipt_record_good}
 use Rattle.treasury.specs.Answer.{IsPrintableFailure, IsPrintableRefusal}
 
 -- an entry of a transaction that can be printed
@@ -123,6 +128,10 @@ unbalanced_printable styles (x ∷ xs) e h = elim (first_or (fault_on x.line (le
 plain_printable : (styles : List Style) (cause : Cause) (e : Refusal) → Plain cause ≡ e → IsPrintableRefusal styles e
 plain_printable styles cause e h = subst (IsPrintableRefusal styles) h tt
 
+kept_or : (styles : List Style) (t : Bool) (cause : Cause) (o : Option Refusal) (e : Refusal) → (if not t then Some (Plain cause) else o) ≡ Some e → (t ≡ true → o ≡ Some e → IsPrintableRefusal styles e) → IsPrintableRefusal styles e
+kept_or styles false cause o e h rest = plain_printable styles cause e cc
+kept_or styles true cause o e h rest = rest refl h
+
 chosen : (styles : List Style) (t : Bool) (cause : Cause) (o : Option Refusal) (e : Refusal) → (if t then Some (Plain cause) else o) ≡ Some e → (o ≡ Some e → IsPrintableRefusal styles e) → IsPrintableRefusal styles e
 chosen styles true cause o e h rest = plain_printable styles cause e cc
 chosen styles false cause o e h rest = rest h
@@ -158,6 +167,13 @@ file_printable f name file e good fits h = elim (first_or (unbalanced f.styles f
   ]
 ]
 
+-- the failure of a book with one good record more
+with_record_printable : (f : Federation) (name : List ℕ) (r : Record) (e : Refusal) → IsGoodState f → IsGoodRecord f.styles r → verdict (entries (records_of f name) ++ entries (r ∷ [])) ≡ Some e → IsPrintableRefusal f.styles e
+with_record_printable f name r e good written fails =
+    let old = of_records f.styles (records_of f name) (good_records f name good) in
+    let new = of_records f.styles (r ∷ []) (written, tt) in
+    printable_verdict f.styles (book_of f name ++ entries (r ∷ [])) e (all-append (IsOfTransaction f.styles) (book_of f name) (entries (r ∷ [])) old new) fails
+
 by_answer : (styles : List Style) (a : Answer) (o : Option Refusal) (e : Refusal) → unless a o ≡ Err e → o ≡ Some e
 by_answer styles a None e h = absurd cc
 by_answer styles a (Some refusal) e h = cc
@@ -166,9 +182,10 @@ replied_plain : (styles : List Style) (t : Bool) (cause : Cause) (x : Result Ans
 replied_plain styles true cause x e h rest = plain_printable styles cause e cc
 replied_plain styles false cause x e h rest = rest h
 
-replied_there : (styles : List Style) (t : Bool) (cause : Cause) (x : Result Answer Refusal) (e : Refusal) → (if not t then Err (Plain cause) else x) ≡ Err e → (x ≡ Err e → IsPrintableRefusal styles e) → IsPrintableRefusal styles e
+replied_there : (styles : List Style) (t : Bool) (cause : Cause) (x : Result Answer Refusal) (e : Refusal) → (if not t then Err (Plain cause) else x) ≡ Err e → (t ≡ true → x ≡ Err e → IsPrintableRefusal styles e)
+    → IsPrintableRefusal styles e
 replied_there styles false cause x e h rest = plain_printable styles cause e cc
-replied_there styles true cause x e h rest = rest h
+replied_there styles true cause x e h rest = rest refl h
 
 replied_repeat : (styles : List Style) (t : Bool) (x : Result Answer Refusal) (e : Refusal) → (if t then Ok Repeated else x) ≡ Err e → (x ≡ Err e → IsPrintableRefusal styles e) → IsPrintableRefusal styles e
 replied_repeat styles true x e h rest = absurd cc
@@ -179,16 +196,42 @@ declared_printable styles (Ok (New unit)) e h = absurd cc
 declared_printable styles (Ok (Same unit)) e h = absurd cc
 declared_printable styles (Err cause) e h = plain_printable styles cause e cc
 
+dispatch_printable : (f : Federation) (d : Dispatch) (e : Refusal) → IsGoodState f → Fits f.styles (cmd.Dispatch d) → dispatch_reply f d ≡ Err e → IsPrintableRefusal f.styles e
+dispatch_printable f d e good fits h =
+    replied_there f.styles (has_branch f d.source) _ _ e h (λ source h1. replied_there f.styles (has_branch f d.target) _ _ e h1 (λ target h2.
+    replied_plain f.styles (bytes_eq d.source d.target) _ _ e h2 (λ h3. replied_there f.styles (is_id d.id) _ _ e h3 (λ id h4.
+    replied_repeat f.styles (is_dispatched_so d (transfer_at f d.id)) _ e h4 (λ h5. replied_plain f.styles (is_some (transfer_at f d.id)) _ _ e h5 (λ h6.
+    let refused = by_answer f.styles _ (dispatch_refusal (lock_of f d.source) (records_of f d.source) d) e h6 in
+    kept_or f.styles (is_account_text d.account) _ _ e refused (λ account k1. chosen f.styles (is_reserved d.account) _ _ e k1 (λ k2.
+    chosen f.styles (int_le d.qty (pos 0)) _ _ e k2 (λ k3. chosen f.styles (is_locked (lock_of f d.source) d.day) _ _ e k3 (λ k4.
+    with_record_printable f d.source (dispatch_record (transfer_of d)) e good (dispatch_record_good f d good fits source target id account) k4))))))))))
+
+receipt_printable : (f : Federation) (r : Receive) (o : Option Transfer) (e : Refusal) → IsGoodState f → Fits f.styles (cmd.Receive r) → transfer_at f r.id ≡ o → receipt_reply f r o ≡ Err e → IsPrintableRefusal f.styles e
+receipt_printable f r None e good fits at h = plain_printable f.styles UnknownTransfer e cc
+receipt_printable f r (Some t) e good fits at h =
+    replied_there f.styles (bytes_eq t.target r.branch) _ _ e h (λ target h1. replied_repeat f.styles (is_received_so r t.receipt) _ e h1 (λ h2.
+    replied_plain f.styles (is_some t.receipt) _ _ e h2 (λ h3.
+    let refused = by_answer f.styles _ (receipt_refusal (lock_of f r.branch) (records_of f r.branch) t r) e h3 in
+    kept_or f.styles (is_account_text r.account) _ _ e refused (λ account k1. chosen f.styles (is_reserved r.account) _ _ e k1 (λ k2.
+    chosen f.styles (int_lt r.day.0 t.day.0) _ _ e k2 (λ k3. chosen f.styles (is_locked (lock_of f r.branch) r.day) _ _ e k3 (λ k4.
+    with_record_printable f r.branch (receipt_record t (receipt_of r)) e good (receipt_record_good f r t good fits at account) k4)))))))
+
+receive_printable : (f : Federation) (r : Receive) (e : Refusal) → IsGoodState f → Fits f.styles (cmd.Receive r) → receive_reply f r ≡ Err e → IsPrintableRefusal f.styles e
+receive_printable f r e good fits h =
+    replied_there f.styles (has_branch f r.branch) _ _ e h (λ there h1. replied_there f.styles (is_id r.id) _ _ e h1 (λ id h2. receipt_printable f r (transfer_at f r.id) e good fits refl h2))
+
 reply_printable : (f : Federation) (c : Command) (e : Refusal) → IsGoodState f → Fits f.styles c → reply f c ≡ Err e → IsPrintableRefusal f.styles e
 unfolding reply
 reply_printable f (cmd.Branch name) e good fits h =
-    replied_there f.styles (is_branch_name name) _ _ e h (λ h1. replied_repeat f.styles (has_branch f name) _ e h1 (λ h2.
+    replied_there f.styles (is_branch_name name) _ _ e h (λ named h1. replied_repeat f.styles (has_branch f name) _ e h1 (λ h2.
     replied_plain f.styles (nat_le most_branches (length f.branches)) _ _ e h2 (λ h3. absurd cc)))
 reply_printable f (cmd.Commodity style) e good fits h = declared_printable f.styles (declared f.styles style) e h
 reply_printable f (cmd.Enter name file) e good fits h =
-    replied_there f.styles (has_branch f name) _ _ e h (λ h1. file_printable f name file e good fits (by_answer f.styles _ (enter_refusal f name file) e h1))
+    replied_there f.styles (has_branch f name) _ _ e h (λ there h1. file_printable f name file e good fits (by_answer f.styles _ (enter_refusal f name file) e h1))
+reply_printable f (cmd.Dispatch d) e good fits h = dispatch_printable f d e good fits h
+reply_printable f (cmd.Receive r) e good fits h = receive_printable f r e good fits h
 reply_printable f (cmd.Lock name day) e good fits h =
-    replied_there f.styles (has_branch f name) _ _ e h (λ h1. replied_repeat f.styles (is_lock (lock_of f name) day) _ e h1 (λ h2.
+    replied_there f.styles (has_branch f name) _ _ e h (λ there h1. replied_repeat f.styles (is_lock (lock_of f name) day) _ e h1 (λ h2.
     replied_plain f.styles (goes_back (lock_of f name) day) _ _ e h2 (λ h3. absurd cc)))
 
 -- the refusal of a decided command can be printed

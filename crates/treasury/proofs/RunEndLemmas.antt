@@ -35,7 +35,9 @@ good_nothing = record {
   few = omega arith;
   names = tt;
   branches = tt;
-  transfers = refl;
+  ids = tt;
+  transfers = tt;
+  carried = tt;
 }
 
 sound : (f : Federation) → IsGoodState f → IsSound f

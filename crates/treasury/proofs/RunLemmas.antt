@@ -1,7 +1,7 @@
 -- A run, from one read to the next, and how it ends.
 use Rattle.std.proofs.Common.{◌≡◌, ◌≢◌, ◌≤◌, ◌+◌, ◌-◌, ℕ, List, [], ◌∷◌, ◌++◌, ◌⊎◌, inl, inr, take, length, Option, arith, sym, subst, ap, ◌∙◌, append_assoc, append-nil, refl, length-append}
 use Rattle.std.proofs.KnownBytes.{Appends-trans, Appends-nil, Consumes-nil, Consumes-trans, Consumes-kept}
-use Rattle.std.proofs.lemmas.List.Elements.{All-nil, All-push}
+use Rattle.std.proofs.lemmas.List.Elements.{All-nil, All-append}
 use Rattle.std.specs.Io.KnownBytes.{Appends, Consumes, IsAtEnd, Keeps}
 use Rattle.std.specs.Str.Lines.{strip_carriage_return}
 use Rattle.money_core.specs.declared.cause.Cause.{Cause}
@@ -27,14 +27,14 @@ whole_none Step w s seen line same part = record {
   appended = Appends-nil w;
 }
 
--- one more byte of a line
-pub whole_byte : {S : Type 0} (Step : Stepping S) (w0 w1 : Option (List ℕ)) (s t : S) (seen line seen' line' : List ℕ) (b : ℕ) → AnswersWhole Step w0 w1 s seen line t → b ≢ 10 → seen' ≡ seen ++ (b ∷ []) → line' ≡ line ++ (b ∷ []) → AnswersWhole Step w0 w1 s seen' line' t
-whole_byte Step w0 w1 s t seen line seen' line' b so_far other more longer = record {
+-- further bytes of a line
+pub whole_part : {S : Type 0} (Step : Stepping S) (w0 w1 : Option (List ℕ)) (s t : S) (seen line part line' : List ℕ) → AnswersWhole Step w0 w1 s seen line t → HasNoLineFeed part → line' ≡ line ++ part → AnswersWhole Step w0 w1 s (seen ++ part) line' t
+whole_part Step w0 w1 s t seen line part line' so_far plain longer = record {
   whole = so_far.whole;
   written = so_far.written;
-  split = more ∙ ap (λ x. x ++ (b ∷ [])) so_far.split ∙ append_assoc so_far.whole line (b ∷ []) ∙ sym (ap (λ x. so_far.whole ++ x) longer);
+  split = ap (λ x. x ++ part) so_far.split ∙ append_assoc so_far.whole line part ∙ sym (ap (λ x. so_far.whole ++ x) longer);
   complete = so_far.complete;
-  part = (let P : List ℕ → Type 0 = λ x. HasNoLineFeed x in subst P (sym longer) (All-push (λ x. x ≢ 10) line b so_far.part other));
+  part = (let P : List ℕ → Type 0 = λ x. HasNoLineFeed x in subst P (sym longer) (All-append (λ x. x ≢ 10) line part so_far.part plain));
   transcript = so_far.transcript;
   appended = so_far.appended;
 }
@@ -210,6 +210,31 @@ pub stops_later : {S : Type 0} (cause : Cause) (Step : Stepping S) (Loses : S �
 stops_later OutOfMemory Step Loses AtEnd w0 w1 w2 s m t seen line new so_far next = gave_up_later Step Loses AtEnd w0 w1 w2 s m t seen line new so_far next
 stops_later WriteFault Step Loses AtEnd w0 w1 w2 s m t seen line new so_far next = torn_later Step AtEnd w0 w1 w2 s m t seen line new so_far next
 stops_later _ Step Loses AtEnd w0 w1 w2 s m t seen line new so_far next = absurd next
+
+-- ---- the lines of further bytes, one after another
+
+-- a line that a feed ends is answered, and the bytes behind it are left
+pub fed_further : {S : Type 0} (Step : Stepping S) (w0 w1 w2 : Option (List ℕ)) (s m t : S) (seen line front next rest all line' : List ℕ) → AnswersWhole Step w0 w1 s seen line m
+    → AnswersWhole Step w1 w2 m ((line ++ front) ++ 10 ∷ []) line' t → rest ≡ front ++ (10 ∷ next) → all ≡ seen ++ rest
+    → (x : List ℕ) × (AnswersWhole Step w0 w2 s x line' t × (all ≡ x ++ next))
+fed_further {S = S} Step w0 w1 w2 s m t seen line front next rest all line' so_far ended cut split =
+    let new = front ++ 10 ∷ [] in
+    let P : List ℕ → Type 0 = λ x. AnswersWhole Step w1 w2 m x line' t in (
+      seen ++ new,
+      (
+        whole_further Step w0 w1 w2 s m t seen line new line' so_far (subst P (append_assoc line front (10 ∷ [])) ended),
+        split ∙ ap (λ x. seen ++ x) (cut ∙ sym (append_assoc front (10 ∷ []) next)) ∙ sym (append_assoc seen new next),
+      ),
+    )
+
+-- the answers stop at a line that a feed ends
+pub fed_stops : {S : Type 0} (cause : Cause) (Step : Stepping S) (Loses : S → List ℕ → Type 0) (w0 w1 w2 : Option (List ℕ)) (s m t : S) (seen line front next rest all : List ℕ) → AnswersWhole Step w0 w1 s seen line m
+    → ((more : List ℕ) → StopsBy cause Step Loses ⊥ w1 w2 m ((line ++ front) ++ 10 ∷ more) t) → rest ≡ front ++ (10 ∷ next) → all ≡ seen ++ rest → StopsBy cause Step Loses ⊥ w0 w2 s all t
+fed_stops cause Step Loses w0 w1 w2 s m t seen line front next rest all so_far failed cut split =
+    let P : List ℕ → Type 0 = λ x. StopsBy cause Step Loses ⊥ w1 w2 m x t in
+    let Q : List ℕ → Type 0 = λ x. StopsBy cause Step Loses ⊥ w0 w2 s x t in
+    subst Q (sym (split ∙ ap (λ x. seen ++ x) cut))
+    (stops_later cause Step Loses ⊥ w0 w1 w2 s m t seen line (front ++ (10 ∷ next)) so_far (subst P (append_assoc line front (10 ∷ next)) (failed next)))
 
 -- ---- one read after another
 

@@ -1,10 +1,14 @@
 -- What a line asks, once its texts are read (own rule; docs/FORMATS.md, "Requests"): a journal by the grammar's
 -- relation, or by its first fault.
-use Rattle.std.specs.Prelude.{◌≡◌, ℕ, List, ◌⊎◌, Option, Some, None, Result, Ok, Err}
+use Rattle.std.specs.Prelude.{◌≡◌, ℕ, ℤ, List, ◌⊎◌, Option, Some, None, Result, Ok, Err}
 use Rattle.money_core.specs.declared.style.Style.{Style}
+use Rattle.money_core.specs.declared.unit.Unit.{Unit}
+use Rattle.money_core.specs.declared.day.Day.{Day}
+use Rattle.money_core.specs.declared.cause.Cause.{Cause}
 use Rattle.money_core.specs.declared.cause.Fault.{Fault}
 use Rattle.money_core.specs.declared.cause.Cause.TheVariants.{Amount, Request as NoRequest}
 use Rattle.money_core.specs.Sampling.{style_of}
+use Rattle.money_core.specs.Reading.{amount}
 use Rattle.book_core.specs.declared.refusal.Refusal.{Refusal}
 use Rattle.book_core.specs.declared.refusal.Refusal.TheVariants.{Plain, Text}
 use Rattle.journal_format.specs.declared.txn.Located.{Located}
@@ -12,7 +16,7 @@ use Rattle.journal_format.specs.Pieces.{Reads}
 use Rattle.journal_format.specs.Fault.{IsFirstFault}
 use Rattle.treasury_core.specs.declared.command.Command.TheVariants as cmd
 use Rattle.treasury.specs.declared.request.Request.{Request}
-use Rattle.treasury.specs.declared.request.Request.TheVariants.{Branch, Commodity, Import, Lock, Balance}
+use Rattle.treasury.specs.declared.request.Request.TheVariants.{Branch, Commodity, Import, Dispatch, Receive, Lock, Balance}
 use Rattle.treasury.specs.declared.asking.Asked.{Asked}
 use Rattle.treasury.specs.declared.asking.Asked.TheVariants.{Command, Balances}
 use Rattle.treasury.specs.Request.{spelled}
@@ -28,11 +32,21 @@ JournalAsks styles name journal asked =
     ((list : List Located) × (Reads styles journal list × (asked ≡ Ok (Command (cmd.Enter name list)))))
     ⊎ ((fault : Fault) × (IsFirstFault styles journal fault × (asked ≡ Err (Text fault))))
 
+-- a dispatch of the amount that its text is; a text that is none asks for nothing, by its first fault
+abbrev pub asked_by_amount : List ℕ → List ℕ → List ℕ → Day → List ℕ → Result (Unit × ℤ) Cause → Result Asked Refusal
+asked_by_amount id from to day account (Ok (unit, qty)) =
+    Ok (Command (cmd.Dispatch (record { id = id; source = from; target = to; day = day; unit = unit; qty = qty; account = account })))
+asked_by_amount id from to day account (Err cause) = Err (Plain cause)
+
 -- what a request asks, under the declared commodities: a command, a report, or nothing, since a text has a fault
 abbrev pub RequestAsks : List Style → Request → Result Asked Refusal → Type 0
 RequestAsks styles (Branch name) asked = asked ≡ Ok (Command (cmd.Branch name))
 RequestAsks styles (Commodity sample) asked = asked ≡ asked_by_sample (style_of sample)
 RequestAsks styles (Import name journal) asked = JournalAsks styles name journal asked
+RequestAsks styles (Dispatch id from to day text account) asked =
+    asked ≡ asked_by_amount id from to day account (amount styles text)
+RequestAsks styles (Receive id name day account) asked =
+    asked ≡ Ok (Command (cmd.Receive (record { id = id; branch = name; day = day; account = account })))
 RequestAsks styles (Lock name day) asked = asked ≡ Ok (Command (cmd.Lock name day))
 RequestAsks styles (Balance name day) asked = asked ≡ Ok (Balances name day)
 

@@ -1,14 +1,17 @@
 -- Mirrors code: the request that a form is.
 use Rattle.treasury.specs.declared.request.Request.{Request}
-use Rattle.treasury.specs.declared.request.Request.TheVariants.{Branch, Commodity, Import, Lock, Balance}
+use Rattle.treasury.specs.declared.request.Request.TheVariants.{Branch, Commodity, Import, Dispatch, Receive, Lock, Balance}
 use Rattle.treasury.specs.declared.request.form.Form.{Form}
 use Rattle.treasury.specs.declared.request.form.Form.TheVariants.{Branch as BranchForm, Commodity as CommodityForm}
-use Rattle.treasury.specs.declared.request.form.Form.TheVariants.{Import as ImportForm, Lock as LockForm, Balance as BalanceForm}
+use Rattle.treasury.specs.declared.request.form.Form.TheVariants.{Import as ImportForm, Dispatch as DispatchForm, Receive as ReceiveForm}
+use Rattle.treasury.specs.declared.request.form.Form.TheVariants.{Lock as LockForm, Balance as BalanceForm}
 
 -- the request of a form
 abbrev pub shown : Form → Request
 shown (BranchForm name) = Branch name.now
 shown (CommodityForm sample) = Commodity sample.now
 shown (ImportForm branch journal) = Import branch.now journal.now
+shown (DispatchForm id from to day amount account) = Dispatch id.now from.now to.now day amount.now account.now
+shown (ReceiveForm id branch day account) = Receive id.now branch.now day account.now
 shown (LockForm branch day) = Lock branch.now day
 shown (BalanceForm branch day) = Balance branch.now day

@@ -10,7 +10,7 @@ use Rattle.money_core.specs.declared.day.Day.{Day}
 use Rattle.journal_lines.specs.Date.{IsDayNumber}
 use Rattle.journal_lines.specs.DateReading.{date_of}
 use Rattle.treasury.specs.declared.request.Request.{Request}
-use Rattle.treasury.specs.declared.request.Request.TheVariants.{Branch, Commodity, Import, Lock, Balance}
+use Rattle.treasury.specs.declared.request.Request.TheVariants.{Branch, Commodity, Import, Dispatch, Receive, Lock, Balance}
 
 -- the text at a key of an object
 abbrev pub text_at : List ℕ → Data → Option (List ℕ)
@@ -38,6 +38,19 @@ key_count (object ms) = count_members ms
 abbrev pub is_form : List ℕ → ℕ → List ℕ → Data → Bool
 is_form name keys word d = bytes_eq word name && (key_count d == keys)
 
+-- the request of a dispatch, and of a receipt: their keys are all there, each with a text
+abbrev pub dispatch_at : Data → Option Request
+dispatch_at d =
+    option_and_then (λ id. option_and_then (λ from. option_and_then (λ to. option_and_then (λ day. option_and_then (λ amount.
+    option_map (λ account. Dispatch id from to day amount account) (text_at (codes "account") d)) (text_at (codes "amount") d))
+    (day_at (codes "day") d)) (text_at (codes "to") d)) (text_at (codes "from") d)) (text_at (codes "id") d)
+
+abbrev pub receive_at : Data → Option Request
+receive_at d =
+    option_and_then (λ id. option_and_then (λ branch. option_and_then (λ day.
+    option_map (λ account. Receive id branch day account) (text_at (codes "account") d))
+    (day_at (codes "day") d)) (text_at (codes "branch") d)) (text_at (codes "id") d)
+
 -- the request of each word: its keys are all there, each with a text, and since they are so many there is no further one
 abbrev pub form : List ℕ → Data → Option Request
 form word d =
@@ -45,6 +58,8 @@ form word d =
     else if is_form (codes "commodity") 2 word d then option_map Commodity (text_at (codes "sample") d)
     else if is_form (codes "import") 3 word d
     then option_and_then (λ branch. option_map (Import branch) (text_at (codes "journal") d)) (text_at (codes "branch") d)
+    else if is_form (codes "dispatch") 7 word d then dispatch_at d
+    else if is_form (codes "receive") 5 word d then receive_at d
     else if is_form (codes "lock") 3 word d
     then option_and_then (λ branch. option_map (Lock branch) (day_at (codes "day") d)) (text_at (codes "branch") d)
     else if is_form (codes "balance") 3 word d
@@ -64,5 +79,7 @@ abbrev pub HasDayNumbers : Request → Type 0
 HasDayNumbers (Branch name) = ⊤
 HasDayNumbers (Commodity sample) = ⊤
 HasDayNumbers (Import branch journal) = ⊤
+HasDayNumbers (Dispatch id from to day amount account) = IsDayNumber day
+HasDayNumbers (Receive id branch day account) = IsDayNumber day
 HasDayNumbers (Lock branch day) = IsDayNumber day
 HasDayNumbers (Balance branch day) = IsDayNumber day

@@ -1,5 +1,5 @@
 -- Mirrors code: one line that is served, and further bytes of an input.
-use Rattle.std.specs.Prelude.{◌≡◌, ℕ, List, [], ◌∷◌, ◌⊎◌, Option, take, Result, MatchResult}
+use Rattle.std.specs.Prelude.{◌≡◌, ℕ, ◌==◌, List, [], ◌∷◌, ◌++◌, ◌⊎◌, Option, take, position, Result, MatchResult}
 use Rattle.std.specs.Io.KnownBytes.{Appends}
 use Rattle.money_core.specs.declared.cause.Cause.{Cause}
 use Rattle.money_core.specs.declared.cause.Cause.TheVariants.{OutOfMemory, WriteFault}
@@ -51,3 +51,14 @@ abbrev pub Feeds : {T S : Type 0} → Result T Cause → (S → List ℕ → Lis
 Feeds result Step Loses w0 w1 start seen begun end = MatchResult result
     (λ _. AnswersWhole Step w0 w1 start seen begun end)
     (λ cause. StopsBy cause Step Loses ⊥ w0 w1 start seen end)
+
+-- where the first line feed of a text stands
+abbrev pub feed_place : List ℕ → Option ℕ
+feed_place text = position (λ b. b == 10) text
+
+-- the line, which a line feed ends, is answered, or the answers stop there, whatever stands behind it
+abbrev pub EndsLine : {T S : Type 0} → Result T Cause → (S → List ℕ → List ℕ → S → Type 0) → (S → List ℕ → Type 0)
+    → Option (List ℕ) → Option (List ℕ) → S → List ℕ → List ℕ → S → Type 0
+EndsLine result Step Loses w0 w1 start line begun end = MatchResult result
+    (λ _. AnswersWhole Step w0 w1 start (line ++ 10 ∷ []) begun end)
+    (λ cause. (rest : List ℕ) → StopsBy cause Step Loses ⊥ w0 w1 start (line ++ 10 ∷ rest) end)

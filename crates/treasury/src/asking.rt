@@ -2,16 +2,18 @@
 
 ghost use Rattle.std.specs.Prelude.{◌≡◌};
 ghost use Rattle.money_core.specs.Sampling.{style_of};
-ghost use Rattle.treasury.specs.Asked.{asked_by_sample, JournalAsks, RequestAsks, Asks};
+ghost use Rattle.money_core.specs.Reading.{amount};
+ghost use Rattle.journal_lines.specs.Date.{IsDayNumber};
+ghost use Rattle.treasury.specs.Asked.{asked_by_sample, asked_by_amount, JournalAsks, RequestAsks, Asks};
 ghost use Rattle.treasury.specs.Request.{HasDayNumbers};
 ghost use Rattle.treasury.specs.Replied.{IsReady, OrMemory};
 
 use crate::request::{Request, read_line};
 use book_core::Refusal;
 use journal_format::read_journal;
-use money_core::{Cause, Day, Items, Styles, Text, read_style};
+use money_core::{Cause, Day, Items, Styles, Text, read_amount, read_style};
 use std::alloc::Global;
-use treasury_core::Command;
+use treasury_core::{Command, Dispatch, Receive};
 
 /// What is asked of the treasury.
 #[derive(Drop)]
@@ -55,6 +57,34 @@ fn asked_by_journal(
     }
 }
 
+/// Asks for a dispatch of the amount that the text is.
+fn asked_by_amount(
+    styles: &Styles,
+    id: Text,
+    from: Text,
+    to: Text,
+    day: Day,
+    text: &str,
+    account: Text,
+) -> Result<Asked, Refusal>
+    requires { IsDayNumber day }
+    ensures asks { result ≡ asked_by_amount id from to day account (amount styles.now text.now) }
+    ensures ready { IsReady styles.now result }
+{
+    match read_amount(text, styles) {
+        Ok((unit, qty)) => Ok(Asked::Command(Command::Dispatch(Dispatch {
+            id,
+            source: from,
+            target: to,
+            day,
+            unit,
+            qty,
+            account,
+        }))),
+        Err(cause) => Err(Refusal::Plain(cause)),
+    }
+}
+
 /// What the request asks, or the first fault of its texts; 40 for want of memory.
 fn asked_by_request(alloc: Global, styles: &Styles, request: Request) -> Result<Asked, Refusal>
     requires { HasDayNumbers request }
@@ -67,6 +97,25 @@ fn asked_by_request(alloc: Global, styles: &Styles, request: Request) -> Result<
         Request::Import { branch, journal } => {
             asked_by_journal(alloc, styles, branch, journal.as_bytes())
         }
+        Request::Dispatch {
+            id,
+            from,
+            to,
+            day,
+            amount,
+            account,
+        } => asked_by_amount(styles, id, from, to, day, amount.as_str(), account),
+        Request::Receive {
+            id,
+            branch,
+            day,
+            account,
+        } => Ok(Asked::Command(Command::Receive(Receive {
+            id,
+            branch,
+            day,
+            account,
+        }))),
         Request::Lock { branch, day } => Ok(Asked::Command(Command::Lock(branch, day))),
         Request::Balance { branch, day } => Ok(Asked::Balances(branch, day)),
     }

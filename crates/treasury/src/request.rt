@@ -13,15 +13,44 @@ pub use reading::{read_command, read_line};
 #[derive(Debug, Drop)]
 pub enum Request {
     /// A new branch of that name.
-    Branch { name: Text },
+    Branch {
+        name: Text,
+    },
     /// A new commodity, in the style that the sample amount shows.
-    Commodity { sample: Text },
+    Commodity {
+        sample: Text,
+    },
     /// The transactions of a journal's text, into the branch of that name.
-    Import { branch: Text, journal: Bytes },
+    Import {
+        branch: Text,
+        journal: Bytes,
+    },
+    /// Money on its way from one branch to another, paid by the account of the first on that day.
+    Dispatch {
+        id: Text,
+        from: Text,
+        to: Text,
+        day: Day,
+        amount: Text,
+        account: Text,
+    },
+    /// Money that has come to the branch on that day, into its account.
+    Receive {
+        id: Text,
+        branch: Text,
+        day: Day,
+        account: Text,
+    },
     /// A lock of the branch of that name through the day.
-    Lock { branch: Text, day: Day },
+    Lock {
+        branch: Text,
+        day: Day,
+    },
     /// The balances of the branch of that name through the day.
-    Balance { branch: Text, day: Day },
+    Balance {
+        branch: Text,
+        day: Day,
+    },
 }
 
 impl Copied for Request {
@@ -39,6 +68,44 @@ impl Copied for Request {
                 let branch = branch.copy()?;
                 let journal = journal.copy()?;
                 Ok(Request::Import { branch, journal })
+            }
+            Request::Dispatch {
+                id,
+                from,
+                to,
+                day,
+                amount,
+                account,
+            } => {
+                let id = id.copy()?;
+                let from = from.copy()?;
+                let to = to.copy()?;
+                let amount = amount.copy()?;
+                let account = account.copy()?;
+                Ok(Request::Dispatch {
+                    id,
+                    from,
+                    to,
+                    day: *day,
+                    amount,
+                    account,
+                })
+            }
+            Request::Receive {
+                id,
+                branch,
+                day,
+                account,
+            } => {
+                let id = id.copy()?;
+                let branch = branch.copy()?;
+                let account = account.copy()?;
+                Ok(Request::Receive {
+                    id,
+                    branch,
+                    day: *day,
+                    account,
+                })
             }
             Request::Lock { branch, day } => {
                 let branch = branch.copy()?;

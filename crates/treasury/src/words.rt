@@ -42,6 +42,10 @@ const EXAMPLE_RUN: &str = r#"Requests:
   {"do":"branch","name":NAME}                    a new branch
   {"do":"commodity","sample":AMOUNT}             a new commodity, in the style of the amount
   {"do":"import","branch":NAME,"journal":TEXT}   a journal's transactions, into the branch
+  {"do":"dispatch","id":ID,"from":NAME,"to":NAME,"day":DAY,"amount":AMOUNT,"account":ACCOUNT}
+                                                 money on its way from the branch's account
+  {"do":"receive","id":ID,"branch":NAME,"day":DAY,"account":ACCOUNT}
+                                                 money that has come into the branch's account
   {"do":"lock","branch":NAME,"day":DAY}          no more entries through the day
   {"do":"balance","branch":NAME,"day":DAY}       the branch's balances through the day
 

@@ -24,6 +24,7 @@ use Rattle.treasury_core.specs.Federation.{Branch, Federation, entries}
 use Rattle.treasury_core.specs.Joined.{new_branch, with_records, with_lock, changed, joined_one, joined}
 use Rattle.treasury_core.specs.Good.{IsGoodBranch, IsGoodState}
 use Rattle.treasury_core.specs.Room.{HasRoom, IsRoomy}
+use Rattle.treasury_core.proofs.OrderLemmas.{uninserted, unreceived}
 use Rattle.money_core.proofs.PositionLemmas.{position-none, position-append_found}
 use Rattle.money_core.proofs.StyleLemmas.{place_of-bound, declared-new}
 use Rattle.std.proofs.lemmas.List.Sums.{prefix_len_passes}
@@ -112,10 +113,12 @@ back_changed g name [] p h = tt
 back_changed g name (b ∷ bs) p h = back_at g b bs (changed g name bs) (bytes_eq b.name name) p (back_changed g name bs p) h
 
 room_one : (f : Federation) (x : Addition) → IsRoomy (joined_one f x) → IsRoomy f
-room_one f (add.Commodity style) h = record { styles = styles_back f.styles style h.styles; branches = h.branches }
-room_one f (add.Branch name) h = record { styles = h.styles; branches = all_front HasRoom f.branches (new_branch name ∷ []) h.branches }
-room_one f (add.Record name r) h = record { styles = h.styles; branches = back_changed (with_records (r ∷ [])) name f.branches (λ b k. room_before b r k) h.branches }
-room_one f (add.Locked name day) h = record { styles = h.styles; branches = back_changed (with_lock day) name f.branches (λ b k. record { fit = k.fit; within = k.within }) h.branches }
+room_one f (add.Commodity style) h = record { styles = styles_back f.styles style h.styles; branches = h.branches; ids = h.ids }
+room_one f (add.Branch name) h = record { styles = h.styles; branches = all_front HasRoom f.branches (new_branch name ∷ []) h.branches; ids = h.ids }
+room_one f (add.Record name r) h = record { styles = h.styles; branches = back_changed (with_records (r ∷ [])) name f.branches (λ b k. room_before b r k) h.branches; ids = h.ids }
+room_one f (add.Dispatched t) h = record { styles = h.styles; branches = h.branches; ids = uninserted t f.transfers h.ids }
+room_one f (add.Received id day payee) h = record { styles = h.styles; branches = h.branches; ids = unreceived id (record { day = day; payee = payee }) f.transfers h.ids }
+room_one f (add.Locked name day) h = record { styles = h.styles; branches = back_changed (with_lock day) name f.branches (λ b k. record { fit = k.fit; within = k.within }) h.branches; ids = h.ids }
 
 pub room_back : (xs : List Addition) (f : Federation) → IsRoomy (joined f xs) → IsRoomy f
 room_back [] f h = h
@@ -125,6 +128,7 @@ pub good_room : (f : Federation) → IsGoodState f → IsRoomy f
 good_room f good = record {
   styles = good.styles;
   branches = all_weaker (IsGoodBranch f.styles) HasRoom f.branches (λ b h. record { fit = h.book.fit; within = h.book.within }) good.branches;
+  ids = good.ids;
 }
 
 abbrev no_memory : Result Declared Cause

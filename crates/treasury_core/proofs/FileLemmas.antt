@@ -17,7 +17,8 @@ use Rattle.journal_format.specs.CanonicalText.{body_text, marked}
 use Rattle.journal_balance.specs.Legs.{legs_of, balancing_fault}
 use Rattle.treasury_core.specs.declared.record.Record.{Record}
 use Rattle.treasury_core.specs.Mark.{is_held, held, HaveOwnMarks, is_repeat, is_product_mark, mark_of}
-use Rattle.treasury_core.specs.Step.{is_locked, is_transit, number_in, fault_on, unbalanced, recorded, records_from, records_in_file, refusal_of, refused_in, new_in}
+use Rattle.treasury_core.specs.Transfer.{is_transit}
+use Rattle.treasury_core.specs.Step.{is_locked, number_in, fault_on, unbalanced, recorded, records_from, records_in_file, refusal_of, refused_in, new_in}
 use Rattle.treasury_core.specs.Good.{IsGoodRecord, IsOfFile}
 use Rattle.treasury_core.specs.History.{IsNew}
 use Rattle.treasury_core.proofs.HashLemmas.{printable_marked}

@@ -11,7 +11,8 @@ use Rattle.treasury_core.specs.declared.command.Command.{Command}
 use Rattle.treasury_core.specs.declared.command.Command.TheVariants as cmd
 use Rattle.treasury_core.specs.Federation.{Branch, Federation, records_of}
 use Rattle.treasury_core.specs.Joined.{new_branch, with_records, with_lock, changed}
-use Rattle.treasury_core.specs.Step.{done, after, delta, new_records}
+use Rattle.treasury_core.specs.Transfer.{dispatch_record}
+use Rattle.treasury_core.specs.Step.{done, after, delta, new_records, transfer_of, transfer_at, receipt_records}
 use Rattle.treasury_core.specs.History.{Turn, Replies, after_turn, IsRun, state_after, history, records_among, names_of, Grows, HasGrown}
 use Rattle.treasury_core.proofs.ChangeLemmas.{KeepsName}
 use Rattle.treasury_core.proofs.HistoryLemmas.{after_records}
@@ -43,6 +44,8 @@ unfolding done
 done_names f (cmd.Branch name) = (name ∷ [], names_push f.branches name)
 done_names f (cmd.Commodity style) = stays (names_of f.branches)
 done_names f (cmd.Enter name file) = unchanged (names_of f.branches) _ (same_names (with_records (new_records f name file)) name f.branches (λ b. refl))
+done_names f (cmd.Dispatch d) = unchanged (names_of f.branches) _ (same_names (with_records (dispatch_record (transfer_of d) ∷ [])) d.source f.branches (λ b. refl))
+done_names f (cmd.Receive r) = unchanged (names_of f.branches) _ (same_names (with_records (receipt_records r (transfer_at f r.id))) r.branch f.branches (λ b. refl))
 done_names f (cmd.Lock name day) = unchanged (names_of f.branches) _ (same_names (with_lock day) name f.branches (λ b. refl))
 
 done_styles : (f : Federation) (c : Command) → Grows f.styles (done f c).styles
@@ -50,6 +53,8 @@ unfolding done
 done_styles f (cmd.Branch name) = stays f.styles
 done_styles f (cmd.Commodity style) = (style ∷ [], refl)
 done_styles f (cmd.Enter name file) = stays f.styles
+done_styles f (cmd.Dispatch d) = stays f.styles
+done_styles f (cmd.Receive r) = stays f.styles
 done_styles f (cmd.Lock name day) = stays f.styles
 
 after_styles : (f : Federation) (c : Command) (r : Result Answer Refusal) → Grows f.styles (after f c r).styles

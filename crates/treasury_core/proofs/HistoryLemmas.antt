@@ -21,9 +21,11 @@ use Rattle.treasury_core.specs.declared.delta.Addition.{Addition}
 use Rattle.treasury_core.specs.declared.delta.Addition.TheVariants as add
 use Rattle.treasury_core.specs.declared.command.Command.{Command}
 use Rattle.treasury_core.specs.declared.command.Command.TheVariants as cmd
+use Rattle.treasury_core.specs.declared.command.Receive.{Receive}
+use Rattle.treasury_core.specs.Transfer.{dispatch_record}
 use Rattle.treasury_core.specs.Federation.{Branch, Federation, has_name, has_branch, records_in, records_of, entries, book_of}
 use Rattle.treasury_core.specs.Joined.{new_branch, with_records, with_lock, changed}
-use Rattle.treasury_core.specs.Step.{reply, done, added, after, delta, new_records}
+use Rattle.treasury_core.specs.Step.{reply, done, added, after, delta, new_records, transfer_of, receipt_records, transfer_at}
 use Rattle.treasury_core.specs.History.{Turn, Replies, IsRun, state_after, history, record_if, records_among}
 use Rattle.treasury_core.proofs.BytesLemmas.{same_bytes, third_bytes}
 
@@ -51,7 +53,7 @@ records-locked [] day other name = refl
 records-locked (b ∷ bs) day other name = lock_at day b bs _ name (bytes_eq b.name other) (records-locked bs day other name)
 
 -- records of the branch itself, or of another
-abbrev own_or : Bool → List Record → List Record
+abbrev pub own_or : Bool → List Record → List Record
 own_or t rs = if t then rs else []
 
 here_at : (rs old later : List Record) (t : Bool) → (if t then old ++ rs else later) ≡ (if t then old else later) ++ own_or t rs
@@ -97,6 +99,8 @@ abbrev HasTarget : Federation → Command → Type 0
 HasTarget f (cmd.Branch name) = ⊤
 HasTarget f (cmd.Commodity style) = ⊤
 HasTarget f (cmd.Enter name file) = has_branch f name ≡ true
+HasTarget f (cmd.Dispatch d) = has_branch f d.source ≡ true
+HasTarget f (cmd.Receive r) = has_branch f r.branch ≡ true
 HasTarget f (cmd.Lock name day) = ⊤
 
 there_if : (t : Bool) (e : Refusal) (x : Result Answer Refusal) (a : Answer) → (if not t then Err e else x) ≡ Ok a → t ≡ true
@@ -108,7 +112,20 @@ unfolding reply
 has_target f (cmd.Branch name) a h = tt
 has_target f (cmd.Commodity style) a h = tt
 has_target f (cmd.Enter name file) a h = there_if (has_branch f name) _ _ a h
+has_target f (cmd.Dispatch d) a h = there_if (has_branch f d.source) _ _ a h
+has_target f (cmd.Receive r) a h = there_if (has_branch f r.branch) _ _ a h
 has_target f (cmd.Lock name day) a h = tt
+
+-- what a receipt adds
+pub among-received : (r : Receive) (rs : List Record) (name : List ℕ) → records_among name (map (λ (x : Record). add.Record r.branch x) rs ++ add.Received r.id r.day r.account ∷ []) ≡ own_or (bytes_eq r.branch name) rs
+among-received r rs name =
+    among-append name (map (λ (x : Record). add.Record r.branch x) rs) (add.Received r.id r.day r.account ∷ []) ∙ append-nil _ ∙ among-records r.branch name rs
+
+received_records : (f : Federation) (r : Receive) (rs : List Record) (name : List ℕ) → has_branch f r.branch ≡ true
+    → records_in (changed (with_records rs) r.branch f.branches) name ≡ records_of f name ++ records_among name (map (λ (x : Record). add.Record r.branch x) rs ++ add.Received r.id r.day r.account ∷ [])
+received_records f r rs name e =
+    records-entered rs f.branches r.branch name e
+    ∙ ap (λ (xs : List Record). records_of f name ++ xs) (sym (among-received r rs name))
 
 done_records : (f : Federation) (c : Command) (name : List ℕ) → HasTarget f c → records_of (done f c) name ≡ records_of f name ++ records_among name (added f c)
 unfolding done added
@@ -116,6 +133,10 @@ done_records f (cmd.Branch other) name e = records-branch f.branches other name 
 done_records f (cmd.Commodity style) name e = sym (append-nil (records_of f name))
 done_records f (cmd.Enter other file) name e =
     records-entered (new_records f other file) f.branches other name e ∙ ap (λ (xs : List Record). records_of f name ++ xs) (sym (among-records other name (new_records f other file)))
+done_records f (cmd.Dispatch d) name e =
+    records-entered (dispatch_record (transfer_of d) ∷ []) f.branches d.source name e
+    ∙ ap (λ (xs : List Record). records_of f name ++ xs) (sym (append-nil _))
+done_records f (cmd.Receive r) name e = received_records f r (receipt_records r (transfer_at f r.id)) name e
 done_records f (cmd.Lock other day) name e = records-locked f.branches day other name ∙ sym (append-nil (records_of f name))
 
 abbrev no_memory : Result Answer Refusal

@@ -8,11 +8,13 @@ use Rattle.treasury_core.specs.declared.command.Answer.{Answer}
 use Rattle.treasury_core.specs.declared.command.Answer.TheVariants.{Done, Entered, Repeated}
 use Rattle.treasury_core.specs.declared.delta.Addition.{Addition}
 use Rattle.treasury_core.specs.declared.delta.Addition.TheVariants as add
+use Rattle.treasury_core.specs.declared.transfer.Transfer.{Transfer}
+use Rattle.treasury_core.specs.declared.command.Receive.{Receive}
 use Rattle.treasury_core.specs.declared.command.Command.{Command}
 use Rattle.treasury_core.specs.declared.command.Command.TheVariants as cmd
 use Rattle.treasury_core.specs.Federation.{Branch, Federation}
-use Rattle.treasury_core.specs.Joined.{with_records, changed, with_entered, joined, joined_one}
-use Rattle.treasury_core.specs.Step.{done, added, after, delta, reply, new_records}
+use Rattle.treasury_core.specs.Joined.{with_records, changed, with_entered, with_received, joined, joined_one}
+use Rattle.treasury_core.specs.Step.{done, added, after, delta, reply, new_records, receipt_of, receipt_records, transfer_at}
 use Rattle.treasury_core.specs.History.{Turn, after_turn, state_after, history}
 
 -- one list of records is another
@@ -48,11 +50,18 @@ joined_records name (r ∷ rs) f =
     joined_records name rs (with_entered f name (r ∷ []))
     ∙ ap (λ (bs : List Branch). let g : Federation = record f { branches = bs } in g) (changed-more name r rs f.branches)
 
+received_joined : (f : Federation) (r : Receive) (o : Option Transfer) → with_received (with_entered f r.branch (receipt_records r o)) r.id (receipt_of r)
+    ≡ joined f (map (λ (x : Record). add.Record r.branch x) (receipt_records r o) ++ add.Received r.id r.day r.account ∷ [])
+received_joined f r None = ap (λ (g : Federation). with_received g r.id (receipt_of r)) (with_none f r.branch)
+received_joined f r (Some t) = refl
+
 done_joined : (f : Federation) (c : Command) → done f c ≡ joined f (added f c)
 unfolding done added
 done_joined f (cmd.Branch name) = refl
 done_joined f (cmd.Commodity style) = refl
 done_joined f (cmd.Enter name file) = sym (joined_records name (new_records f name file) f)
+done_joined f (cmd.Dispatch d) = refl
+done_joined f (cmd.Receive r) = received_joined f r (transfer_at f r.id)
 done_joined f (cmd.Lock name day) = refl
 
 pub after_joined : (f : Federation) (c : Command) (r : Result Answer Refusal) → after f c r ≡ joined f (delta f c r)

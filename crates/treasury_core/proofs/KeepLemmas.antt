@@ -1,7 +1,9 @@
 -- what is added leaves a good state good
-use Rattle.std.proofs.Common.{◌≡◌, ◌≤◌, ◌<◌, ◌+◌, ℕ, Bool, true, false, ◌||◌, List, [], ◌∷◌, ◌++◌, length, refl, ap, ◌∙◌, sym, subst, arith, length-append, Option, Some, None, Ok, Err}
+use Rattle.std.proofs.Common.{◌≡◌, ◌≤◌, ◌<◌, ◌+◌, ℕ, Bool, true, false, ◌||◌, cond, List, [], ◌∷◌, ◌++◌, length, refl, ap, ◌∙◌, sym, subst, arith, append-nil, length-append, Option, Some, None, Ok, Err}
+use Rattle.std.specs.Prelude.{filter}
 use Rattle.std.specs.List.{list_any, AllByRecursion}
 use Rattle.std.specs.Str.{bytes_eq}
+use Rattle.std.proofs.lemmas.List.Elements.{filter-append}
 use Rattle.money_core.specs.declared.style.Style.{Style}
 use Rattle.money_core.specs.declared.day.Day.{Day}
 use Rattle.money_core.specs.declared.unit.Unit.{Unit as Commodity}
@@ -15,13 +17,16 @@ use Rattle.journal_format.proofs.MoreStylesLemmas.{printable_stays}
 use Rattle.journal_balance.proofs.EntryLemmas.{entry_fit}
 use Rattle.journal_balance.proofs.GrowthLemmas.{legs_of-append}
 use Rattle.treasury_core.specs.declared.record.Record.{Record}
+use Rattle.treasury_core.specs.declared.transfer.Transfer.{Transfer}
 use Rattle.treasury_core.specs.Federation.{Branch, Federation, is_branch_name, has_name, has_branch, records_of, entries, book_of}
-use Rattle.treasury_core.specs.Mark.{HaveOwnMarks}
+use Rattle.treasury_core.specs.Mark.{held, HaveOwnMarks, is_product_mark, is_transfer_mark, is_of_transfer}
+use Rattle.treasury_core.specs.Transfer.{asked}
 use Rattle.treasury_core.specs.Joined.{new_branch, with_records, with_lock, changed, with_style, with_branch, with_entered, with_locked}
-use Rattle.treasury_core.specs.Good.{IsGoodRecord, IsOfFile, IsGoodBranch, HaveOwnNames, IsGoodState}
-use Rattle.treasury_core.proofs.BytesLemmas.{other_bytes, neither, or_false}
+use Rattle.treasury_core.specs.Good.{IsGoodRecord, IsOfFile, IsGoodBranch, IsGoodTransfer, IsCarried, HaveOwnNames, IsGoodState}
+use Rattle.treasury_core.proofs.BytesLemmas.{same_bytes, other_bytes, neither, or_false}
 use Rattle.treasury_core.proofs.HistoryLemmas.{entries-append}
-use Rattle.treasury_core.proofs.ChangeLemmas.{length-changed, names-changed, all-changed, all_weaker, all-append}
+use Rattle.treasury_core.proofs.ChangeLemmas.{length-changed, any-changed, names-changed, all-changed, all_weaker, all-append}
+use Rattle.treasury_core.proofs.TransferLemmas.{other_branches}
 
 -- one more branch
 any_push : (p : Branch → Bool) (bs : List Branch) (b : Branch) → list_any p (bs ++ b ∷ []) ≡ (list_any p bs || p b)
@@ -38,13 +43,31 @@ names_push (b ∷ bs) name e h =
     let parts = neither (bytes_eq b.name name) (list_any (has_name name) bs) e in
     (any_push (has_name b.name) bs (new_branch name) ∙ rw (h.0, other_bytes b.name name parts.0) refl, names_push bs name parts.1 h.1)
 
+known_after : (bs : List Branch) (name m : List ℕ) → list_any (has_name m) bs ≡ true → list_any (has_name m) (bs ++ new_branch name ∷ []) ≡ true
+known_after bs name m h = any_push (has_name m) bs (new_branch name) ∙ rw h refl
+
+not_known : (bs : List Branch) (a name : List ℕ) → list_any (has_name name) bs ≡ false → list_any (has_name a) bs ≡ true → bytes_eq a name ≡ false
+not_known bs a name e h = by_test (bytes_eq a name) refl
+  where
+    by_test : (t : Bool) → bytes_eq a name ≡ t → t ≡ false
+    by_test true g = absurd (let k : true ≡ false = sym h ∙ (ap (λ (m : List ℕ). list_any (has_name m) bs) (same_bytes a name g) ∙ e) in cc)
+    by_test false g = refl
+
+-- no transfer asks for a record in a branch that is not there
+asked_none : (bs : List Branch) (ts : List Transfer) (name : List ℕ) → list_any (has_name name) bs ≡ false → AllByRecursion (IsGoodTransfer bs) ts → asked ts name ≡ []
+asked_none bs [] name e h = refl
+asked_none bs (t ∷ ts) name e h = rw (not_known bs t.source name e h.0.source, not_known bs t.target name e h.0.target) (asked_none bs ts name e h.1)
+
 pub good_branch : (f : Federation) (name : List ℕ) → IsGoodState f → is_branch_name name ≡ true → has_branch f name ≡ false → length f.branches < 32 → IsGoodState (with_branch f name)
 good_branch f name good named free room = record {
   styles = good.styles;
   few = omega (arith, room, length-append f.branches (new_branch name ∷ []));
   names = names_push f.branches name free good.names;
   branches = all-append (IsGoodBranch f.styles) f.branches (new_branch name ∷ []) good.branches (record { named = named; marks = tt; records = tt; of_files = tt; book = good_nil }, tt);
-  transfers = good.transfers;
+  ids = good.ids;
+  transfers = all_weaker (IsGoodTransfer f.branches) (IsGoodTransfer (f.branches ++ new_branch name ∷ [])) f.transfers (λ t h. other_branches f.branches _ t (known_after f.branches name) h) good.transfers;
+  carried = all-append (IsCarried f.transfers) f.branches (new_branch name ∷ []) good.carried
+      ((λ m. ap (λ (rs : List Record). held rs m) (sym (asked_none f.branches f.transfers name free good.transfers))), tt);
 }
 
 -- one more commodity
@@ -72,7 +95,9 @@ good_style f style unit good is new =
       few = good.few;
       names = good.names;
       branches = all_weaker (IsGoodBranch f.styles) (IsGoodBranch (f.styles ++ style ∷ [])) f.branches (λ b h. branch_grows f.styles (style ∷ []) b h) good.branches;
+      ids = good.ids;
       transfers = good.transfers;
+      carried = good.carried;
     }
 
 -- the entries of good records are fit
@@ -81,15 +106,38 @@ fit_records styles [] h = tt
 fit_records styles (r ∷ rs) h = (entry_fit styles r.txn r.entry h.0.printable.postings h.0.legs, fit_records styles rs h.1)
 
 -- a branch with more good records, whose book passes with them
-branch_entered : (styles : List Style) (rs : List Record) (b : Branch) → IsGoodBranch styles b → HaveOwnMarks (b.records ++ rs) → AllByRecursion (IsGoodRecord styles) rs
-    → AllByRecursion IsOfFile rs → verdict (entries b.records ++ entries rs) ≡ None → IsGoodBranch styles (with_records rs b)
+pub branch_entered : (styles : List Style) (rs : List Record) (b : Branch) → IsGoodBranch styles b → HaveOwnMarks (b.records ++ rs) → AllByRecursion (IsGoodRecord styles) rs
+    → AllByRecursion (λ (r : Record). is_of_transfer r ≡ false → IsOfFile r) rs → verdict (entries b.records ++ entries rs) ≡ None → IsGoodBranch styles (with_records rs b)
 branch_entered styles rs b good marks new of_files passes = record {
   named = good.named;
   marks = marks;
   records = all-append (IsGoodRecord styles) b.records rs good.records new;
-  of_files = all-append IsOfFile b.records rs good.of_files of_files;
+  of_files = all-append (λ (r : Record). is_of_transfer r ≡ false → IsOfFile r) b.records rs good.of_files of_files;
   book = subst IsGoodBook (sym (entries-append b.records rs)) (good_verdict (entries b.records ++ entries rs) (fit-append (entries b.records) (entries rs) good.book.fit (fit_records styles rs new)) passes);
 }
+
+-- records of a file are not asked for by transfers
+no_transfer_mark : (r : Record) → is_product_mark r.mark ≡ false → is_of_transfer r ≡ false
+no_transfer_mark r h = (neither (is_transfer_mark r.mark) _ h).0
+
+none_filtered_at : (t : Bool) (r : Record) (xs : List Record) → t ≡ false → xs ≡ [] → cond t (r ∷ xs) xs ≡ []
+none_filtered_at true r xs e h = absurd cc
+none_filtered_at false r xs e h = h
+
+none_filtered : (rs : List Record) → AllByRecursion IsOfFile rs → filter is_of_transfer rs ≡ []
+none_filtered [] h = refl
+none_filtered (r ∷ rs) h = none_filtered_at (is_of_transfer r) r (filter is_of_transfer rs) (no_transfer_mark r h.0.own) (none_filtered rs h.1)
+
+carried_entered : (ts : List Transfer) (rs : List Record) (b : Branch) → AllByRecursion IsOfFile rs → IsCarried ts b → IsCarried ts (with_records rs b)
+carried_entered ts rs b of_files h m =
+    ap (λ (xs : List Record). held xs m) (filter-append is_of_transfer b.records rs ∙ ap (λ (xs : List Record). filter is_of_transfer b.records ++ xs) (none_filtered rs of_files) ∙ append-nil (filter is_of_transfer b.records)) ∙ h m
+
+-- a change of a branch leaves the names
+pub same_names : (g : Branch → Branch) (name : List ℕ) (bs : List Branch) → ((b : Branch) → (g b).name ≡ b.name) → (m : List ℕ) → list_any (has_name m) bs ≡ true → list_any (has_name m) (changed g name bs) ≡ true
+same_names g name bs k m h = any-changed g name m bs k ∙ h
+
+pub transfers-changed : (g : Branch → Branch) (name : List ℕ) (bs : List Branch) (ts : List Transfer) → ((b : Branch) → (g b).name ≡ b.name) → AllByRecursion (IsGoodTransfer bs) ts → AllByRecursion (IsGoodTransfer (changed g name bs)) ts
+transfers-changed g name bs ts k h = all_weaker (IsGoodTransfer bs) (IsGoodTransfer (changed g name bs)) ts (λ t i. other_branches bs _ t (same_names g name bs k) i) h
 
 -- the records of a file
 pub good_entered : (f : Federation) (name : List ℕ) (rs : List Record) → IsGoodState f → HaveOwnMarks (records_of f name ++ rs) → AllByRecursion (IsGoodRecord f.styles) rs
@@ -99,8 +147,10 @@ good_entered f name rs good marks new of_files passes = record {
   few = omega (arith, good.few, length-changed (with_records rs) name f.branches);
   names = names-changed (with_records rs) name f.branches (λ b. refl) good.names;
   branches = all-changed (IsGoodBranch f.styles) (IsGoodBranch f.styles) (with_records rs) name f.branches good.names
-      (λ b n e h. branch_entered f.styles rs b h (rw e marks) new of_files (rw e passes)) (λ b n h. h) good.branches;
-  transfers = good.transfers;
+      (λ b n e h. branch_entered f.styles rs b h (rw e marks) new (all_weaker IsOfFile (λ (r : Record). is_of_transfer r ≡ false → IsOfFile r) rs (λ r k e. k) of_files) (rw e passes)) (λ b n h. h) good.branches;
+  ids = good.ids;
+  transfers = transfers-changed (with_records rs) name f.branches f.transfers (λ b. refl) good.transfers;
+  carried = all-changed (IsCarried f.transfers) (IsCarried f.transfers) (with_records rs) name f.branches good.names (λ b n e h. carried_entered f.transfers rs b of_files h) (λ b n h. h) good.carried;
 }
 
 -- a lock
@@ -111,5 +161,7 @@ good_locked f name day good = record {
   names = names-changed (with_lock day) name f.branches (λ b. refl) good.names;
   branches = all-changed (IsGoodBranch f.styles) (IsGoodBranch f.styles) (with_lock day) name f.branches good.names
       (λ b n e h. record { named = h.named; marks = h.marks; records = h.records; of_files = h.of_files; book = h.book }) (λ b n h. h) good.branches;
-  transfers = good.transfers;
+  ids = good.ids;
+  transfers = transfers-changed (with_lock day) name f.branches f.transfers (λ b. refl) good.transfers;
+  carried = all-changed (IsCarried f.transfers) (IsCarried f.transfers) (with_lock day) name f.branches good.names (λ b n e h. h) (λ b n h. h) good.carried;
 }

@@ -1,5 +1,5 @@
 -- a locked day stays locked, and the balances through it stay
-use Rattle.std.proofs.Common.{◌≡◌, ◌+ℤ◌, ℕ, Bool, true, false, List, [], ◌∷◌, ◌++◌, ℤ, pos, refl, ap, ◌∙◌, sym, subst, arith, Option, Some, None, Ok, Err}
+use Rattle.std.proofs.Common.{◌≡◌, ◌+ℤ◌, append-nil, ℕ, Bool, true, false, List, [], ◌∷◌, ◌++◌, ℤ, pos, refl, ap, ◌∙◌, sym, subst, arith, Option, Some, None, Ok, Err}
 use Rattle.std.specs.Prelude.{if◌then◌else◌, Result, int_le, int_lt}
 use Rattle.std.specs.List.{AllByRecursion}
 use Rattle.std.specs.Str.{bytes_eq}
@@ -15,17 +15,20 @@ use Rattle.book_core.specs.Balance.{balance, sum_in}
 use Rattle.book_core.proofs.BalanceLemmas.{balance-append, balance-entry, balance-nil}
 use Rattle.journal_format.specs.declared.txn.Located.{Located}
 use Rattle.treasury_core.specs.declared.record.Record.{Record}
+use Rattle.treasury_core.specs.declared.transfer.Transfer.{Transfer}
 use Rattle.treasury_core.specs.declared.command.Answer.{Answer}
 use Rattle.treasury_core.specs.declared.command.Answer.TheVariants.{Done, Entered, Repeated}
 use Rattle.treasury_core.specs.declared.command.Command.{Command}
 use Rattle.treasury_core.specs.declared.command.Command.TheVariants as cmd
 use Rattle.treasury_core.specs.Federation.{Branch, Federation, records_of, lock_in, lock_of, entries, book_of}
 use Rattle.treasury_core.specs.Joined.{new_branch, with_records, with_lock, changed}
-use Rattle.treasury_core.specs.Step.{is_locked, goes_back, reply, done, added, after, delta, new_records}
+use Rattle.treasury_core.specs.Transfer.{dispatch_record}
+use Rattle.treasury_core.specs.Step.{is_locked, goes_back, reply, done, added, after, delta, new_records, transfer_of, transfer_at, receipt_records}
 use Rattle.treasury_core.specs.History.{Turn, Replies, after_turn, IsRun, state_after, records_among, IsNew}
 use Rattle.treasury_core.proofs.BytesLemmas.{same_bytes}
-use Rattle.treasury_core.proofs.HistoryLemmas.{after_records, among-records, entries-append}
-use Rattle.treasury_core.proofs.ReplyLemmas.{IsDone, replied, lock_forward, accepted_new}
+use Rattle.treasury_core.proofs.HistoryLemmas.{own_or, after_records, among-records, among-received, entries-append}
+use Rattle.treasury_core.proofs.ReplyLemmas.{IsDone, replied, lock_forward, accepted_new, sent, taken}
+use Rattle.treasury_core.proofs.ChangeLemmas.{all_weaker}
 
 -- a new branch has no lock
 lock_at : (b : Branch) (t : Bool) (x y : Option Day) → x ≡ y → (if t then b.locked else x) ≡ (if t then b.locked else y)
@@ -78,6 +81,8 @@ unfolding done
 done_locked f (cmd.Branch other) a name d is e h = ap (λ (o : Option Day). is_locked o d) (lock-branch f.branches other name) ∙ h
 done_locked f (cmd.Commodity style) a name d is e h = h
 done_locked f (cmd.Enter other file) a name d is e h = ap (λ (o : Option Day). is_locked o d) (lock-entered (new_records f other file) f.branches other name) ∙ h
+done_locked f (cmd.Dispatch x) a name d is e h = ap (λ (o : Option Day). is_locked o d) (lock-entered (dispatch_record (transfer_of x) ∷ []) f.branches x.source name) ∙ h
+done_locked f (cmd.Receive x) a name d is e h = ap (λ (o : Option Day). is_locked o d) (lock-entered (receipt_records x (transfer_at f x.id)) f.branches x.branch name) ∙ h
 done_locked f (cmd.Lock other day) a name d is e h = locked_stays f.branches day d other name (lock_forward f other day a is e) h
 
 after_locked : (f : Federation) (c : Command) (r : Result Answer Refusal) (name : List ℕ) (d : Day) → Replies f c r → is_locked (lock_of f name) d ≡ true → is_locked (lock_of (after f c r) name) d ≡ true
@@ -99,12 +104,16 @@ nothing_at : (t : Bool) (z : ℤ) → t ≡ false → (if t then z else pos 0) �
 nothing_at true z e = absurd cc
 nothing_at false z e = refl
 
-nothing_early : (lock : Option Day) (held : List Record) (day : Day) (rs : List Record) (reach : Reach) (account : List ℕ) (unit : Commodity) → is_locked lock day ≡ true → AllByRecursion (IsNew lock held) rs
+-- the day is behind the lock
+abbrev IsBehind : Option Day → Record → Type 0
+IsBehind lock r = is_locked lock r.entry.day ≡ false
+
+nothing_early : (lock : Option Day) (day : Day) (rs : List Record) (reach : Reach) (account : List ℕ) (unit : Commodity) → is_locked lock day ≡ true → AllByRecursion (IsBehind lock) rs
     → balance reach (entries rs) account unit (Through day) ≡ pos 0
-nothing_early lock held day [] reach account unit h k = balance-nil reach account unit (Through day)
-nothing_early lock held day (r ∷ rs) reach account unit h k =
-    let first = balance-entry reach r.entry account unit day ∙ nothing_at (int_le r.entry.day.0 day.0) (sum_in reach account unit r.entry.legs) (later_day lock day r.entry.day h k.0.unlocked) in
-    let rest = nothing_early lock held day rs reach account unit h k.1 in
+nothing_early lock day [] reach account unit h k = balance-nil reach account unit (Through day)
+nothing_early lock day (r ∷ rs) reach account unit h k =
+    let first = balance-entry reach r.entry account unit day ∙ nothing_at (int_le r.entry.day.0 day.0) (sum_in reach account unit r.entry.legs) (later_day lock day r.entry.day h k.0) in
+    let rest = nothing_early lock day rs reach account unit h k.1 in
     balance-append reach (r.entry ∷ []) (entries rs) account unit day ∙ (rw (first, rest) refl)
 
 if_own : (t : Bool) (rs : List Record) (reach : Reach) (account : List ℕ) (unit : Commodity) (day : Day) → (t ≡ true → balance reach (entries rs) account unit (Through day) ≡ pos 0)
@@ -112,22 +121,39 @@ if_own : (t : Bool) (rs : List Record) (reach : Reach) (account : List ℕ) (uni
 if_own true rs reach account unit day h = h refl
 if_own false rs reach account unit day h = balance-nil reach account unit (Through day)
 
-added_nothing : (f : Federation) (c : Command) (a : Answer) (name : List ℕ) (day : Day) (reach : Reach) (account : List ℕ) (unit : Commodity) → reply f c ≡ Ok a → is_locked (lock_of f name) day ≡ true
-    → balance reach (entries (records_among name (added f c))) account unit (Through day) ≡ pos 0
+-- new records of one branch
+own_nothing : (f : Federation) (other name : List ℕ) (rs : List Record) (day : Day) (reach : Reach) (account : List ℕ) (unit : Commodity) → is_locked (lock_of f name) day ≡ true → AllByRecursion (IsBehind (lock_of f other)) rs
+    → balance reach (entries (own_or (bytes_eq other name) rs)) account unit (Through day) ≡ pos 0
+own_nothing f other name rs day reach account unit h k =
+    if_own (bytes_eq other name) rs reach account unit day (λ t.
+    nothing_early (lock_of f other) day rs reach account unit (ap (λ (m : List ℕ). is_locked (lock_of f m) day) (same_bytes other name t) ∙ h) k)
+
+abbrev moved : List ℕ → Day → Reach → List ℕ → Commodity → List Record → ℤ
+moved name day reach account unit rs = balance reach (entries rs) account unit (Through day)
+
+added_nothing : (f : Federation) (c : Command) (a : Answer) (name : List ℕ) (day : Day) (reach : Reach) (account : List ℕ) (unit : Commodity) → IsDone a → reply f c ≡ Ok a → is_locked (lock_of f name) day ≡ true
+    → moved name day reach account unit (records_among name (added f c)) ≡ pos 0
 unfolding added
-added_nothing f (cmd.Branch other) a name day reach account unit e h = balance-nil reach account unit (Through day)
-added_nothing f (cmd.Commodity style) a name day reach account unit e h = balance-nil reach account unit (Through day)
-added_nothing f (cmd.Enter other file) a name day reach account unit e h =
-    let new = accepted_new f other file a e in
-    ap (λ (rs : List Record). balance reach (entries rs) account unit (Through day)) (among-records other name (new_records f other file))
-    ∙ if_own (bytes_eq other name) (new_records f other file) reach account unit day (λ t.
-    nothing_early (lock_of f other) (records_of f other) day (new_records f other file) reach account unit (ap (λ (m : List ℕ). is_locked (lock_of f m) day) (same_bytes other name t) ∙ h) new)
-added_nothing f (cmd.Lock other on) a name day reach account unit e h = balance-nil reach account unit (Through day)
+added_nothing f (cmd.Branch other) a name day reach account unit is e h = balance-nil reach account unit (Through day)
+added_nothing f (cmd.Commodity style) a name day reach account unit is e h = balance-nil reach account unit (Through day)
+added_nothing f (cmd.Enter other file) a name day reach account unit is e h =
+    ap (moved name day reach account unit) (among-records other name (new_records f other file))
+    ∙ own_nothing f other name (new_records f other file) day reach account unit h
+    (all_weaker (IsNew (lock_of f other) (records_of f other)) (IsBehind (lock_of f other)) (new_records f other file) (λ r k. k.unlocked) (accepted_new f other file a e))
+added_nothing f (cmd.Dispatch d) a name day reach account unit is e h =
+    ap (moved name day reach account unit) (append-nil (own_or (bytes_eq d.source name) (dispatch_record (transfer_of d) ∷ [])))
+    ∙ own_nothing f d.source name (dispatch_record (transfer_of d) ∷ []) day reach account unit h ((sent f d a is e).unlocked, tt)
+added_nothing f (cmd.Receive r) a name day reach account unit is e h =
+    let got = taken f r a is e in
+    ap (moved name day reach account unit) (among-received r (receipt_records r (transfer_at f r.id)) name)
+    ∙ own_nothing f r.branch name (receipt_records r (transfer_at f r.id)) day reach account unit h
+    (subst (λ (o : Option Transfer). AllByRecursion (IsBehind (lock_of f r.branch)) (receipt_records r o)) (sym got.found) (got.unlocked, tt))
+added_nothing f (cmd.Lock other on) a name day reach account unit is e h = balance-nil reach account unit (Through day)
 
 delta_nothing : (f : Federation) (c : Command) (r : Result Answer Refusal) (name : List ℕ) (day : Day) (reach : Reach) (account : List ℕ) (unit : Commodity) → Replies f c r → is_locked (lock_of f name) day ≡ true
     → balance reach (entries (records_among name (delta f c r))) account unit (Through day) ≡ pos 0
-delta_nothing f c (Ok Done) name day reach account unit r h = added_nothing f c Done name day reach account unit (replied f c Done r) h
-delta_nothing f c (Ok (Entered new repeated)) name day reach account unit r h = added_nothing f c (Entered new repeated) name day reach account unit (replied f c (Entered new repeated) r) h
+delta_nothing f c (Ok Done) name day reach account unit r h = added_nothing f c Done name day reach account unit tt (replied f c Done r) h
+delta_nothing f c (Ok (Entered new repeated)) name day reach account unit r h = added_nothing f c (Entered new repeated) name day reach account unit tt (replied f c (Entered new repeated) r) h
 delta_nothing f c (Ok Repeated) name day reach account unit r h = balance-nil reach account unit (Through day)
 delta_nothing f c (Err refusal) name day reach account unit r h = balance-nil reach account unit (Through day)
 

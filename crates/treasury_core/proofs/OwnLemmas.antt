@@ -41,12 +41,12 @@ of_branch P styles (b ∷ bs) name p k h = by_test (bytes_eq b.name name) (k b h
     by_test true q r = q
     by_test false q r = r
 
-among_all : (P : Record → Type 0) (rs : List Record) (r : Record) → IsAmong r rs → AllByRecursion P rs → P r
+pub among_all : (P : Record → Type 0) (rs : List Record) (r : Record) → IsAmong r rs → AllByRecursion P rs → P r
 among_all P [] r a h = absurd a
 among_all P (x ∷ xs) r (inl e) h = subst P e h.0
 among_all P (x ∷ xs) r (inr a) h = among_all P xs r a h.1
 
-among_any : (p : Record → Bool) (rs : List Record) (r : Record) → p r ≡ true → IsAmong r rs → list_any p rs ≡ true
+pub among_any : (p : Record → Bool) (rs : List Record) (r : Record) → p r ≡ true → IsAmong r rs → list_any p rs ≡ true
 among_any p [] r e a = absurd a
 among_any p (x ∷ xs) r e (inl s) = ap (λ (t : Bool). t || list_any p xs) (ap p s ∙ e)
 among_any p (x ∷ xs) r e (inr a) = ap (λ (t : Bool). p x || t) (among_any p xs r e a) ∙ or_true (p x)
@@ -59,7 +59,7 @@ recorded_again styles r n good =
     ∙ (ap (λ (e : Result Entry Cause). recorded r.txn r.mark e) good.legs
     ∙ ap (λ (o : Option (List ℕ)). let s : Record = record { mark = r.mark; txn = record r.txn { mark = o }; entry = r.entry } in s ∷ []) (sym good.marked))
 
-recorded_own : (styles : List Style) (rs : List Record) (x : Located) (n : ℕ) → AllByRecursion (IsGoodRecord styles) rs → (own : IsOwn rs x) → recorded x.txn (mark_of styles x.txn n x.txn.mark) (legs_of styles x.txn) ≡ own.holder ∷ []
+pub recorded_own : (styles : List Style) (rs : List Record) (x : Located) (n : ℕ) → AllByRecursion (IsGoodRecord styles) rs → (own : IsOwn rs x) → recorded x.txn (mark_of styles x.txn n x.txn.mark) (legs_of styles x.txn) ≡ own.holder ∷ []
 recorded_own styles rs x n good own =
     ap (λ (t : Txn). recorded t (mark_of styles t n t.mark) (legs_of styles t)) own.same
     ∙ recorded_again styles own.holder n (among_all (IsGoodRecord styles) rs own.holder own.among good)
@@ -70,7 +70,7 @@ among_file styles rs before (x ∷ xs) good own =
     let rest = among_file styles rs (before ++ x.txn ∷ []) xs good own.1 in
     subst (λ (ys : List Record). AllByRecursion (λ (r : Record). IsAmong r rs) (ys ++ records_from styles (before ++ x.txn ∷ []) xs)) (sym (recorded_own styles rs x (number_in styles before x.txn) good own.0)) (own.0.among, rest)
 
-balanced_own : (styles : List Style) (rs : List Record) (file : List Located) → AllByRecursion (IsGoodRecord styles) rs → IsOwnJournal rs file → unbalanced styles file ≡ None
+pub balanced_own : (styles : List Style) (rs : List Record) (file : List Located) → AllByRecursion (IsGoodRecord styles) rs → IsOwnJournal rs file → unbalanced styles file ≡ None
 balanced_own styles rs [] good own = refl
 balanced_own styles rs (x ∷ xs) good own =
     let fine : legs_of styles x.txn ≡ Ok own.0.holder.entry = ap (legs_of styles) own.0.same ∙ (among_all (IsGoodRecord styles) rs own.0.holder own.0.among good).legs in

@@ -1,33 +1,52 @@
 -- what an accepted command was, and that it leaves a good state good
-use Rattle.std.proofs.Common.{◌≡◌, ◌⊎◌, ◌<◌, ◌+◌, ◌^◌, ℕ, Bool, true, false, List, [], ◌∷◌, ◌++◌, length, refl, ap, ◌∙◌, sym, arith, inl, inr, Option, Some, None, Ok, Err, nat_le}
-use Rattle.std.specs.Prelude.{if◌then◌else◌, Result, not, ⊤}
-use Rattle.std.specs.List.{AllByRecursion}
+use Rattle.std.proofs.Common.{◌≡◌, ◌⊎◌, ◌<◌, ◌+◌, ◌^◌, ℕ, Bool, true, false, ◌||◌, cond, List, [], ◌∷◌, ◌++◌, length, ℤ, pos, ◌<ℤ◌, refl, ap, ◌∙◌, sym, subst, arith, inl, inr, Option, Some, None, Ok, Err, nat_le, nat_lt}
+use Rattle.std.specs.Prelude.{if◌then◌else◌, Result, not, ⊤, find, is_some, int_le, int_lt, unsigned_abs}
+use Rattle.std.specs.List.{list_any, AllByRecursion}
 use Rattle.std.specs.Option.{option_or}
 use Rattle.std.specs.Str.{bytes_eq}
-use Rattle.std.proofs.lemmas.Bool.{leb-false}
+use Rattle.std.proofs.lemmas.Bool.{leb-false, and_from}
+use Rattle.std.proofs.lemmas.Bool.Decides.{nat_tests}
+use Rattle.std.proofs.lemmas.Int.{ints}
 use Rattle.money_core.specs.declared.style.Style.{Style}
 use Rattle.money_core.specs.declared.day.Day.{Day}
+use Rattle.money_core.specs.declared.unit.Unit.{Unit as Commodity}
 use Rattle.money_core.specs.declared.unit.Declared.{Declared}
 use Rattle.money_core.specs.declared.unit.Declared.TheVariants.{New, Same}
 use Rattle.money_core.specs.declared.cause.Cause.{Cause}
 use Rattle.money_core.specs.declared.cause.Cause.TheVariants.{OutOfMemory}
 use Rattle.money_core.specs.Style.{declared, is_style}
+use Rattle.money_core.specs.Amount.{limit}
+use Rattle.money_core.specs.AmountText.{IsDeclared}
 use Rattle.book_core.specs.declared.refusal.Refusal.{Refusal}
 use Rattle.book_core.specs.declared.refusal.Refusal.TheVariants.{Plain}
 use Rattle.book_core.specs.GoodBook.{verdict}
+use Rattle.journal_lines.specs.AccountName.{is_account}
+use Rattle.std.specs.Str.{is_utf8}
+use Rattle.std.proofs.lemmas.Bool.{and_parts}
 use Rattle.journal_format.specs.declared.txn.Located.{Located}
+use Rattle.journal_format.specs.Printable.{is_amount}
 use Rattle.treasury_core.specs.declared.record.Record.{Record}
+use Rattle.treasury_core.specs.declared.transfer.Receipt.{Receipt}
+use Rattle.treasury_core.specs.declared.transfer.Transfer.{Transfer}
 use Rattle.treasury_core.specs.declared.command.Answer.{Answer}
 use Rattle.treasury_core.specs.declared.command.Answer.TheVariants.{Done, Entered, Repeated}
+use Rattle.treasury_core.specs.declared.command.Dispatch.{Dispatch}
+use Rattle.treasury_core.specs.declared.command.Receive.{Receive}
 use Rattle.treasury_core.specs.declared.command.Command.{Command}
 use Rattle.treasury_core.specs.declared.command.Command.TheVariants as cmd
 use Rattle.treasury_core.specs.Federation.{Branch, Federation, is_branch_name, has_branch, records_in, records_of, lock_of, entries, book_of}
 use Rattle.treasury_core.specs.Mark.{HaveOwnMarks}
-use Rattle.treasury_core.specs.Step.{unless, reply, done, after, new_records, records_in_file, unbalanced, refused_in, is_lock, goes_back, commodity_reply}
-use Rattle.treasury_core.specs.Good.{Fits, IsGoodBranch, IsGoodRecord, IsGoodState}
+use Rattle.treasury_core.specs.Transfer.{is_id, is_account_text, is_reserved, has_id, dispatch_record, receipt_record}
+use Rattle.treasury_core.specs.Joined.{with_entered, with_received}
+use Rattle.treasury_core.specs.Step.{unless, reply, done, after, new_records, records_in_file, unbalanced, refused_in, is_lock, goes_back, is_locked, commodity_reply, transfer_at, transfer_of, is_dispatched_so, receipt_of, is_received_so, receipt_reply, receipt_records}
+use Rattle.treasury_core.specs.Good.{Fits, IsGoodBranch, IsGoodRecord, IsGoodTransfer, IsGoodState}
 use Rattle.treasury_core.specs.History.{Turn, Replies, after_turn, IsRun, state_after, IsNew}
 use Rattle.treasury_core.proofs.FileLemmas.{records_good, all-new, own-new, all_fresh, of_file, neither_refusal}
+use Rattle.treasury_core.proofs.BytesLemmas.{same_bytes}
+use Rattle.treasury_core.proofs.FairLemmas.{known, names_of}
 use Rattle.treasury_core.proofs.KeepLemmas.{good_branch, good_style, good_entered, good_locked}
+use Rattle.treasury_core.proofs.DispatchLemmas.{good_dispatched, good_received, dispatch_written}
+use Rattle.treasury_core.proofs.ProductLemmas.{IsWritable, dispatch_good, receipt_good}
 
 -- an answer to a command that is done
 abbrev pub IsDone : Answer → Type 0
@@ -131,11 +150,193 @@ done_enter f name file a good fits h =
     (of_file (lock_of f name) (records_of f name) (new_records f name file) (accepted_new f name file a h))
     (accepted f name file a h).passes
 
+-- a refusal that does not come
+misses : (t : Bool) (e : Refusal) (o : Option Refusal) → (if t then Some e else o) ≡ None → (t ≡ false) × (o ≡ None)
+misses true e o h = absurd cc
+misses false e o h = (refl, h)
+
+keeps_to : (t : Bool) (e : Refusal) (o : Option Refusal) → (if not t then Some e else o) ≡ None → (t ≡ true) × (o ≡ None)
+keeps_to true e o h = (refl, h)
+keeps_to false e o h = absurd cc
+
+-- a dispatch that was accepted
+pub record IsSent (f : Federation) (d : Dispatch) : Type 0 where
+  pub source : has_branch f d.source ≡ true
+  pub target : has_branch f d.target ≡ true
+  pub apart : bytes_eq d.source d.target ≡ false
+  pub id : is_id d.id ≡ true
+  pub free : transfer_at f d.id ≡ None
+  pub account : is_account_text d.account ≡ true
+  pub clear : is_reserved d.account ≡ false
+  pub positive : int_le d.qty (pos 0) ≡ false
+  pub unlocked : is_locked (lock_of f d.source) d.day ≡ false
+  pub passes : verdict (book_of f d.source ++ (dispatch_record (transfer_of d)).entry ∷ []) ≡ None
+
+no_transfer : (o : Option Transfer) → is_some o ≡ false → o ≡ None
+no_transfer None h = refl
+no_transfer (Some t) h = absurd cc
+
+pub sent : (f : Federation) (d : Dispatch) (a : Answer) → IsDone a → reply f (cmd.Dispatch d) ≡ Ok a → IsSent f d
+unfolding reply
+sent f d a is h =
+    let source = holds (has_branch f d.source) _ _ a h in
+    let target = holds (has_branch f d.target) _ _ a source.1 in
+    let apart = passes (bytes_eq d.source d.target) _ _ a target.1 in
+    let id = holds (is_id d.id) _ _ a apart.1 in
+    let fresh = not_repeated (is_dispatched_so d (transfer_at f d.id)) _ a is id.1 in
+    let free = passes (is_some (transfer_at f d.id)) _ _ a fresh.1 in
+    let none = no_refusal Done a _ free.1 in
+    let account = keeps_to (is_account_text d.account) _ _ none in
+    let clear = misses (is_reserved d.account) _ _ account.1 in
+    let amount = misses (int_le d.qty (pos 0)) _ _ clear.1 in
+    let unlocked = misses (is_locked (lock_of f d.source) d.day) _ _ amount.1 in
+    record {
+      source = source.0;
+      target = target.0;
+      apart = apart.0;
+      id = id.0;
+      free = no_transfer (transfer_at f d.id) free.0;
+      account = account.0;
+      clear = clear.0;
+      positive = amount.0;
+      unlocked = unlocked.0;
+      passes = unlocked.1;
+    }
+
+none_found_at : (t u : Bool) (x : Transfer) (o : Option Transfer) → cond t (Some x) o ≡ None → (o ≡ None → u ≡ false) → (t || u) ≡ false
+none_found_at true u x o h k = absurd cc
+none_found_at false u x o h k = k h
+
+none_found : (p : Transfer → Bool) (ts : List Transfer) → find p ts ≡ None → list_any p ts ≡ false
+none_found p [] h = refl
+none_found p (t ∷ ts) h = none_found_at (p t) (list_any p ts) t (find p ts) h (none_found p ts)
+
+positive_from : (q : ℤ) → int_le q (pos 0) ≡ false → int_le (pos 1) q ≡ true
+positive_from q h = let k : pos 0 <ℤ q = grind (arith, ints) in grind (arith, ints)
+
+amount_is : (styles : List Style) (unit : Commodity) (q : ℤ) → IsDeclared styles unit q → is_amount styles unit q ≡ true
+amount_is styles unit q h = and_from (nat_lt unit.0 (length styles)) (nat_le (unsigned_abs q) limit) (let k = h.known in grind (arith, nat_tests)) (let k = h.size in grind (arith, nat_tests))
+
+-- the name of a branch that is there is well formed
+name_known : (f : Federation) (name : List ℕ) → IsGoodState f → has_branch f name ≡ true → is_branch_name name ≡ true
+name_known f name good h = known (λ (n : List ℕ). is_branch_name n ≡ true) f.branches name (names_of (λ (n : List ℕ). is_branch_name n ≡ true) f.branches (λ b k. k.named) good.branches) h
+
+-- the record of a dispatch can be printed, and has its entry
+pub dispatch_record_good : (f : Federation) (d : Dispatch) → IsGoodState f → Fits f.styles (cmd.Dispatch d) → has_branch f d.source ≡ true → has_branch f d.target ≡ true → is_id d.id ≡ true
+    → is_account_text d.account ≡ true → IsGoodRecord f.styles (dispatch_record (transfer_of d))
+dispatch_record_good f d good fits source target id written =
+    let account = and_parts (is_account d.account) (is_utf8 d.account) written in
+    let writable : IsWritable f.styles (transfer_of d) = record {
+      id = id;
+      source = name_known f d.source good source;
+      target = name_known f d.target good target;
+      day = fits.day;
+      amount = amount_is f.styles d.unit d.qty fits.amount;
+      payer = account.0;
+      utf8 = account.1;
+    } in
+    dispatch_good f.styles (transfer_of d) good.styles writable
+
+done_dispatch : (f : Federation) (d : Dispatch) (a : Answer) → IsDone a → IsGoodState f → Fits f.styles (cmd.Dispatch d) → reply f (cmd.Dispatch d) ≡ Ok a → IsGoodState (done f (cmd.Dispatch d))
+unfolding done
+done_dispatch f d a is good fits h =
+    let s = sent f d a is h in
+    let positive = positive_from d.qty s.positive in
+    let fair : IsGoodTransfer f.branches (transfer_of d) = record { id = s.id; source = s.source; target = s.target; apart = s.apart; positive = positive; payer = s.clear; later = tt } in
+    good_dispatched f (transfer_of d) good refl fair (none_found (has_id d.id) f.transfers s.free) (dispatch_record_good f d good fits s.source s.target s.id s.account) s.passes
+
+-- a receipt that was accepted
+pub record IsTaken (f : Federation) (r : Receive) : Type 0 where
+  pub transfer : Transfer
+  pub found : transfer_at f r.id ≡ Some transfer
+  pub target : bytes_eq transfer.target r.branch ≡ true
+  pub none : transfer.receipt ≡ None
+  pub account : is_account_text r.account ≡ true
+  pub clear : is_reserved r.account ≡ false
+  pub late : int_lt r.day.0 transfer.day.0 ≡ false
+  pub unlocked : is_locked (lock_of f r.branch) r.day ≡ false
+  pub passes : verdict (book_of f r.branch ++ (receipt_record transfer (receipt_of r)).entry ∷ []) ≡ None
+
+not_received : (o : Option Receipt) → is_some o ≡ false → o ≡ None
+not_received None h = refl
+not_received (Some r) h = absurd cc
+
+taken_at : (f : Federation) (r : Receive) (a : Answer) (o : Option Transfer) → IsDone a → transfer_at f r.id ≡ o → receipt_reply f r o ≡ Ok a → IsTaken f r
+taken_at f r a None is e h = absurd cc
+taken_at f r a (Some t) is e h =
+    let target = holds (bytes_eq t.target r.branch) _ _ a h in
+    let fresh = not_repeated (is_received_so r t.receipt) _ a is target.1 in
+    let none = passes (is_some t.receipt) _ _ a fresh.1 in
+    let unrefused = no_refusal Done a _ none.1 in
+    let account = keeps_to (is_account_text r.account) _ _ unrefused in
+    let clear = misses (is_reserved r.account) _ _ account.1 in
+    let late = misses (int_lt r.day.0 t.day.0) _ _ clear.1 in
+    let unlocked = misses (is_locked (lock_of f r.branch) r.day) _ _ late.1 in
+    record {
+      transfer = t;
+      found = e;
+      target = target.0;
+      none = not_received t.receipt none.0;
+      account = account.0;
+      clear = clear.0;
+      late = late.0;
+      unlocked = unlocked.0;
+      passes = unlocked.1;
+    }
+
+pub taken : (f : Federation) (r : Receive) (a : Answer) → IsDone a → reply f (cmd.Receive r) ≡ Ok a → IsTaken f r
+unfolding reply
+taken f r a is h =
+    let branch = holds (has_branch f r.branch) _ _ a h in
+    let id = holds (is_id r.id) _ _ a branch.1 in
+    taken_at f r a (transfer_at f r.id) is refl id.1
+
+late_from : (s r : ℤ) → int_lt r s ≡ false → int_le s r ≡ true
+late_from s r h = grind (arith, ints)
+
+pub found_transfer : (P : Transfer → Type 0) (id : List ℕ) (ts : List Transfer) (t : Transfer) → find (has_id id) ts ≡ Some t → AllByRecursion P ts → P t × (t.id ≡ id)
+found_transfer P id [] t e h = absurd cc
+found_transfer P id (x ∷ xs) t e h = found_at (bytes_eq x.id id) refl e (found_transfer P id xs t) h
+  where
+    found_at : (c : Bool) → bytes_eq x.id id ≡ c → cond c (Some x) (find (has_id id) xs) ≡ Some t → (find (has_id id) xs ≡ Some t → AllByRecursion P xs → P t × (t.id ≡ id)) → AllByRecursion P (x ∷ xs) → P t × (t.id ≡ id)
+    found_at true g e k h = subst (λ y. P y × (y.id ≡ id)) (let s : x ≡ t = cc in s) (h.0, same_bytes x.id id g)
+    found_at false g e k h = k e h.1
+
+-- the record of a receipt can be printed, and has its entry
+pub receipt_record_good : (f : Federation) (r : Receive) (t : Transfer) → IsGoodState f → Fits f.styles (cmd.Receive r) → transfer_at f r.id ≡ Some t → is_account_text r.account ≡ true
+    → IsGoodRecord f.styles (receipt_record t (receipt_of r))
+receipt_record_good f r t good fits found written =
+    let fair = found_transfer (IsGoodTransfer f.branches) r.id f.transfers t found good.transfers in
+    let here : find (has_id t.id) f.transfers ≡ Some t = ap (λ (m : List ℕ). find (has_id m) f.transfers) fair.1 ∙ found in
+    let account = and_parts (is_account r.account) (is_utf8 r.account) written in
+    receipt_good f.styles t (receipt_of r) good.styles fair.0.id (name_known f t.source good fair.0.source) (name_known f t.target good fair.0.target) (dispatch_written f t good here fair.0) fits.day account.0 account.1
+
+received_good : (f : Federation) (r : Receive) (a : Answer) → IsGoodState f → Fits f.styles (cmd.Receive r) → (got : IsTaken f r)
+    → IsGoodState (with_received (with_entered f r.branch (receipt_record got.transfer (receipt_of r) ∷ [])) r.id (receipt_of r))
+received_good f r a good fits got =
+    let t = got.transfer in
+    let fair = found_transfer (IsGoodTransfer f.branches) r.id f.transfers t got.found good.transfers in
+    let here : find (has_id t.id) f.transfers ≡ Some t = ap (λ (m : List ℕ). find (has_id m) f.transfers) fair.1 ∙ got.found in
+    let name = same_bytes t.target r.branch got.target in
+    let written = receipt_record_good f r t good fits got.found got.account in
+    let passes_ : verdict (book_of f t.target ++ (receipt_record t (receipt_of r)).entry ∷ []) ≡ None = ap (λ (m : List ℕ). verdict (book_of f m ++ (receipt_record t (receipt_of r)).entry ∷ [])) name ∙ got.passes in
+    let result = good_received f t (receipt_of r) good here got.none fair.0 (late_from t.day.0 r.day.0 got.late, got.clear) written passes_ in
+    let P : List ℕ → List ℕ → Type 0 = λ m n. IsGoodState (with_received (with_entered f m (receipt_record t (receipt_of r) ∷ [])) n (receipt_of r)) in
+    subst (λ m. P m r.id) name (subst (λ n. P t.target n) fair.1 result)
+
+done_receive : (f : Federation) (r : Receive) (a : Answer) → IsDone a → IsGoodState f → Fits f.styles (cmd.Receive r) → reply f (cmd.Receive r) ≡ Ok a → IsGoodState (done f (cmd.Receive r))
+unfolding done
+done_receive f r a is good fits h =
+    let got = taken f r a is h in
+    subst (λ (o : Option Transfer). IsGoodState (with_received (with_entered f r.branch (receipt_records r o)) r.id (receipt_of r))) (sym got.found) (received_good f r a good fits got)
+
 -- all commands
 done_good : (f : Federation) (c : Command) (a : Answer) → IsDone a → IsGoodState f → Fits f.styles c → reply f c ≡ Ok a → IsGoodState (done f c)
 done_good f (cmd.Branch name) a is good fits h = done_branch f name a is good h
 done_good f (cmd.Commodity style) a is good fits h = done_commodity f style a is good fits h
 done_good f (cmd.Enter name file) a is good fits h = done_enter f name file a good fits h
+done_good f (cmd.Dispatch d) a is good fits h = done_dispatch f d a is good fits h
+done_good f (cmd.Receive r) a is good fits h = done_receive f r a is good fits h
 done_good f (cmd.Lock name day) a is good fits h = done_lock f name day good
 
 abbrev no_memory : Result Answer Refusal

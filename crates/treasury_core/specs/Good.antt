@@ -1,19 +1,27 @@
 -- When a state is good, and which commands fit (own rules; docs/RULES.md, "Branches", "Books", "Marks and repeats", "Transfers").
-use Rattle.std.specs.Prelude.{◌≡◌, ◌≤◌, ◌<◌, ◌^◌, ℕ, true, false, List, [], ◌∷◌, length, Some, Ok, ⊤}
+use Rattle.std.specs.Prelude.{◌≡◌, ◌≤◌, ◌<◌, ◌^◌, ℕ, true, false, List, [], ◌∷◌, length, filter, pos, int_le, Option, Some, None, Ok, ⊤}
 use Rattle.std.specs.List.{list_any, AllByRecursion}
+use Rattle.std.specs.Str.{bytes_eq}
+use Rattle.std.specs.declared.cmp.Ordering.TheVariants.{Less}
 use Rattle.money_core.specs.declared.style.Style.{Style}
 use Rattle.money_core.specs.Style.{is_style, AreStyles}
+use Rattle.money_core.specs.AmountText.{IsDeclared}
+use Rattle.book_core.specs.Account.{name_cmp}
 use Rattle.book_core.specs.GoodBook.{IsGoodBook}
 use Rattle.journal_lines.specs.Date.{IsDayNumber}
 use Rattle.journal_format.specs.declared.txn.Located.{Located}
 use Rattle.journal_format.specs.Printable.{IsPrintable}
 use Rattle.journal_balance.specs.Legs.{legs_of}
 use Rattle.treasury_core.specs.declared.record.Record.{Record}
+use Rattle.treasury_core.specs.declared.transfer.Receipt.{Receipt}
+use Rattle.treasury_core.specs.declared.transfer.Transfer.{Transfer}
+use Rattle.treasury_core.specs.declared.command.Dispatch.{Dispatch}
+use Rattle.treasury_core.specs.declared.command.Receive.{Receive}
 use Rattle.treasury_core.specs.declared.command.Command.{Command}
 use Rattle.treasury_core.specs.declared.command.Command.TheVariants as cmd
 use Rattle.treasury_core.specs.Federation.{Branch, Federation, is_branch_name, most_branches, has_name, entries}
-use Rattle.treasury_core.specs.Mark.{HaveOwnMarks, is_product_mark}
-use Rattle.treasury_core.specs.Step.{is_transit}
+use Rattle.treasury_core.specs.Mark.{held, HaveOwnMarks, is_product_mark, is_of_transfer}
+use Rattle.treasury_core.specs.Transfer.{is_id, is_reserved, is_transit, asked}
 
 -- a record whose transaction has its mark and can be printed, and whose entry is what that transaction does
 pub record IsGoodRecord (styles : List Style) (r : Record) : Type 0 where
@@ -26,12 +34,12 @@ pub record IsOfFile (r : Record) : Type 0 where
   pub own : is_product_mark r.mark ≡ false
   pub clear : list_any is_transit r.entry.legs ≡ false
 
--- a branch: its name is well formed, no mark stands twice, each record is good and of a file, and its book is good
+-- a branch: its name is well formed, no mark stands twice, each record is good, and of a file where its mark is not a transfer's, and its book is good
 pub record IsGoodBranch (styles : List Style) (b : Branch) : Type 0 where
   pub named : is_branch_name b.name ≡ true
   pub marks : HaveOwnMarks b.records
   pub records : AllByRecursion (IsGoodRecord styles) b.records
-  pub of_files : AllByRecursion IsOfFile b.records
+  pub of_files : AllByRecursion (λ (r : Record). is_of_transfer r ≡ false → IsOfFile r) b.records
   pub book : IsGoodBook (entries b.records)
 
 -- no two branches have the same name
@@ -39,22 +47,62 @@ abbrev pub HaveOwnNames : List Branch → Type 0
 HaveOwnNames [] = ⊤
 HaveOwnNames (b ∷ bs) = (list_any (has_name b.name) bs ≡ false) × HaveOwnNames bs
 
--- a good state: each style is one that a sample has, and no symbol stands twice; at most 32 branches, each good, no name twice; no transfers
+-- in byte order of their IDs, each once
+abbrev pub AreAscending : List Transfer → Type 0
+AreAscending [] = ⊤
+AreAscending (t ∷ ts) = AllByRecursion (λ (x : Transfer). name_cmp t.id x.id ≡ Less) ts × AreAscending ts
+
+-- a receipt is no earlier than its dispatch, and its payee is not `assets:transit` or below it
+abbrev pub IsLater : Transfer → Option Receipt → Type 0
+IsLater t None = ⊤
+IsLater t (Some r) = (int_le t.day.0 r.day.0 ≡ true) × (is_reserved r.payee ≡ false)
+
+-- a transfer of a positive amount between two branches that differ; neither of its accounts is `assets:transit` or below it
+pub record IsGoodTransfer (bs : List Branch) (t : Transfer) : Type 0 where
+  pub id : is_id t.id ≡ true
+  pub source : list_any (has_name t.source) bs ≡ true
+  pub target : list_any (has_name t.target) bs ≡ true
+  pub apart : bytes_eq t.source t.target ≡ false
+  pub positive : int_le (pos 1) t.qty ≡ true
+  pub payer : is_reserved t.payer ≡ false
+  pub later : IsLater t t.receipt
+
+-- looked up by their marks, a branch's records of transfers are just those that the transfers ask for
+abbrev pub IsCarried : List Transfer → Branch → Type 0
+IsCarried ts b = (mark : List ℕ) → held (filter is_of_transfer b.records) mark ≡ held (asked ts b.name) mark
+
+-- a good state: each style is one that a sample has, and no symbol stands twice; at most 32 branches, each good, no name twice; transfers in byte
+-- order of their IDs, no ID twice, each good, with its dispatch in its source's book and its receipt, if there is one, in its target's; and no other
+-- record has the mark of a transfer
 pub record IsGoodState (f : Federation) : Type 0 where
   pub styles : AreStyles f.styles
   pub few : length f.branches ≤ most_branches
   pub names : HaveOwnNames f.branches
   pub branches : AllByRecursion (IsGoodBranch f.styles) f.branches
-  pub transfers : f.transfers ≡ []
+  pub ids : AreAscending f.transfers
+  pub transfers : AllByRecursion (IsGoodTransfer f.branches) f.transfers
+  pub carried : AllByRecursion (IsCarried f.transfers) f.branches
 
 -- a file of transactions that can be printed, no longer than a list in memory is
 pub record IsFile (styles : List Style) (file : List Located) : Type 0 where
   pub few : length file < 2 ^ 64
   pub printable : AllByRecursion (λ (x : Located). IsPrintable styles x.txn) file
 
--- what a command has to be that is decided: a style that a sample has, a day of the years 1 to 9999, transactions that can be printed
+-- a dispatch on a day of the years 1 to 9999, of an amount of a declared commodity within the limit
+pub record IsDispatch (styles : List Style) (d : Dispatch) : Type 0 where
+  pub day : IsDayNumber d.day
+  pub amount : IsDeclared styles d.unit d.qty
+
+-- a receipt on a day of the years 1 to 9999
+pub record IsReceive (r : Receive) : Type 0 where
+  pub day : IsDayNumber r.day
+
+-- what a command has to be that is decided: a style that a sample has, days of the years 1 to 9999, declared commodities, quantities within the limit,
+-- transactions that can be printed
 abbrev pub Fits : List Style → Command → Type 0
 Fits styles (cmd.Branch name) = ⊤
 Fits styles (cmd.Commodity style) = is_style style ≡ true
 Fits styles (cmd.Enter name file) = IsFile styles file
+Fits styles (cmd.Dispatch d) = IsDispatch styles d
+Fits styles (cmd.Receive r) = IsReceive r
 Fits styles (cmd.Lock name day) = IsDayNumber day

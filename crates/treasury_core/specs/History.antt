@@ -1,11 +1,16 @@
 -- Runs of commands, and what the accepted ones added (own rules; docs/RULES.md, "Books", "Orders").
-use Rattle.std.specs.Prelude.{◌≡◌, ◌⊎◌, ℕ, false, if◌then◌else◌, List, [], ◌∷◌, ◌++◌, map, ⊤, Option, Result, Ok, Err}
+use Rattle.std.specs.Prelude.{◌≡◌, ◌⊎◌, ◌+ℤ◌, ℕ, false, if◌then◌else◌, List, [], ◌∷◌, ◌++◌, map, ⊤, Option, Result, Ok, Err}
 use Rattle.std.specs.List.{list_any, AllByRecursion}
 use Rattle.std.specs.Str.{bytes_eq}
 use Rattle.money_core.specs.declared.day.Day.{Day}
 use Rattle.money_core.specs.declared.cause.Cause.TheVariants.{OutOfMemory}
+use Rattle.money_core.specs.declared.unit.Unit.{Unit as Commodity}
+use Rattle.book_core.specs.declared.account.Reach.TheVariants.{Own}
+use Rattle.book_core.specs.declared.place.Until.TheVariants.{Through}
 use Rattle.book_core.specs.declared.refusal.Refusal.{Refusal}
 use Rattle.book_core.specs.declared.refusal.Refusal.TheVariants.{Plain}
+use Rattle.book_core.specs.Balance.{balance}
+use Rattle.journal_format.specs.declared.txn.Txn.{Txn}
 use Rattle.journal_format.specs.declared.txn.Located.{Located}
 use Rattle.treasury_core.specs.declared.record.Record.{Record}
 use Rattle.treasury_core.specs.declared.command.Answer.{Answer}
@@ -13,10 +18,11 @@ use Rattle.treasury_core.specs.declared.command.Answer.TheVariants.{Done, Entere
 use Rattle.treasury_core.specs.declared.delta.Addition.{Addition}
 use Rattle.treasury_core.specs.declared.delta.Addition.TheVariants as add
 use Rattle.treasury_core.specs.declared.command.Command.{Command}
-use Rattle.treasury_core.specs.Federation.{Branch, Federation, records_of}
+use Rattle.treasury_core.specs.Federation.{Branch, Federation, records_of, book_of}
 use Rattle.treasury_core.specs.Mark.{is_held, is_product_mark}
+use Rattle.treasury_core.specs.Transfer.{is_transit, transit_account, open_amount}
 use Rattle.treasury_core.specs.Good.{Fits}
-use Rattle.treasury_core.specs.Step.{reply, after, delta, is_transit, is_locked}
+use Rattle.treasury_core.specs.Step.{reply, after, delta, is_locked}
 
 -- a command and its reply
 pub record Turn : Type 0 where
@@ -51,6 +57,8 @@ abbrev pub record_if : List ℕ → Addition → List Record
 record_if name (add.Commodity style) = []
 record_if name (add.Branch other) = []
 record_if name (add.Record other r) = if bytes_eq other name then r ∷ [] else []
+record_if name (add.Dispatched t) = []
+record_if name (add.Received id day payee) = []
 record_if name (add.Locked other day) = []
 
 -- the records of the branch of that name among additions, in order
@@ -88,6 +96,14 @@ pub record IsOwn (rs : List Record) (x : Located) : Type 0 where
 abbrev pub IsOwnJournal : List Record → List Located → Type 0
 IsOwnJournal rs file = AllByRecursion (IsOwn rs) file
 
+-- each of the later records is one of the first ones
+abbrev pub AreAmong : List Record → List Record → Type 0
+AreAmong all rs = AllByRecursion (λ (r : Record). IsAmong r all) rs
+
+-- the transactions of records, with their marks
+abbrev pub txns_in : List Record → List Txn
+txns_in rs = map (λ (r : Record). r.txn) rs
+
 -- the names of branches, in order
 abbrev pub names_of : List Branch → List (List ℕ)
 names_of bs = map (λ (b : Branch). b.name) bs
@@ -101,3 +117,9 @@ pub record HasGrown (earlier later : Federation) : Type 0 where
   pub styles : Grows earlier.styles later.styles
   pub branches : Grows (names_of earlier.branches) (names_of later.branches)
   pub records : (name : List ℕ) → Grows (records_of earlier name) (records_of later name)
+
+-- the balances of the transit account of one branch and another, in the books of both, add up to the open amount, on every day
+abbrev pub AddsUp : Federation → List ℕ → List ℕ → Type 0
+AddsUp f from to = (unit : Commodity) (day : Day) →
+    balance Own (book_of f from) (transit_account from to) unit (Through day) +ℤ balance Own (book_of f to) (transit_account from to) unit (Through day)
+    ≡ open_amount f.transfers from to unit day

@@ -1,6 +1,7 @@
 -- What a reader has to believe, in reading order
 pub mod Federation
 pub mod Mark
+pub mod Transfer
 pub mod Joined
 pub mod Step
 pub mod Good
@@ -11,3 +12,4 @@ pub mod Kept
 pub mod Counted
 pub mod Judged
 pub mod Room
+pub mod Fair

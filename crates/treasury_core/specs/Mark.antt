@@ -43,6 +43,14 @@ HaveOwnMarks (r ∷ rs) = (held rs r.mark ≡ None) × HaveOwnMarks rs
 abbrev pub is_repeat : List Style → List Record → Record → Bool
 is_repeat styles rs r = list_any (λ (h : Record). bytes_eq h.mark r.mark && bytes_eq (body_text styles h.txn) (body_text styles r.txn)) rs
 
+-- marks of dispatches and receipts
+abbrev pub is_transfer_mark : List ℕ → Bool
+is_transfer_mark m = starts_with nat_eq m (codes "out:") || starts_with nat_eq m (codes "in:")
+
 -- marks that belong to the product: of dispatches, receipts and closings
 abbrev pub is_product_mark : List ℕ → Bool
-is_product_mark m = starts_with nat_eq m (codes "out:") || starts_with nat_eq m (codes "in:") || starts_with nat_eq m (codes "close:")
+is_product_mark m = is_transfer_mark m || starts_with nat_eq m (codes "close:")
+
+-- the record has the mark of a dispatch or a receipt
+abbrev pub is_of_transfer : Record → Bool
+is_of_transfer r = is_transfer_mark r.mark

@@ -1,10 +1,18 @@
 -- Mirrors code: what a state must have while additions come to it, one after another.
-use Rattle.std.specs.Prelude.{ℕ, suc, if◌then◌else◌, List, [], ◌∷◌}
+use Rattle.std.specs.Prelude.{ℕ, suc, Bool, if◌then◌else◌, List, [], ◌∷◌}
 use Rattle.std.specs.List.{AllByRecursion}
+use Rattle.std.specs.Ordering.{is_lt}
 use Rattle.std.specs.Str.{bytes_eq}
 use Rattle.money_core.specs.Style.{AreStyles}
+use Rattle.book_core.specs.Account.{name_cmp}
 use Rattle.book_core.specs.GoodBook.{IsFit, IsWithin}
+use Rattle.treasury_core.specs.declared.transfer.Transfer.{Transfer}
 use Rattle.treasury_core.specs.Federation.{Branch, Federation, entries}
+use Rattle.treasury_core.specs.Good.{AreAscending}
+
+-- the transfer's ID is before that one
+abbrev pub is_before : List ℕ → Transfer → Bool
+is_before id t = is_lt (name_cmp t.id id)
 
 -- where the branch of that name stands, from 0; how many there are where none has it
 abbrev pub name_place : List Branch → List ℕ → ℕ
@@ -16,7 +24,8 @@ pub record HasRoom (b : Branch) : Type 0 where
   pub fit : AllByRecursion IsFit (entries b.records)
   pub within : IsWithin (entries b.records)
 
--- a state of which styles and ledgers take all that it has
+-- a state of which styles and ledgers take all that it has, its transfers in order
 pub record IsRoomy (f : Federation) : Type 0 where
   pub styles : AreStyles f.styles
   pub branches : AllByRecursion HasRoom f.branches
+  pub ids : AreAscending f.transfers

@@ -1,36 +1,39 @@
 -- What a command is answered, and the state after it (own rules; docs/RULES.md, "Orders"). The cases stand in the order of the refusals.
-use Rattle.std.specs.Prelude.{◌≡◌, ◌⊎◌, ℕ, ◌+◌, ◌-◌, nat_le, Bool, true, false, not, if◌then◌else◌, List, [], ◌∷◌, ◌++◌, map, length, int_le, int_lt, Option, Some, None, Result, Ok, Err}
+use Rattle.std.specs.Prelude.{◌≡◌, ◌⊎◌, ℕ, ◌+◌, ◌-◌, nat_eq, nat_le, Bool, true, false, ◌&&◌, not, if◌then◌else◌, List, [], ◌∷◌, ◌++◌, map, length, find, pos, int_le, int_lt, Option, Some, None, is_some, Result, Ok, Err}
 use Rattle.std.specs.Ordering.{int_eq}
 use Rattle.std.specs.List.{list_any}
 use Rattle.std.specs.Option.{option_or}
+use Rattle.std.specs.Str.{bytes_eq}
 use Rattle.money_core.specs.declared.style.Style.{Style}
 use Rattle.money_core.specs.declared.day.Day.{Day}
 use Rattle.money_core.specs.declared.unit.Declared.{Declared}
 use Rattle.money_core.specs.declared.unit.Declared.TheVariants.{New, Same}
 use Rattle.money_core.specs.declared.cause.Cause.{Cause}
-use Rattle.money_core.specs.declared.cause.Cause.TheVariants.{UnknownBranch, BranchName, Full, MarkClash, ReservedMark, ReservedAccount, Locked, LockBack, OutOfMemory}
+use Rattle.money_core.specs.declared.cause.Cause.TheVariants.{UnknownBranch, BranchName, Full, MarkClash, ReservedMark, ReservedAccount, Locked, SameBranch, UnknownTransfer, WrongBranch, AlreadyReceived, TooEarly, LockBack, BadAccount, BadAmount, BadId, OutOfMemory}
 use Rattle.money_core.specs.Style.{declared}
-use Rattle.book_core.specs.declared.leg.Leg.{Leg}
 use Rattle.book_core.specs.declared.entry.Entry.{Entry}
 use Rattle.book_core.specs.declared.refusal.Refusal.{Refusal}
 use Rattle.book_core.specs.declared.refusal.Refusal.TheVariants.{Plain, Text}
-use Rattle.book_core.specs.Account.{is_inside}
 use Rattle.book_core.specs.GoodBook.{verdict}
-use Rattle.journal_lines.specs.AccountName.{transit}
 use Rattle.journal_format.specs.declared.txn.Txn.{Txn}
 use Rattle.journal_format.specs.declared.txn.Located.{Located}
 use Rattle.journal_format.specs.CanonicalText.{body_text, marked}
 use Rattle.journal_balance.specs.Legs.{legs_of}
 use Rattle.treasury_core.specs.declared.record.Record.{Record}
+use Rattle.treasury_core.specs.declared.transfer.Receipt.{Receipt}
+use Rattle.treasury_core.specs.declared.transfer.Transfer.{Transfer}
 use Rattle.treasury_core.specs.declared.command.Answer.{Answer}
 use Rattle.treasury_core.specs.declared.command.Answer.TheVariants.{Done, Entered, Repeated}
 use Rattle.treasury_core.specs.declared.delta.Addition.{Addition}
 use Rattle.treasury_core.specs.declared.delta.Addition.TheVariants as add
+use Rattle.treasury_core.specs.declared.command.Dispatch.{Dispatch}
+use Rattle.treasury_core.specs.declared.command.Receive.{Receive}
 use Rattle.treasury_core.specs.declared.command.Command.{Command}
 use Rattle.treasury_core.specs.declared.command.Command.TheVariants as cmd
 use Rattle.treasury_core.specs.Federation.{Federation, is_branch_name, most_branches, has_branch, records_of, lock_of, entries}
 use Rattle.treasury_core.specs.Mark.{is_held, is_repeat, is_product_mark, mark_of, alike}
-use Rattle.treasury_core.specs.Joined.{with_style, with_branch, with_entered, with_locked}
+use Rattle.treasury_core.specs.Transfer.{is_id, is_account_text, is_reserved, is_transit, has_id, dispatch_record, receipt_record}
+use Rattle.treasury_core.specs.Joined.{with_style, with_branch, with_entered, with_locked, with_dispatched, with_received}
 
 -- the answer, unless there is a refusal
 abbrev pub unless : Answer → Option Refusal → Result Answer Refusal
@@ -107,10 +110,6 @@ records_from styles before (x ∷ xs) = recorded_in styles before x.txn ++ recor
 abbrev pub records_in_file : List Style → List Located → List Record
 records_in_file styles file = records_from styles [] file
 
--- a leg on `assets:transit` or below it
-abbrev pub is_transit : Leg → Bool
-is_transit x = is_inside transit x.account
-
 -- why a transaction is refused whose mark is not held, if it is
 abbrev pub barred : Option Day → Record → Option Refusal
 barred lock r =
@@ -158,6 +157,81 @@ enter_reply f name file =
     if not (has_branch f name) then Err (Plain UnknownBranch)
     else unless (entered (length (new_records f name file)) (length file)) (enter_refusal f name file)
 
+-- ---- Dispatch
+
+-- the transfer of that ID, if there is one
+abbrev pub transfer_at : Federation → List ℕ → Option Transfer
+transfer_at f id = find (has_id id) f.transfers
+
+-- the transfer that a dispatch asks for
+abbrev pub transfer_of : Dispatch → Transfer
+transfer_of d = record { id = d.id; source = d.source; target = d.target; unit = d.unit; qty = d.qty; day = d.day; payer = d.account; receipt = None }
+
+-- it was dispatched just so
+abbrev pub is_dispatched_so : Dispatch → Option Transfer → Bool
+is_dispatched_so d None = false
+is_dispatched_so d (Some t) =
+    bytes_eq t.source d.source && bytes_eq t.target d.target && int_eq t.day.0 d.day.0 && nat_eq t.unit.0 d.unit.0 && int_eq t.qty d.qty && bytes_eq t.payer d.account
+
+-- why a dispatch is refused, whose ID no transfer has, by what its source holds, if it is
+abbrev pub dispatch_refusal : Option Day → List Record → Dispatch → Option Refusal
+dispatch_refusal lock held d =
+    if not (is_account_text d.account) then Some (Plain BadAccount)
+    else if is_reserved d.account then Some (Plain ReservedAccount)
+    else if int_le d.qty (pos 0) then Some (Plain BadAmount)
+    else if is_locked lock d.day then Some (Plain Locked)
+    else verdict (entries held ++ entries (dispatch_record (transfer_of d) ∷ []))
+
+abbrev pub dispatch_reply : Federation → Dispatch → Result Answer Refusal
+dispatch_reply f d =
+    if not (has_branch f d.source) then Err (Plain UnknownBranch)
+    else if not (has_branch f d.target) then Err (Plain UnknownBranch)
+    else if bytes_eq d.source d.target then Err (Plain SameBranch)
+    else if not (is_id d.id) then Err (Plain BadId)
+    else if is_dispatched_so d (transfer_at f d.id) then Ok Repeated
+    else if is_some (transfer_at f d.id) then Err (Plain MarkClash)
+    else unless Done (dispatch_refusal (lock_of f d.source) (records_of f d.source) d)
+
+-- ---- Receive
+
+-- the receipt that is asked for
+abbrev pub receipt_of : Receive → Receipt
+receipt_of r = record { day = r.day; payee = r.account }
+
+-- it was received just so
+abbrev pub is_received_so : Receive → Option Receipt → Bool
+is_received_so r None = false
+is_received_so r (Some held) = int_eq held.day.0 r.day.0 && bytes_eq held.payee r.account
+
+-- why the receipt of a transfer is refused, that was not received yet, by what its target holds, if it is
+abbrev pub receipt_refusal : Option Day → List Record → Transfer → Receive → Option Refusal
+receipt_refusal lock held t r =
+    if not (is_account_text r.account) then Some (Plain BadAccount)
+    else if is_reserved r.account then Some (Plain ReservedAccount)
+    else if int_lt r.day.0 t.day.0 then Some (Plain TooEarly)
+    else if is_locked lock r.day then Some (Plain Locked)
+    else verdict (entries held ++ entries (receipt_record t (receipt_of r) ∷ []))
+
+-- the reply by the transfer of the ID
+abbrev pub receipt_reply : Federation → Receive → Option Transfer → Result Answer Refusal
+receipt_reply f r None = Err (Plain UnknownTransfer)
+receipt_reply f r (Some t) =
+    if not (bytes_eq t.target r.branch) then Err (Plain WrongBranch)
+    else if is_received_so r t.receipt then Ok Repeated
+    else if is_some t.receipt then Err (Plain AlreadyReceived)
+    else unless Done (receipt_refusal (lock_of f r.branch) (records_of f r.branch) t r)
+
+abbrev pub receive_reply : Federation → Receive → Result Answer Refusal
+receive_reply f r =
+    if not (has_branch f r.branch) then Err (Plain UnknownBranch)
+    else if not (is_id r.id) then Err (Plain BadId)
+    else receipt_reply f r (transfer_at f r.id)
+
+-- the record that a receipt adds, of the transfer of its ID
+abbrev pub receipt_records : Receive → Option Transfer → List Record
+receipt_records r None = []
+receipt_records r (Some t) = receipt_record t (receipt_of r) ∷ []
+
 -- ---- all commands
 
 -- the reply to a command
@@ -165,6 +239,8 @@ unfoldable pub reply : Federation → Command → Result Answer Refusal
 reply f (cmd.Branch name) = branch_reply f name
 reply f (cmd.Commodity style) = commodity_reply (declared f.styles style)
 reply f (cmd.Enter name file) = enter_reply f name file
+reply f (cmd.Dispatch d) = dispatch_reply f d
+reply f (cmd.Receive r) = receive_reply f r
 reply f (cmd.Lock name day) = lock_reply f name day
 
 -- the state that a command leaves which is done
@@ -172,6 +248,8 @@ unfoldable pub done : Federation → Command → Federation
 done f (cmd.Branch name) = with_branch f name
 done f (cmd.Commodity style) = with_style f style
 done f (cmd.Enter name file) = with_entered f name (new_records f name file)
+done f (cmd.Dispatch d) = with_dispatched (with_entered f d.source (dispatch_record (transfer_of d) ∷ [])) (transfer_of d)
+done f (cmd.Receive r) = with_received (with_entered f r.branch (receipt_records r (transfer_at f r.id))) r.id (receipt_of r)
 done f (cmd.Lock name day) = with_locked f name day
 
 -- the state after a reply: a refusal or a repeat leaves it
@@ -194,6 +272,8 @@ unfoldable pub added : Federation → Command → List Addition
 added f (cmd.Branch name) = add.Branch name ∷ []
 added f (cmd.Commodity style) = add.Commodity style ∷ []
 added f (cmd.Enter name file) = map (λ (r : Record). add.Record name r) (new_records f name file)
+added f (cmd.Dispatch d) = add.Record d.source (dispatch_record (transfer_of d)) ∷ add.Dispatched (transfer_of d) ∷ []
+added f (cmd.Receive r) = map (λ (x : Record). add.Record r.branch x) (receipt_records r (transfer_at f r.id)) ++ add.Received r.id r.day r.account ∷ []
 added f (cmd.Lock name day) = add.Locked name day ∷ []
 
 -- what it adds by its reply

@@ -7,14 +7,16 @@ ghost use Rattle.book_core.specs.GoodBook.{IsFit, IsWithin};
 ghost use Rattle.money_core.specs.Style.{AreStyles};
 ghost use Rattle.treasury_core.specs.Federation.{entries};
 ghost use Rattle.treasury_core.specs.Joined.{new_branch, with_records, with_lock, changed, joined_one, joined};
-ghost use Rattle.treasury_core.specs.Good.{IsGoodState};
+ghost use Rattle.treasury_core.specs.Good.{AreAscending, IsGoodState};
 ghost use Rattle.treasury_core.specs.Kept.{branch_of, branches_of, federation_of, IsKept};
 ghost use Rattle.treasury_core.specs.Room.{name_place, HasRoom, IsRoomy};
 
 use crate::delta::{Addition, Delta};
 use crate::index::push_marked;
+use crate::order::{insert_transfer, receive_transfer};
 use crate::record::Record;
 use crate::state::{Branch, State};
+use crate::transfer::{Receipt, Transfer};
 use book_core::Ledger;
 use money_core::{Cause, Copied, Day, Items, Style, Styles, Text};
 use std::alloc::Global;
@@ -119,11 +121,13 @@ fn apply_one<L: Ledger>(
     alloc: Global,
     styles: &mut Styles,
     branches: &mut Vec<Branch<L>>,
+    transfers: &mut Vec<Transfer>,
     addition: Addition,
 ) -> Result<(), Cause>
     requires kept { AllByRecursion (IsKept L.book) branches.old.items }
-    requires room { IsRoomy (joined_one (federation_of styles.old branches.old.items []) addition) }
-    ensures ok { OnOk result (federation_of styles.new branches.new.items [] ≡ joined_one (federation_of styles.old branches.old.items []) addition) }
+    requires room { IsRoomy (joined_one (federation_of styles.old branches.old.items transfers.old.items) addition) }
+    requires order { AreAscending transfers.old.items }
+    ensures ok { OnOk result (federation_of styles.new branches.new.items transfers.new.items ≡ joined_one (federation_of styles.old branches.old.items transfers.old.items) addition) }
     ensures kept { OnOk result (AllByRecursion (IsKept L.book) branches.new.items) }
     ensures memory { IsOkUnless result Cause.OutOfMemory }
 {
@@ -131,6 +135,11 @@ fn apply_one<L: Ledger>(
         Addition::Commodity(style) => apply_style(styles, style),
         Addition::Branch(name) => apply_branch(alloc, branches, name),
         Addition::Record(name, row) => apply_record(alloc, branches, name.as_str(), row),
+        Addition::Dispatched(transfer) => insert_transfer(transfers, transfer),
+        Addition::Received(id, day, payee) => {
+            receive_transfer(transfers, id.as_str(), Receipt { day, payee });
+            Ok(())
+        }
         Addition::Locked(name, day) => {
             apply_lock(branches, name.as_str(), day);
             Ok(())
@@ -148,14 +157,15 @@ pub fn apply<L: Ledger>(alloc: Global, state: State<L>, delta: Delta) -> Result<
     let State {
         mut styles,
         mut branches,
-        transfers,
+        transfers: list,
     } = state;
+    let mut transfers = list.into_vec();
     'additions: for addition in delta.into_items().into_vec() {
-        apply_one(alloc, &mut styles, &mut branches, addition)?;
+        apply_one(alloc, &mut styles, &mut branches, &mut transfers, addition)?;
     }
     Ok(State {
         styles,
         branches,
-        transfers,
+        transfers: Items::from_vec(transfers),
     })
 }

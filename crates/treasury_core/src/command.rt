@@ -4,11 +4,40 @@ ghost use Rattle.std.specs.Prelude.{◌↔◌, IsTrue};
 ghost use Rattle.std.specs.List.{AllByRecursion};
 ghost use Rattle.journal_format.specs.declared.txn.Located.{Located as Found};
 ghost use Rattle.journal_format.specs.Printable.{IsPrintable};
-ghost use Rattle.treasury_core.specs.Good.{Fits};
+ghost use Rattle.treasury_core.specs.Good.{Fits, IsDispatch, IsReceive};
 
 use journal_format::{Located, is_printable};
 use journal_lines::is_day_number;
-use money_core::{Cause, Copied, Day, Items, Style, Styles, Text, is_style};
+use money_core::{Cause, Copied, Day, Items, Style, Styles, Text, Unit, is_declared, is_style};
+
+/// A dispatch of money from one branch to another. Branches go by name.
+#[derive(Debug, Drop)]
+pub struct Dispatch {
+    /// Of the transfer, unique in the federation.
+    pub id: Text,
+    /// The branch that pays.
+    pub source: Text,
+    /// The branch that is paid.
+    pub target: Text,
+    pub day: Day,
+    pub unit: Unit,
+    /// In smallest units.
+    pub qty: i64,
+    /// The account of the source that pays the amount.
+    pub account: Text,
+}
+
+/// A receipt of a transfer that was dispatched.
+#[derive(Debug, Drop)]
+pub struct Receive {
+    /// Of the transfer.
+    pub id: Text,
+    /// The branch that is paid, by name.
+    pub branch: Text,
+    pub day: Day,
+    /// The account of the branch that gets the amount.
+    pub account: Text,
+}
 
 /// What is asked of the treasury. Branches go by name.
 #[derive(Debug, Drop)]
@@ -19,6 +48,10 @@ pub enum Command {
     Commodity(Style),
     /// The transactions of one file, into the branch of that name.
     Enter(Text, Items<Located>),
+    /// Money on its way from one branch to another.
+    Dispatch(Dispatch),
+    /// Money that has come to a branch.
+    Receive(Receive),
     /// A lock of the branch of that name through that day.
     Lock(Text, Day),
 }
@@ -46,10 +79,29 @@ fn are_printable(file: &[Located], styles: &Styles) -> bool
     true
 }
 
+impl Dispatch {
+    /// Whether it can be decided under the styles.
+    fn fits(&self, styles: &Styles) -> bool
+        ensures { IsTrue result ↔ IsDispatch styles.now self.now }
+    {
+        is_day_number(self.day) && is_declared(self.unit, self.qty, styles)
+    }
+}
+
+impl Receive {
+    /// Whether it can be decided.
+    fn fits(&self) -> bool
+        ensures { IsTrue result ↔ IsReceive self.now }
+    {
+        is_day_number(self.day)
+    }
+}
+
 impl Command {
     /// Whether the command can be decided under the styles: its style is one that a sample has, its day is of the years
-    /// 1 to 9999, its transactions can be printed, so that their commodities are declared and their quantities within
-    /// the limit. What was read under the same styles has this. It takes no memory, and is linear in the command.
+    /// 1 to 9999, its commodity is declared and its quantity within the limit, its transactions can be printed, so that
+    /// this holds of theirs. What was read under the same styles has this. It takes no memory, and is linear in the
+    /// command.
     pub fn fits(&self, styles: &Styles) -> bool
         ensures { IsTrue result ↔ Fits styles.now self.now }
     {
@@ -57,8 +109,42 @@ impl Command {
             Command::Branch(_) => true,
             Command::Commodity(style) => is_style(style),
             Command::Enter(_, file) => are_printable(file.items(), styles),
+            Command::Dispatch(dispatch) => dispatch.fits(styles),
+            Command::Receive(receive) => receive.fits(),
             Command::Lock(_, day) => is_day_number(*day),
         }
+    }
+}
+
+impl Copied for Dispatch {
+    fn copy(&self) -> Result<Self, Cause> {
+        let id = self.id.copy()?;
+        let source = self.source.copy()?;
+        let target = self.target.copy()?;
+        let account = self.account.copy()?;
+        Ok(Dispatch {
+            id,
+            source,
+            target,
+            day: self.day,
+            unit: self.unit,
+            qty: self.qty,
+            account,
+        })
+    }
+}
+
+impl Copied for Receive {
+    fn copy(&self) -> Result<Self, Cause> {
+        let id = self.id.copy()?;
+        let branch = self.branch.copy()?;
+        let account = self.account.copy()?;
+        Ok(Receive {
+            id,
+            branch,
+            day: self.day,
+            account,
+        })
     }
 }
 
@@ -77,6 +163,14 @@ impl Copied for Command {
                 let name = name.copy()?;
                 let file = file.copy()?;
                 Ok(Command::Enter(name, file))
+            }
+            Command::Dispatch(dispatch) => {
+                let dispatch = dispatch.copy()?;
+                Ok(Command::Dispatch(dispatch))
+            }
+            Command::Receive(receive) => {
+                let receive = receive.copy()?;
+                Ok(Command::Receive(receive))
             }
             Command::Lock(name, day) => {
                 let name = name.copy()?;

@@ -3,7 +3,7 @@
 ghost use Rattle.std.specs.Prelude.{Ok, Err, Some, None, ◌≡◌, ◌≤◌, ◌-◌, ◌⊎◌, [], ◌∷◌, ◌++◌, map, length, slice_index, MatchResult, IfOk, IfErr, OnOk};
 ghost use Rattle.std.specs.List.{list_all, AllByRecursion};
 ghost use Rattle.std.specs.Result.{IsOkUnless};
-ghost use Rattle.book_core.specs.GoodBook.{IsFit, IsGoodBook, Checks};
+ghost use Rattle.book_core.specs.GoodBook.{IsFit, IsGoodBook, Checks, verdict};
 ghost use Rattle.treasury_core.specs.declared.record.Record.{Record as Row};
 ghost use Rattle.treasury_core.specs.Federation.{is_name_byte, is_branch_name, has_branch, lock_of, entries};
 ghost use Rattle.treasury_core.specs.Joined.{joined};
@@ -13,14 +13,17 @@ ghost use Rattle.treasury_core.specs.Kept.{branch_of, IsKept};
 
 use crate::command::{Answer, Command};
 use crate::delta::{Addition, Delta};
+use crate::dispatch::decide_dispatch;
 use crate::enter::new_of;
 use crate::file::records_in_file;
+use crate::receive::decide_receive;
 use crate::record::Record;
 use crate::state::{Branch, State, find_branch};
 use book_core::{Count, Entry, Ledger, Refusal};
 use journal_format::Located;
 use money_core::{Cause, Copied, Day, Declared, Items, Style, Styles, Text};
 use std::alloc::Global;
+use std::slice;
 
 /// The greatest number of branches.
 pub const MAX_BRANCHES: usize = 32;
@@ -29,7 +32,7 @@ pub const MAX_BRANCHES: usize = 32;
 const MAX_NAME: usize = 32;
 
 /// What a decision answers: what the command is answered, and what it adds.
-type Decision = Result<(Answer, Delta), Refusal>;
+pub(crate) type Decision = Result<(Answer, Delta), Refusal>;
 
 /// Whether the byte may stand in a branch's name.
 fn is_name_byte(byte: u8) -> bool
@@ -60,7 +63,7 @@ fn is_branch_name(name: &[u8]) -> bool
 }
 
 /// Whether there is a branch of that name.
-fn has_branch<L: Ledger>(state: &State<L>, name: &str) -> bool
+pub(crate) fn has_branch<L: Ledger>(state: &State<L>, name: &str) -> bool
     ensures { result ≡ has_branch state.now name.now }
 {
     match find_branch(state.branches(), name) {
@@ -148,7 +151,7 @@ fn done(delta: Result<Delta, Cause>) -> Decision
 }
 
 /// What is done already: nothing is added.
-fn repeated(alloc: Global) -> Decision
+pub(crate) fn repeated(alloc: Global) -> Decision
     ensures { result ≡ Ok (Answer.Repeated, []) }
 {
     Ok((Answer::Repeated, Delta::of(Items::empty(alloc))))
@@ -242,6 +245,52 @@ fn additions_of(alloc: Global, name: &Text, rows: Items<Record>) -> Result<Delta
     Ok(Delta::of(list))
 }
 
+/// A record of the branch of that name, and what else is added with it.
+fn added(alloc: Global, name: &Text, row: Record, other: Addition) -> Result<Delta, Cause>
+    ensures value { IfOk result (λ delta. delta ≡ Addition.Record name.now row ∷ other ∷ []) }
+    ensures memory { IsOkUnless result Cause.OutOfMemory }
+{
+    let name = name.copy()?;
+    let first = Addition::Record(name, row);
+    let mut list = Items::empty(alloc);
+    list.push(first)?;
+    list.push(other)?;
+    Ok(Delta::of(list))
+}
+
+/// What a record adds to the branch of that name, with what else is added, where the branch's book stays good with it.
+pub(crate) fn recorded<L: Ledger>(
+    alloc: Global,
+    ledger: &L,
+    name: &Text,
+    row: Record,
+    other: Addition,
+) -> Result<Delta, Refusal>
+    requires good { IsGoodBook (L.book ledger.now) }
+    requires fit { IsFit row.entry }
+    ensures value { IfOk result (λ delta. delta ≡ Addition.Record name.now row ∷ other ∷ []) }
+    ensures passes { OnOk result (verdict (L.book ledger.now ++ entries (row ∷ [])) ≡ None) }
+    ensures err { IfErr result (λ e. (e ≡ Refusal.Plain Cause.OutOfMemory) ⊎ (verdict (L.book ledger.now ++ entries (row ∷ [])) ≡ Some e)) }
+{
+    if let Err(refusal) = check(alloc, ledger, slice::from_ref(&row)) {
+        return Err(refusal);
+    }
+    match added(alloc, name, row, other) {
+        Ok(delta) => Ok(delta),
+        Err(cause) => Err(Refusal::Plain(cause)),
+    }
+}
+
+/// What is done, with what it adds; or its refusal.
+pub(crate) fn settled(delta: Result<Delta, Refusal>) -> Decision
+    ensures { MatchResult result (λ p. (p.0 ≡ Answer.Done) × (delta ≡ Ok p.1)) (λ e. delta ≡ Err e) }
+{
+    match delta {
+        Ok(delta) => Ok((Answer::Done, delta)),
+        Err(refusal) => Err(refusal),
+    }
+}
+
 /// What a file adds to the branch, in order; or the first refusal.
 fn new_records<L: Ledger>(
     alloc: Global,
@@ -319,6 +368,8 @@ fn decided<L: Ledger>(alloc: Global, state: &State<L>, command: &Command) -> Dec
         Command::Branch(name) => decide_branch(alloc, state, name),
         Command::Commodity(style) => decide_commodity(alloc, state, style),
         Command::Enter(name, file) => decide_enter(alloc, state, name, file.items()),
+        Command::Dispatch(dispatch) => decide_dispatch(alloc, state, dispatch),
+        Command::Receive(receive) => decide_receive(alloc, state, receive),
         Command::Lock(name, day) => decide_lock(alloc, state, name, *day),
     }
 }

@@ -3,6 +3,7 @@
 ghost use Rattle.std.specs.Prelude.{◌≡◌};
 
 use crate::record::Record;
+use crate::transfer::Transfer;
 use money_core::{Cause, Copied, Day, Items, Style, Text};
 use std::marker::Model;
 
@@ -14,6 +15,10 @@ pub enum Addition {
     Branch(Text),
     /// A record of the branch of that name.
     Record(Text, Record),
+    /// A transfer that is on its way.
+    Dispatched(Transfer),
+    /// The transfer of that ID was received on that day, into that account.
+    Received(Text, Day, Text),
     /// The branch of that name is locked through that day.
     Locked(Text, Day),
 }
@@ -33,6 +38,15 @@ impl Copied for Addition {
                 let name = name.copy()?;
                 let record = record.copy()?;
                 Ok(Addition::Record(name, record))
+            }
+            Addition::Dispatched(transfer) => {
+                let transfer = transfer.copy()?;
+                Ok(Addition::Dispatched(transfer))
+            }
+            Addition::Received(id, day, payee) => {
+                let id = id.copy()?;
+                let payee = payee.copy()?;
+                Ok(Addition::Received(id, *day, payee))
             }
             Addition::Locked(name, day) => {
                 let name = name.copy()?;

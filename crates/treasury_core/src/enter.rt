@@ -7,7 +7,8 @@ ghost use Rattle.std.specs.Str.{bytes_eq};
 ghost use Rattle.journal_format.specs.CanonicalText.{body_text};
 ghost use Rattle.journal_format.specs.Printable.{IsPrintable};
 ghost use Rattle.treasury_core.specs.Mark.{held, is_repeat, is_product_mark, HaveOwnMarks};
-ghost use Rattle.treasury_core.specs.Step.{is_transit, is_locked, barred, refusal_of, refused_in, new_in};
+ghost use Rattle.treasury_core.specs.Transfer.{is_account_text, is_reserved, is_transit};
+ghost use Rattle.treasury_core.specs.Step.{is_locked, barred, refusal_of, refused_in, new_in};
 ghost use Rattle.treasury_core.specs.Good.{IsGoodRecord};
 ghost use Rattle.treasury_core.specs.Kept.{IsIndexOf};
 ghost use Rattle.treasury_core.specs.Judged.{judged};
@@ -16,8 +17,8 @@ use crate::index::{find_mark, push_marked};
 use crate::mark::text_of;
 use crate::record::Record;
 use book_core::{Leg, Refusal};
-use journal_lines::is_reserved;
-use money_core::{Cause, Day, Items, Styles};
+use journal_lines::{is_account, is_reserved};
+use money_core::{Cause, Day, Items, Styles, Text};
 use std::alloc::Global;
 use std::collections::HashMap;
 
@@ -28,11 +29,26 @@ fn is_product_mark(mark: &str) -> bool
     mark.starts_with("out:") || mark.starts_with("in:") || mark.starts_with("close:")
 }
 
-/// Whether the leg is on `assets:transit` or below it.
+/// Whether the account is well formed.
+pub(crate) fn is_account_text(account: &Text) -> bool
+    ensures { result ≡ is_account_text account.now }
+{
+    account.is_text();
+    is_account(account.as_str().as_bytes())
+}
+
+/// Whether the account is `assets:transit` or below it.
+pub(crate) fn is_reserved_account(account: &str) -> bool
+    ensures { result ≡ is_reserved account.now }
+{
+    is_reserved(account.as_bytes())
+}
+
+/// Whether the leg is on such an account.
 fn is_transit(leg: &Leg) -> bool
     ensures { result ≡ is_transit leg.now }
 {
-    is_reserved(leg.account.as_str().as_bytes())
+    is_reserved_account(leg.account.as_str())
 }
 
 /// Whether one of the legs is.
@@ -43,7 +59,7 @@ fn has_transit(legs: &[Leg]) -> bool
 }
 
 /// Whether the day is on or before the lock day.
-fn is_locked(lock: Option<Day>, day: Day) -> bool
+pub(crate) fn is_locked(lock: Option<Day>, day: Day) -> bool
     ensures { result ≡ is_locked lock day }
 {
     match lock {

@@ -1,28 +1,36 @@
 //! What holds of every step and of every run of commands.
 
-ghost use Rattle.std.specs.Prelude.{◌≡◌, ◌≤◌, [], ◌++◌, ◌+◌, ◌+ℤ◌, ℕ, true, List, length, None, Result, Ok, Err, IsErr};
+ghost use Rattle.std.specs.Prelude.{◌≡◌, ◌≤◌, [], ◌∷◌, ◌++◌, ◌+◌, ◌+ℤ◌, ◌≤ℤ◌, ℕ, pos, true, false, List, length, None, Result, Ok, Err, IsErr};
 ghost use Rattle.std.specs.List.{AllByRecursion};
+ghost use Rattle.std.specs.Str.{bytes_eq};
 ghost use Rattle.money_core.specs.declared.unit.Unit.{Unit as Commodity};
 ghost use Rattle.money_core.specs.declared.day.Day.{Day};
+ghost use Rattle.money_core.specs.declared.cause.Cause.TheVariants.{ReservedMark};
 ghost use Rattle.book_core.specs.declared.refusal.Failure.{Failure};
 ghost use Rattle.book_core.specs.declared.refusal.Refusal.{Refusal};
-ghost use Rattle.book_core.specs.declared.refusal.Refusal.TheVariants.{ClaimFailed};
+ghost use Rattle.book_core.specs.declared.refusal.Refusal.TheVariants.{Plain, ClaimFailed};
 ghost use Rattle.book_core.specs.declared.account.Reach.{Reach};
 ghost use Rattle.book_core.specs.declared.place.Until.TheVariants.{Through};
 ghost use Rattle.book_core.specs.Balance.{balance};
 ghost use Rattle.book_core.specs.Claim.{IsFirstFailure};
 ghost use Rattle.book_core.specs.GoodBook.{IsWithin};
 ghost use Rattle.journal_format.specs.declared.txn.Located.{Located};
+ghost use Rattle.journal_format.specs.Pieces.{Reads};
+ghost use Rattle.journal_format.specs.CanonicalText.{journal_text};
+ghost use Rattle.journal_format.specs.Printable.{FitsText, located_from};
+ghost use Rattle.treasury_core.specs.declared.record.Record.{Record};
 ghost use Rattle.treasury_core.specs.declared.command.Command.{Command};
 ghost use Rattle.treasury_core.specs.declared.command.Command.TheVariants.{Enter};
 ghost use Rattle.treasury_core.specs.declared.command.Answer.{Answer};
 ghost use Rattle.treasury_core.specs.declared.command.Answer.TheVariants.{Entered};
 ghost use Rattle.treasury_core.specs.Federation.{Federation, has_branch, records_of, lock_of, entries, book_of};
+ghost use Rattle.treasury_core.specs.Mark.{is_product_mark};
+ghost use Rattle.treasury_core.specs.Transfer.{open_amount};
 ghost use Rattle.treasury_core.specs.Joined.{joined};
 ghost use Rattle.treasury_core.specs.Step.{reply, after, delta, step, new_records, is_locked, unbalanced, refused_in, records_in_file};
 ghost use Rattle.treasury_core.specs.Good.{Fits, IsGoodState};
 ghost use Rattle.treasury_core.specs.Sound.{EachBalances, EachAssertionHolds, BreaksAssertion};
-ghost use Rattle.treasury_core.specs.History.{Turn, Replies, IsRun, state_after, history, records_among, IsRefusedOrRepeated, IsNew, IsOwnJournal, HasGrown};
+ghost use Rattle.treasury_core.specs.History.{Turn, Replies, IsRun, state_after, history, records_among, IsRefusedOrRepeated, IsNew, IsOwn, IsOwnJournal, AreAmong, txns_in, HasGrown, AddsUp};
 
 /// A law of steps and runs: the empty state is good, and each leaves a good state good. Costs nothing.
 pub fn good_law()
@@ -83,10 +91,31 @@ pub fn late_entry_law()
 {}
 
 /// A law of a branch's own journal: entering its own transactions again, with their marks, finds them all there, also
-/// behind a lock. Costs nothing.
+/// behind a lock, and also those of dispatches and receipts. Costs nothing.
 pub fn own_journal_law()
     ensures { (f : Federation) (name : List ℕ) (file : List Located) → IsGoodState f → has_branch f name ≡ true → IsOwnJournal (records_of f name) file
         → (reply f (Enter name file) ≡ Ok (Entered 0 (length file))) × ((step f (Enter name file)).next ≡ f) }
+{}
+
+/// A law of a branch's journal as it is printed: any of its transactions, printed with their marks within the limits of a
+/// text, read as themselves, and entering them finds them all there. A text has one list at most, so reading it answers
+/// this list or 40. Costs nothing.
+pub fn printed_journal_law()
+    ensures reads { (f : Federation) (name : List ℕ) (rs : List Record) → IsGoodState f → AreAmong (records_of f name) rs → FitsText f.styles (txns_in rs)
+        → Reads f.styles (journal_text f.styles (txns_in rs)) (located_from f.styles 1 (txns_in rs)) }
+    ensures enters { (f : Federation) (name : List ℕ) (rs : List Record) (file : List Located) → IsGoodState f → has_branch f name ≡ true → AreAmong (records_of f name) rs
+        → FitsText f.styles (txns_in rs) → Reads f.styles (journal_text f.styles (txns_in rs)) file
+        → (reply f (Enter name file) ≡ Ok (Entered 0 (length rs))) × ((step f (Enter name file)).next ≡ f) }
+{}
+
+/// A law of a branch's journal in another branch: a transaction with a mark of the product is refused there with 25, once
+/// those before it were not refused. Costs nothing.
+pub fn other_journal_law()
+    ensures { (f : Federation) (from to : List ℕ) (before : List Located) (x : Located) (rest : List Located)
+        → IsGoodState f → has_branch f from ≡ true → has_branch f to ≡ true → bytes_eq from to ≡ false → IsOwnJournal (records_of f from) (before ++ x ∷ rest)
+        → refused_in f.styles (lock_of f to) (records_of f to) (records_in_file f.styles before) ≡ None
+        → (own : IsOwn (records_of f from) x) → is_product_mark own.holder.mark ≡ true
+        → reply f (Enter to (before ++ x ∷ rest)) ≡ Err (Plain ReservedMark) }
 {}
 
 /// A law of runs: a branch's records are its old ones and those that accepted commands added, in order, and each
@@ -111,4 +140,11 @@ pub fn lock_law()
     ensures balances { (f : Federation) (turns : List Turn) (name : List ℕ) (day : Day) (reach : Reach) (account : List ℕ) (unit : Commodity) → IsRun f turns
         → is_locked (lock_of f name) day ≡ true
         → balance reach (book_of (state_after f turns) name) account unit (Through day) ≡ balance reach (book_of f name) account unit (Through day) }
+{}
+
+/// A law of good states: for two branches that differ, in every commodity and through every day, the balances of their
+/// transit account in the books of both add up to the open amount, which is never negative. Costs nothing.
+pub fn transit_law()
+    ensures adds_up { (f : Federation) (from to : List ℕ) → IsGoodState f → has_branch f from ≡ true → has_branch f to ≡ true → bytes_eq from to ≡ false → AddsUp f from to }
+    ensures low { (f : Federation) (from to : List ℕ) (unit : Commodity) (day : Day) → IsGoodState f → pos 0 ≤ℤ open_amount f.transfers from to unit day }
 {}

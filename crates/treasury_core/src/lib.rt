@@ -5,26 +5,32 @@ mod applying;
 mod command;
 mod decision;
 mod delta;
+mod dispatch;
 mod enter;
 mod file;
 mod index;
 mod law;
 mod mark;
+mod order;
+mod product;
+mod receive;
 mod record;
 mod state;
 #[cfg(test)]
 mod tests;
 mod transfer;
+mod transit;
 
 pub use applying::apply;
-pub use command::{Answer, Command};
+pub use command::{Answer, Command, Dispatch, Receive};
 pub use decision::{MAX_BRANCHES, decide};
 pub use delta::{Addition, Delta};
 pub use law::{
-    entered_law, good_law, growing_law, joined_law, late_entry_law, lock_law, own_journal_law,
-    records_law, sound_law, unchanged_law,
+    entered_law, good_law, growing_law, joined_law, late_entry_law, lock_law, other_journal_law,
+    own_journal_law, printed_journal_law, records_law, sound_law, transit_law, unchanged_law,
 };
 pub use mark::mark_of;
 pub use record::Record;
 pub use state::{Branch, State};
 pub use transfer::{Receipt, Transfer};
+pub use transit::open_amount;

@@ -1,10 +1,10 @@
 //! The run over all lines of a reader.
 
-ghost use Rattle.std.specs.Prelude.{◌≡◌, ◌∷◌, ◌++◌, []};
+ghost use Rattle.std.specs.Prelude.{◌≡◌, ◌==◌, ◌∷◌, ◌++◌, [], position};
 ghost use Rattle.std.specs.Str.Lines.{strip_carriage_return};
 ghost use Rattle.treasury.specs.Transcript.{is_blank_text, requests_among};
 ghost use Rattle.treasury.specs.RunEnd.{HasNoLineFeed, Ends};
-ghost use Rattle.treasury.specs.Served.{Serves, Feeds};
+ghost use Rattle.treasury.specs.Served.{Serves, Feeds, EndsLine, feed_place};
 
 use crate::lines::machine::Machine;
 use crate::lines::write::write_whole;
@@ -61,6 +61,44 @@ fn serve_line<W: Write, M: Machine>(
     }
 }
 
+/// Where the first line feed stands, if there is one.
+fn feed_place(bytes: &[u8]) -> Option<usize>
+    ensures { result ≡ feed_place bytes.now }
+{
+    bytes.iter().position(|byte| *byte == b'\n')
+}
+
+/// Ends the line that was begun by these bytes, and answers its request, if it has one.
+fn end_line<W: Write, M: Machine>(
+    alloc: Global,
+    bytes: &[u8],
+    line: &mut Vec<u8>,
+    writer: &mut W,
+    machine: &mut M,
+) -> Result<(), Cause>
+    requires begun { HasNoLineFeed line.old.items }
+    requires more { HasNoLineFeed bytes.now }
+    ensures { EndsLine result M.step M.loses (W.contents writer.old) (W.contents writer.new)
+        machine.old (line.old.items ++ bytes.now) line.new.items machine.new }
+{
+    match line.extend_from_slice(bytes) {
+        Ok(()) => {}
+        Err(_) => return Err(Cause::OutOfMemory),
+    }
+    match serve_line(
+        alloc,
+        without_carriage_return(line.as_slice()),
+        writer,
+        machine,
+    ) {
+        Ok(()) => {
+            line.clear();
+            Ok(())
+        }
+        Err(cause) => Err(cause),
+    }
+}
+
 /// Answers each line that these bytes end, and keeps what they begin of the next.
 fn feed<W: Write, M: Machine>(
     alloc: Global,
@@ -73,22 +111,23 @@ fn feed<W: Write, M: Machine>(
     ensures { Feeds result M.step M.loses (W.contents writer.old) (W.contents writer.new)
         machine.old (line.old.items ++ bytes.now) line.new.items machine.new }
 {
-    'feeding: for byte in bytes {
-        if *byte == b'\n' {
-            match serve_line(
-                alloc,
-                without_carriage_return(line.as_slice()),
-                writer,
-                machine,
-            ) {
-                Ok(()) => line.clear(),
-                Err(cause) => return Err(cause),
-            }
-        } else if line.push(*byte).is_err() {
-            return Err(Cause::OutOfMemory);
+    let mut rest = bytes;
+    'feeding: loop {
+        let place = match feed_place(rest) {
+            Some(place) => place,
+            None => break,
+        };
+        let (front, back) = rest.split_at(place);
+        match end_line(alloc, front, line, writer, machine) {
+            Ok(()) => {}
+            Err(cause) => return Err(cause),
         }
+        rest = back.split_at(1).1;
     }
-    Ok(())
+    match line.extend_from_slice(rest) {
+        Ok(()) => Ok(()),
+        Err(_) => Err(Cause::OutOfMemory),
+    }
 }
 
 /// Answers each request that the reader gives, of at most `MAX_INPUT` bytes in all.

@@ -147,7 +147,7 @@ fn assert_echoed(
 
 #[test]
 fn a_line_ends_in_lf_or_cr_lf(rt: HostRuntime) -> Result<(), Fail> {
-    let rows: [(&[u8], &[u8], u64); 13] = [
+    const ROWS: &[(&[u8], &[u8], u64)] = &[
         (b"", b"", 0),
         (b"a", b"a\n", 1),
         (b"a\n", b"a\n", 1),
@@ -162,7 +162,7 @@ fn a_line_ends_in_lf_or_cr_lf(rt: HostRuntime) -> Result<(), Fail> {
         (b"a\rb\n", b"a\rb\n", 1),
         (b"\xff\x00\n", b"\xff\x00\n", 1),
     ];
-    assert_echoed(&rt, rt.alloc(), Ok(()), &rows);
+    assert_echoed(&rt, rt.alloc(), Ok(()), ROWS);
     Ok(())
 }
 
@@ -223,7 +223,7 @@ fn assert_broken(
     let ended = run_echo(alloc, &mut reader, &mut writer, &mut echo);
     assert!(rt; ended == Err(Cause::ReadFault));
     assert!(rt; input.ends_with(reader.text));
-    assert_eq!(rt; reader.text.len() + before, input.len());
+    assert_eq!(rt; reader.text.len(), input.len().saturating_sub(before));
     assert_eq!(rt; writer.as_slice(), want);
     assert_eq!(rt; echo.answered, count);
 }
@@ -231,7 +231,7 @@ fn assert_broken(
 /// A body that reads again behind a failed read would answer more, or end otherwise.
 #[test]
 fn a_read_that_fails_leaves_the_complete_lines_answered(rt: HostRuntime) -> Result<(), Fail> {
-    let rows: [(&[u8], usize, io::ErrorKind, &[u8], u64); 10] = [
+    const ROWS: &[(&[u8], usize, io::ErrorKind, &[u8], u64)] = &[
         (b"", 0, io::ErrorKind::Interrupted, b"", 0),
         (b"a", 1, io::ErrorKind::Interrupted, b"", 0),
         (b"a\n", 2, io::ErrorKind::Interrupted, b"a\n", 1),
@@ -249,7 +249,7 @@ fn a_read_that_fails_leaves_the_complete_lines_answered(rt: HostRuntime) -> Resu
         (b"a\nb\nc\n", 4, io::ErrorKind::TimedOut, b"a\nb\n", 2),
         (b"a\nb\nc\n", 5, io::ErrorKind::BrokenPipe, b"a\nb\n", 2),
     ];
-    for (input, before, kind, want, count) in &rows {
+    for (input, before, kind, want, count) in ROWS {
         assert_broken(&rt, rt.alloc(), *input, *before, *kind, *want, *count);
     }
     Ok(())
@@ -305,13 +305,13 @@ fn an_input_has_at_most_64_mebibytes(rt: HostRuntime) -> Result<(), Fail> {
 
 #[test]
 fn want_of_memory_ends_the_run_between_two_requests(rt: HostRuntime) -> Result<(), Fail> {
-    let rows: [(&[u8], &[u8], u64); 5] = [
+    const ROWS: &[(&[u8], &[u8], u64)] = &[
         (b"kept", b"", 0),
         (b"a\nkept\nb\n", b"a\n", 1),
         (b"a\n\nb\r\nkept", b"a\nb\n", 2),
         (b"a\nlost\nb\n", b"a\n", 0),
         (b"a\nlost", b"a\n", 0),
     ];
-    assert_echoed(&rt, rt.alloc(), Err(Cause::OutOfMemory), &rows);
+    assert_echoed(&rt, rt.alloc(), Err(Cause::OutOfMemory), ROWS);
     Ok(())
 }

@@ -3,7 +3,7 @@
 ghost use Rattle.std.specs.Prelude.{◌≡◌, option_map, option_and_then, IfSome};
 ghost use Rattle.serde_json.specs.View.{view};
 ghost use Rattle.journal_lines.specs.Date.{IsDayNumber};
-ghost use Rattle.treasury.specs.Request.{text_at, day_at, key_count, request_of, HasDayNumbers};
+ghost use Rattle.treasury.specs.Request.{text_at, day_at, key_count, dispatch_at, receive_at, request_of, HasDayNumbers};
 ghost use Rattle.treasury.specs.Form.{shown};
 
 use journal_lines::read_date;
@@ -13,11 +13,38 @@ use serde_json::Value;
 /// A request whose texts are those of a JSON value.
 #[derive(Clone, Copy, Drop)]
 pub enum Form<'a> {
-    Branch { name: &'a str },
-    Commodity { sample: &'a str },
-    Import { branch: &'a str, journal: &'a str },
-    Lock { branch: &'a str, day: Day },
-    Balance { branch: &'a str, day: Day },
+    Branch {
+        name: &'a str,
+    },
+    Commodity {
+        sample: &'a str,
+    },
+    Import {
+        branch: &'a str,
+        journal: &'a str,
+    },
+    Dispatch {
+        id: &'a str,
+        from: &'a str,
+        to: &'a str,
+        day: Day,
+        amount: &'a str,
+        account: &'a str,
+    },
+    Receive {
+        id: &'a str,
+        branch: &'a str,
+        day: Day,
+        account: &'a str,
+    },
+    Lock {
+        branch: &'a str,
+        day: Day,
+    },
+    Balance {
+        branch: &'a str,
+        day: Day,
+    },
 }
 
 /// The text at a key.
@@ -46,6 +73,44 @@ fn count_keys(value: &Value) -> usize
     }
 }
 
+/// The form of a dispatch, where all its keys are there.
+fn dispatch_of<'a>(value: &'a Value) -> Option<Form<'a>>
+    ensures value { option_map shown result ≡ dispatch_at (view value.now) }
+    ensures days { IfSome result (λ form. HasDayNumbers (shown form)) }
+{
+    let id = text_at(value, "id")?;
+    let from = text_at(value, "from")?;
+    let to = text_at(value, "to")?;
+    let day = day_at(value, "day")?;
+    let amount = text_at(value, "amount")?;
+    let account = text_at(value, "account")?;
+    Some(Form::Dispatch {
+        id,
+        from,
+        to,
+        day,
+        amount,
+        account,
+    })
+}
+
+/// The form of a receipt, where all its keys are there.
+fn receive_of<'a>(value: &'a Value) -> Option<Form<'a>>
+    ensures value { option_map shown result ≡ receive_at (view value.now) }
+    ensures days { IfSome result (λ form. HasDayNumbers (shown form)) }
+{
+    let id = text_at(value, "id")?;
+    let branch = text_at(value, "branch")?;
+    let day = day_at(value, "day")?;
+    let account = text_at(value, "account")?;
+    Some(Form::Receive {
+        id,
+        branch,
+        day,
+        account,
+    })
+}
+
 /// The form of a value, if it has one: the word's keys, each with a text, and no further key.
 pub fn form_of<'a>(value: &'a Value) -> Option<Form<'a>>
     ensures value { option_map shown result ≡ request_of (view value.now) }
@@ -63,6 +128,10 @@ pub fn form_of<'a>(value: &'a Value) -> Option<Form<'a>>
         let branch = text_at(value, "branch")?;
         let journal = text_at(value, "journal")?;
         Some(Form::Import { branch, journal })
+    } else if word == "dispatch" && keys == 7 {
+        dispatch_of(value)
+    } else if word == "receive" && keys == 5 {
+        receive_of(value)
     } else if word == "lock" && keys == 3 {
         let branch = text_at(value, "branch")?;
         let day = day_at(value, "day")?;

@@ -31,6 +31,44 @@ fn owned(alloc: Global, form: Form) -> Result<Request, Cause>
             let journal = Bytes::of(alloc, journal.as_bytes())?;
             Ok(Request::Import { branch, journal })
         }
+        Form::Dispatch {
+            id,
+            from,
+            to,
+            day,
+            amount,
+            account,
+        } => {
+            let id = Text::of(alloc, id)?;
+            let from = Text::of(alloc, from)?;
+            let to = Text::of(alloc, to)?;
+            let amount = Text::of(alloc, amount)?;
+            let account = Text::of(alloc, account)?;
+            Ok(Request::Dispatch {
+                id,
+                from,
+                to,
+                day,
+                amount,
+                account,
+            })
+        }
+        Form::Receive {
+            id,
+            branch,
+            day,
+            account,
+        } => {
+            let id = Text::of(alloc, id)?;
+            let branch = Text::of(alloc, branch)?;
+            let account = Text::of(alloc, account)?;
+            Ok(Request::Receive {
+                id,
+                branch,
+                day,
+                account,
+            })
+        }
         Form::Lock { branch, day } => {
             let branch = Text::of(alloc, branch)?;
             Ok(Request::Lock { branch, day })

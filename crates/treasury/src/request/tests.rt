@@ -18,6 +18,41 @@ fn shown(alloc: Global, read: &Result<Request, Cause>) -> Result<String, Fail> {
             };
             format!(in alloc; "import {} {journal}", branch.as_str())?
         }
+        Ok(
+            Request::Dispatch {
+                id,
+                from,
+                to,
+                day,
+                amount,
+                account,
+            },
+        ) => {
+            let ends = format!(in alloc; "{} {}", from.as_str(), to.as_str())?;
+            format!(in alloc;
+                "dispatch {} {ends} {} {} {}",
+                id.as_str(),
+                day.0,
+                amount.as_str(),
+                account.as_str()
+            )?
+        }
+        Ok(
+            Request::Receive {
+                id,
+                branch,
+                day,
+                account,
+            },
+        ) => {
+            format!(in alloc;
+                "receive {} {} {} {}",
+                id.as_str(),
+                branch.as_str(),
+                day.0,
+                account.as_str()
+            )?
+        }
         Ok(Request::Lock { branch, day }) => {
             format!(in alloc; "lock {} {}", branch.as_str(), day.0)?
         }
@@ -41,7 +76,7 @@ fn assert_read(rt: &impl Abort, alloc: Global, rows: &[(&str, &str)]) -> Result<
 
 #[test]
 fn a_request_has_its_keys_and_no_other(rt: HostRuntime) -> Result<(), Fail> {
-    let rows = [
+    const ROWS: &[(&str, &str)] = &[
         (r#"{"do":"branch","name":"north"}"#, "branch north"),
         (r#"{"name":"north","do":"branch"}"#, "branch north"),
         (r#" { "do" : "branch" , "name" : "" } "#, "branch "),
@@ -75,6 +110,30 @@ fn a_request_has_its_keys_and_no_other(rt: HostRuntime) -> Result<(), Fail> {
             r#"{"do":"lock","branch":"north","day":"2024-02-29"}"#,
             "lock north 19782",
         ),
+        (
+            r#"{"do":"dispatch","id":"t 7","from":"north","to":"south","day":"2024-02-29","amount":"5","account":"x"}"#,
+            "dispatch t 7 north south 19782 5 x",
+        ),
+        (
+            r#"{"do":"receive","id":"t7","branch":"south","day":"2024-02-29","account":"a:x"}"#,
+            "receive t7 south 19782 a:x",
+        ),
+        (
+            r#"{"do":"dispatch","id":"t","from":"north","to":"south","day":"2024-02-29","amount":"5"}"#,
+            "44",
+        ),
+        (
+            r#"{"do":"dispatch","id":"t","from":"n","to":"s","day":"2024-02-29","amount":"5","account":"x","tag":""}"#,
+            "44",
+        ),
+        (
+            r#"{"do":"receive","id":"t7","branch":"s","day":"2024-02-29","account":"a:x","part":"1","amount":"5 EUR"}"#,
+            "44",
+        ),
+        (
+            r#"{"do":"receive","id":"t7","branch":"south","day":"2024-02-30","account":"a:x"}"#,
+            "44",
+        ),
         (r#"{"do":"lock","branch":"north"}"#, "44"),
         (r#"{"do":"lock","branch":"north","day":"2024-02-30"}"#, "44"),
         (
@@ -88,12 +147,12 @@ fn a_request_has_its_keys_and_no_other(rt: HostRuntime) -> Result<(), Fail> {
         ("null", "44"),
         ("", "44"),
     ];
-    assert_read(&rt, rt.alloc(), &rows)
+    assert_read(&rt, rt.alloc(), ROWS)
 }
 
 #[test]
 fn each_value_is_a_text(rt: HostRuntime) -> Result<(), Fail> {
-    let rows = [
+    const ROWS: &[(&str, &str)] = &[
         (r#"{"do":"branch","name":1}"#, "44"),
         (r#"{"do":"branch","name":null}"#, "44"),
         (r#"{"do":"branch","name":true}"#, "44"),
@@ -129,12 +188,12 @@ fn each_value_is_a_text(rt: HostRuntime) -> Result<(), Fail> {
         (r#"{"do":"balance","branch":"x","day":"2024-01-05 "}"#, "44"),
         (r#"{"do":"balance","branch":"x","day":""}"#, "44"),
     ];
-    assert_read(&rt, rt.alloc(), &rows)
+    assert_read(&rt, rt.alloc(), ROWS)
 }
 
 #[test]
 fn json_is_read_as_serde_json_reads_it(rt: HostRuntime) -> Result<(), Fail> {
-    let rows = [
+    const ROWS: &[(&str, &str)] = &[
         (r#"{"do":"branch","name":"x","name":"y"}"#, "branch y"),
         (r#"{"do":"lock","do":"branch","name":"x"}"#, "branch x"),
         (r#"{"name":1,"name":"x","do":"branch"}"#, "branch x"),
@@ -164,7 +223,7 @@ fn json_is_read_as_serde_json_reads_it(rt: HostRuntime) -> Result<(), Fail> {
         (r#"{"name":-,"name":"x","do":"branch"}"#, "44"),
         (r#"{"name":1.,"name":"x","do":"branch"}"#, "44"),
     ];
-    assert_read(&rt, rt.alloc(), &rows)
+    assert_read(&rt, rt.alloc(), ROWS)
 }
 
 #[test]
@@ -203,7 +262,7 @@ fn assert_lines_read(rt: &impl Abort, alloc: Global, rows: &[(&[u8], &str)]) -> 
 
 #[test]
 fn a_line_is_utf8_and_its_request_has_equal_copies(rt: HostRuntime) -> Result<(), Fail> {
-    let rows: [(&[u8], &str); 7] = [
+    const ROWS: &[(&[u8], &str)] = &[
         (b"{\"do\":\"branch\",\"name\":\"\xc3\xa9\"}", "branch é"),
         (
             b"{\"do\":\"commodity\",\"sample\":\"1. X\"}",
@@ -212,6 +271,14 @@ fn a_line_is_utf8_and_its_request_has_equal_copies(rt: HostRuntime) -> Result<()
         (
             b"{\"do\":\"import\",\"branch\":\"x\",\"journal\":\"a\\nb\"}",
             "import x a\nb",
+        ),
+        (
+            b"{\"do\":\"dispatch\",\"id\":\"i\",\"from\":\"f\",\"to\":\"t\",\"day\":\"1970-01-02\",\"amount\":\"m\",\"account\":\"a\"}",
+            "dispatch i f t 1 m a",
+        ),
+        (
+            b"{\"do\":\"receive\",\"id\":\"i\",\"branch\":\"b\",\"day\":\"1970-01-02\",\"account\":\"a\"}",
+            "receive i b 1 a",
         ),
         (
             b"{\"do\":\"lock\",\"branch\":\"x\",\"day\":\"1970-01-02\"}",
@@ -224,5 +291,5 @@ fn a_line_is_utf8_and_its_request_has_equal_copies(rt: HostRuntime) -> Result<()
         (b"{\"do\":\"branch\",\"name\":\"\xff\"}", "44"),
         (b"{\"do\":\"branch\",\"name\":\"x\"}\xc3", "44"),
     ];
-    assert_lines_read(&rt, rt.alloc(), &rows)
+    assert_lines_read(&rt, rt.alloc(), ROWS)
 }

@@ -4,6 +4,7 @@ mod assertions;
 mod journals;
 mod manual;
 mod marks;
+mod transfers;
 
 use crate::words::run_words;
 use std::alloc::{AllocError, Global};
@@ -215,7 +216,7 @@ fn assert_done(
 
 #[test]
 fn words_say_what_is_done(rt: HostRuntime) -> Result<(), Fail> {
-    let rows: [(&[&str], u8, &str, &str); 11] = [
+    const ROWS: &[(&[&str], u8, &str, &str)] = &[
         (&["treasury", "run"], 0, "", ""),
         (&["treasury"], 2, "", ""),
         (&[], 2, "", ""),
@@ -248,13 +249,13 @@ fn words_say_what_is_done(rt: HostRuntime) -> Result<(), Fail> {
             "refused 21 BranchName\n",
         ),
     ];
-    assert_done(&rt, &rows)
+    assert_done(&rt, ROWS)
 }
 
 // (requests behind the opening, their answers)
 #[test]
 fn requests_are_answered_in_turn(rt: HostRuntime) -> Result<(), Fail> {
-    let rows = [
+    const ROWS: &[(&str, &str)] = &[
         (r#"{"do":"branch"}"#, "refused 44 Request\n"),
         (
             r#"{"do":"branch","name":"North"}"#,
@@ -312,7 +313,7 @@ fn requests_are_answered_in_turn(rt: HostRuntime) -> Result<(), Fail> {
             "ok 1 new, 0 repeated\nok 1 new, 0 repeated\nrefused 29 ClaimFailed at 2024-01-10 entry 1 leg 1: asserted 10.00 EUR, found 11.00 EUR\n",
         ),
     ];
-    assert_all_answered(&rt, &rows)
+    assert_all_answered(&rt, ROWS)
 }
 
 /// Asserts that the inputs have these answers.
@@ -327,7 +328,7 @@ fn assert_run(rt: &(impl Abort + Eprint + AllocGlobal), rows: &[(&str, &str)]) -
 
 #[test]
 fn lines_end_in_lf_or_cr_lf_and_blank_ones_are_skipped(rt: HostRuntime) -> Result<(), Fail> {
-    let rows = [
+    const ROWS: &[(&str, &str)] = &[
         ("", ""),
         ("\n \t\n\r\n", ""),
         (r#"{"do":"branch","name":"north"}"#, "ok\n"),
@@ -337,7 +338,7 @@ fn lines_end_in_lf_or_cr_lf_and_blank_ones_are_skipped(rt: HostRuntime) -> Resul
         ),
         ("x\n\ny", "refused 44 Request\nrefused 44 Request\n"),
     ];
-    assert_run(&rt, &rows)
+    assert_run(&rt, ROWS)
 }
 
 #[test]

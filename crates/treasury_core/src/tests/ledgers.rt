@@ -38,7 +38,8 @@ impl Ledger for Exhausted {
         self.ledger.accounts()
     }
 
-    fn check(&self, _new: &[Entry], _count: &mut Count) -> Result<(), Refusal> {
+    fn check(&self, new: &[Entry], count: &mut Count) -> Result<(), Refusal> {
+        let _ = self.ledger.check(new, count);
         Err(Refusal::Plain(Cause::OutOfMemory))
     }
 

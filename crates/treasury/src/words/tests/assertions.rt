@@ -10,12 +10,13 @@ const LATE: &str = "2024-01-09 late\n    assets:bank  1.00 EUR\n    income:dues\
 // (journals, their answers, the balances behind them)
 #[test]
 fn every_assertion_holds_behind_every_import(rt: HostRuntime) -> Result<(), Fail> {
-    let count = "2024-01-10 count\n    assets:bank  10.00 EUR = 10.00 EUR\n    income:dues\n";
-    let rows: [(&[&str], &str, &str); 7] = [
+    const COUNT: &str =
+        "2024-01-10 count\n    assets:bank  10.00 EUR = 10.00 EUR\n    income:dues\n";
+    const ROWS: &[(&[&str], &str, &str)] = &[
         // A late entry is refused; on the day of the assertion it stands behind it.
         (
             &[
-                count,
+                COUNT,
                 LATE,
                 "2024-01-10 late\n    assets:bank  1.00 EUR\n    income:dues\n",
             ],
@@ -25,7 +26,7 @@ fn every_assertion_holds_behind_every_import(rt: HostRuntime) -> Result<(), Fail
         // Two late entries of one text that cancel out; each by itself is refused.
         (
             &[
-                count,
+                COUNT,
                 "2024-01-08 a\n    assets:bank  1.00 EUR\n    income:dues\n\n2024-01-09 b\n    assets:bank  -1.00 EUR\n    income:dues\n",
                 LATE,
                 "2024-01-09 c\n    assets:bank  -1.00 EUR\n    income:dues\n",
@@ -81,7 +82,7 @@ fn every_assertion_holds_behind_every_import(rt: HostRuntime) -> Result<(), Fail
             "",
         ),
     ];
-    assert_all_imported(&rt, &rows)
+    assert_all_imported(&rt, ROWS)
 }
 
 // hledger manual, "Assertions and commodities", "Assertions and subaccounts"; that `==` asks that every other commodity is
@@ -89,15 +90,16 @@ fn every_assertion_holds_behind_every_import(rt: HostRuntime) -> Result<(), Fail
 // (journals, their answers, the balances behind them)
 #[test]
 fn an_assertion_looks_at_its_accounts_and_commodities(rt: HostRuntime) -> Result<(), Fail> {
-    let savings = "2024-01-09 late\n    assets:bank:savings  1.00 EUR\n    income:dues\n";
-    let dollars = "2024-01-09 late\n    assets:bank  $1.00\n    income:dues\n";
-    let dollars_saved = "2024-01-09 late\n    assets:bank:savings  $1.00\n    income:dues\n";
-    let rows: [(&[&str], &str, &str); 4] = [
+    const SAVINGS: &str = "2024-01-09 late\n    assets:bank:savings  1.00 EUR\n    income:dues\n";
+    const DOLLARS: &str = "2024-01-09 late\n    assets:bank  $1.00\n    income:dues\n";
+    const DOLLARS_SAVED: &str =
+        "2024-01-09 late\n    assets:bank:savings  $1.00\n    income:dues\n";
+    const ROWS: &[(&[&str], &str, &str)] = &[
         (
             &[
                 "2024-01-10 count\n    assets:bank  10.00 EUR = 10.00 EUR\n    income:dues\n",
-                savings,
-                dollars,
+                SAVINGS,
+                DOLLARS,
             ],
             "ok 1 new, 0 repeated\nok 1 new, 0 repeated\nok 1 new, 0 repeated\n",
             "           10.00 EUR  assets:bank\n               $1.00  assets:bank\n            1.00 EUR  assets:bank:savings\n          -11.00 EUR  income:dues\n              $-1.00  income:dues\n",
@@ -105,9 +107,9 @@ fn an_assertion_looks_at_its_accounts_and_commodities(rt: HostRuntime) -> Result
         (
             &[
                 "2024-01-10 count\n    assets:bank  10.00 EUR == 10.00 EUR\n    income:dues\n",
-                dollars,
-                savings,
-                dollars_saved,
+                DOLLARS,
+                SAVINGS,
+                DOLLARS_SAVED,
                 LATE,
             ],
             "ok 1 new, 0 repeated\nrefused 29 ClaimFailed at 2024-01-10 entry 1 leg 1: asserted $0.00, found $1.00\nok 1 new, 0 repeated\nok 1 new, 0 repeated\nrefused 29 ClaimFailed at 2024-01-10 entry 1 leg 1: asserted 10.00 EUR, found 11.00 EUR\n",
@@ -116,9 +118,9 @@ fn an_assertion_looks_at_its_accounts_and_commodities(rt: HostRuntime) -> Result
         (
             &[
                 "2024-01-10 count\n    assets:bank  10.00 EUR =* 10.00 EUR\n    income:dues\n",
-                savings,
+                SAVINGS,
                 "2024-01-09 late\n    assets:bank2  1.00 EUR\n    income:dues\n",
-                dollars_saved,
+                DOLLARS_SAVED,
             ],
             "ok 1 new, 0 repeated\nrefused 29 ClaimFailed at 2024-01-10 entry 1 leg 1: asserted 10.00 EUR, found 11.00 EUR\nok 1 new, 0 repeated\nok 1 new, 0 repeated\n",
             "           10.00 EUR  assets:bank\n            1.00 EUR  assets:bank2\n               $1.00  assets:bank:savings\n          -11.00 EUR  income:dues\n              $-1.00  income:dues\n",
@@ -126,13 +128,13 @@ fn an_assertion_looks_at_its_accounts_and_commodities(rt: HostRuntime) -> Result
         (
             &[
                 "2024-01-10 count\n    assets:bank  10.00 EUR ==* 10.00 EUR\n    income:dues\n",
-                savings,
-                dollars_saved,
+                SAVINGS,
+                DOLLARS_SAVED,
                 "2024-01-09 late\n    assets:bank2  $1.00\n    income:dues\n",
             ],
             "ok 1 new, 0 repeated\nrefused 29 ClaimFailed at 2024-01-10 entry 1 leg 1: asserted 10.00 EUR, found 11.00 EUR\nrefused 29 ClaimFailed at 2024-01-10 entry 1 leg 1: asserted $0.00, found $1.00\nok 1 new, 0 repeated\n",
             "           10.00 EUR  assets:bank\n               $1.00  assets:bank2\n          -10.00 EUR  income:dues\n              $-1.00  income:dues\n",
         ),
     ];
-    assert_all_imported(&rt, &rows)
+    assert_all_imported(&rt, ROWS)
 }

@@ -8,7 +8,7 @@ use std::test::Fail;
 // (journals, their answers, the balances behind them)
 #[test]
 fn a_journal_is_taken_or_refused_as_a_whole(rt: HostRuntime) -> Result<(), Fail> {
-    let rows: [(&[&str], &str, &str); 11] = [
+    const ROWS: &[(&[&str], &str, &str)] = &[
         (&[""], "ok 0 new, 0 repeated\n", ""),
         (&["2024-01-05 note"], "ok 1 new, 0 repeated\n", ""),
         (
@@ -79,14 +79,14 @@ fn a_journal_is_taken_or_refused_as_a_whole(rt: HostRuntime) -> Result<(), Fail>
             "            2.00 EUR  a:x\n           -2.00 EUR  a:y\n",
         ),
     ];
-    assert_all_imported(&rt, &rows)
+    assert_all_imported(&rt, ROWS)
 }
 
 // hledger manual, "Costs", "Equity conversion postings"; that every cost gets them, and their names, are own rules.
 // (journals, their answers, the balances behind them)
 #[test]
 fn an_exchange_gets_its_conversion_postings(rt: HostRuntime) -> Result<(), Fail> {
-    let rows: [(&[&str], &str, &str); 8] = [
+    const ROWS: &[(&[&str], &str, &str)] = &[
         (
             &["2024-02-01 x\n    assets:bank  1.00 EUR @ $1.3456\n    assets:cash\n"],
             "refused 13 CostNotExact line 1\n",
@@ -137,7 +137,7 @@ fn an_exchange_gets_its_conversion_postings(rt: HostRuntime) -> Result<(), Fail>
             "          100.00 EUR  assets:bank\n          100.00 EUR  assets:cash\n            $-270.00  assets:cash\n         -100.00 EUR  equity:conversion\n             $135.00  equity:conversion\n             $135.00  equity:conversion:$-EUR:$\n         -100.00 EUR  equity:conversion:$-EUR:EUR\n",
         ),
     ];
-    assert_all_imported(&rt, &rows)
+    assert_all_imported(&rt, ROWS)
 }
 
 /// Under a commodity with a symbol that is not ASCII.
@@ -163,7 +163,7 @@ ok
 // (journals, their answers, the balances behind them)
 #[test]
 fn a_leg_and_a_turnover_have_limits(rt: HostRuntime) -> Result<(), Fail> {
-    let rows: [(&[&str], &str, &str); 6] = [
+    const ROWS: &[(&[&str], &str, &str)] = &[
         // A turnover at the limit, with one more; then a leg over it, which is inferred.
         (
             &[
@@ -216,7 +216,7 @@ fn a_leg_and_a_turnover_have_limits(rt: HostRuntime) -> Result<(), Fail> {
             "25,000,000,000,000.02 EUR  a:x\n              $-2.00  a:y\n               $2.00  equity:conversion:$-EUR:$\n-25,000,000,000,000.02 EUR  equity:conversion:$-EUR:EUR\n",
         ),
     ];
-    assert_all_imported(&rt, &rows)
+    assert_all_imported(&rt, ROWS)
 }
 
 /// A journal of that many lines between two texts.

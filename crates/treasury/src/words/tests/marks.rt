@@ -8,7 +8,7 @@ const HALL: &str = "2024-01-05 hall\n    expenses:hall  120.00 EUR\n    assets:b
 // (journals, their answers, the balances behind them)
 #[test]
 fn a_transaction_is_taken_once(rt: HostRuntime) -> Result<(), Fail> {
-    let rows: [(&[&str], &str, &str); 9] = [
+    const ROWS: &[(&[&str], &str, &str)] = &[
         // A mark names its transaction; with another amount it is another transaction.
         (
             &[
@@ -103,7 +103,7 @@ fn a_transaction_is_taken_once(rt: HostRuntime) -> Result<(), Fail> {
             "            3.00 EUR  a:x\n           -3.00 EUR  a:y\n",
         ),
     ];
-    assert_all_imported(&rt, &rows)
+    assert_all_imported(&rt, ROWS)
 }
 
 /// Behind the first day: an entry of north through the lock day, and one behind it.
@@ -133,7 +133,7 @@ fn a_locked_day_takes_no_entries(rt: HostRuntime) -> Result<(), Fail> {
         str::from_utf8(text.as_slice())?,
         str::from_utf8(wanted.as_slice())?,
     )?;
-    let rows = [
+    const ROWS: &[(&str, &str)] = &[
         (
             r#"{"do":"lock","branch":"west","day":"2024-01-31"}"#,
             "refused 20 UnknownBranch\n",
@@ -172,5 +172,5 @@ fn a_locked_day_takes_no_entries(rt: HostRuntime) -> Result<(), Fail> {
             "ok 1 new, 0 repeated\nok\nrefused 24 MarkClash\nrefused 25 ReservedMark\nrefused 26 ReservedAccount\nrefused 27 Locked\nok 1 new, 1 repeated\n",
         ),
     ];
-    assert_all_answered(&rt, &rows)
+    assert_all_answered(&rt, ROWS)
 }

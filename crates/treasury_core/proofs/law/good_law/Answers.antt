@@ -9,7 +9,9 @@ returns-clause-empty c = record {
   few = omega arith;
   names = tt;
   branches = tt;
-  transfers = refl;
+  ids = tt;
+  transfers = tt;
+  carried = tt;
 }
 
 pub returns-clause-step : goal.returns-clause-step

@@ -1,28 +1,36 @@
-use Rattle.std.proofs.Common.{arith}
-use Rattle.std.proofs.lemmas.Grind.{common_steps}
-use Rattle.treasury.proofs.LineLemmas.{seen_split, seen_more}
-use Rattle.treasury.proofs.RunLemmas.{whole_byte, whole_line_served, gave_up_here, stops_at_line}
-use Rattle.treasury.proofs.lines.run.feed.Goals.{then-byte-eq10+in-Ok, else-byte-eq10+else-is_err}
+use Rattle.std.proofs.Common.{◌≡◌, ◌++◌, ◌∷◌, [], List, ℕ, Some, None, take, drop, ◌+◌, ap, ◌∙◌, sym, subst, append_assoc}
+use Rattle.treasury.specs.RunEnd.{AnswersWhole}
+use Rattle.treasury.proofs.LineLemmas.{IsFeedPlace, first_feed, cut_at_feed, behind_feed}
+use Rattle.treasury.proofs.RunLemmas.{whole_part, fed_further, fed_stops, gave_up_here}
 use Rattle.treasury.proofs.lines.run.feed.Goals as goal
 
-pub returns-in-Err : goal.returns-in-Err
-returns-in-Err g c =
-    stops_at_line c.in-Err.cause g.M.Machine.step g.M.Machine.loses ⊥ _ _ _ _ _ _ _ _ _ _ _ c.feeding.invariant
-    (rw (c.without_carriage_return.ensures, c.as_slice.ensures.value) at c.in-Err.ensures) c.if-byte-eq10.true
-    (seen_split c.args.line.now.items c.args.bytes.now c.feeding.byte-index c.feeding-test.true)
-
-pub returns-then-is_err : goal.returns-then-is_err
-returns-then-is_err g c =
-    gave_up_here g.M.Machine.step g.M.Machine.loses ⊥ _ _ _ _ _ _ _ _ c.feeding.invariant
-    (seen_split c.args.line.now.items c.args.bytes.now c.feeding.byte-index c.feeding-test.true)
+pub end_line-requires-clause-more : goal.end_line-requires-clause-more
+end_line-requires-clause-more g c =
+    let at : IsFeedPlace (Some c.in-Some.place) c.feeding.rest.now = first_feed c.feeding.rest.now (Some c.in-Some.place) (sym c.in-Some.ensures) in
+    rw c.split_at.ensures.front at.1
 
 pub feeding-preserved : goal.feeding-preserved
 feeding-preserved g c =
-    let more = seen_more c.args.line.now.items c.args.bytes.now c.feeding.byte-index c.feeding-test.true in
-    elim c.if-byte-eq10.branch [
-      | then-byte-eq10+in-Ok w ↦ rw (w.writer-is, w.machine-is, w.line-is)
-          (whole_line_served g.M.Machine.step _ _ _ _ _ _ _ _ _ _ _ c.feeding.invariant
-          (rw (w.without_carriage_return.ensures, w.as_slice.ensures.value) at w.in-Ok.ensures) w.if-byte-eq10.true more w.clear.ensures.items)
-      | else-byte-eq10+else-is_err w ↦ rw (w.writer-is, w.machine-is, w.line-is)
-          (whole_byte g.M.Machine.step _ _ _ _ _ _ _ _ _ c.feeding.invariant w.if-byte-eq10.false more (grind (arith, common_steps)))
-    ]
+    let so_far = c.feeding.invariant in
+    let rest = c.feeding.rest.now in
+    let at : IsFeedPlace (Some c.in-Some.place) rest = first_feed rest (Some c.in-Some.place) (sym c.in-Some.ensures) in
+    let behind : c.split_at-in-feeding.result.1.now ≡ drop (c.in-Some.place + 1) rest = c.split_at-in-feeding.ensures.back ∙ ap (drop 1) c.split_at.ensures.back ∙ behind_feed rest c.in-Some.place in
+    rw behind
+    (fed_further g.M.Machine.step _ _ _ _ _ _ so_far.0 c.feeding.line.items (take c.in-Some.place rest) (drop (c.in-Some.place + 1) rest) rest _ _ so_far.1.0
+    (rw c.split_at.ensures.front at c.in-Ok.ensures) (cut_at_feed rest c.in-Some.place at.0 at.2) so_far.1.1)
+
+pub returns-in-Err : goal.returns-in-Err
+returns-in-Err g c =
+    let so_far = c.feeding.invariant in
+    let rest = c.feeding.rest.now in
+    let at : IsFeedPlace (Some c.in-Some.place) rest = first_feed rest (Some c.in-Some.place) (sym c.in-Some.ensures) in
+    fed_stops c.in-Err.cause g.M.Machine.step g.M.Machine.loses _ _ _ _ _ _ so_far.0 c.feeding.line.items (take c.in-Some.place rest) (drop (c.in-Some.place + 1) rest) rest _ so_far.1.0
+    (rw c.split_at.ensures.front at c.in-Err.ensures) (cut_at_feed rest c.in-Some.place at.0 at.2) so_far.1.1
+
+pub returns-in-Ok-extend_from_slice : goal.returns-in-Ok-extend_from_slice
+returns-in-Ok-extend_from_slice g c =
+    let so_far = c.feeding.invariant in
+    let plain : IsFeedPlace None c.feeding.rest.now = first_feed c.feeding.rest.now None (sym c.in-None.ensures) in
+    let whole = whole_part g.M.Machine.step _ _ _ _ so_far.0 c.feeding.line.items c.feeding.rest.now c.extend_from_slice.new.self.items so_far.1.0 plain c.in-Ok-extend_from_slice.ensures.items in
+    let P : List ℕ → Type 0 = λ seen. AnswersWhole g.M.Machine.step (g.W.Write.contents c.args.writer.now) (g.W.Write.contents c.feeding.writer) c.args.machine.now seen c.extend_from_slice.new.self.items c.feeding.machine in
+    subst P (sym so_far.1.1) whole

@@ -1,9 +1,13 @@
-use Rattle.std.proofs.Common.{◌++◌, take}
+use Rattle.std.proofs.Common.{◌≡◌, ◌++◌, ℕ, List, length}
 use Rattle.treasury.specs.RunEnd.{AnswersWhole}
 use Rattle.treasury.proofs.lines.run.feed.Given as goal
 
--- the lines that the bytes so far end are answered
+-- the lines that the bytes so far end are answered, and the rest is behind them
 abbrev pub invariant-feeding : goal.invariant-feeding
 invariant-feeding g l =
-    AnswersWhole g.M.Machine.step (g.W.Write.contents l.initial.writer) (g.W.Write.contents l.writer) l.initial.machine
-    (l.initial.line.items ++ take l.byte-index l.bytes) l.line.items l.machine
+    (seen : List ℕ)
+    × (AnswersWhole g.M.Machine.step (g.W.Write.contents l.initial.writer) (g.W.Write.contents l.writer) l.initial.machine seen l.line.items l.machine
+    × (l.initial.line.items ++ l.initial.bytes ≡ seen ++ l.rest))
+
+abbrev pub decreases-feeding : goal.decreases-feeding
+decreases-feeding g l = length l.rest

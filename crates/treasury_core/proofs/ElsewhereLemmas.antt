@@ -1,0 +1,202 @@
+-- the records of transfers of one branch are in no other, which refuses them from a file
+use Rattle.std.proofs.Common.{◌≡◌, ◌⊎◌, ℕ, Bool, true, false, ◌||◌, ◌&&◌, cond, List, [], ◌∷◌, ◌++◌, refl, ap, ◌∙◌, sym, subst, inl, inr, append_assoc, Option, Some, None, Ok, Err}
+use Rattle.std.specs.Prelude.{if◌then◌else◌, Result, filter, not}
+use Rattle.std.specs.List.{list_any, AllByRecursion}
+use Rattle.std.specs.Option.{option_or}
+use Rattle.std.specs.Str.{bytes_eq}
+use Rattle.money_core.specs.declared.style.Style.{Style}
+use Rattle.money_core.specs.declared.day.Day.{Day}
+use Rattle.money_core.specs.declared.cause.Cause.TheVariants.{ReservedMark, UnknownBranch}
+use Rattle.book_core.specs.declared.refusal.Refusal.{Refusal}
+use Rattle.book_core.specs.declared.refusal.Refusal.TheVariants.{Plain}
+use Rattle.journal_format.specs.declared.txn.Txn.{Txn}
+use Rattle.journal_format.specs.declared.txn.Located.{Located}
+use Rattle.treasury_core.specs.declared.record.Record.{Record}
+use Rattle.treasury_core.specs.declared.transfer.Receipt.{Receipt}
+use Rattle.treasury_core.specs.declared.transfer.Transfer.{Transfer}
+use Rattle.treasury_core.specs.declared.command.Answer.{Answer}
+use Rattle.treasury_core.specs.declared.command.Command.TheVariants as cmd
+use Rattle.treasury_core.specs.Federation.{Branch, Federation, has_branch, records_in, records_of, lock_of}
+use Rattle.treasury_core.specs.Mark.{is_held, held, is_repeat, is_product_mark, is_of_transfer, is_transfer_mark}
+use Rattle.treasury_core.specs.Transfer.{asked, out_records, in_records, out_mark, in_mark, dispatch_record, receipt_record}
+use Rattle.treasury_core.specs.Step.{unless, entered, number_in, unbalanced, recorded_in, records_from, records_in_file, barred, refusal_of, refused_in, new_records, enter_refusal, reply}
+use Rattle.treasury_core.specs.Good.{IsGoodRecord, IsOfFile, IsGoodBranch, IsCarried, IsGoodState}
+use Rattle.treasury_core.specs.History.{IsAmong, IsOwn, IsOwnJournal, IsNew}
+use Rattle.treasury_core.proofs.BytesLemmas.{same_bytes, self_bytes, or_false}
+use Rattle.treasury_core.proofs.HeldLemmas.{repeat_held}
+use Rattle.treasury_core.proofs.AskedLemmas.{HaveOwnIds, no_out, no_in}
+use Rattle.treasury_core.proofs.WayLemmas.{never_both}
+use Rattle.treasury_core.proofs.GetsLemmas.{held-filter}
+use Rattle.treasury_core.proofs.FairLemmas.{found}
+use Rattle.treasury_core.proofs.OrderLemmas.{own_ids}
+use Rattle.treasury_core.proofs.FileLemmas.{neither_refusal, not_refused}
+use Rattle.treasury_core.proofs.DispatchLemmas.{IsWhole, all_whole}
+use Rattle.treasury_core.proofs.OwnLemmas.{of_branch, among_all, among_any, recorded_own, balanced_own}
+
+-- ---- what transfers ask for in two branches has different marks
+
+out_elsewhere_at : (t : Transfer) (rest : List Record) (b : Bool) (o : Option Receipt) → held rest (out_mark t) ≡ None → held (in_records t b o ++ rest) (out_mark t) ≡ None
+out_elsewhere_at t rest true (Some r) h = h
+out_elsewhere_at t rest true None h = h
+out_elsewhere_at t rest false o h = h
+
+out_elsewhere : (t : Transfer) (ts : List Transfer) (name : List ℕ) → HaveOwnIds (t ∷ ts) → bytes_eq t.source name ≡ false → held (asked (t ∷ ts) name) (out_mark t) ≡ None
+out_elsewhere t ts name own e = rw e (out_elsewhere_at t (asked ts name) (bytes_eq t.target name) t.receipt (no_out ts name t.id own.0))
+
+in_elsewhere_at : (t : Transfer) (rest : List Record) (a : Bool) → held rest (in_mark t) ≡ None → held (out_records t a ++ rest) (in_mark t) ≡ None
+in_elsewhere_at t rest true h = h
+in_elsewhere_at t rest false h = h
+
+in_elsewhere : (t : Transfer) (ts : List Transfer) (name : List ℕ) → HaveOwnIds (t ∷ ts) → bytes_eq t.target name ≡ false → held (asked (t ∷ ts) name) (in_mark t) ≡ None
+in_elsewhere t ts name own e = rw e (in_elsewhere_at t (asked ts name) (bytes_eq t.source name) (no_in ts name t.id own.0))
+
+pass_other : (t : Transfer) (rest : List Record) (m : List ℕ) (a b : Bool) (o : Option Receipt) → bytes_eq (out_mark t) m ≡ false → bytes_eq (in_mark t) m ≡ false → held (out_records t a ++ (in_records t b o ++ rest)) m ≡ held rest m
+pass_other t rest m true true (Some r) e f = rw (e, f) refl
+pass_other t rest m true true None e f = rw e refl
+pass_other t rest m true false o e f = rw e refl
+pass_other t rest m false true (Some r) e f = rw f refl
+pass_other t rest m false true None e f = refl
+pass_other t rest m false false o e f = refl
+
+-- one of two branches has none of that mark
+abbrev IsInOne : List Transfer → List ℕ → List ℕ → List ℕ → Type 0
+IsInOne ts from to m = (held (asked ts from) m ≡ None) ⊎ (held (asked ts to) m ≡ None)
+
+one_of_out : (t : Transfer) (ts : List Transfer) (from to m : List ℕ) (a b : Bool) → HaveOwnIds (t ∷ ts) → bytes_eq t.source from ≡ a → bytes_eq t.source to ≡ b → (bytes_eq t.source from && bytes_eq t.source to) ≡ false → out_mark t ≡ m → IsInOne (t ∷ ts) from to m
+one_of_out t ts from to m false b own e f n same = inl (subst (λ (k : List ℕ). held (asked (t ∷ ts) from) k ≡ None) same (out_elsewhere t ts from own e))
+one_of_out t ts from to m true false own e f n same = inr (subst (λ (k : List ℕ). held (asked (t ∷ ts) to) k ≡ None) same (out_elsewhere t ts to own f))
+one_of_out t ts from to m true true own e f n same = absurd (let k : true ≡ false = sym (rw (e, f) refl) ∙ n in cc)
+
+one_of_in : (t : Transfer) (ts : List Transfer) (from to m : List ℕ) (a b : Bool) → HaveOwnIds (t ∷ ts) → bytes_eq t.target from ≡ a → bytes_eq t.target to ≡ b → (bytes_eq t.target from && bytes_eq t.target to) ≡ false → in_mark t ≡ m → IsInOne (t ∷ ts) from to m
+one_of_in t ts from to m false b own e f n same = inl (subst (λ (k : List ℕ). held (asked (t ∷ ts) from) k ≡ None) same (in_elsewhere t ts from own e))
+one_of_in t ts from to m true false own e f n same = inr (subst (λ (k : List ℕ). held (asked (t ∷ ts) to) k ≡ None) same (in_elsewhere t ts to own f))
+one_of_in t ts from to m true true own e f n same = absurd (let k : true ≡ false = sym (rw (e, f) refl) ∙ n in cc)
+
+later : (t : Transfer) (ts : List Transfer) (from to m : List ℕ) → bytes_eq (out_mark t) m ≡ false → bytes_eq (in_mark t) m ≡ false → IsInOne ts from to m → IsInOne (t ∷ ts) from to m
+later t ts from to m e f (inl h) = inl (pass_other t (asked ts from) m (bytes_eq t.source from) (bytes_eq t.target from) t.receipt e f ∙ h)
+later t ts from to m e f (inr h) = inr (pass_other t (asked ts to) m (bytes_eq t.source to) (bytes_eq t.target to) t.receipt e f ∙ h)
+
+in_one_at : (t : Transfer) (ts : List Transfer) (from to m : List ℕ) (x y : Bool) → bytes_eq (out_mark t) m ≡ x → bytes_eq (in_mark t) m ≡ y → HaveOwnIds (t ∷ ts) → bytes_eq from to ≡ false → IsInOne ts from to m → IsInOne (t ∷ ts) from to m
+in_one_at t ts from to m true y e f own apart h =
+    one_of_out t ts from to m (bytes_eq t.source from) (bytes_eq t.source to) own refl refl (never_both t.source from to apart) (same_bytes (out_mark t) m e)
+in_one_at t ts from to m false true e f own apart h =
+    one_of_in t ts from to m (bytes_eq t.target from) (bytes_eq t.target to) own refl refl (never_both t.target from to apart) (same_bytes (in_mark t) m f)
+in_one_at t ts from to m false false e f own apart h = later t ts from to m e f h
+
+in_one : (ts : List Transfer) (from to m : List ℕ) → HaveOwnIds ts → bytes_eq from to ≡ false → IsInOne ts from to m
+in_one [] from to m own apart = inl refl
+in_one (t ∷ ts) from to m own apart = in_one_at t ts from to m (bytes_eq (out_mark t) m) (bytes_eq (in_mark t) m) refl refl own apart (in_one ts from to m own.1 apart)
+
+-- ---- a record of a transfer is in one branch
+
+-- a mark that is held is found
+none_held_at : (r : Record) (o : Option Record) (t u : Bool) → cond t (Some r) o ≡ None → (o ≡ None → u ≡ false) → (t || u) ≡ false
+none_held_at r o true u e h = absurd cc
+none_held_at r o false u e h = h e
+
+none_is_held : (rs : List Record) (m : List ℕ) → held rs m ≡ None → is_held rs m ≡ false
+none_is_held [] m e = refl
+none_is_held (r ∷ rs) m e = none_held_at r (held rs m) (bytes_eq r.mark m) (is_held rs m) e (none_is_held rs m)
+
+-- a record of a good branch with a mark of the product is a transfer's
+of_transfer : (styles : List Style) (b : Branch) (r : Record) → IsGoodBranch styles b → IsAmong r b.records → is_product_mark r.mark ≡ true → is_of_transfer r ≡ true
+of_transfer styles b r good among product = by_test (is_of_transfer r) refl
+  where
+    by_test : (t : Bool) → is_of_transfer r ≡ t → t ≡ true
+    by_test true e = refl
+    by_test false e = absurd (let k : true ≡ false = sym product ∙ (among_all (λ (x : Record). is_of_transfer x ≡ false → IsOfFile x) b.records r among good.of_files e).own in cc)
+
+-- what a branch asks for of that mark, it holds
+asked_held : (styles : List Style) (ts : List Transfer) (b : Branch) (name m : List ℕ) → IsWhole styles ts b → b.name ≡ name → is_transfer_mark m ≡ true → held (asked ts name) m ≡ None → is_held b.records m ≡ false
+asked_held styles ts b name m whole named transfer none =
+    none_is_held b.records m (sym (held-filter b.records m transfer) ∙ (whole.carried m ∙ (ap (λ (n : List ℕ). held (asked ts n) m) named ∙ none)))
+
+pub not_elsewhere : (f : Federation) (from to : List ℕ) (r : Record) → IsGoodState f → has_branch f from ≡ true → has_branch f to ≡ true → bytes_eq from to ≡ false → IsAmong r (records_of f from) → is_product_mark r.mark ≡ true
+    → is_held (records_of f to) r.mark ≡ false
+not_elsewhere f from to r good here there apart among product =
+    let whole = all_whole f.styles f.transfers f.branches good.branches good.carried in
+    let a = found (IsWhole f.styles f.transfers) f.branches from whole here in
+    let b = found (IsWhole f.styles f.transfers) f.branches to whole there in
+    let own : IsAmong r a.branch.records = subst (IsAmong r) a.same among in
+    let transfer = of_transfer f.styles a.branch r a.holds.good own product in
+    let holds : is_held a.branch.records r.mark ≡ true = among_any (λ (x : Record). bytes_eq x.mark r.mark) a.branch.records r (self_bytes r.mark) own in
+    by_case (in_one f.transfers from to r.mark (own_ids f.transfers good.ids) apart) a.branch b.branch a.holds b.holds a.named b.named b.same transfer holds
+  where
+    by_case : IsInOne f.transfers from to r.mark → (a b : Branch) → IsWhole f.styles f.transfers a → IsWhole f.styles f.transfers b → a.name ≡ from → b.name ≡ to → records_in f.branches to ≡ b.records → is_of_transfer r ≡ true
+        → is_held a.records r.mark ≡ true → is_held (records_in f.branches to) r.mark ≡ false
+    by_case (inl none) a b wa wb na nb same transfer holds = absurd (let k : true ≡ false = sym holds ∙ asked_held f.styles f.transfers a from r.mark wa na transfer none in cc)
+    by_case (inr none) a b wa wb na nb same transfer holds = ap (λ (rs : List Record). is_held rs r.mark) same ∙ asked_held f.styles f.transfers b to r.mark wb nb transfer none
+
+-- ---- a file with such a record
+
+no_repeat : (styles : List Style) (rs : List Record) (r : Record) → is_held rs r.mark ≡ false → is_repeat styles rs r ≡ false
+no_repeat styles rs r e = by_test (is_repeat styles rs r) refl
+  where
+    by_test : (t : Bool) → is_repeat styles rs r ≡ t → t ≡ false
+    by_test true h = absurd (let k : true ≡ false = sym (repeat_held styles rs r h) ∙ e in cc)
+    by_test false h = refl
+
+reserved_first : (styles : List Style) (lock : Option Day) (hs : List Record) (r : Record) (more : List Record) → is_held hs r.mark ≡ false → is_product_mark r.mark ≡ true → refused_in styles lock hs (r ∷ more) ≡ Some (Plain ReservedMark)
+reserved_first styles lock hs r more e product = rw (no_repeat styles hs r e, e, product) refl
+
+held_push_none : (hs : List Record) (y : Record) (m : List ℕ) → is_held hs m ≡ false → bytes_eq y.mark m ≡ false → is_held (hs ++ y ∷ []) m ≡ false
+held_push_none [] y m e f = ap (λ (t : Bool). t || false) f
+held_push_none (h ∷ hs) y m e f = by_test (bytes_eq h.mark m) e (held_push_none hs y m)
+  where
+    by_test : (t : Bool) → (t || is_held hs m) ≡ false → (is_held hs m ≡ false → bytes_eq y.mark m ≡ false → is_held (hs ++ y ∷ []) m ≡ false) → (t || is_held (hs ++ y ∷ []) m) ≡ false
+    by_test true g k = absurd cc
+    by_test false g k = k g f
+
+other_mark : (a b : List ℕ) → is_product_mark a ≡ false → is_product_mark b ≡ true → bytes_eq a b ≡ false
+other_mark a b h k = by_test (bytes_eq a b) refl
+  where
+    by_test : (t : Bool) → bytes_eq a b ≡ t → t ≡ false
+    by_test true e = absurd (let g : true ≡ false = sym k ∙ (ap is_product_mark (sym (same_bytes a b e)) ∙ h) in cc)
+    by_test false e = refl
+
+reserved_at : (styles : List Style) (lock : Option Day) (hs : List Record) (y : Record) (t : Bool) (o p x : Option Refusal) → (if t then o else option_or (refusal_of lock hs y) p) ≡ None
+    → (o ≡ None → x ≡ Some (Plain ReservedMark)) → (z : Option Refusal) → (IsNew lock hs y → p ≡ None → z ≡ Some (Plain ReservedMark))
+    → (if t then x else option_or (refusal_of lock hs y) z) ≡ Some (Plain ReservedMark)
+reserved_at styles lock hs y true o p x h i z j = i h
+reserved_at styles lock hs y false o p x h i z j =
+    let parts = neither_refusal (refusal_of lock hs y) p h in
+    ap (λ (q : Option Refusal). option_or q z) parts.0 ∙ j (not_refused lock hs y parts.0) parts.1
+
+pub reserved_in : (styles : List Style) (lock : Option Day) (hs before : List Record) (r : Record) (more : List Record) → refused_in styles lock hs before ≡ None → is_held hs r.mark ≡ false → is_product_mark r.mark ≡ true
+    → refused_in styles lock hs (before ++ r ∷ more) ≡ Some (Plain ReservedMark)
+reserved_in styles lock hs [] r more h e product = reserved_first styles lock hs r more e product
+reserved_in styles lock hs (y ∷ ys) r more h e product =
+    reserved_at styles lock hs y (is_repeat styles hs y) (refused_in styles lock hs ys) (refused_in styles lock (hs ++ y ∷ []) ys) (refused_in styles lock hs (ys ++ r ∷ more)) h
+    (λ i. reserved_in styles lock hs ys r more i e product) (refused_in styles lock (hs ++ y ∷ []) (ys ++ r ∷ more))
+    (λ n i. reserved_in styles lock (hs ++ y ∷ []) ys r more i (held_push_none hs y r.mark e (other_mark y.mark r.mark n.own product)) product)
+
+-- the records of a file, part by part
+records_parts : (styles : List Style) (before : List Txn) (xs ys : List Located) → (after : List Txn) × (records_from styles before (xs ++ ys) ≡ records_from styles before xs ++ records_from styles after ys)
+records_parts styles before [] ys = (before, refl)
+records_parts styles before (x ∷ xs) ys =
+    let rest = records_parts styles (before ++ x.txn ∷ []) xs ys in
+    (rest.0, ap (λ (rs : List Record). recorded_in styles before x.txn ++ rs) rest.1 ∙ sym (append_assoc (recorded_in styles before x.txn) (records_from styles (before ++ x.txn ∷ []) xs) (records_from styles rest.0 ys)))
+
+refused_by : (f : Federation) (name : List ℕ) (file : List Located) (e : Refusal) → has_branch f name ≡ true → unbalanced f.styles file ≡ None → refused_in f.styles (lock_of f name) (records_of f name) (records_in_file f.styles file) ≡ Some e → reply f (cmd.Enter name file) ≡ Err e
+unfolding reply
+refused_by f name file e here balanced refused = rw (here, balanced, refused) refl
+
+own_of : (f : Federation) (from : List ℕ) → IsGoodState f → AllByRecursion (IsGoodRecord f.styles) (records_of f from)
+own_of f from good = of_branch (λ rs. AllByRecursion (IsGoodRecord f.styles) rs) f.styles f.branches from tt (λ b h. h.records) good.branches
+
+last_own : (rs : List Record) (before : List Located) (x : Located) (rest : List Located) → IsOwnJournal rs (before ++ x ∷ rest) → IsOwn rs x
+last_own rs [] x rest h = h.0
+last_own rs (y ∷ ys) x rest h = last_own rs ys x rest h.1
+
+pub reserved_elsewhere : (f : Federation) (from to : List ℕ) (before : List Located) (x : Located) (rest : List Located) → IsGoodState f → has_branch f from ≡ true → has_branch f to ≡ true → bytes_eq from to ≡ false
+    → IsOwnJournal (records_of f from) (before ++ x ∷ rest) → refused_in f.styles (lock_of f to) (records_of f to) (records_in_file f.styles before) ≡ None → (own : IsOwn (records_of f from) x) → is_product_mark own.holder.mark ≡ true
+    → reply f (cmd.Enter to (before ++ x ∷ rest)) ≡ Err (Plain ReservedMark)
+reserved_elsewhere f from to before x rest good here there apart all passes own product =
+    let rs = records_of f from in
+    let parts = records_parts f.styles [] before (x ∷ rest) in
+    let one = recorded_own f.styles rs x (number_in f.styles parts.0 x.txn) (own_of f from good) own in
+    let split : records_in_file f.styles (before ++ x ∷ rest) ≡ records_in_file f.styles before ++ own.holder ∷ records_from f.styles (parts.0 ++ x.txn ∷ []) rest =
+    parts.1 ∙ ap (λ (ys : List Record). records_in_file f.styles before ++ (ys ++ records_from f.styles (parts.0 ++ x.txn ∷ []) rest)) one in
+    refused_by f to (before ++ x ∷ rest) (Plain ReservedMark) there (balanced_own f.styles rs (before ++ x ∷ rest) (own_of f from good) all)
+    (ap (refused_in f.styles (lock_of f to) (records_of f to)) split
+    ∙ reserved_in f.styles (lock_of f to) (records_of f to) (records_in_file f.styles before) own.holder (records_from f.styles (parts.0 ++ x.txn ∷ []) rest) passes (not_elsewhere f from to own.holder good here there apart own.among product) product)

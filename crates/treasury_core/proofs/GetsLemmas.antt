@@ -1,0 +1,65 @@
+-- a branch that gets the record of a transfer
+use Rattle.std.proofs.Common.{◌≡◌, ℕ, Bool, true, false, ◌||◌, cond, List, [], ◌∷◌, ◌++◌, refl, ap, ◌∙◌, sym, subst, Option, Some, None}
+use Rattle.std.specs.Prelude.{if◌then◌else◌, filter, find, codes, int_le}
+use Rattle.std.specs.List.{list_any, AllByRecursion}
+use Rattle.std.specs.Str.{bytes_eq}
+use Rattle.std.proofs.lemmas.List.Elements.{filter-append}
+use Rattle.treasury_core.specs.declared.record.Record.{Record}
+use Rattle.treasury_core.specs.declared.transfer.Receipt.{Receipt}
+use Rattle.treasury_core.specs.declared.transfer.Transfer.{Transfer}
+use Rattle.treasury_core.specs.Mark.{held, is_transfer_mark, is_of_transfer}
+use Rattle.treasury_core.specs.Transfer.{asked, out_records, in_records, in_mark, has_id}
+use Rattle.treasury_core.specs.Federation.{Branch}
+use Rattle.treasury_core.specs.Joined.{with_records}
+use Rattle.treasury_core.proofs.WayLemmas.{IsClear, IsInStep}
+use Rattle.treasury_core.proofs.BytesLemmas.{same_bytes}
+use Rattle.treasury_core.proofs.HeldLemmas.{held_push, own_push}
+use Rattle.treasury_core.proofs.AskedLemmas.{HaveOwnIds, no_in}
+use Rattle.treasury_core.proofs.PassLemmas.{pass_in, in_none, same_transfer}
+
+all_push : (P : Record → Type 0) (rs : List Record) (r : Record) → AllByRecursion P rs → P r → AllByRecursion P (rs ++ r ∷ [])
+all_push P [] r h p = (p, tt)
+all_push P (x ∷ xs) r h p = (h.0, all_push P xs r h.1 p)
+
+-- a transfer's mark is looked up among the transfers' records
+filtered_at : (r : Record) (rs : List Record) (m : List ℕ) (b t : Bool) → is_transfer_mark r.mark ≡ b → bytes_eq r.mark m ≡ t → is_transfer_mark m ≡ true → held (filter is_of_transfer rs) m ≡ held rs m → held (cond b (r ∷ filter is_of_transfer rs) (filter is_of_transfer rs)) m ≡ held (r ∷ rs) m
+filtered_at r rs m true t e f g h = ap (λ (o : Option Record). cond (bytes_eq r.mark m) (Some r) o) h
+filtered_at r rs m false true e f g h = let k = ap is_transfer_mark (same_bytes r.mark m f) in absurd cc
+filtered_at r rs m false false e f g h = h ∙ sym (ap (λ (b : Bool). cond b (Some r) (held rs m)) f)
+
+pub held-filter : (rs : List Record) (m : List ℕ) → is_transfer_mark m ≡ true → held (filter is_of_transfer rs) m ≡ held rs m
+held-filter [] m g = refl
+held-filter (r ∷ rs) m g = filtered_at r rs m (is_transfer_mark r.mark) (bytes_eq r.mark m) refl refl g (held-filter rs m g)
+
+-- a branch that gets a transfer's record
+pub gets : (ts ts' : List Transfer) (d : Branch) (r : Record) → IsInStep ts d → is_of_transfer r ≡ true → held (asked ts d.name) r.mark ≡ None → ((m : List ℕ) → held (asked ts' d.name) m ≡ cond (bytes_eq r.mark m) (Some r) (held (asked ts d.name) m)) → IsInStep ts' (with_records (r ∷ []) d)
+gets ts ts' d r h own new after =
+    let absent : held (filter is_of_transfer d.records) r.mark ≡ None = h.asked_for r.mark ∙ new in
+    record {
+      own_marks = own_push d.records r h.own_marks (sym (held-filter d.records r.mark own) ∙ absent);
+      asked_for = λ m. ap (λ (xs : List Record). held xs m) (filter-append is_of_transfer d.records (r ∷ []) ∙ ap (λ (b : Bool). filter is_of_transfer d.records ++ cond b (r ∷ []) []) own)
+          ∙ held_push (filter is_of_transfer d.records) r m absent ∙ ap (λ (o : Option Record). cond (bytes_eq r.mark m) (Some r) o) (h.asked_for m) ∙ sym (after m);
+      clear = all_push IsClear d.records r h.clear (λ e. absurd (let k : true ≡ false = sym own ∙ e in cc));
+      named = h.named;
+    }
+
+-- one that gets none
+pub keeps : (ts ts' : List Transfer) (d : Branch) → asked ts' d.name ≡ asked ts d.name → IsInStep ts d → IsInStep ts' d
+keeps ts ts' d e h = record { own_marks = h.own_marks; asked_for = λ m. h.asked_for m ∙ ap (λ (xs : List Record). held xs m) (sym e); clear = h.clear; named = h.named }
+
+-- nothing is received of a transfer without receipt
+skip_out : (t : Transfer) (rest : List Record) (id : List ℕ) (a : Bool) → held (out_records t a ++ rest) (codes "in:" ++ id) ≡ held rest (codes "in:" ++ id)
+skip_out t rest id true = refl
+skip_out t rest id false = refl
+
+no_receipt_at : (t x : Transfer) (xs : List Transfer) (name : List ℕ) (c : Bool) → bytes_eq x.id t.id ≡ c → cond c (Some x) (find (has_id t.id) xs) ≡ Some t → t.receipt ≡ None → list_any (has_id x.id) xs ≡ false → (find (has_id t.id) xs ≡ Some t → held (asked xs name) (in_mark t) ≡ None) → held (asked (x ∷ xs) name) (in_mark t) ≡ None
+no_receipt_at t x xs name true g e n own h =
+    let P : Transfer → Type 0 = λ y. held (asked (y ∷ xs) name) (in_mark t) ≡ None in
+    subst P (sym (same_transfer x t e)) (rw n (skip_out t (in_records t (bytes_eq t.target name) None ++ asked xs name) t.id (bytes_eq t.source name)
+    ∙ ap (λ (ys : List Record). held (ys ++ asked xs name) (in_mark t)) (in_none t (bytes_eq t.target name))
+    ∙ no_in xs name t.id (ap (λ (k : List ℕ). list_any (has_id k) xs) (sym (same_bytes x.id t.id g)) ∙ own)))
+no_receipt_at t x xs name false g e n own h = pass_in x (asked xs name) t.id (bytes_eq x.source name) (bytes_eq x.target name) x.receipt g ∙ h e
+
+pub no_receipt : (t : Transfer) (ts : List Transfer) (name : List ℕ) → find (has_id t.id) ts ≡ Some t → t.receipt ≡ None → HaveOwnIds ts → held (asked ts name) (in_mark t) ≡ None
+no_receipt t [] name e n h = refl
+no_receipt t (x ∷ xs) name e n h = no_receipt_at t x xs name (bytes_eq x.id t.id) refl e n h.0 (λ g. no_receipt t xs name g n h.1)

@@ -1,0 +1,357 @@
+-- the transactions of transfers can be printed, and do what their two postings say
+use Rattle.std.proofs.Common.{◌≡◌, ◌≤◌, ◌<◌, ◌+◌, ◌-◌, ◌&&◌, ◌||◌, ◌==◌, nat_eq, ℕ, zero, suc, Bool, true, false, List, [], ◌∷◌, ◌++◌, length, ℤ, pos, ◌+ℤ◌, ◌-ℤ◌, refl, ap, ◌∙◌, sym, subst, arith, Option, Some, None, Ok, length-append, append_assoc}
+use Rattle.std.specs.Prelude.{codes, not, nat_lt, nat_le, slice_index, unsigned_abs, int_le, if◌then◌else◌}
+use Rattle.std.specs.List.{list_all, slice_split, All, AllByRecursion}
+use Rattle.std.specs.Char.{is_ascii_lowercase, is_ascii_digit}
+use Rattle.std.specs.Str.{is_utf8}
+use Rattle.std.proofs.lemmas.Bool.{and_from, and_parts, ltb-true, leb-true}
+use Rattle.std.proofs.lemmas.Bool.Decides.{nat_tests}
+use Rattle.std.proofs.lemmas.Grind.{common_steps}
+use Rattle.std.proofs.lemmas.Int.{ints}
+use Rattle.std.proofs.lemmas.List.{get_or-append-add}
+use Rattle.std.proofs.lemmas.List.Folds.{list_all-append}
+use Rattle.std.proofs.lemmas.List.Splits.{slice_split_at, slice_split_none}
+use Rattle.money_core.specs.declared.style.Style.{Style}
+use Rattle.money_core.specs.declared.day.Day.{Day}
+use Rattle.money_core.specs.declared.unit.Unit.{Unit as Commodity}
+use Rattle.money_core.specs.Style.{AreStyles}
+use Rattle.money_core.specs.Amount.{limit}
+use Rattle.book_core.specs.declared.leg.Leg.{Leg}
+use Rattle.book_core.specs.Balance.{value}
+use Rattle.book_core.specs.GoodBook.{IsFit}
+use Rattle.journal_lines.specs.Blank.{is_blank, is_trimmed}
+use Rattle.journal_lines.specs.Date.{IsDayNumber}
+use Rattle.journal_lines.specs.Comment.{has_no}
+use Rattle.journal_lines.specs.Printed.{is_clean, is_description, HeaderOk, header_line}
+use Rattle.journal_lines.specs.AccountName.{is_account, is_part, parts, has_gap, is_gap, bars_start}
+use Rattle.journal_lines.specs.AccountName.{is_name_byte as is_account_byte}
+use Rattle.journal_format.specs.declared.posting.Posting.{Posting}
+use Rattle.journal_format.specs.declared.txn.Txn.{Txn}
+use Rattle.journal_format.specs.CanonicalText.{body_text, amount_text}
+use Rattle.journal_format.specs.Mark.{is_mark, is_mark_byte}
+use Rattle.journal_format.specs.Printable.{IsPrintable, is_amount, is_posting, is_value}
+use Rattle.journal_format.proofs.Utf8Lemmas.{utf8_low, utf8_joined, is_low}
+use Rattle.journal_format.proofs.PostingLemmas.{part_length}
+use Rattle.journal_format.proofs.SizeLemmas.{body_size, head_is, header_small, postings-append, posting_size, line_is, posting_small, no_remarks}
+use Rattle.journal_format.specs.BodySize.{postings_size, remarks_size, head_size}
+use Rattle.journal_balance.specs.Legs.{leg}
+use Rattle.journal_balance.proofs.WrittenLemmas.{legs_of-written}
+use Rattle.treasury_core.specs.declared.transfer.Receipt.{Receipt}
+use Rattle.treasury_core.specs.declared.transfer.Transfer.{Transfer}
+use Rattle.treasury_core.specs.Federation.{is_name_byte, is_branch_name}
+use Rattle.treasury_core.specs.Transfer.{is_id, is_id_byte, posting, product_record, transit_account, out_mark, in_mark, dispatch_record, receipt_record}
+use Rattle.treasury_core.specs.Good.{IsGoodRecord}
+
+-- ---- bytes
+
+-- a byte that may stand in marks, descriptions and accounts, and is no colon
+pub record IsPlain (b : ℕ) : Type 0 where
+  pub mark : is_mark_byte b ≡ true
+  pub clean : is_clean b ≡ true
+  pub no_semicolon : not (b == 59) ≡ true
+  pub low : is_low b ≡ true
+  pub account : is_account_byte b ≡ true
+  pub no_colon : (b == 58) ≡ false
+  pub solid : is_blank b ≡ false
+  pub no_space : (b == 32) ≡ false
+
+record IsBetween (b : ℕ) : Type 0 where
+  low : 45 ≤ b
+  high : b ≤ 122
+  no_colon : (b == 58) ≡ false
+  no_semicolon : (b == 59) ≡ false
+
+plain_from : (b : ℕ) → IsBetween b → is_mark_byte b ≡ true → IsPlain b
+plain_from b h mark = record {
+  mark = mark;
+  clean = let l = h.low in let u = h.high in grind (arith, common_steps);
+  no_semicolon = ap not h.no_semicolon;
+  low = let u = h.high in grind (arith, common_steps);
+  account = let l = h.low in let u = h.high in let s = h.no_semicolon in grind (arith, common_steps);
+  no_colon = h.no_colon;
+  solid = let l = h.low in grind (arith, common_steps);
+  no_space = let l = h.low in grind (arith, common_steps);
+}
+
+id_between : (b : ℕ) → is_id_byte b ≡ true → IsBetween b
+id_between b h = record { low = grind (arith, common_steps); high = grind (arith, common_steps); no_colon = grind (arith, common_steps); no_semicolon = grind (arith, common_steps) }
+
+name_between : (b : ℕ) → is_name_byte b ≡ true → IsBetween b
+name_between b h = record { low = grind (arith, common_steps); high = grind (arith, common_steps); no_colon = grind (arith, common_steps); no_semicolon = grind (arith, common_steps) }
+
+or_left : (t u : Bool) → t ≡ true → (t || u) ≡ true
+or_left true u h = refl
+or_left false u h = absurd cc
+
+name_is_id : (b : ℕ) → is_name_byte b ≡ true → is_id_byte b ≡ true
+name_is_id b h = grind (arith, common_steps)
+
+plain_id : (b : ℕ) → is_id_byte b ≡ true → IsPlain b
+plain_id b h = plain_from b (id_between b h) (or_left (is_id_byte b) (b == 58) h)
+
+plain_name : (b : ℕ) → is_name_byte b ≡ true → IsPlain b
+plain_name b h = plain_from b (name_between b h) (or_left (is_id_byte b) (b == 58) (name_is_id b h))
+
+pub all_plain : (p : ℕ → Bool) → ((b : ℕ) → p b ≡ true → IsPlain b) → (xs : List ℕ) → list_all p xs ≡ true → AllByRecursion IsPlain xs
+all_plain p f [] h = tt
+all_plain p f (x ∷ xs) h = let both = and_parts (p x) (list_all p xs) h in (f x both.0, all_plain p f xs both.1)
+
+-- a test that plain bytes pass
+passes_all : (p : ℕ → Bool) → ((b : ℕ) → IsPlain b → p b ≡ true) → (xs : List ℕ) → AllByRecursion IsPlain xs → list_all p xs ≡ true
+passes_all p f [] h = refl
+passes_all p f (x ∷ xs) h = and_from (p x) (list_all p xs) (f x h.0) (passes_all p f xs h.1)
+
+-- ---- names and IDs
+
+-- an ID, or a name of a branch
+pub record IsWord (xs : List ℕ) : Type 0 where
+  pub plain : AllByRecursion IsPlain xs
+  pub some : 0 < length xs
+  pub few : length xs ≤ 64
+
+pub id_word : (id : List ℕ) → is_id id ≡ true → IsWord id
+id_word id h =
+    let one = and_parts (nat_lt 0 (length id) && nat_le (length id) 64) (list_all is_id_byte id) h in
+    let two = and_parts (nat_lt 0 (length id)) (nat_le (length id) 64) one.0 in
+    record { plain = all_plain is_id_byte plain_id id one.1; some = ltb-true 0 (length id) two.0; few = leb-true (length id) 64 two.1 }
+
+some_from : (name : List ℕ) → is_ascii_lowercase (slice_index name 0) ≡ true → 0 < length name
+some_from [] h = absurd cc
+some_from (x ∷ xs) h = omega arith
+
+pub name_word : (name : List ℕ) → is_branch_name name ≡ true → (IsWord name) × (length name ≤ 32)
+name_word name h =
+    let one = and_parts (is_ascii_lowercase (slice_index name 0) && list_all is_name_byte name) (nat_le (length name) 32) h in
+    let two = and_parts (is_ascii_lowercase (slice_index name 0)) (list_all is_name_byte name) one.0 in
+    let few = leb-true (length name) 32 one.1 in
+    (record { plain = all_plain is_name_byte plain_name name two.1; some = some_from name two.0; few = omega (arith, few) }, few)
+
+-- ---- marks
+
+mark_of_id : (front id : List ℕ) → list_all is_mark_byte front ≡ true → length front ≤ 30 → IsWord id → is_mark (front ++ id) ≡ true
+mark_of_id front id h l w =
+    let size = length-append front id in
+    let high : 0 < length (front ++ id) = omega (arith, size, w.some) in
+    let some : nat_lt 0 (length (front ++ id)) ≡ true = grind (arith, nat_tests) in
+    let low : length (front ++ id) < 101 = omega (arith, size, l, w.few) in
+    let few : nat_lt (length (front ++ id)) 101 ≡ true = grind (arith, nat_tests) in
+    and_from (nat_lt 0 (length (front ++ id)) && nat_lt (length (front ++ id)) 101) (list_all is_mark_byte (front ++ id)) (and_from _ _ some few)
+    (list_all-append is_mark_byte front id ∙ and_from (list_all is_mark_byte front) (list_all is_mark_byte id) h (passes_all is_mark_byte (λ b p. p.mark) id w.plain))
+
+-- ---- descriptions
+
+-- the last byte of a word
+last_solid : (xs ys : List ℕ) → IsWord ys → is_blank (slice_index (xs ++ ys) (length (xs ++ ys) - 1)) ≡ false
+last_solid xs ys w =
+    let size = length-append xs ys in
+    let at : length (xs ++ ys) - 1 ≡ length xs + (length ys - 1) = omega (arith, size, w.some) in
+    ap (λ (n : ℕ). is_blank (slice_index (xs ++ ys) n)) at ∙ (ap is_blank (get_or-append-add xs ys (length ys - 1) 0) ∙ solid_at ys (length ys - 1) w.plain (omega (arith, w.some)))
+  where
+    solid_at : (zs : List ℕ) (i : ℕ) → AllByRecursion IsPlain zs → i < length zs → is_blank (slice_index zs i) ≡ false
+    solid_at [] i h l = absurd (omega (arith, l))
+    solid_at (z ∷ zs) zero h l = h.0.solid
+    solid_at (z ∷ zs) (suc i) h l = solid_at zs i h.1 (omega (arith, l))
+
+all_both : (p : ℕ → Bool) → ((b : ℕ) → IsPlain b → p b ≡ true) → (first middle : List ℕ) (id name : List ℕ) → list_all p first ≡ true → list_all p middle ≡ true → IsWord id → IsWord name → list_all p (first ++ (id ++ (middle ++ name))) ≡ true
+all_both p f first middle id name h k v w =
+    list_all-append p first (id ++ (middle ++ name)) ∙ and_from _ _ h
+    (list_all-append p id (middle ++ name) ∙ and_from _ _ (passes_all p f id v.plain)
+    (list_all-append p middle name ∙ and_from _ _ k (passes_all p f name w.plain)))
+
+-- what is asked of a description
+pub record IsDescribed (text : List ℕ) : Type 0 where
+  pub fits : is_description None None text ≡ true
+  pub utf8 : is_utf8 text ≡ true
+  pub few : length text ≤ 500
+
+-- `transfer ID to NAME`, `transfer ID from NAME`
+described : (middle id name : List ℕ) → list_all is_clean middle ≡ true → has_no 59 middle ≡ true → list_all is_low middle ≡ true → length middle ≤ 10 → IsWord id → IsWord name
+    → IsDescribed (codes "transfer " ++ (id ++ (middle ++ name)))
+described middle id name clean free low l v w =
+    let first = codes "transfer " in
+    let text = first ++ (id ++ (middle ++ name)) in
+    let whole : text ≡ (first ++ (id ++ middle)) ++ name = sym (append_assoc first (id ++ middle) name ∙ ap (λ (xs : List ℕ). first ++ xs) (append_assoc id middle name)) in
+    let size : length text ≤ 200 = omega (arith, length-append first (id ++ (middle ++ name)), length-append id (middle ++ name), length-append middle name, l, v.few, w.few) in
+    let last : is_blank (slice_index text (length text - 1)) ≡ false = ap (λ (xs : List ℕ). is_blank (slice_index xs (length xs - 1))) whole ∙ last_solid (first ++ (id ++ middle)) name w in
+    let trimmed : is_trimmed text ≡ true = ap not last in
+    let few : nat_le (length text) 500 ≡ true = grind (arith, nat_tests) in
+    record {
+      fits = and_from _ _ (and_from _ _ (and_from _ _ (and_from _ _ trimmed (all_both (λ b. not (b == 59)) (λ b p. p.no_semicolon) first middle id name refl free v w)) (all_both is_clean (λ b p. p.clean) first middle id name refl clean v w)) few) refl;
+      utf8 = utf8_low text (all_both is_low (λ b p. p.low) first middle id name refl low v w);
+      few = omega (arith, size);
+    }
+
+-- ---- the transit account
+
+-- a word is one part
+no_colons : (xs : List ℕ) → AllByRecursion IsPlain xs → All (λ (b : ℕ). (b == 58) ≡ false) xs
+no_colons [] h i d l = absurd (omega (arith, l))
+no_colons (x ∷ xs) h zero d l = h.0.no_colon
+no_colons (x ∷ xs) h (suc i) d l = no_colons xs h.1 i d (omega (arith, l))
+
+part_some : (xs : List ℕ) → 0 < length xs → is_part xs ≡ true
+part_some xs h = grind (arith, nat_tests)
+
+two_parts : (from to : List ℕ) → IsWord from → IsWord to → list_all is_part (slice_split (λ b. b == 58) (from ++ (58 ∷ to))) ≡ true
+two_parts from to v w =
+    ap (list_all is_part) (slice_split_at (λ b. b == 58) from 58 to (no_colons from v.plain) refl ∙ ap (λ (ps : List (List ℕ)). from ∷ ps) (slice_split_none (λ b. b == 58) to (no_colons to w.plain)))
+    ∙ and_from _ _ (part_some from v.some) (and_from _ _ (part_some to w.some) refl)
+
+-- no gap in plain bytes, nor before a colon
+gap_free : (b : ℕ) (xs : List ℕ) → (b == 32) ≡ false → is_gap b xs ≡ false
+gap_free b [] h = h
+gap_free b (x ∷ xs) h = ap (λ (t : Bool). t && (x == 32)) h
+
+no_gap_word : (xs ys : List ℕ) → AllByRecursion IsPlain xs → has_gap ys ≡ false → has_gap (xs ++ ys) ≡ false
+no_gap_word [] ys h k = k
+no_gap_word (x ∷ xs) ys h k = rw (gap_free x (xs ++ ys) h.0.no_space, no_gap_word xs ys h.1 k) refl
+
+append_nil_gap : (xs : List ℕ) → AllByRecursion IsPlain xs → has_gap xs ≡ false
+append_nil_gap [] h = refl
+append_nil_gap (x ∷ xs) h = rw (gap_free x xs h.0.no_space, append_nil_gap xs h.1) refl
+
+no_gap_pair : (from to : List ℕ) → IsWord from → IsWord to → has_gap (from ++ (58 ∷ to)) ≡ false
+no_gap_pair from to v w = no_gap_word from (58 ∷ to) v.plain (rw (gap_free 58 to refl, append_nil_gap to w.plain) refl)
+
+pub transit_is_account : (from to : List ℕ) → IsWord from → IsWord to → length from ≤ 32 → length to ≤ 32 → is_account (transit_account from to) ≡ true
+unfolding is_account
+transit_is_account from to v w l m =
+    let rest = from ++ (58 ∷ to) in
+    let size : length (transit_account from to) ≤ 200 = omega (arith, length-append (codes "assets:transit:") rest, length-append from (58 ∷ to), l, m) in
+    let short : nat_le (length (transit_account from to)) 200 ≡ true = grind (arith, nat_tests) in
+    let bytes : list_all is_account_byte rest ≡ true =
+    list_all-append is_account_byte from (58 ∷ to) ∙ and_from _ _ (passes_all is_account_byte (λ b p. p.account) from v.plain) (and_from _ _ refl (passes_all is_account_byte (λ b p. p.account) to w.plain)) in
+    let gaps : (is_gap 58 rest || has_gap rest) ≡ false = rw (gap_free 58 rest refl) (no_gap_pair from to v w) in
+    and_from _ _ (and_from _ _ (and_from _ _ (and_from _ _ short (two_parts from to v w)) bytes) (ap not gaps)) refl
+
+pub transit_is_utf8 : (from to : List ℕ) → IsWord from → IsWord to → is_utf8 (transit_account from to) ≡ true
+transit_is_utf8 from to v w =
+    utf8_joined (codes "assets:transit:") (from ++ (58 ∷ to)) (utf8_low (codes "assets:transit:") refl)
+    (utf8_joined from (58 ∷ to) (utf8_low from (passes_all is_low (λ b p. p.low) from v.plain)) (utf8_low (58 ∷ to) (and_from _ _ refl (passes_all is_low (λ b p. p.low) to w.plain))))
+
+-- ---- a transaction of two postings
+
+-- the amount of a posting of the product is written
+is_posting_of : (styles : List Style) (account : List ℕ) (unit : Commodity) (q : ℤ) → is_account account ≡ true → is_utf8 account ≡ true → is_amount styles unit q ≡ true → is_posting styles (posting (leg account unit q)) ≡ true
+is_posting_of styles account unit q h k a = rw (h, k, a) refl
+
+same_size : (q : ℤ) → unsigned_abs (pos 0 -ℤ q) ≡ unsigned_abs q
+same_size q = omega (arith, ints)
+
+amount_back : (styles : List Style) (unit : Commodity) (q : ℤ) → is_amount styles unit q ≡ true → is_amount styles unit (pos 0 -ℤ q) ≡ true
+amount_back styles unit q h = ap (λ (n : ℕ). nat_lt unit.0 (length styles) && nat_le n limit) (same_size q) ∙ h
+
+balanced_at : (t : Bool) (q : ℤ) → ((if t then q else pos 0) +ℤ ((if t then pos 0 -ℤ q else pos 0) +ℤ pos 0)) ≡ pos 0
+balanced_at true q = omega (arith, ints)
+balanced_at false q = refl
+
+line_small : (styles : List Style) → AreStyles styles → (p : Posting) → is_posting styles p ≡ true → p.comments ≡ [] → postings_size styles (p ∷ []) ≤ 500
+line_small styles are p h none =
+    let small = posting_small styles p h in
+    let amount = part_length styles are p.amount p.price p.claim small.2 in
+    omega (arith, posting_size styles p, line_is styles p, ap remarks_size none, no_remarks, small.0, small.1, amount)
+
+-- an entry of two such legs is fit
+pub pair_fit : (day : Day) (a b : List ℕ) (unit : Commodity) (q : ℤ) → IsFit (record { day = day; legs = leg a unit q ∷ leg b unit (pos 0 -ℤ q) ∷ []; claims = [] })
+pair_fit day a b unit q = record { balanced = λ u. balanced_at (nat_eq unit.0 u.0) q; on_legs = tt; apart = tt }
+
+-- what such a transaction has to be
+pub record IsPair (styles : List Style) (mark : List ℕ) (day : Day) (description : List ℕ) (a b : List ℕ) (unit : Commodity) (q : ℤ) : Type 0 where
+  pub mark_fits : is_mark mark ≡ true
+  pub day_fits : IsDayNumber day
+  pub described : IsDescribed description
+  pub first : is_account a ≡ true
+  pub first_utf8 : is_utf8 a ≡ true
+  pub second : is_account b ≡ true
+  pub second_utf8 : is_utf8 b ≡ true
+  pub amount : is_amount styles unit q ≡ true
+
+pub pair_good : (styles : List Style) (mark : List ℕ) (day : Day) (description : List ℕ) (a b : List ℕ) (unit : Commodity) (q : ℤ) → AreStyles styles → IsPair styles mark day description a b unit q
+    → IsGoodRecord styles (product_record mark day description (leg a unit q) (leg b unit (pos 0 -ℤ q)))
+pair_good styles mark day description a b unit q are h =
+    let x = leg a unit q in
+    let y = leg b unit (pos 0 -ℤ q) in
+    let r = product_record mark day description x y in
+    let back = amount_back styles unit q h.amount in
+    let p = is_posting_of styles a unit q h.first h.first_utf8 h.amount in
+    let s = is_posting_of styles b unit (pos 0 -ℤ q) h.second h.second_utf8 back in
+    let size : length (body_text styles r.txn) ≤ 1000000 = omega (
+      arith,
+      body_size styles r.txn,
+      head_is r.txn,
+      header_small day None None description,
+      h.described.few,
+      no_remarks,
+      postings-append styles (posting x ∷ []) (posting y ∷ []),
+      line_small styles are (posting x) p refl,
+      line_small styles are (posting y) s refl,
+    ) in
+    let quantity = leb-true (unsigned_abs q) limit (and_parts (nat_lt unit.0 (length styles)) _ h.amount).1 in
+    let quantity_back = leb-true (unsigned_abs (pos 0 -ℤ q)) limit (and_parts (nat_lt unit.0 (length styles)) _ back).1 in
+    record {
+      marked = refl;
+      printable = record {
+        header = record { number = h.day_fits; code_ok = refl; description_ok = h.described.fits };
+        code = refl;
+        description = h.described.utf8;
+        mark = h.mark_fits;
+        comments = refl;
+        postings = and_from _ _ p (and_from _ _ s refl);
+        few = omega arith;
+        small = size;
+      };
+      legs = legs_of-written styles r.txn (record { written = refl; balanced = λ u. balanced_at (nat_eq unit.0 u.0) q; small = (quantity, (quantity_back, tt)) });
+    }
+
+-- ---- transfers
+
+-- a transfer whose dispatch can be written
+pub record IsWritable (styles : List Style) (t : Transfer) : Type 0 where
+  pub id : is_id t.id ≡ true
+  pub source : is_branch_name t.source ≡ true
+  pub target : is_branch_name t.target ≡ true
+  pub day : IsDayNumber t.day
+  pub amount : is_amount styles t.unit t.qty ≡ true
+  pub payer : is_account t.payer ≡ true
+  pub utf8 : is_utf8 t.payer ≡ true
+
+pub dispatch_good : (styles : List Style) (t : Transfer) → AreStyles styles → IsWritable styles t → IsGoodRecord styles (dispatch_record t)
+dispatch_good styles t are h =
+    let id = id_word t.id h.id in
+    let source = name_word t.source h.source in
+    let target = name_word t.target h.target in
+    pair_good styles (out_mark t) t.day (codes "transfer " ++ (t.id ++ (codes " to " ++ t.target))) (transit_account t.source t.target) t.payer t.unit t.qty are (record {
+      mark_fits = mark_of_id (codes "out:") t.id refl (omega arith) id;
+      day_fits = h.day;
+      described = described (codes " to ") t.id t.target refl refl refl (omega arith) id target.0;
+      first = transit_is_account t.source t.target source.0 target.0 source.1 target.1;
+      first_utf8 = transit_is_utf8 t.source t.target source.0 target.0;
+      second = h.payer;
+      second_utf8 = h.utf8;
+      amount = h.amount;
+    })
+
+pub amount_of : (styles : List Style) (account : List ℕ) (unit : Commodity) (q : ℤ) → is_posting styles (posting (leg account unit q)) ≡ true → is_amount styles unit q ≡ true
+amount_of styles account unit q h =
+    let one = and_parts (is_account account && is_utf8 account && is_value styles (Some (unit, q)) None None) _ h in
+    let two = and_parts (is_account account && is_utf8 account) (is_value styles (Some (unit, q)) None None) one.0 in
+    let three = and_parts (is_amount styles unit q && true) _ two.1 in
+    (and_parts (is_amount styles unit q) _ three.0).0
+
+pub receipt_good : (styles : List Style) (t : Transfer) (r : Receipt) → AreStyles styles → is_id t.id ≡ true → is_branch_name t.source ≡ true → is_branch_name t.target ≡ true → IsGoodRecord styles (dispatch_record t)
+    → IsDayNumber r.day → is_account r.payee ≡ true → is_utf8 r.payee ≡ true → IsGoodRecord styles (receipt_record t r)
+receipt_good styles t r are id_fits source_fits target_fits sent day payee utf8 =
+    let id = id_word t.id id_fits in
+    let source = name_word t.source source_fits in
+    let target = name_word t.target target_fits in
+    let dispatched = and_parts (is_posting styles (posting (leg (transit_account t.source t.target) t.unit t.qty))) _ sent.printable.postings in
+    pair_good styles (in_mark t) r.day (codes "transfer " ++ (t.id ++ (codes " from " ++ t.source))) r.payee (transit_account t.source t.target) t.unit t.qty are (record {
+      mark_fits = mark_of_id (codes "in:") t.id refl (omega arith) id;
+      day_fits = day;
+      described = described (codes " from ") t.id t.source refl refl refl (omega arith) id source.0;
+      first = payee;
+      first_utf8 = utf8;
+      second = transit_is_account t.source t.target source.0 target.0 source.1 target.1;
+      second_utf8 = transit_is_utf8 t.source t.target source.0 target.0;
+      amount = amount_of styles (transit_account t.source t.target) t.unit t.qty dispatched.0;
+    })

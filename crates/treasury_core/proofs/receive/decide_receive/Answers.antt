@@ -1,0 +1,114 @@
+use Rattle.std.proofs.Common.{◌≡◌, ap, sym, ◌∙◌, inr, ℕ, List, Bool, true, false, Option, Some, None, subst}
+use Rattle.std.specs.Str.{bytes_eq}
+use Rattle.treasury_core.specs.declared.command.Command.TheVariants.{Receive}
+use Rattle.treasury_core.specs.Federation.{Branch}
+use Rattle.treasury_core.specs.Transfer.{is_id}
+use Rattle.treasury_core.specs.Step.{transfer_at, receipt_refusal}
+use Rattle.treasury_core.specs.Good.{IsGoodBranch}
+use Rattle.treasury_core.specs.Kept.{branch_of, branches_of, branch_at}
+use Rattle.treasury_core.proofs.FindLemmas.{there, missing}
+use Rattle.treasury_core.proofs.DecideLemmas.{found_holds}
+use Rattle.treasury_core.proofs.TransferReplyLemmas.{IsClaimed, same_test, same_find, not_true, not_false, repeats, settles, no_branch, bad_receipt_id, no_transfer, wrong_branch, received_so, received_other, received_new, receipt_adds, transfer_small}
+use Rattle.treasury_core.proofs.receive.decide_receive.Goals as goal
+
+pub returns-in_default : goal.returns-in_default
+returns-in_default g c =
+    let f = c.args.state.now in
+    let r = c.args.receive.now in
+    let found : branch_at f.branches r.branch ≡ None =
+    ap (λ (bs : List Branch). branch_at bs r.branch) (sym c.branches.ensures.value) ∙ ap (branch_at (branches_of c.branches.result.now)) (sym c.as_str.ensures) ∙ c.in_default.ensures.found in
+    inr (no_branch f r (missing f.branches r.branch found).none)
+
+pub returns-then-not-is_id : goal.returns-then-not-is_id
+returns-then-not-is_id g c =
+    let f = c.args.state.now in
+    let r = c.args.receive.now in
+    let b = branch_of c.in-Some.target.now in
+    let found : branch_at f.branches r.branch ≡ Some b =
+    ap (λ (bs : List Branch). branch_at bs r.branch) (sym c.branches.ensures.value) ∙ ap (branch_at (branches_of c.branches.result.now)) (sym c.as_str.ensures) ∙ c.in-Some.ensures.found in
+    let branch = (there f.branches r.branch b found).any in
+    inr (bad_receipt_id f r branch (ap is_id (sym (c.as_bytes.ensures.value ∙ c.as_str-2.ensures)) ∙ (sym c.is_id.ensures ∙ c.if-not-is_id.true)))
+
+pub returns-in_default-find_transfer : goal.returns-in_default-find_transfer
+returns-in_default-find_transfer g c =
+    let f = c.args.state.now in
+    let r = c.args.receive.now in
+    let b = branch_of c.in-Some.target.now in
+    let found : branch_at f.branches r.branch ≡ Some b =
+    ap (λ (bs : List Branch). branch_at bs r.branch) (sym c.branches.ensures.value) ∙ ap (branch_at (branches_of c.branches.result.now)) (sym c.as_str.ensures) ∙ c.in-Some.ensures.found in
+    let branch = (there f.branches r.branch b found).any in
+    let claimed : IsClaimed f r = record { branch = branch; id = ap is_id (sym (c.as_bytes.ensures.value ∙ c.as_str-2.ensures)) ∙ (sym c.is_id.ensures ∙ c.if-not-is_id.false) } in
+    inr (no_transfer f r claimed (same_find (sym c.as_str-3.ensures) (sym c.transfers.ensures) (sym c.in_default-find_transfer.ensures)))
+
+pub returns-then-ne : goal.returns-then-ne
+returns-then-ne g c =
+    let f = c.args.state.now in
+    let r = c.args.receive.now in
+    let b = branch_of c.in-Some.target.now in
+    let found : branch_at f.branches r.branch ≡ Some b =
+    ap (λ (bs : List Branch). branch_at bs r.branch) (sym c.branches.ensures.value) ∙ ap (branch_at (branches_of c.branches.result.now)) (sym c.as_str.ensures) ∙ c.in-Some.ensures.found in
+    let branch = (there f.branches r.branch b found).any in
+    let claimed : IsClaimed f r = record { branch = branch; id = ap is_id (sym (c.as_bytes.ensures.value ∙ c.as_str-2.ensures)) ∙ (sym c.is_id.ensures ∙ c.if-not-is_id.false) } in
+    let t = c.in-Some-find_transfer.transfer.now in
+    let at : transfer_at f r.id ≡ Some t = same_find (sym c.as_str-3.ensures) (sym c.transfers.ensures) (sym c.in-Some-find_transfer.ensures) in
+    inr (wrong_branch f r t claimed at (same_test c.as_str-4.ensures c.as_str-5.ensures (not_true c.ne.ensures c.if-ne.true)))
+
+pub judged-requires-clause-good : goal.judged-requires-clause-good
+judged-requires-clause-good g c =
+    let f = c.args.state.now in
+    let r = c.args.receive.now in
+    let b = branch_of c.in-Some.target.now in
+    let found : branch_at f.branches r.branch ≡ Some b =
+    ap (λ (bs : List Branch). branch_at bs r.branch) (sym c.branches.ensures.value) ∙ ap (branch_at (branches_of c.branches.result.now)) (sym c.as_str.ensures) ∙ c.in-Some.ensures.found in
+    (found_holds (IsGoodBranch f.styles) f.branches r.branch b found c.is_good.ensures.branches).book
+
+pub judged-requires-clause-small : goal.judged-requires-clause-small
+judged-requires-clause-small g c =
+    let f = c.args.state.now in
+    let r = c.args.receive.now in
+    let t = c.in-Some-find_transfer.transfer.now in
+    let at : transfer_at f r.id ≡ Some t = same_find (sym c.as_str-3.ensures) (sym c.transfers.ensures) (sym c.in-Some-find_transfer.ensures) in
+    transfer_small f r.id t c.is_good.ensures at
+
+pub returns-then-is_received_so : goal.returns-then-is_received_so
+returns-then-is_received_so g c =
+    let f = c.args.state.now in
+    let r = c.args.receive.now in
+    let b = branch_of c.in-Some.target.now in
+    let found : branch_at f.branches r.branch ≡ Some b =
+    ap (λ (bs : List Branch). branch_at bs r.branch) (sym c.branches.ensures.value) ∙ ap (branch_at (branches_of c.branches.result.now)) (sym c.as_str.ensures) ∙ c.in-Some.ensures.found in
+    let branch = (there f.branches r.branch b found).any in
+    let claimed : IsClaimed f r = record { branch = branch; id = ap is_id (sym (c.as_bytes.ensures.value ∙ c.as_str-2.ensures)) ∙ (sym c.is_id.ensures ∙ c.if-not-is_id.false) } in
+    let t = c.in-Some-find_transfer.transfer.now in
+    let at : transfer_at f r.id ≡ Some t = same_find (sym c.as_str-3.ensures) (sym c.transfers.ensures) (sym c.in-Some-find_transfer.ensures) in
+    let own : bytes_eq t.target r.branch ≡ true = same_test c.as_str-4.ensures c.as_str-5.ensures (not_false c.ne.ensures c.if-ne.false) in
+    repeats f (Receive r) c.repeated.result (received_so f r t c.in-Some-receipt.receipt claimed at own c.in-Some-receipt.is (sym c.is_received_so.ensures ∙ c.if-is_received_so.true)) c.repeated.ensures
+
+pub returns-in-Some-receipt : goal.returns-in-Some-receipt
+returns-in-Some-receipt g c =
+    let f = c.args.state.now in
+    let r = c.args.receive.now in
+    let b = branch_of c.in-Some.target.now in
+    let found : branch_at f.branches r.branch ≡ Some b =
+    ap (λ (bs : List Branch). branch_at bs r.branch) (sym c.branches.ensures.value) ∙ ap (branch_at (branches_of c.branches.result.now)) (sym c.as_str.ensures) ∙ c.in-Some.ensures.found in
+    let branch = (there f.branches r.branch b found).any in
+    let claimed : IsClaimed f r = record { branch = branch; id = ap is_id (sym (c.as_bytes.ensures.value ∙ c.as_str-2.ensures)) ∙ (sym c.is_id.ensures ∙ c.if-not-is_id.false) } in
+    let t = c.in-Some-find_transfer.transfer.now in
+    let at : transfer_at f r.id ≡ Some t = same_find (sym c.as_str-3.ensures) (sym c.transfers.ensures) (sym c.in-Some-find_transfer.ensures) in
+    let own : bytes_eq t.target r.branch ≡ true = same_test c.as_str-4.ensures c.as_str-5.ensures (not_false c.ne.ensures c.if-ne.false) in
+    inr (received_other f r t c.in-Some-receipt.receipt claimed at own c.in-Some-receipt.is (sym c.is_received_so.ensures ∙ c.if-is_received_so.false))
+
+pub returns : goal.returns
+returns g c =
+    let f = c.args.state.now in
+    let r = c.args.receive.now in
+    let b = branch_of c.in-Some.target.now in
+    let found : branch_at f.branches r.branch ≡ Some b =
+    ap (λ (bs : List Branch). branch_at bs r.branch) (sym c.branches.ensures.value) ∙ ap (branch_at (branches_of c.branches.result.now)) (sym c.as_str.ensures) ∙ c.in-Some.ensures.found in
+    let branch = (there f.branches r.branch b found).any in
+    let claimed : IsClaimed f r = record { branch = branch; id = ap is_id (sym (c.as_bytes.ensures.value ∙ c.as_str-2.ensures)) ∙ (sym c.is_id.ensures ∙ c.if-not-is_id.false) } in
+    let t = c.in-Some-find_transfer.transfer.now in
+    let at : transfer_at f r.id ≡ Some t = same_find (sym c.as_str-3.ensures) (sym c.transfers.ensures) (sym c.in-Some-find_transfer.ensures) in
+    let own : bytes_eq t.target r.branch ≡ true = same_test c.as_str-4.ensures c.as_str-5.ensures (not_false c.ne.ensures c.if-ne.false) in
+    settles f (Receive r) _ (receipt_refusal b.locked b.records t r) c.judged.result c.settled.result (received_new f r t b claimed at own c.in_default-receipt.is (there f.branches r.branch b found)) (receipt_adds f r t at)
+    c.settled.ensures c.judged.ensures.value c.judged.ensures.passes c.judged.ensures.err

@@ -1,0 +1,112 @@
+-- Transfers: the records that they ask for, and what is open between two branches (own rules; docs/RULES.md, "Transfers").
+use Rattle.std.specs.Prelude.{ℕ, nat_eq, nat_lt, nat_le, ◌==◌, Bool, true, false, ◌&&◌, ◌||◌, if◌then◌else◌, List, [], ◌∷◌, ◌++◌, codes, length, ℤ, pos, ◌+ℤ◌, ◌-ℤ◌, int_le, Option, Some, None}
+use Rattle.std.specs.Char.{is_ascii_digit, is_ascii_alphabetic}
+use Rattle.std.specs.List.{list_all}
+use Rattle.std.specs.Str.{bytes_eq, is_utf8}
+use Rattle.money_core.specs.declared.unit.Unit.{Unit as Commodity}
+use Rattle.money_core.specs.declared.day.Day.{Day}
+use Rattle.book_core.specs.declared.leg.Leg.{Leg}
+use Rattle.book_core.specs.Account.{is_inside, colon}
+use Rattle.journal_lines.specs.AccountName.{is_account, transit}
+use Rattle.journal_format.specs.declared.posting.Posting.{Posting}
+use Rattle.journal_balance.specs.Legs.{leg}
+use Rattle.treasury_core.specs.declared.record.Record.{Record}
+use Rattle.treasury_core.specs.declared.transfer.Receipt.{Receipt}
+use Rattle.treasury_core.specs.declared.transfer.Transfer.{Transfer}
+
+-- a byte of an ID: an ASCII letter, a digit, `-`, `.` or `_`
+abbrev pub is_id_byte : ℕ → Bool
+is_id_byte b = is_ascii_alphabetic b || is_ascii_digit b || (b == 45) || (b == 46) || (b == 95)
+
+-- the greatest number of bytes of an ID
+abbrev pub most_id_bytes : ℕ
+most_id_bytes = 64
+
+-- an ID: 1 to 64 such bytes
+abbrev pub is_id : List ℕ → Bool
+is_id id = nat_lt 0 (length id) && nat_le (length id) most_id_bytes && list_all is_id_byte id
+
+-- a well-formed account, which is text
+abbrev pub is_account_text : List ℕ → Bool
+is_account_text account = is_account account && is_utf8 account
+
+-- the account is `assets:transit` or below it
+abbrev pub is_reserved : List ℕ → Bool
+is_reserved account = is_inside transit account
+
+-- a leg on such an account
+abbrev pub is_transit : Leg → Bool
+is_transit x = is_reserved x.account
+
+-- the account of what is on its way from one branch to another: `assets:transit:FROM:TO`
+abbrev pub transit_account : List ℕ → List ℕ → List ℕ
+transit_account from to = codes "assets:transit:" ++ (from ++ (colon ∷ to))
+
+-- a posting with its amount alone
+abbrev pub posting : Leg → Posting
+posting x = record { status = None; account = x.account; amount = Some (x.unit, x.qty); price = None; claim = None; comments = [] }
+
+-- the record of a transaction that the treasury makes itself: no status, code or comments
+abbrev pub product_record : List ℕ → Day → List ℕ → Leg → Leg → Record
+product_record mark day description x y = record {
+  mark = mark;
+  txn = record { day = day; status = None; code = None; description = description; comments = []; mark = Some mark; postings = posting x ∷ posting y ∷ [] };
+  entry = record { day = day; legs = x ∷ y ∷ []; claims = [] };
+}
+
+-- the marks of a transfer's records
+abbrev pub out_mark : Transfer → List ℕ
+out_mark t = codes "out:" ++ t.id
+
+abbrev pub in_mark : Transfer → List ℕ
+in_mark t = codes "in:" ++ t.id
+
+-- a dispatch: the amount goes on its way, and the payer pays it
+abbrev pub dispatch_record : Transfer → Record
+dispatch_record t =
+    product_record (out_mark t) t.day (codes "transfer " ++ (t.id ++ (codes " to " ++ t.target)))
+    (leg (transit_account t.source t.target) t.unit t.qty) (leg t.payer t.unit (pos 0 -ℤ t.qty))
+
+-- a receipt: the payee gets the amount, and it is on its way no more
+abbrev pub receipt_record : Transfer → Receipt → Record
+receipt_record t r =
+    product_record (in_mark t) r.day (codes "transfer " ++ (t.id ++ (codes " from " ++ t.source)))
+    (leg r.payee t.unit t.qty) (leg (transit_account t.source t.target) t.unit (pos 0 -ℤ t.qty))
+
+-- the transfer has that ID
+abbrev pub has_id : List ℕ → Transfer → Bool
+has_id id t = bytes_eq t.id id
+
+-- the record of a dispatch, where the branch is the source
+abbrev pub out_records : Transfer → Bool → List Record
+out_records t true = dispatch_record t ∷ []
+out_records t false = []
+
+-- the record of a receipt, where the branch is the target and there is one
+abbrev pub in_records : Transfer → Bool → Option Receipt → List Record
+in_records t true (Some r) = receipt_record t r ∷ []
+in_records t true None = []
+in_records t false o = []
+
+-- the records that transfers ask for in the branch of that name
+abbrev pub asked : List Transfer → List ℕ → List Record
+asked [] name = []
+asked (t ∷ ts) name = out_records t (bytes_eq t.source name) ++ (in_records t (bytes_eq t.target name) t.receipt ++ asked ts name)
+
+-- what was received of a quantity through a day
+abbrev pub received_by : Option Receipt → Day → ℤ → ℤ
+received_by None day qty = pos 0
+received_by (Some r) day qty = if int_le r.day.0 day.0 then qty else pos 0
+
+-- what was dispatched and not received through a day
+abbrev pub open_of : Transfer → Day → ℤ
+open_of t day = (if int_le t.day.0 day.0 then t.qty else pos 0) -ℤ received_by t.receipt day t.qty
+
+-- the transfer goes from one branch to the other, in the commodity
+abbrev pub is_between : List ℕ → List ℕ → Commodity → Transfer → Bool
+is_between from to unit t = (bytes_eq t.source from && bytes_eq t.target to) && nat_eq t.unit.0 unit.0
+
+-- the open amount between two branches in a commodity through a day: what was dispatched, less what was received
+abbrev pub open_amount : List Transfer → List ℕ → List ℕ → Commodity → Day → ℤ
+open_amount [] from to unit day = pos 0
+open_amount (t ∷ ts) from to unit day = (if is_between from to unit t then open_of t day else pos 0) +ℤ open_amount ts from to unit day

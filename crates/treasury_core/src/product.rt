@@ -1,0 +1,158 @@
+//! The transactions that the treasury makes itself.
+
+ghost use Rattle.std.specs.Prelude.{◌≡◌, ◌≤◌, unsigned_abs, [], ◌∷◌, ◌++◌, codes, IfOk};
+ghost use Rattle.std.specs.Result.{IsOkUnless};
+ghost use Rattle.money_core.specs.Amount.{limit};
+ghost use Rattle.journal_balance.specs.Legs.{leg};
+ghost use Rattle.treasury_core.specs.Transfer.{transit_account, posting, product_record, dispatch_record, receipt_record};
+
+use crate::record::Record;
+use crate::transfer::{Receipt, Transfer};
+use book_core::{Entry, Leg};
+use journal_format::{Posting, Txn};
+use money_core::{Cause, Copied, Day, Items, Text, Unit};
+use std::alloc::Global;
+
+/// The account of what is on its way from one branch to another.
+fn transit_account(alloc: Global, from: &Text, to: &Text) -> Result<Text, Cause>
+    ensures value { IfOk result (λ account. account ≡ transit_account from.now to.now) }
+    ensures memory { IsOkUnless result Cause.OutOfMemory }
+{
+    let from = from.as_str();
+    let to = to.as_str();
+    let account = format!(in alloc; "assets:transit:{from}:{to}")?;
+    Ok(Text::from_string(account))
+}
+
+/// The mark of a transfer's record: `out:ID` or `in:ID`.
+fn mark_of(alloc: Global, front: &str, id: &Text) -> Result<Text, Cause>
+    ensures value { IfOk result (λ mark. mark ≡ front.now ++ id.now) }
+    ensures memory { IsOkUnless result Cause.OutOfMemory }
+{
+    let id = id.as_str();
+    let mark = format!(in alloc; "{front}{id}")?;
+    Ok(Text::from_string(mark))
+}
+
+/// The description of a transfer's record: `transfer ID to BRANCH` or `transfer ID from BRANCH`.
+fn description_of(alloc: Global, id: &Text, link: &str, branch: &Text) -> Result<Text, Cause>
+    ensures value { IfOk result (λ text. text ≡ codes "transfer " ++ (id.now ++ (link.now ++ branch.now))) }
+    ensures memory { IsOkUnless result Cause.OutOfMemory }
+{
+    let id = id.as_str();
+    let branch = branch.as_str();
+    let text = format!(in alloc; "transfer {id}{link}{branch}")?;
+    Ok(Text::from_string(text))
+}
+
+/// A leg of that quantity.
+fn leg(account: Text, unit: Unit, qty: i64) -> Leg
+    ensures { result ≡ leg account unit qty }
+{
+    Leg { account, unit, qty }
+}
+
+/// A posting of a leg's amount alone.
+fn posting_of(alloc: Global, leg: &Leg) -> Result<Posting, Cause>
+    ensures value { IfOk result (λ p. p ≡ posting leg.now) }
+    ensures memory { IsOkUnless result Cause.OutOfMemory }
+{
+    let account = leg.account.copy()?;
+    Ok(Posting {
+        status: None,
+        account,
+        amount: Some((leg.unit, leg.qty)),
+        price: None,
+        claim: None,
+        comments: Items::empty(alloc),
+    })
+}
+
+/// The two postings of two legs.
+fn postings_of(alloc: Global, first: &Leg, second: &Leg) -> Result<Items<Posting>, Cause>
+    ensures value { IfOk result (λ list. list ≡ posting first.now ∷ posting second.now ∷ []) }
+    ensures memory { IsOkUnless result Cause.OutOfMemory }
+{
+    let first = posting_of(alloc, first)?;
+    let second = posting_of(alloc, second)?;
+    let mut list = Items::empty(alloc);
+    list.push(first)?;
+    list.push(second)?;
+    Ok(list)
+}
+
+/// An entry of two legs.
+fn entry_of(alloc: Global, day: Day, first: Leg, second: Leg) -> Result<Entry, Cause>
+    ensures value { IfOk result (λ entry. entry ≡ record { day = day; legs = first ∷ second ∷ []; claims = [] }) }
+    ensures memory { IsOkUnless result Cause.OutOfMemory }
+{
+    let mut legs = Items::empty(alloc);
+    legs.push(first)?;
+    legs.push(second)?;
+    Ok(Entry {
+        day,
+        legs,
+        claims: Items::empty(alloc),
+    })
+}
+
+/// The record of a transaction with these two legs.
+fn product_record(
+    alloc: Global,
+    mark: Text,
+    day: Day,
+    description: Text,
+    first: Leg,
+    second: Leg,
+) -> Result<Record, Cause>
+    ensures value { IfOk result (λ row. row ≡ product_record mark day description first second) }
+    ensures memory { IsOkUnless result Cause.OutOfMemory }
+{
+    let own = mark.copy()?;
+    let postings = postings_of(alloc, &first, &second)?;
+    let entry = entry_of(alloc, day, first, second)?;
+    let txn = Txn {
+        day,
+        status: None,
+        code: None,
+        description,
+        comments: Items::empty(alloc),
+        mark: Some(own),
+        postings,
+    };
+    Ok(Record { mark, txn, entry })
+}
+
+/// The record of a dispatch in its source's book.
+pub(crate) fn dispatch_record(alloc: Global, transfer: &Transfer) -> Result<Record, Cause>
+    requires { unsigned_abs transfer.now.qty ≤ limit }
+    ensures value { IfOk result (λ row. row ≡ dispatch_record transfer.now) }
+    ensures memory { IsOkUnless result Cause.OutOfMemory }
+{
+    let mark = mark_of(alloc, "out:", &transfer.id)?;
+    let description = description_of(alloc, &transfer.id, " to ", &transfer.target)?;
+    let transit = transit_account(alloc, &transfer.source, &transfer.target)?;
+    let payer = transfer.payer.copy()?;
+    let gets = leg(transit, transfer.unit, transfer.qty);
+    let pays = leg(payer, transfer.unit, -transfer.qty);
+    product_record(alloc, mark, transfer.day, description, gets, pays)
+}
+
+/// The record of a receipt in its target's book.
+pub(crate) fn receipt_record(
+    alloc: Global,
+    transfer: &Transfer,
+    receipt: &Receipt,
+) -> Result<Record, Cause>
+    requires { unsigned_abs transfer.now.qty ≤ limit }
+    ensures value { IfOk result (λ row. row ≡ receipt_record transfer.now receipt.now) }
+    ensures memory { IsOkUnless result Cause.OutOfMemory }
+{
+    let mark = mark_of(alloc, "in:", &transfer.id)?;
+    let description = description_of(alloc, &transfer.id, " from ", &transfer.source)?;
+    let payee = receipt.payee.copy()?;
+    let transit = transit_account(alloc, &transfer.source, &transfer.target)?;
+    let gets = leg(payee, transfer.unit, transfer.qty);
+    let pays = leg(transit, transfer.unit, -transfer.qty);
+    product_record(alloc, mark, receipt.day, description, gets, pays)
+}
