@@ -1,9 +1,16 @@
 //! Late entries: what they reach, and what of it fails.
 
 use super::{EUR, USD, at, checked_by, entry, fails, holding};
-use crate::{ClaimKind, Day, DayLedger, Entry, Ledger, PlainLedger, Refusal, Unit};
+use crate::reached::reached_places;
+use crate::turnover::passes_limit;
+use crate::{
+    ClaimKind, Copied, Count, Day, DayLedger, Entry, Failure, Ledger, MAX_ENTRIES, Place,
+    PlainLedger, Refusal, Unit, are_fit,
+};
+use day_sums::NamedSpots;
 use std::alloc::Global;
 use std::process::Abort;
+use std::slice::from_ref;
 use std::test::Fail;
 
 /// Both ledgers answer `want`, and the one with sums by day examines so many assertions.
@@ -31,6 +38,68 @@ fn two_assertions(alloc: Global) -> Result<Vec<Entry>, Fail> {
         )?)?;
     }
     Ok(entries)
+}
+
+/// The places of the entries' assertions, in order, each with the failure there and how many assertions were examined
+/// for it: in a ledger to which all entries were added without a check. None where they pass a limit.
+fn examined_alone(
+    rt: &impl Abort,
+    alloc: Global,
+    entries: &[Entry],
+) -> Result<Vec<(Place, Option<Failure>, u64)>, Fail> {
+    assert!(rt; are_fit(entries));
+    let mut found = Vec::new(alloc);
+    if entries.len() > MAX_ENTRIES {
+        return Ok(found);
+    }
+    if passes_limit(&[], entries) {
+        return Ok(found);
+    }
+    let mut ledger = DayLedger::empty(alloc);
+    for entry in entries {
+        ledger.add(entry.copy()?)?;
+    }
+    let none = NamedSpots::empty(alloc);
+    for place in &reached_places(alloc, &[], &none, entries)? {
+        let mut count = Count { claims: 0 };
+        let failure = ledger.examine(&[], from_ref(place), &mut count);
+        found.push((*place, failure, count.claims))?;
+    }
+    Ok(found)
+}
+
+// A euro of the 15th, entered last, breaks the assertion of the 20th alone, and one of the 5th breaks both.
+#[test]
+fn each_assertion_is_examined_alone(rt: HostRuntime) -> Result<(), Fail> {
+    let alloc = rt.alloc();
+    let first = Failure {
+        place: at(10, 1),
+        unit: Unit(EUR),
+        asserted: 1000,
+        found: 1100,
+    };
+    let second = Failure {
+        place: at(20, 2),
+        unit: Unit(EUR),
+        asserted: 1500,
+        found: 1600,
+    };
+    for (day, wanted) in [(15, [None, Some(second)]), (5, [Some(first), Some(second)])] {
+        let mut entries = two_assertions(alloc)?;
+        entries.push(entry(
+            alloc,
+            day,
+            &[("assets:bank", EUR, 100), ("income:dues", EUR, -100)],
+            None,
+        )?)?;
+        let found = examined_alone(&rt, alloc, &entries)?;
+        assert_eq!(rt; found.len(), 2);
+        for (one, want) in found.iter().zip(wanted) {
+            assert_eq!(rt; one.1, want, "{day}");
+            assert_eq!(rt; one.2, 1, "{day}");
+        }
+    }
+    Ok(())
 }
 
 // One euro more on a day; the last two rows are before all other days, and behind them.

@@ -3,7 +3,7 @@ use Rattle.book_core.specs.declared.entry.Entry.{Entry}
 use Rattle.book_core.specs.Claim.{asserted_from}
 use Rattle.book_core.specs.GoodBook.{IsWithin}
 use Rattle.book_core.specs.Sums.{AreSumsOf}
-use Rattle.book_core.proofs.AccountsLemmas.{kept_add}
+use Rattle.book_core.proofs.AccountsLemmas.{kept_add, apart_from}
 use Rattle.book_core.proofs.ClaimIndexLemmas.{found_kept, found_add, kept_found}
 use Rattle.book_core.proofs.DayLemmas.{fit_add}
 use Rattle.book_core.proofs.day_ledger.DayLedgerLedger.add.Goals as goal
@@ -41,3 +41,9 @@ invariant_of-self-2 c =
       },
       subst (AreSumsOf c.add.new.self) (ap (λ (xs : List Entry). xs ++ c.args.entry ∷ []) seen ∙ sym grown) c.in-Ok-add.ensures.ok,
     )
+
+pub put_accounts-requires-clause-order : goal.put_accounts-requires-clause-order
+put_accounts-requires-clause-order c = c.in-Ok.ensures.gathers.ascending
+
+pub put_accounts-requires-clause-apart : goal.put_accounts-requires-clause-apart
+put_accounts-requires-clause-apart c = apart_from c.self.inside.accounts.items c.deref.result.now c.reserve.new.self.items c.in-Ok.fresh.items c.items.result.now c.deref.ensures.value c.reserve.ensures.items c.in-Ok.ensures.gathers
