@@ -40,7 +40,7 @@ fn assert_all_printed(rt: &impl Abort, alloc: Global, rows: &[(&str, &str)]) {
 
 #[test]
 fn an_amount_is_printed_in_its_commoditys_style(rt: HostRuntime) {
-    let rows = [
+    const ROWS: &[(&str, &str)] = &[
         ("1000 EUR", "1,000.00 EUR"),
         ("-70.00 EUR", "-70.00 EUR"),
         ("- 70 EUR", "-70.00 EUR"),
@@ -64,7 +64,7 @@ fn an_amount_is_printed_in_its_commoditys_style(rt: HostRuntime) {
         ("CHF 1.234,5", "CHF 1.234,500000"),
         ("-0,000001CHF", "CHF -0,000001"),
     ];
-    assert_all_printed(&rt, rt.alloc(), &rows);
+    assert_all_printed(&rt, rt.alloc(), ROWS);
 }
 
 #[test]

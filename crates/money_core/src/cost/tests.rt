@@ -34,7 +34,7 @@ fn assert_costs(rt: &impl Abort, alloc: Global, rows: &[(&str, &str, Result<i64,
 
 #[test]
 fn a_cost_is_exact_or_refused(rt: HostRuntime) {
-    let rows = [
+    const ROWS: &[(&str, &str, Result<i64, Cause>)] = &[
         ("€100", "@ $1.35", Ok(13_500)),
         ("€-100", "@ $1.35", Ok(-13_500)),
         ("1.00 EUR", "@ $1.3456", Err(Cause::CostNotExact)),
@@ -62,12 +62,12 @@ fn a_cost_is_exact_or_refused(rt: HostRuntime) {
             Err(Cause::CostNotExact),
         ),
     ];
-    assert_costs(&rt, rt.alloc(), &rows);
+    assert_costs(&rt, rt.alloc(), ROWS);
 }
 
 #[test]
 fn a_cost_over_the_limit_is_refused_before_a_rest(rt: HostRuntime) {
-    let rows = [
+    const ROWS: &[(&str, &str, Result<i64, Cause>)] = &[
         (
             "10000000000000000 JPY",
             "@ 1 \"kg2\"",
@@ -110,5 +110,5 @@ fn a_cost_over_the_limit_is_refused_before_a_rest(rt: HostRuntime) {
             Ok(10_000_000_000_000_000),
         ),
     ];
-    assert_costs(&rt, rt.alloc(), &rows);
+    assert_costs(&rt, rt.alloc(), ROWS);
 }

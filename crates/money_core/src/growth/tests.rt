@@ -22,14 +22,14 @@ fn assert_read(rt: &impl Abort, styles: &Styles, rows: &[(&str, Unit, i64)]) {
 fn an_amount_is_read_the_same_under_more_commodities(rt: HostRuntime) {
     let mut styles = declared_styles(&rt, rt.alloc());
     growth_law();
-    let rows = [
+    const ROWS: &[(&str, Unit, i64)] = &[
         ("1,234.50 EUR", Unit(0), 123_450),
         ("CHF -1", Unit(5), -1_000_000),
     ];
-    assert_read(&rt, &styles, &rows);
+    assert_read(&rt, &styles, ROWS);
     assert_eq!(rt; styles.len(), 6);
     let style = read_style(rt.alloc(), "1.0 GBP").expect(&rt, "a sample");
     assert!(rt; styles.declare(style).is_ok());
     assert_eq!(rt; styles.len(), 7);
-    assert_read(&rt, &styles, &rows);
+    assert_read(&rt, &styles, ROWS);
 }

@@ -33,7 +33,7 @@ fn assert_price_lens(rt: &impl Abort, alloc: Global, rows: &[(Price, usize)]) {
 // Texts such as `-1,234.50 EUR`, `1,000. JPY`, `-1000 "kg2"` and `CHF -0,000001`.
 #[test]
 fn an_amount_is_as_long_as_its_text(rt: HostRuntime) {
-    let rows = [
+    const ROWS: &[(u16, i64, usize)] = &[
         (0, 0, 8),
         (0, -123_450, 13),
         (1, 100, 5),
@@ -45,13 +45,13 @@ fn an_amount_is_as_long_as_its_text(rt: HostRuntime) {
         (0, -10_000_000_000_000_000, 27),
         (4, 10_000_000_000_000_000, 23),
     ];
-    assert_amount_lens(&rt, rt.alloc(), &rows);
+    assert_amount_lens(&rt, rt.alloc(), ROWS);
 }
 
 // `@ 1.10 EUR`, `@ 0.000000000001 EUR`, `@@ 1,000.00 EUR`, `@@ 7 "kg2"`.
 #[test]
 fn a_price_is_as_long_as_its_text(rt: HostRuntime) {
-    let rows = [
+    const ROWS: &[(Price, usize)] = &[
         (
             Price::Each {
                 unit: Unit(0),
@@ -83,5 +83,5 @@ fn a_price_is_as_long_as_its_text(rt: HostRuntime) {
             10,
         ),
     ];
-    assert_price_lens(&rt, rt.alloc(), &rows);
+    assert_price_lens(&rt, rt.alloc(), ROWS);
 }

@@ -25,32 +25,52 @@ fn total(unit: u16, quantity: u64) -> Result<Price, Cause> {
     })
 }
 
-/// Asserts what each text is read as.
-fn assert_read(rt: &impl Abort, alloc: Global, rows: &[(&str, Result<Price, Cause>)]) {
+/// Asserts the unit cost that each text is: commodity, digits, decimals.
+fn assert_unit_costs(
+    rt: &impl Abort,
+    alloc: Global,
+    rows: &[(&str, Result<(u16, u64, u8), Cause>)],
+) {
     let styles = declared_styles(rt, alloc);
     for (text, wanted) in rows {
-        assert_eq!(rt; read_price(*text, &styles), *wanted, "{text}");
+        let wanted = match *wanted {
+            Ok((unit, digits, decimals)) => each(unit, digits, decimals),
+            Err(cause) => Err(cause),
+        };
+        assert_eq!(rt; read_price(*text, &styles), wanted, "{text}");
+    }
+}
+
+/// Asserts the total cost that each text is: commodity and quantity.
+fn assert_total_costs(rt: &impl Abort, alloc: Global, rows: &[(&str, Result<(u16, u64), Cause>)]) {
+    let styles = declared_styles(rt, alloc);
+    for (text, wanted) in rows {
+        let wanted = match *wanted {
+            Ok((unit, quantity)) => total(unit, quantity),
+            Err(cause) => Err(cause),
+        };
+        assert_eq!(rt; read_price(*text, &styles), wanted, "{text}");
     }
 }
 
 #[test]
 fn a_unit_cost_is_kept_without_zeros_at_its_end(rt: HostRuntime) {
-    let rows = [
-        ("@ $1.35", each(1, 135, 2)),
-        ("@$1.3", each(1, 130, 2)),
-        ("@ \t1.3456 $", each(1, 13456, 4)),
-        ("@ $1.0000000000000", each(1, 100, 2)),
-        ("@ $1.2340000000000", each(1, 1234, 3)),
-        ("@ $0.000000000001", each(1, 1, 12)),
+    const ROWS: &[(&str, Result<(u16, u64, u8), Cause>)] = &[
+        ("@ $1.35", Ok((1, 135, 2))),
+        ("@$1.3", Ok((1, 130, 2))),
+        ("@ \t1.3456 $", Ok((1, 13456, 4))),
+        ("@ $1.0000000000000", Ok((1, 100, 2))),
+        ("@ $1.2340000000000", Ok((1, 1234, 3))),
+        ("@ $0.000000000001", Ok((1, 1, 12))),
         ("@ $0.0000000000001", Err(Cause::Cost)),
-        ("@ $10000000000000", each(1, 1_000_000_000_000_000, 2)),
+        ("@ $10000000000000", Ok((1, 1_000_000_000_000_000, 2))),
         ("@ $10000000000000.01", Err(Cause::Cost)),
         ("@ $1000.000000000001", Err(Cause::Cost)),
         ("@ $-1", Err(Cause::Cost)),
-        ("@ $-0", each(1, 0, 2)),
-        ("@ .5 JPY", each(3, 5, 1)),
-        ("@ 30 JPY", each(3, 30, 0)),
-        ("@ CHF 1.000,5", each(5, 1_000_500_000, 6)),
+        ("@ $-0", Ok((1, 0, 2))),
+        ("@ .5 JPY", Ok((3, 5, 1))),
+        ("@ 30 JPY", Ok((3, 30, 0))),
+        ("@ CHF 1.000,5", Ok((5, 1_000_500_000, 6))),
         ("@ 5", Err(Cause::Amount)),
         ("@ 5 GBP", Err(Cause::UnknownCommodity)),
         ("@ -5 GBP", Err(Cause::UnknownCommodity)),
@@ -64,26 +84,26 @@ fn a_unit_cost_is_kept_without_zeros_at_its_end(rt: HostRuntime) {
         ("@ $1 ", Err(Cause::Amount)),
         ("@ @ $1", Err(Cause::Amount)),
     ];
-    assert_read(&rt, rt.alloc(), &rows);
+    assert_unit_costs(&rt, rt.alloc(), ROWS);
 }
 
 #[test]
 fn a_total_cost_has_the_declared_decimals(rt: HostRuntime) {
-    let rows = [
-        ("@@ $0", total(1, 0)),
-        ("@@ $-0.00", total(1, 0)),
-        ("@@$1.5", total(1, 150)),
-        ("@@ $1.5000000000000", total(1, 150)),
+    const ROWS: &[(&str, Result<(u16, u64), Cause>)] = &[
+        ("@@ $0", Ok((1, 0))),
+        ("@@ $-0.00", Ok((1, 0))),
+        ("@@$1.5", Ok((1, 150))),
+        ("@@ $1.5000000000000", Ok((1, 150))),
         ("@@ $1.505", Err(Cause::Cost)),
         ("@@ $-0.01", Err(Cause::Cost)),
-        ("@@ 100000000000000 EUR", total(0, 10_000_000_000_000_000)),
+        ("@@ 100000000000000 EUR", Ok((0, 10_000_000_000_000_000))),
         ("@@ 100000000000000.01 EUR", Err(Cause::Cost)),
         ("@@ .5 JPY", Err(Cause::Cost)),
         ("@@ 5 GBP", Err(Cause::UnknownCommodity)),
         ("@@@ $1", Err(Cause::Amount)),
         ("@@", Err(Cause::Amount)),
     ];
-    assert_read(&rt, rt.alloc(), &rows);
+    assert_total_costs(&rt, rt.alloc(), ROWS);
 }
 
 /// Appends the price that the text is.
@@ -119,7 +139,7 @@ fn assert_all_printed(rt: &impl Abort, alloc: Global, rows: &[(&str, &str)], beg
 
 #[test]
 fn a_price_is_printed_in_its_commoditys_style(rt: HostRuntime) {
-    let rows = [
+    const ROWS: &[(&str, &str)] = &[
         ("@$1.35", "@ $1.35"),
         ("@ 1.3500 $", "@ $1.35"),
         ("@ $1.3456000", "@ $1.3456"),
@@ -133,7 +153,7 @@ fn a_price_is_printed_in_its_commoditys_style(rt: HostRuntime) {
         ("@@ 1000 JPY", "@@ 1,000. JPY"),
         ("@@ CHF 1000", "@@ CHF 1.000,000000"),
     ];
-    assert_all_printed(&rt, rt.alloc(), &rows, b"@ $1.35@ $1.35@ $1.3456");
+    assert_all_printed(&rt, rt.alloc(), ROWS, b"@ $1.35@ $1.35@ $1.3456");
 }
 
 /// The copy of an item, through the bound.

@@ -25,7 +25,7 @@ fn assert_read(rt: &impl Abort, styles: &Styles, rows: &[(&str, Result<(Unit, i6
 fn an_amount_has_a_quantity_or_a_first_fault(rt: HostRuntime) {
     let samples = ["1,000.00 EUR", "$1,000.00", "1.000,00 kr"];
     let styles = declared(&rt, rt.alloc(), &samples);
-    let rows = [
+    const ROWS: &[(&str, Result<(Unit, i64), Cause>)] = &[
         ("1.500 EUR", Ok((EUR, 150))),
         ("1.505 EUR", Err(Cause::Decimals)),
         ("1,5 EUR", Ok((EUR, 1500))),
@@ -66,14 +66,14 @@ fn an_amount_has_a_quantity_or_a_first_fault(rt: HostRuntime) {
         ("\"\"1", Err(Cause::Amount)),
         ("1 \"a  b\"", Err(Cause::Amount)),
     ];
-    assert_read(&rt, &styles, &rows);
+    assert_read(&rt, &styles, ROWS);
 }
 
 // A commodity that is not declared, and texts that are not ASCII.
 #[test]
 fn an_undeclared_symbol_is_named_where_the_form_is_right(rt: HostRuntime) {
     let styles = Styles::empty(rt.alloc());
-    let rows = [
+    const ROWS: &[(&str, Result<(Unit, i64), Cause>)] = &[
         ("5 GBP", Err(Cause::UnknownCommodity)),
         ("1.0,0 X", Err(Cause::UnknownCommodity)),
         ("1,0.0 X", Err(Cause::UnknownCommodity)),
@@ -90,7 +90,7 @@ fn an_undeclared_symbol_is_named_where_the_form_is_right(rt: HostRuntime) {
         ("1 \"a;b\"", Err(Cause::Amount)),
         ("1 \"a\tb\"", Err(Cause::Amount)),
     ];
-    assert_read(&rt, &styles, &rows);
+    assert_read(&rt, &styles, ROWS);
 }
 
 #[test]

@@ -7,6 +7,18 @@ use crate::sample::read_style;
 use std::alloc::Global;
 use std::process::Abort;
 
+const LEFT: bool = true;
+
+const RIGHT: bool = false;
+
+const SPACED: bool = true;
+
+const CLOSE: bool = false;
+
+const GROUPED: bool = true;
+
+const PLAIN: bool = false;
+
 /// Whether the text is a sample of the style of these fields.
 fn is_spelled(alloc: Global, text: &str, wanted: Fields<'_>) -> bool {
     match read_style(alloc, text) {
@@ -33,48 +45,45 @@ fn assert_spelled(rt: &impl Abort, alloc: Global, rows: &[(&str, Fields<'_>)]) {
 // hledger manual, "Commodity display style"; the decimal mark of a sample is an own rule.
 #[test]
 fn a_sample_spells_one_style(rt: HostRuntime) {
-    let (right, left) = (false, true);
-    let (close, spaced) = (false, true);
-    let (plain, grouped) = (false, true);
-    let rows = [
+    const ROWS: &[(&str, Fields<'static>)] = &[
         (
             "1,000,000.00 EUR",
-            ("EUR", right, spaced, Mark::Point, 2, grouped),
+            ("EUR", RIGHT, SPACED, Mark::Point, 2, GROUPED),
         ),
-        ("1000. JPY", ("JPY", right, spaced, Mark::Point, 0, plain)),
-        ("1,000 EUR", ("EUR", right, spaced, Mark::Comma, 3, plain)),
-        ("1,0.00 X", ("X", right, spaced, Mark::Point, 2, grouped)),
-        (".50 X", ("X", right, spaced, Mark::Point, 2, plain)),
-        ("1.X", ("X", right, close, Mark::Point, 0, plain)),
-        ("0.000000X", ("X", right, close, Mark::Point, 6, plain)),
-        ("$ \t1,000.00", ("$", left, spaced, Mark::Point, 2, grouped)),
-        ("€1.000,00", ("€", left, close, Mark::Comma, 2, grouped)),
+        ("1000. JPY", ("JPY", RIGHT, SPACED, Mark::Point, 0, PLAIN)),
+        ("1,000 EUR", ("EUR", RIGHT, SPACED, Mark::Comma, 3, PLAIN)),
+        ("1,0.00 X", ("X", RIGHT, SPACED, Mark::Point, 2, GROUPED)),
+        (".50 X", ("X", RIGHT, SPACED, Mark::Point, 2, PLAIN)),
+        ("1.X", ("X", RIGHT, CLOSE, Mark::Point, 0, PLAIN)),
+        ("0.000000X", ("X", RIGHT, CLOSE, Mark::Point, 6, PLAIN)),
+        ("$ \t1,000.00", ("$", LEFT, SPACED, Mark::Point, 2, GROUPED)),
+        ("€1.000,00", ("€", LEFT, CLOSE, Mark::Comma, 2, GROUPED)),
         (
             "\"kg 2\" 1.0",
-            ("kg 2", left, spaced, Mark::Point, 1, plain),
+            ("kg 2", LEFT, SPACED, Mark::Point, 1, PLAIN),
         ),
-        ("1.0\"EUR\"", ("EUR", right, close, Mark::Point, 1, plain)),
+        ("1.0\"EUR\"", ("EUR", RIGHT, CLOSE, Mark::Point, 1, PLAIN)),
         (
             "1.0 \"a\u{a0}b\"",
-            ("a\u{a0}b", right, spaced, Mark::Point, 1, plain),
+            ("a\u{a0}b", RIGHT, SPACED, Mark::Point, 1, PLAIN),
         ),
         (
             "ABCDEFGHIJKLMNOPQRSTUVWX1.0",
             (
                 "ABCDEFGHIJKLMNOPQRSTUVWX",
-                left,
-                close,
+                LEFT,
+                CLOSE,
                 Mark::Point,
                 1,
-                plain,
+                PLAIN,
             ),
         ),
         (
             "100000000000000.00 EUR",
-            ("EUR", right, spaced, Mark::Point, 2, plain),
+            ("EUR", RIGHT, SPACED, Mark::Point, 2, PLAIN),
         ),
     ];
-    assert_spelled(&rt, rt.alloc(), &rows);
+    assert_spelled(&rt, rt.alloc(), ROWS);
 }
 
 /// Asserts that none of the texts is a sample.
@@ -86,7 +95,7 @@ fn assert_refused(rt: &impl Abort, alloc: Global, rows: &[&str]) {
 
 #[test]
 fn no_sample_is_refused(rt: HostRuntime) {
-    let rows = [
+    const ROWS: &[&str] = &[
         "",
         "EUR",
         "1.00",
@@ -110,5 +119,5 @@ fn no_sample_is_refused(rt: HostRuntime) {
         "\"a 1.0",
         "ABCDEFGHIJKLMNOPQRSTUVWXY1.0",
     ];
-    assert_refused(&rt, rt.alloc(), &rows);
+    assert_refused(&rt, rt.alloc(), ROWS);
 }

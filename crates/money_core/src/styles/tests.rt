@@ -30,7 +30,7 @@ fn assert_declared(
 #[test]
 fn a_symbol_is_declared_once(rt: HostRuntime) {
     let mut styles = Styles::empty(rt.alloc());
-    let rows = [
+    const ROWS: &[(&str, u8, Result<Declared, Cause>)] = &[
         ("EUR", 2, Ok(Declared::New(Unit(0)))),
         ("EUR", 2, Ok(Declared::Same(Unit(0)))),
         ("$", 2, Ok(Declared::New(Unit(1)))),
@@ -38,7 +38,7 @@ fn a_symbol_is_declared_once(rt: HostRuntime) {
         ("$", 2, Ok(Declared::Same(Unit(1)))),
         ("eur", 2, Ok(Declared::New(Unit(2)))),
     ];
-    assert_declared(&rt, rt.alloc(), &mut styles, &rows);
+    assert_declared(&rt, rt.alloc(), &mut styles, ROWS);
     assert_eq!(rt; styles.find("$"), Some(Unit(1)));
     assert_eq!(rt; styles.find("GBP"), None);
     let held = styles.style(Unit(2)).expect(&rt, "a style");
@@ -57,10 +57,10 @@ fn a_seventeenth_commodity_is_refused(rt: HostRuntime) {
         assert!(rt; is_style(&style));
         assert!(rt; styles.declare(style).is_ok());
     }
-    let rows = [
+    const ROWS: &[(&str, u8, Result<Declared, Cause>)] = &[
         ("Q", 0, Err(Cause::Full)),
         ("P", 0, Ok(Declared::Same(Unit(15)))),
         ("P", 1, Err(Cause::CommodityExists)),
     ];
-    assert_declared(&rt, rt.alloc(), &mut styles, &rows);
+    assert_declared(&rt, rt.alloc(), &mut styles, ROWS);
 }

@@ -14,7 +14,7 @@ fn assert_read(rt: &impl Abort, rows: &[(&str, Option<&str>)]) {
 #[test]
 fn a_symbol_is_bare_or_in_quotes(rt: HostRuntime) {
     name_part_law();
-    let rows = [
+    const ROWS: &[(&str, Option<&str>)] = &[
         ("EUR", Some("EUR")),
         ("\"EUR\"", Some("EUR")),
         ("$", Some("$")),
@@ -31,5 +31,5 @@ fn a_symbol_is_bare_or_in_quotes(rt: HostRuntime) {
         ("\"a  b\"", None),
         ("\"a:b\"", None),
     ];
-    assert_read(&rt, &rows);
+    assert_read(&rt, ROWS);
 }
