@@ -126,7 +126,7 @@ fn step(
 fn both_ledgers_give_the_same_answers(rt: HostRuntime) -> Result<(), Fail> {
     let alloc = rt.alloc();
     let mut state = 20_240_115;
-    for _ in 0..1_000 {
+    for _ in 0..2_000 {
         let mut plain = PlainLedger::empty(alloc);
         let mut by_day = DayLedger::empty(alloc);
         for _ in 0..12 {
