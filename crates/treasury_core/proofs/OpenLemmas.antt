@@ -33,7 +33,7 @@ apart_at x ds from to u true true e f k n =
 apart_at x ds from to u true false e f k n = refl
 apart_at x ds from to u false b e f k n = refl
 
-unknown : (ts : List Transfer) (ds : List Branch) (from to : List ℕ) (u : Commodity) (d : Day) → AllByRecursion (IsGoodTransfer ds) ts → (list_any (has_name from) ds && list_any (has_name to) ds) ≡ false → open_amount ts from to u d ≡ pos 0
+pub unknown : (ts : List Transfer) (ds : List Branch) (from to : List ℕ) (u : Commodity) (d : Day) → AllByRecursion (IsGoodTransfer ds) ts → (list_any (has_name from) ds && list_any (has_name to) ds) ≡ false → open_amount ts from to u d ≡ pos 0
 unknown [] ds from to u d k n = refl
 unknown (x ∷ xs) ds from to u d k n =
     let a = open_none x from to u d (apart_at x ds from to u (bytes_eq x.source from) (bytes_eq x.target to) refl refl k.0 n) in

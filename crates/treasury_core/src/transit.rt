@@ -1,6 +1,6 @@
 //! What is on its way between branches.
 
-ghost use Rattle.std.specs.Prelude.{◌≡◌, ◌≤ℤ◌, pos, true, false, if◌then◌else◌};
+ghost use Rattle.std.specs.Prelude.{◌≡◌, ◌≤ℤ◌, ◌&&◌, pos, true, false, if◌then◌else◌};
 ghost use Rattle.std.specs.List.{AllByRecursion};
 ghost use Rattle.std.specs.Str.{bytes_eq};
 ghost use Rattle.treasury_core.specs.Federation.{has_branch};
@@ -59,6 +59,7 @@ fn open_between(transfers: &[Transfer], from: &str, to: &str, unit: Unit, day: D
 pub fn open_amount<L: Ledger>(state: &State<L>, from: &str, to: &str, unit: Unit, day: Day) -> i64
     ensures value { result ≡ open_amount state.now.transfers from.now to.now unit day }
     ensures low { pos 0 ≤ℤ result }
+    ensures unknown { (has_branch state.now from.now && has_branch state.now to.now) ≡ false → result ≡ pos 0 }
     ensures adds_up { has_branch state.now from.now ≡ true → has_branch state.now to.now ≡ true → bytes_eq from.now to.now ≡ false → AddsUp state.now from.now to.now }
 {
     state.is_good();

@@ -1,11 +1,11 @@
-use Rattle.std.proofs.Common.{◌≡◌, ◌∙◌, sym, subst, List, ◌≤ℤ◌, pos, FitsSigned, w64, to_z-of_z, rules}
+use Rattle.std.proofs.Common.{◌≡◌, ◌∙◌, ap, sym, subst, List, ◌≤ℤ◌, pos, FitsSigned, w64, to_z-of_z, rules}
 use Rattle.std.specs.List.{AllByRecursion}
 use Rattle.treasury_core.specs.declared.transfer.Transfer.{Transfer}
 use Rattle.treasury_core.specs.Transfer.{open_amount}
 use Rattle.treasury_core.proofs.WayLemmas.{open_sum_low}
 use Rattle.treasury_core.specs.Fair.{IsFair}
 use Rattle.treasury_core.proofs.FairLemmas.{all_fair, names_good, adds_up_named}
-use Rattle.treasury_core.proofs.OpenLemmas.{open_small}
+use Rattle.treasury_core.proofs.OpenLemmas.{open_small, unknown}
 use Rattle.treasury_core.proofs.transit.open_amount.Goals as goal
 
 pub open_between-requires-clause-fair : goal.open_between-requires-clause-fair
@@ -29,3 +29,12 @@ returns-clause-low g c =
 
 pub returns-clause-adds_up : goal.returns-clause-adds_up
 returns-clause-adds_up g c here there apart = adds_up_named c.args.state.now c.args.from.now c.args.to.now c.is_good.ensures here there apart
+
+pub returns-clause-unknown : goal.returns-clause-unknown
+returns-clause-unknown g c none =
+    let s = c.args.state.now in
+    let zero : open_amount c.transfers.result.now c.args.from.now c.args.to.now c.args.unit c.args.day ≡ pos 0 =
+    ap (λ (ts : List Transfer). open_amount ts c.args.from.now c.args.to.now c.args.unit c.args.day) c.transfers.ensures
+    ∙ unknown s.transfers s.branches c.args.from.now c.args.to.now c.args.unit c.args.day c.is_good.ensures.transfers none in
+    let fits : FitsSigned w64 c.open_between.result = search rules in
+    to_z-of_z fits ∙ (c.open_between.ensures ∙ zero)
