@@ -1,7 +1,5 @@
 //! Commands and their answers, row by row: each table is one state, from its first row to its last.
 
-mod transfers;
-
 use crate::{Addition, Answer, Command, State, apply, decide, mark_of};
 use book_core::{Ledger, PlainLedger, Refusal};
 use journal_format::{is_printable, read_journal};
