@@ -9,6 +9,7 @@ use std::process::Abort;
 use std::test::Fail;
 
 mod ledgers;
+mod transit;
 
 const HALL: &str = "2024-01-05 hall\n    expenses:hall  120.00 EUR\n    assets:bank  -120.00 EUR\n";
 
