@@ -8,11 +8,12 @@ use Rattle.std.specs.Cmp.{eq_by_cmp_equiv}
 use Rattle.std.specs.Cmp.Lexicographic.{slice_cmp, nat_list_cmp_total, nat_list_eq_equiv}
 use Rattle.std.specs.Str.{bytes_eq}
 use Rattle.std.specs.BTreeMap.{BTreeMap, UpdatesBy, get_by}
+use Rattle.std.specs.HashMap as hash
 use Rattle.std.specs.Map.{lookup, IsKeyTest, AreApart, KeepsOthers}
 use Rattle.std.proofs.lemmas.Map.Text.{is_eq-slice_cmp}
 use Rattle.std.proofs.lemmas.Slice.Eq.{bytes_eq-Decides}
 use Rattle.day_sums.specs.Row.{Kept, SameRow, row_sum}
-use Rattle.day_sums.specs.Sums.{row_at}
+use Rattle.day_sums.specs.Sums.{Names, row_at}
 
 other_entries : {K X : Type 0} (eq : K → K → Bool) (test : K → Bool) (old new : List (K × X)) → KeepsOthers eq test old new → (other : K → Bool) → IsKeyTest eq other → AreApart test other → lookup other new ≡ lookup other old
 unfolding KeepsOthers
@@ -35,21 +36,28 @@ Puts name m n v = UpdatesBy vec_cmp (λ (k : Vec ℕ Global). slice_cmp nat_cmp 
 pub under_other : {V : Type 0} (name : List ℕ) (m n : BTreeMap (Vec ℕ Global) V) (v : V) → Puts name m n v → (a : List ℕ) → bytes_eq name a ≡ false → under a n ≡ under a m
 under_other name m n v h a e = other_entries _ _ _ _ h.3 _ (λ x y. (eq_by_cmp_equiv nat_list_cmp_total).congr a x.items y.items) (λ k. apart name a k.items e)
 
-abbrev pub Writes : List ℕ → BTreeMap (Vec ℕ Global) Kept → BTreeMap (Vec ℕ Global) Kept → Kept → Type 0
-Writes name m n r = Puts name m n r
+-- ---- rows by name
+apart_as_text : (bs cs ks : List ℕ) → bytes_eq bs cs ≡ false → bytes_eq bs ks ≡ true → bytes_eq cs ks ≡ false
+apart_as_text bs cs ks n y = nat_list_eq_equiv.symm cs ks ∙ sym (nat_list_eq_equiv.congr bs ks cs y) ∙ n
+
+abbrev pub vec_eq : Vec ℕ Global → Vec ℕ Global → Bool
+vec_eq x y = bytes_eq x.items y.items
+
+abbrev pub Writes : List ℕ → Names → Names → Kept → Type 0
+Writes name m n r = hash.UpdatesBy vec_eq (λ (k : Vec ℕ Global). bytes_eq name k.items) m n (Some r)
 
 abbrev pub in_row : Option Kept → Kept
 in_row o = unwrap_or o ([], [])
 
 -- the name has its row
-pub row_own : (name : List ℕ) (m n : BTreeMap (Vec ℕ Global) Kept) (r : Kept) → Writes name m n r → row_at n name ≡ r
+pub row_own : (name : List ℕ) (m n : Names) (r : Kept) → Writes name m n r → row_at n name ≡ r
 row_own name m n r h = ap in_row h.1
 
 -- another name has the row that it had
-pub row_other : (name : List ℕ) (m n : BTreeMap (Vec ℕ Global) Kept) (r : Kept) → Writes name m n r → (a : List ℕ) → bytes_eq name a ≡ false → row_at n a ≡ row_at m a
-row_other name m n r h a e = ap in_row (under_other name m n r h a e)
+pub row_other : (name : List ℕ) (m n : Names) (r : Kept) → Writes name m n r → (a : List ℕ) → bytes_eq name a ≡ false → row_at n a ≡ row_at m a
+row_other name m n r h a e = ap in_row (other_entries _ _ _ _ h.3 _ (λ x y. nat_list_eq_equiv.congr a x.items y.items) (λ k. apart_as_text name a k.items e))
 
-pub same_rows : (name : List ℕ) (m n : BTreeMap (Vec ℕ Global) Kept) (r : Kept) → Writes name m n r → SameRow (row_at m name) r → (a : List ℕ) → SameRow (row_at m a) (row_at n a)
+pub same_rows : (name : List ℕ) (m n : Names) (r : Kept) → Writes name m n r → SameRow (row_at m name) r → (a : List ℕ) → SameRow (row_at m a) (row_at n a)
 same_rows name m n r h same a = by_test (bytes_eq name a) refl
   where
     by_test : (t : Bool) → bytes_eq name a ≡ t → SameRow (row_at m a) (row_at n a)

@@ -1,10 +1,10 @@
 -- The rows of all commodities, once those of one of them are others.
-use Rattle.std.proofs.Common.{◌≡◌, ℕ, Bool, true, false, ◌&&◌, nat_eq, List, [], refl, ap, ◌∙◌, sym, subst, rules, arith, ℤ, pos, ◌+ℤ◌, Vec, Global}
+use Rattle.std.proofs.Common.{◌≡◌, ℕ, Bool, true, false, ◌&&◌, nat_eq, List, [], refl, ap, ◌∙◌, sym, subst, rules, arith, ℤ, pos, ◌+ℤ◌}
 use Rattle.std.specs.Prelude.{Option, Some, if◌then◌else◌, int_le}
 use Rattle.std.specs.Option.{option_map_or}
 use Rattle.std.specs.Ordering.{nat_cmp}
 use Rattle.std.specs.Str.{bytes_eq}
-use Rattle.std.specs.BTreeMap.{BTreeMap, UpdatesBy, get, is_at}
+use Rattle.std.specs.BTreeMap.{UpdatesBy, get, is_at}
 use Rattle.std.proofs.lemmas.Int.{ints}
 use Rattle.std.proofs.lemmas.Bool.Decides.{nat_tests}
 use Rattle.std.proofs.lemmas.Slice.Eq.{bytes_eq-Decides}
@@ -12,10 +12,7 @@ use Rattle.money_core.specs.declared.unit.Unit.{Unit as Commodity}
 use Rattle.money_core.specs.declared.day.Day.{Day}
 use Rattle.day_sums.specs.declared.sums.DaySums.{DaySums}
 use Rattle.day_sums.specs.Row.{Kept, row_sum, has_day, SameRow, RaisedRow}
-use Rattle.day_sums.specs.Sums.{row_at, SameSums, RaisedSums}
-
-abbrev pub Names : Type 0
-Names = BTreeMap (Vec ℕ Global) Kept
+use Rattle.day_sums.specs.Sums.{Names, row_at, SameSums, RaisedSums}
 
 abbrev pub Puts : ℕ → DaySums → DaySums → Names → Type 0
 Puts u old new names = UpdatesBy nat_cmp (nat_cmp u) old.units new.units (Some names)

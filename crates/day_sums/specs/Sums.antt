@@ -3,18 +3,24 @@ use Rattle.std.specs.Prelude.{◌≡◌, true, Bool, ◌&&◌, nat_eq, ℕ, List
 use Rattle.std.specs.Global.{Global}
 use Rattle.std.specs.Option.{unwrap_or, option_map_or}
 use Rattle.std.specs.Ordering.{nat_cmp}
-use Rattle.std.specs.Cmp.Lexicographic.{slice_cmp}
 use Rattle.std.specs.Str.{bytes_eq}
-use Rattle.std.specs.BTreeMap.{BTreeMap, get, get_by}
+use Rattle.std.specs.BTreeMap.{get}
+use Rattle.std.specs.HashMap.{HashMap, get_by}
+use Rattle.std.specs.declared.hash.FoldHasher.{FoldHasher}
+use Rattle.std.specs.declared.hash.BuildHasherDefault.{BuildHasherDefault}
 use Rattle.money_core.specs.declared.unit.Unit.{Unit as Commodity}
 use Rattle.money_core.specs.declared.day.Day.{Day}
 use Rattle.day_sums.specs.declared.sums.DaySums.{DaySums}
 use Rattle.day_sums.specs.Points.{IsUpTo}
 use Rattle.day_sums.specs.Row.{Kept, row_sum, has_day}
 
+-- the rows of the accounts in one commodity
+abbrev pub Names : Type 0
+Names = HashMap (Vec ℕ Global) Kept (BuildHasherDefault FoldHasher)
+
 -- the row of an account, and of an account in a commodity; empty where there is none
-abbrev pub row_at : BTreeMap (Vec ℕ Global) Kept → List ℕ → Kept
-row_at names a = unwrap_or (get_by (λ k. slice_cmp nat_cmp a k.items) names) ([], [])
+abbrev pub row_at : Names → List ℕ → Kept
+row_at names a = unwrap_or (get_by (λ k. bytes_eq a k.items) names) ([], [])
 
 abbrev pub look : DaySums → List ℕ → Commodity → Kept
 look rows a u = option_map_or (λ names. row_at names a) (get nat_cmp rows.units u.0) ([], [])

@@ -10,10 +10,10 @@ ghost use Rattle.day_sums.specs.Sums.{row_at};
 use crate::row::Row;
 use money_core::Cause;
 use std::alloc::Global;
-use std::collections::BTreeMap;
+use std::collections::HashMap;
 
 /// The sum of an account through a day.
-pub fn sum_by_name(names: &BTreeMap<Vec<u8>, Row>, account: &[u8], day: i64) -> i64
+pub fn sum_by_name(names: &HashMap<Vec<u8>, Row>, account: &[u8], day: i64) -> i64
     requires { IsUpTo 4294967296 day }
     ensures { result ≡ row_sum (row_at names.now account.now) day }
 {
@@ -26,7 +26,7 @@ pub fn sum_by_name(names: &BTreeMap<Vec<u8>, Row>, account: &[u8], day: i64) -> 
 /// Opens a day in the row of an account, which is made if it is not there.
 pub fn open_name(
     alloc: Global,
-    names: &mut BTreeMap<Vec<u8>, Row>,
+    names: &mut HashMap<Vec<u8>, Row>,
     account: &[u8],
     day: i64,
 ) -> Result<(), Cause>
@@ -41,12 +41,14 @@ pub fn open_name(
     let mut row = Row::empty(alloc);
     row.open(day)?;
     let name = Vec::from_slice(alloc, account)?;
-    names.insert(name, row)?;
-    Ok(())
+    match names.insert(name, row) {
+        Ok(_) => Ok(()),
+        Err(_) => Err(Cause::OutOfMemory),
+    }
 }
 
 /// Adds to the sums of an account from a day on, which is open.
-pub fn raise_name(names: &mut BTreeMap<Vec<u8>, Row>, account: &[u8], day: i64, qty: i64)
+pub fn raise_name(names: &mut HashMap<Vec<u8>, Row>, account: &[u8], day: i64, qty: i64)
     requires small { IsUpTo 4294967296 day }
     requires open { has_day (row_at names.old account.now) day ≡ true }
     requires sums { (d : ℤ) → IsUpTo 10000000000000000 (row_sum (row_at names.old account.now) d) }

@@ -12,13 +12,13 @@ use crate::names::{open_name, raise_name, sum_by_name};
 use crate::row::Row;
 use money_core::{Cause, Day, Unit};
 use std::alloc::Global;
-use std::collections::BTreeMap;
+use std::collections::{BTreeMap, HashMap};
 
 /// For each account, named by bytes, and each commodity the sums through the days, in smallest units.
 #[derive(Drop)]
 pub struct DaySums {
     alloc: Global,
-    units: BTreeMap<u16, BTreeMap<Vec<u8>, Row>>,
+    units: BTreeMap<u16, HashMap<Vec<u8>, Row>>,
 }
 
 /// The number of a day.
@@ -52,7 +52,7 @@ impl DaySums {
 
     /// The sum of an account in a commodity through a day.
     ///
-    /// Costs one search for each of the commodity, the account and the day.
+    /// Costs one search for each of the commodity and the day, and one look-up for the account.
     pub fn sum_in(&self, account: &[u8], unit: Unit, day: Day) -> i64
         ensures { result ≡ sum_of self.now account.now unit day }
     {
@@ -81,7 +81,7 @@ impl DaySums {
         if let Some(names) = self.units.get_mut(&unit.0) {
             return open_name(alloc, names, account, number);
         }
-        let mut names = BTreeMap::new(alloc);
+        let mut names = HashMap::new(alloc);
         open_name(alloc, &mut names, account, number)?;
         self.units.insert(unit.0, names)?;
         Ok(())

@@ -1,5 +1,5 @@
 -- What a line asks for was read, so that its command fits: a style that a sample has, a day of the years 1 to 9999, transactions that can be printed.
-use Rattle.std.proofs.Common.{◌≡◌, ◌≤◌, ◌<◌, ◌^◌, ℕ, ℤ, List, Bool, true, false, Option, Some, None, Result, Ok, Err, length, arith, refl, sym, subst, inl, inr, if◌then◌else◌, option_map, option_and_then}
+use Rattle.std.proofs.Common.{◌≡◌, ℕ, ℤ, List, Bool, true, false, Option, Some, None, Result, Ok, Err, arith, refl, sym, subst, inl, inr, if◌then◌else◌, option_map, option_and_then}
 use Rattle.std.specs.Prelude.{codes}
 use Rattle.std.specs.Str.{is_utf8}
 use Rattle.serde_json.specs.Data.{Data}
@@ -17,8 +17,6 @@ use Rattle.money_core.proofs.StyleSamples.{is_style_iff}
 use Rattle.journal_lines.specs.DateReading.{date_of}
 use Rattle.journal_lines.specs.Date.{IsDayNumber}
 use Rattle.journal_lines.proofs.DateLemmas.{dates_bound}
-use Rattle.book_core.specs.declared.refusal.Refusal.{Refusal}
-use Rattle.book_core.specs.declared.refusal.Refusal.TheVariants.{Plain, Text}
 use Rattle.journal_format.specs.declared.txn.Located.{Located}
 use Rattle.journal_format.specs.Pieces.{Reads}
 use Rattle.journal_format.proofs.ReadLemmas.{read_printable}
@@ -27,8 +25,7 @@ use Rattle.treasury_core.specs.declared.command.Command.TheVariants as cmd
 use Rattle.treasury_core.specs.Good.{IsFile, Fits}
 use Rattle.treasury.specs.declared.request.Request.{Request}
 use Rattle.treasury.specs.declared.request.Request.TheVariants.{Branch as ForBranch, Commodity as ForCommodity, Import as ForImport, Dispatch as ForDispatch, Receive as ForReceive, Lock as ForLock, Balance as ForBalance}
-use Rattle.treasury.specs.declared.asking.Asked.{Asked}
-use Rattle.treasury.specs.declared.asking.Asked.TheVariants.{Command, Balances}
+use Rattle.treasury.specs.declared.asking.Asked.TheVariants.{Command}
 use Rattle.treasury.specs.Request.{text_at, day_at, is_form, dispatch_at, receive_at, form, request_of, spelled, HasDayNumbers}
 use Rattle.treasury.specs.Asked.{asked_by_sample, asked_by_amount, RequestAsks, Asks}
 

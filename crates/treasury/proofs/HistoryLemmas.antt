@@ -1,26 +1,15 @@
 -- That turns are what a transcript has; that their commands are a run of the machine of commands; and what leaves the state.
-use Rattle.std.proofs.Common.{◌≡◌, ◌++◌, ◌^◌, ◌≤◌, ◌<◌, ℕ, List, [], ◌∷◌, Option, Some, None, Result, Ok, Err, length, map, arith, refl, ap, ◌∙◌, sym, subst, inl, inr, slice_index}
-use Rattle.std.specs.Prelude.{⊤}
-use Rattle.money_core.specs.declared.style.Style.{Style}
-use Rattle.money_core.specs.Style.{is_style}
-use Rattle.money_core.specs.Sampling.{style_of}
-use Rattle.money_core.proofs.SampleLemmas.{style_spelled}
-use Rattle.money_core.proofs.StyleSamples.{is_style_iff}
+use Rattle.std.proofs.Common.{◌≡◌, ◌++◌, ℕ, List, [], ◌∷◌, Result, Ok, Err, map, arith, refl, ap, ◌∙◌, sym, subst, inl, inr, slice_index}
 use Rattle.book_core.specs.declared.refusal.Refusal.{Refusal}
-use Rattle.journal_format.proofs.ReadLemmas.{read_printable}
 use Rattle.treasury_core.specs.declared.command.Answer.{Answer}
 use Rattle.treasury_core.specs.declared.command.Answer.TheVariants.{Done, Entered, Repeated}
-use Rattle.treasury_core.specs.declared.command.Command.TheVariants as cmd
 use Rattle.treasury_core.specs.Federation.{Federation}
-use Rattle.treasury_core.specs.Good.{Fits, IsGoodState}
+use Rattle.treasury_core.specs.Good.{IsGoodState}
 use Rattle.treasury_core.proofs.ReplyLemmas.{run_good}
-use Rattle.treasury_core.specs.History.{Turn as CommandTurn, IsRun as IsCommandRun, state_after, IsRefusedOrRepeated}
-use Rattle.treasury.specs.declared.request.Request.{Request}
-use Rattle.treasury.specs.declared.request.Request.TheVariants.{Branch as ForBranch, Commodity as ForCommodity, Import as ForImport, Lock as ForLock, Balance as ForBalance}
+use Rattle.treasury_core.specs.History.{IsRun as IsCommandRun, state_after, IsRefusedOrRepeated}
 use Rattle.treasury.specs.declared.asking.Asked.{Asked}
 use Rattle.treasury.specs.declared.asking.Asked.TheVariants.{Command, Balances}
-use Rattle.treasury.specs.Request.{spelled, HasDayNumbers}
-use Rattle.treasury.specs.Asked.{asked_by_sample, RequestAsks, Asks}
+use Rattle.treasury.specs.Asked.{Asks}
 use Rattle.treasury.specs.Answer.{answer_text}
 use Rattle.treasury.specs.Step.{after, reply_text, Replies, Answers}
 use Rattle.treasury.specs.Transcript.{requests_in, AnswersInTurn, IsTranscript}

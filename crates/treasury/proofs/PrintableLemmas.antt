@@ -1,5 +1,5 @@
 -- A refusal can be printed: a failed assertion of a book names a date, a commodity and quantities of its entries.
-use Rattle.std.proofs.Common.{◌≡◌, ◌≤◌, ◌<◌, ◌⊎◌, ◌++◌, List, [], ◌∷◌, length, Option, Some, None, Result, Ok, Err, ℤ, pos, arith, refl, ap, sym, subst, inl, inr, ℕ, Bool, true, false, not, nat_le}
+use Rattle.std.proofs.Common.{◌≡◌, ◌≤◌, ◌<◌, ◌⊎◌, ◌++◌, List, [], ◌∷◌, length, Option, Some, None, Result, Ok, Err, ℤ, pos, arith, refl, sym, subst, inl, inr, ℕ, Bool, true, false, not, nat_le}
 use Rattle.std.specs.Prelude.{Contains, unsigned_abs, if◌then◌else◌, int_le, int_lt, is_some}
 use Rattle.std.specs.Str.{bytes_eq}
 use Rattle.std.specs.List.{AllByRecursion, list_any}
@@ -33,7 +33,7 @@ use Rattle.journal_balance.proofs.EntryLemmas.{entry_day}
 use Rattle.journal_balance.proofs.DeclaredLemmas.{entry_declared, entry_asserts}
 use Rattle.treasury_core.specs.declared.record.Record.{Record}
 use Rattle.treasury_core.specs.declared.command.Answer.{Answer}
-use Rattle.treasury_core.specs.declared.command.Answer.TheVariants.{Done, Repeated}
+use Rattle.treasury_core.specs.declared.command.Answer.TheVariants.{Repeated}
 use Rattle.treasury_core.specs.declared.command.Command.{Command}
 use Rattle.treasury_core.specs.declared.command.Command.TheVariants as cmd
 use Rattle.treasury_core.specs.Federation.{Federation, is_branch_name, most_branches, has_branch, records_of, lock_of, entries, book_of}

@@ -11,12 +11,11 @@ use Rattle.treasury_core.specs.declared.command.Command.{Command as AnyCommand}
 use Rattle.treasury_core.specs.declared.delta.Addition.{Addition}
 use Rattle.treasury_core.specs.Federation.{Federation, has_branch, book_of}
 use Rattle.treasury_core.specs.Joined.{joined}
-use Rattle.treasury_core.specs.Step.{Decides, step, reply as command_reply, after as after_command}
-use Rattle.treasury.specs.declared.asking.Asked.{Asked}
+use Rattle.treasury_core.specs.Step.{step, reply as command_reply, after as after_command}
 use Rattle.treasury.specs.declared.asking.Asked.TheVariants.{Command, Balances}
 use Rattle.treasury.specs.Answer.{answer_text}
 use Rattle.treasury.specs.BalanceReport.{report_text}
-use Rattle.treasury.specs.Step.{reply, after, reply_text, IsDone}
+use Rattle.treasury.specs.Step.{reply_text, IsDone}
 use Rattle.treasury.specs.Replied.{IsReplied}
 
 pub on_ok : {T E : Type 0} (r : Result T E) (A B : Type 0) → OnOk r A → (A → B) → OnOk r B

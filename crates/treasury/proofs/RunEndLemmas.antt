@@ -1,21 +1,16 @@
 -- What a run from nothing leaves: all is answered, over books that have what was accepted; or it is cut off, and leaves the state after the
 -- requests that are answered, or after the one whose answer is cut off.
-use Rattle.std.proofs.Common.{◌≡◌, ℕ, zero, suc, List, [], ◌⊎◌, inl, inr, Option, Some, arith, Result, Ok, Err, IfErr, OnOk, refl, sym, subst, ap, ◌∙◌}
+use Rattle.std.proofs.Common.{◌≡◌, ℕ, zero, suc, List, [], ◌⊎◌, inl, inr, Option, Some, arith, Result, Ok, Err, IfErr, OnOk, sym, subst, ap, ◌∙◌}
 use Rattle.std.specs.List.{slice_get}
 use Rattle.money_core.specs.declared.cause.Cause.{Cause}
 use Rattle.money_core.specs.declared.cause.Cause.TheVariants.{OutOfMemory, ReadFault, WriteFault}
-use Rattle.money_core.specs.declared.unit.Unit.{Unit as Commodity}
-use Rattle.money_core.specs.declared.day.Day.{Day}
-use Rattle.book_core.specs.declared.entry.Entry.{Entry}
-use Rattle.book_core.specs.declared.account.Reach.{Reach}
 use Rattle.book_core.specs.declared.place.Until.TheVariants.{Through}
 use Rattle.book_core.specs.Balance.{balance}
 use Rattle.treasury_core.specs.declared.record.Record.{Record}
-use Rattle.treasury_core.specs.Federation.{Federation, records_of, entries, book_of}
+use Rattle.treasury_core.specs.Federation.{Federation, records_of, entries}
 use Rattle.treasury_core.specs.Good.{IsGoodState}
 use Rattle.treasury_core.specs.History.{IsRun as IsCommandRun, state_after, history, records_among}
 use Rattle.treasury_core.proofs.HistoryLemmas.{run_records}
-use Rattle.treasury_core.proofs.ReplyLemmas.{run_good}
 use Rattle.treasury_core.proofs.SoundLemmas.{good_balances, good_holds}
 use Rattle.treasury.specs.Step.{Answers, Loses}
 use Rattle.treasury.specs.Transcript.{IsTranscript}

@@ -16,6 +16,7 @@ use clap::{Command, Error};
 use money_core::Cause;
 use std::alloc::{AllocError, Global};
 use std::io::{Read, Write};
+use std::mem::ManuallyDrop;
 use treasury_core::{
     State, good_law, growing_law, late_entry_law, lock_law, records_law, sound_law,
 };
@@ -117,7 +118,10 @@ fn run<R: Read, W: Write>(alloc: Global, input: &mut R, output: &mut W) -> Resul
     growing_law();
     lock_law();
     late_entry_law();
-    run_lines(alloc, input, output, &mut state)
+    let done = run_lines(alloc, input, output, &mut state);
+    // The process ends here, and its memory with it: to free each record would take a tenth of the run.
+    let _left = ManuallyDrop::new(state);
+    done
 }
 
 /// Writes the text of help or of the version to the output.

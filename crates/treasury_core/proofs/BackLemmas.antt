@@ -1,7 +1,6 @@
 -- a state has room where what it grows into has
-use Rattle.std.proofs.Common.{◌≡◌, ◌≢◌, ℕ, zero, suc, ◌+◌, ◌<◌, ◌≤◌, Bool, true, false, List, [], ◌∷◌, ◌++◌, length, refl, ap, ◌∙◌, sym, subst, arith, length-append, inl, inr, Option, Some, None}
+use Rattle.std.proofs.Common.{◌≡◌, ℕ, zero, suc, Bool, true, false, List, [], ◌∷◌, ◌++◌, length, refl, ap, ◌∙◌, sym, subst, arith, length-append, inl, inr, Option, Some, None}
 use Rattle.std.specs.Prelude.{if◌then◌else◌, not, get_or, ◌⊎◌, Result, Ok, Err}
-use Rattle.money_core.specs.declared.unit.Unit.{Unit as Commodity}
 use Rattle.money_core.specs.declared.unit.Declared.{Declared}
 use Rattle.money_core.specs.declared.unit.Declared.TheVariants.{New}
 use Rattle.money_core.specs.declared.cause.Cause.{Cause}
@@ -12,10 +11,8 @@ use Rattle.std.specs.List.{AllByRecursion}
 use Rattle.std.specs.Option.{unwrap_or}
 use Rattle.std.specs.Str.{bytes_eq}
 use Rattle.money_core.specs.declared.style.Style.{Style}
-use Rattle.money_core.specs.declared.day.Day.{Day}
 use Rattle.money_core.specs.Amount.{place_of}
 use Rattle.money_core.specs.Style.{is_style, AreStyles}
-use Rattle.book_core.specs.declared.entry.Entry.{Entry}
 use Rattle.book_core.specs.GoodBook.{IsFit, IsWithin}
 use Rattle.treasury_core.specs.declared.record.Record.{Record}
 use Rattle.treasury_core.specs.declared.delta.Addition.{Addition}

@@ -1,12 +1,11 @@
 -- what a decision answers
-use Rattle.std.proofs.Common.{◌≡◌, ◌⊎◌, ◌≤◌, ◌-◌, ℕ, Bool, true, false, List, [], ◌∷◌, ◌++◌, length, map, refl, ap, ◌∙◌, sym, subst, arith, inl, inr, append-nil, Option, Some, None, Ok, Err}
-use Rattle.std.specs.Prelude.{if◌then◌else◌, Result, IfOk, MatchResult, not, ◌==◌, find, cond}
-use Rattle.std.specs.List.{AllByRecursion, list_any}
+use Rattle.std.proofs.Common.{◌≡◌, ◌⊎◌, ◌-◌, ℕ, Bool, true, false, List, [], ◌∷◌, ◌++◌, length, map, refl, ap, ◌∙◌, sym, subst, arith, inl, inr, append-nil, Option, Some, None, Ok, Err}
+use Rattle.std.specs.Prelude.{Result, IfOk, MatchResult, ◌==◌, find, cond}
+use Rattle.std.specs.List.{AllByRecursion}
 use Rattle.std.specs.Option.{option_or}
 use Rattle.std.specs.Str.{bytes_eq}
 use Rattle.std.proofs.lemmas.Bool.Decides.{nat_tests}
 use Rattle.money_core.specs.declared.style.Style.{Style}
-use Rattle.money_core.specs.declared.day.Day.{Day}
 use Rattle.money_core.specs.declared.cause.Cause.TheVariants.{OutOfMemory, UnknownBranch}
 use Rattle.book_core.specs.declared.entry.Entry.{Entry}
 use Rattle.book_core.specs.declared.refusal.Refusal.{Refusal}
@@ -16,14 +15,14 @@ use Rattle.book_core.proofs.GoodBookLemmas.{verdict_good}
 use Rattle.journal_format.specs.declared.txn.Located.{Located}
 use Rattle.treasury_core.specs.declared.record.Record.{Record}
 use Rattle.treasury_core.specs.declared.command.Answer.{Answer}
-use Rattle.treasury_core.specs.declared.command.Answer.TheVariants.{Done, Entered, Repeated}
+use Rattle.treasury_core.specs.declared.command.Answer.TheVariants.{Entered}
 use Rattle.treasury_core.specs.declared.delta.Addition.{Addition}
 use Rattle.treasury_core.specs.declared.delta.Addition.TheVariants as add
 use Rattle.treasury_core.specs.declared.command.Command.{Command}
 use Rattle.treasury_core.specs.declared.command.Command.TheVariants as cmd
-use Rattle.treasury_core.specs.Federation.{Branch, Federation, has_name, has_branch, records_of, lock_of, entries}
+use Rattle.treasury_core.specs.Federation.{Branch, Federation, has_name, has_branch, entries}
 use Rattle.treasury_core.specs.Joined.{joined}
-use Rattle.treasury_core.specs.Step.{unless, entered, records_in_file, new_in, file_refusal, new_records, enter_refusal, reply, after, added, delta, step, Decides}
+use Rattle.treasury_core.specs.Step.{unless, entered, records_in_file, new_in, file_refusal, reply, after, added, delta, step, Decides}
 use Rattle.treasury_core.specs.Good.{Fits, IsGoodState}
 use Rattle.treasury_core.specs.Kept.{branch_at}
 use Rattle.treasury_core.proofs.FindLemmas.{IsThere}

@@ -1,5 +1,5 @@
 -- a dispatch and a receipt leave a good state good
-use Rattle.std.proofs.Common.{◌≡◌, ◌≤◌, ℕ, Bool, true, false, cond, List, [], ◌∷◌, ◌++◌, refl, ap, ◌∙◌, sym, subst, arith, Option, Some, None}
+use Rattle.std.proofs.Common.{◌≡◌, ℕ, Bool, true, false, cond, List, [], ◌∷◌, ◌++◌, refl, ap, ◌∙◌, sym, subst, arith, Option, Some, None}
 use Rattle.std.specs.Prelude.{find, filter}
 use Rattle.std.specs.List.{list_any, AllByRecursion}
 use Rattle.std.specs.Str.{bytes_eq}
@@ -8,7 +8,7 @@ use Rattle.book_core.specs.GoodBook.{verdict}
 use Rattle.treasury_core.specs.declared.record.Record.{Record}
 use Rattle.treasury_core.specs.declared.transfer.Transfer.{Transfer}
 use Rattle.treasury_core.specs.declared.transfer.Receipt.{Receipt}
-use Rattle.treasury_core.specs.Federation.{Branch, Federation, has_name, entries, book_of}
+use Rattle.treasury_core.specs.Federation.{Branch, Federation, entries, book_of}
 use Rattle.treasury_core.specs.Mark.{held, is_of_transfer}
 use Rattle.treasury_core.specs.Transfer.{has_id, asked, out_records, in_records, dispatch_record, receipt_record, out_mark}
 use Rattle.treasury_core.specs.Joined.{with_records, changed, inserted, received, with_receipt, with_entered, with_dispatched, with_received}

@@ -1,12 +1,12 @@
 -- the records of transfers of one branch are in no other, which refuses them from a file
-use Rattle.std.proofs.Common.{◌≡◌, ◌⊎◌, ℕ, Bool, true, false, ◌||◌, ◌&&◌, cond, List, [], ◌∷◌, ◌++◌, refl, ap, ◌∙◌, sym, subst, inl, inr, append_assoc, Option, Some, None, Ok, Err}
-use Rattle.std.specs.Prelude.{if◌then◌else◌, Result, filter, not}
-use Rattle.std.specs.List.{list_any, AllByRecursion}
+use Rattle.std.proofs.Common.{◌≡◌, ◌⊎◌, ℕ, Bool, true, false, ◌||◌, ◌&&◌, cond, List, [], ◌∷◌, ◌++◌, refl, ap, ◌∙◌, sym, subst, inl, inr, append_assoc, Option, Some, None, Err}
+use Rattle.std.specs.Prelude.{if◌then◌else◌}
+use Rattle.std.specs.List.{AllByRecursion}
 use Rattle.std.specs.Option.{option_or}
 use Rattle.std.specs.Str.{bytes_eq}
 use Rattle.money_core.specs.declared.style.Style.{Style}
 use Rattle.money_core.specs.declared.day.Day.{Day}
-use Rattle.money_core.specs.declared.cause.Cause.TheVariants.{ReservedMark, UnknownBranch}
+use Rattle.money_core.specs.declared.cause.Cause.TheVariants.{ReservedMark}
 use Rattle.book_core.specs.declared.refusal.Refusal.{Refusal}
 use Rattle.book_core.specs.declared.refusal.Refusal.TheVariants.{Plain}
 use Rattle.journal_format.specs.declared.txn.Txn.{Txn}
@@ -14,15 +14,14 @@ use Rattle.journal_format.specs.declared.txn.Located.{Located}
 use Rattle.treasury_core.specs.declared.record.Record.{Record}
 use Rattle.treasury_core.specs.declared.transfer.Receipt.{Receipt}
 use Rattle.treasury_core.specs.declared.transfer.Transfer.{Transfer}
-use Rattle.treasury_core.specs.declared.command.Answer.{Answer}
 use Rattle.treasury_core.specs.declared.command.Command.TheVariants as cmd
 use Rattle.treasury_core.specs.Federation.{Branch, Federation, has_branch, records_in, records_of, lock_of}
 use Rattle.treasury_core.specs.Mark.{is_held, held, is_repeat, is_product_mark, is_of_transfer, is_transfer_mark}
-use Rattle.treasury_core.specs.Transfer.{asked, out_records, in_records, out_mark, in_mark, dispatch_record, receipt_record}
-use Rattle.treasury_core.specs.Step.{unless, entered, number_in, unbalanced, recorded_in, records_from, records_in_file, barred, refusal_of, refused_in, new_records, enter_refusal, reply}
-use Rattle.treasury_core.specs.Good.{IsGoodRecord, IsOfFile, IsGoodBranch, IsCarried, IsGoodState}
+use Rattle.treasury_core.specs.Transfer.{asked, out_records, in_records, out_mark, in_mark}
+use Rattle.treasury_core.specs.Step.{number_in, unbalanced, recorded_in, records_from, records_in_file, refusal_of, refused_in, reply}
+use Rattle.treasury_core.specs.Good.{IsGoodRecord, IsOfFile, IsGoodBranch, IsGoodState}
 use Rattle.treasury_core.specs.History.{IsAmong, IsOwn, IsOwnJournal, IsNew}
-use Rattle.treasury_core.proofs.BytesLemmas.{same_bytes, self_bytes, or_false}
+use Rattle.treasury_core.proofs.BytesLemmas.{same_bytes, self_bytes}
 use Rattle.treasury_core.proofs.HeldLemmas.{repeat_held}
 use Rattle.treasury_core.proofs.AskedLemmas.{HaveOwnIds, no_out, no_in}
 use Rattle.treasury_core.proofs.WayLemmas.{never_both}

@@ -1,10 +1,8 @@
 -- what an accepted file adds to its branch
-use Rattle.std.proofs.Common.{◌≡◌, ℕ, Bool, true, false, List, [], ◌++◌, ap, ◌∙◌, refl, Ok}
+use Rattle.std.proofs.Common.{◌≡◌, ℕ, Bool, List, [], ◌++◌, ap, ◌∙◌, Ok}
 use Rattle.std.specs.Prelude.{Result, if◌then◌else◌}
-use Rattle.std.specs.Str.{bytes_eq}
 use Rattle.book_core.specs.declared.refusal.Refusal.{Refusal}
 use Rattle.journal_format.specs.declared.txn.Located.{Located}
-use Rattle.treasury_core.specs.declared.record.Record.{Record}
 use Rattle.treasury_core.specs.declared.command.Answer.{Answer}
 use Rattle.treasury_core.specs.declared.command.Answer.TheVariants.{Entered}
 use Rattle.treasury_core.specs.declared.command.Command.TheVariants.{Enter}

@@ -1,8 +1,8 @@
 -- the accounts of the way add up in a good state
-use Rattle.std.proofs.Common.{◌≡◌, ◌≤ℤ◌, ◌+ℤ◌, ℕ, Bool, true, false, ◌&&◌, ◌||◌, nat_eq, List, [], ◌∷◌, pos, refl, ap, ◌∙◌, sym, subst, arith, Option, Some, None}
-use Rattle.std.specs.Prelude.{◌==◌, nat_le, if◌then◌else◌, slice_index, length}
+use Rattle.std.proofs.Common.{◌≡◌, ◌≤ℤ◌, ◌+ℤ◌, ℕ, Bool, true, false, ◌&&◌, ◌||◌, nat_eq, List, [], ◌∷◌, pos, refl, ap, ◌∙◌, sym, subst, arith}
+use Rattle.std.specs.Prelude.{nat_le, if◌then◌else◌, slice_index, length}
 use Rattle.money_core.specs.declared.style.Style.{Style}
-use Rattle.std.specs.Char.{is_ascii_lowercase, is_ascii_digit}
+use Rattle.std.specs.Char.{is_ascii_lowercase}
 use Rattle.std.specs.List.{list_all, list_any, AllByRecursion}
 use Rattle.std.specs.Str.{bytes_eq}
 use Rattle.std.proofs.lemmas.Bool.{and_parts}
@@ -16,7 +16,7 @@ use Rattle.treasury_core.specs.Transfer.{open_amount, transit_account}
 use Rattle.book_core.specs.declared.account.Reach.TheVariants.{Own}
 use Rattle.book_core.specs.declared.place.Until.TheVariants.{Through}
 use Rattle.book_core.specs.Balance.{balance}
-use Rattle.treasury_core.specs.Good.{IsGoodBranch, IsGoodTransfer, IsCarried, IsGoodState, HaveOwnNames}
+use Rattle.treasury_core.specs.Good.{IsGoodBranch, IsGoodTransfer, IsCarried, IsGoodState}
 use Rattle.treasury_core.specs.History.{AddsUp}
 use Rattle.treasury_core.specs.Fair.{HasNoColon, IsFair}
 use Rattle.treasury_core.proofs.BytesLemmas.{same_bytes}

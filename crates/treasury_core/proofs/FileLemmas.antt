@@ -1,8 +1,8 @@
 -- the records of a file: each is good, and the new ones are new
-use Rattle.std.proofs.Common.{◌≡◌, ◌≤◌, ◌<◌, ◌+◌, ◌^◌, ℕ, suc, Bool, true, false, ◌||◌, ◌&&◌, List, [], ◌∷◌, ◌++◌, length, refl, ap, ◌∙◌, sym, subst, arith, append_assoc, append-nil, length-append, map, Option, Some, None, Ok, Err}
+use Rattle.std.proofs.Common.{◌≡◌, ◌≤◌, ◌<◌, ◌+◌, ◌^◌, ℕ, suc, Bool, true, false, ◌&&◌, List, [], ◌∷◌, ◌++◌, length, refl, ◌∙◌, sym, subst, arith, append_assoc, append-nil, length-append, map, Option, Some, None, Ok, Err}
 use Rattle.std.specs.Prelude.{if◌then◌else◌, Result, is_some, not}
 use Rattle.std.specs.Option.{option_or}
-use Rattle.std.specs.List.{list_any, count_by, AllByRecursion}
+use Rattle.std.specs.List.{list_any, AllByRecursion}
 use Rattle.std.specs.Str.{bytes_eq}
 use Rattle.std.proofs.lemmas.List.Sums.{count_by-le-length}
 use Rattle.money_core.specs.declared.style.Style.{Style}
@@ -16,9 +16,9 @@ use Rattle.journal_format.specs.Printable.{IsPrintable}
 use Rattle.journal_format.specs.CanonicalText.{body_text, marked}
 use Rattle.journal_balance.specs.Legs.{legs_of, balancing_fault}
 use Rattle.treasury_core.specs.declared.record.Record.{Record}
-use Rattle.treasury_core.specs.Mark.{is_held, held, HaveOwnMarks, is_repeat, is_product_mark, mark_of}
+use Rattle.treasury_core.specs.Mark.{is_held, HaveOwnMarks, is_repeat, is_product_mark, mark_of}
 use Rattle.treasury_core.specs.Transfer.{is_transit}
-use Rattle.treasury_core.specs.Step.{is_locked, number_in, fault_on, unbalanced, recorded, records_from, records_in_file, refusal_of, refused_in, new_in}
+use Rattle.treasury_core.specs.Step.{is_locked, number_in, recorded, records_from, refusal_of, refused_in, new_in}
 use Rattle.treasury_core.specs.Good.{IsGoodRecord, IsOfFile}
 use Rattle.treasury_core.specs.History.{IsNew}
 use Rattle.treasury_core.proofs.HashLemmas.{printable_marked}

@@ -1,10 +1,8 @@
 -- commodities, branches and records stay where they are
-use Rattle.std.proofs.Common.{◌≡◌, ℕ, Bool, true, false, List, [], ◌∷◌, ◌++◌, map, refl, ap, ◌∙◌, sym, subst, append_assoc, append-nil, Ok, Err}
+use Rattle.std.proofs.Common.{◌≡◌, ℕ, Bool, true, false, List, [], ◌∷◌, ◌++◌, refl, ap, ◌∙◌, sym, subst, append_assoc, append-nil, Ok, Err}
 use Rattle.std.specs.Prelude.{if◌then◌else◌, Result}
 use Rattle.std.specs.Str.{bytes_eq}
-use Rattle.money_core.specs.declared.style.Style.{Style}
 use Rattle.book_core.specs.declared.refusal.Refusal.{Refusal}
-use Rattle.treasury_core.specs.declared.record.Record.{Record}
 use Rattle.treasury_core.specs.declared.command.Answer.{Answer}
 use Rattle.treasury_core.specs.declared.command.Answer.TheVariants.{Done, Entered, Repeated}
 use Rattle.treasury_core.specs.declared.command.Command.{Command}
@@ -13,7 +11,7 @@ use Rattle.treasury_core.specs.Federation.{Branch, Federation, records_of}
 use Rattle.treasury_core.specs.Joined.{new_branch, with_records, with_lock, changed}
 use Rattle.treasury_core.specs.Transfer.{dispatch_record}
 use Rattle.treasury_core.specs.Step.{done, after, delta, new_records, transfer_of, transfer_at, receipt_records}
-use Rattle.treasury_core.specs.History.{Turn, Replies, after_turn, IsRun, state_after, history, records_among, names_of, Grows, HasGrown}
+use Rattle.treasury_core.specs.History.{Turn, after_turn, IsRun, state_after, records_among, names_of, Grows, HasGrown}
 use Rattle.treasury_core.proofs.ChangeLemmas.{KeepsName}
 use Rattle.treasury_core.proofs.HistoryLemmas.{after_records}
 

@@ -14,8 +14,8 @@ use Rattle.treasury_core.specs.declared.command.Command.{Command}
 use Rattle.treasury_core.specs.declared.command.Command.TheVariants as cmd
 use Rattle.treasury_core.specs.Federation.{Branch, Federation}
 use Rattle.treasury_core.specs.Joined.{with_records, changed, with_entered, with_received, joined, joined_one}
-use Rattle.treasury_core.specs.Step.{done, added, after, delta, reply, new_records, receipt_of, receipt_records, transfer_at}
-use Rattle.treasury_core.specs.History.{Turn, after_turn, state_after, history}
+use Rattle.treasury_core.specs.Step.{done, added, after, delta, new_records, receipt_of, receipt_records, transfer_at}
+use Rattle.treasury_core.specs.History.{Turn, state_after, history}
 
 -- one list of records is another
 same_records : (b : Branch) (xs ys : List Record) → xs ≡ ys → (let c : Branch = record b { records = xs } in c) ≡ record b { records = ys }

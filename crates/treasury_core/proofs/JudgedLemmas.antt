@@ -1,8 +1,8 @@
 -- what becomes of a transaction, by the record that holds its mark
-use Rattle.std.proofs.Common.{◌≡◌, ℕ, Bool, true, false, ◌||◌, ◌&&◌, cond, List, [], ◌∷◌, ◌++◌, refl, ap, ◌∙◌, sym, subst, append_assoc, append-nil, Option, Some, None, Ok, Err, ◌⊎◌, inl, inr}
+use Rattle.std.proofs.Common.{◌≡◌, ℕ, Bool, true, false, ◌||◌, ◌&&◌, cond, List, [], ◌∷◌, ◌++◌, refl, ap, ◌∙◌, sym, subst, append_assoc, Option, Some, None, Ok, Err, ◌⊎◌, inl, inr}
 use Rattle.std.specs.Prelude.{if◌then◌else◌, Result, IfSome}
-use Rattle.std.specs.Option.{option_or, unwrap_or}
-use Rattle.std.specs.List.{list_any, AllByRecursion}
+use Rattle.std.specs.Option.{unwrap_or}
+use Rattle.std.specs.List.{AllByRecursion}
 use Rattle.std.specs.Str.{bytes_eq}
 use Rattle.money_core.specs.declared.style.Style.{Style}
 use Rattle.money_core.specs.declared.day.Day.{Day}
@@ -11,8 +11,8 @@ use Rattle.book_core.specs.declared.refusal.Refusal.{Refusal}
 use Rattle.book_core.specs.declared.refusal.Refusal.TheVariants.{Plain}
 use Rattle.journal_format.specs.CanonicalText.{body_text}
 use Rattle.treasury_core.specs.declared.record.Record.{Record}
-use Rattle.treasury_core.specs.Mark.{has_mark, is_held, held, HaveOwnMarks, is_repeat}
-use Rattle.treasury_core.specs.Step.{barred, refusal_of, refused_in, new_in}
+use Rattle.treasury_core.specs.Mark.{is_held, held, HaveOwnMarks, is_repeat}
+use Rattle.treasury_core.specs.Step.{barred, refused_in, new_in}
 use Rattle.treasury_core.specs.Judged.{new_unless, judged}
 use Rattle.treasury_core.proofs.BytesLemmas.{same_bytes, or_false}
 use Rattle.treasury_core.proofs.HeldLemmas.{none_tail, own_push}

@@ -1,5 +1,5 @@
 -- what is added leaves a good state good
-use Rattle.std.proofs.Common.{◌≡◌, ◌≤◌, ◌<◌, ◌+◌, ℕ, Bool, true, false, ◌||◌, cond, List, [], ◌∷◌, ◌++◌, length, refl, ap, ◌∙◌, sym, subst, arith, append-nil, length-append, Option, Some, None, Ok, Err}
+use Rattle.std.proofs.Common.{◌≡◌, ◌<◌, ℕ, Bool, true, false, ◌||◌, cond, List, [], ◌∷◌, ◌++◌, length, refl, ap, ◌∙◌, sym, subst, arith, append-nil, length-append, None, Ok}
 use Rattle.std.specs.Prelude.{filter}
 use Rattle.std.specs.List.{list_any, AllByRecursion}
 use Rattle.std.specs.Str.{bytes_eq}
@@ -8,7 +8,7 @@ use Rattle.money_core.specs.declared.style.Style.{Style}
 use Rattle.money_core.specs.declared.day.Day.{Day}
 use Rattle.money_core.specs.declared.unit.Unit.{Unit as Commodity}
 use Rattle.money_core.specs.declared.unit.Declared.TheVariants.{New}
-use Rattle.money_core.specs.Style.{AreStyles, is_style, declared}
+use Rattle.money_core.specs.Style.{is_style, declared}
 use Rattle.money_core.proofs.StyleLemmas.{AreStyles-snoc, declared-was_new}
 use Rattle.money_core.proofs.GrowthLemmas.{styles_grow}
 use Rattle.book_core.specs.GoodBook.{IsFit, IsGoodBook, verdict}

@@ -1,10 +1,9 @@
 -- a locked day stays locked, and the balances through it stay
-use Rattle.std.proofs.Common.{◌≡◌, ◌+ℤ◌, append-nil, ℕ, Bool, true, false, List, [], ◌∷◌, ◌++◌, ℤ, pos, refl, ap, ◌∙◌, sym, subst, arith, Option, Some, None, Ok, Err}
-use Rattle.std.specs.Prelude.{if◌then◌else◌, Result, int_le, int_lt}
+use Rattle.std.proofs.Common.{◌≡◌, append-nil, ℕ, Bool, true, false, List, [], ◌∷◌, ◌++◌, ℤ, pos, refl, ap, ◌∙◌, sym, subst, arith, Option, Some, None, Ok, Err}
+use Rattle.std.specs.Prelude.{if◌then◌else◌, Result, int_le}
 use Rattle.std.specs.List.{AllByRecursion}
 use Rattle.std.specs.Str.{bytes_eq}
 use Rattle.std.proofs.lemmas.Int.{ints}
-use Rattle.money_core.specs.declared.style.Style.{Style}
 use Rattle.money_core.specs.declared.day.Day.{Day}
 use Rattle.money_core.specs.declared.unit.Unit.{Unit as Commodity}
 use Rattle.book_core.specs.declared.entry.Entry.{Entry}
@@ -13,7 +12,6 @@ use Rattle.book_core.specs.declared.place.Until.TheVariants.{Through}
 use Rattle.book_core.specs.declared.refusal.Refusal.{Refusal}
 use Rattle.book_core.specs.Balance.{balance, sum_in}
 use Rattle.book_core.proofs.BalanceLemmas.{balance-append, balance-entry, balance-nil}
-use Rattle.journal_format.specs.declared.txn.Located.{Located}
 use Rattle.treasury_core.specs.declared.record.Record.{Record}
 use Rattle.treasury_core.specs.declared.transfer.Transfer.{Transfer}
 use Rattle.treasury_core.specs.declared.command.Answer.{Answer}

@@ -1,5 +1,5 @@
 -- a branch's own journal, entered again
-use Rattle.std.proofs.Common.{◌≡◌, ◌⊎◌, ◌+◌, ◌-◌, ℕ, Bool, true, false, ◌||◌, ◌&&◌, List, [], ◌∷◌, ◌++◌, length, refl, ap, ◌∙◌, sym, subst, arith, inl, inr, append-nil, Option, Some, None, Ok, Err}
+use Rattle.std.proofs.Common.{◌≡◌, ◌+◌, ◌-◌, ℕ, Bool, true, false, ◌||◌, ◌&&◌, List, [], ◌∷◌, ◌++◌, length, refl, ap, ◌∙◌, sym, subst, arith, inl, inr, append-nil, Option, Some, None, Ok, Err}
 use Rattle.std.specs.Prelude.{if◌then◌else◌, Result, not}
 use Rattle.std.specs.List.{list_any, AllByRecursion}
 use Rattle.std.specs.Option.{option_or}
@@ -20,12 +20,11 @@ use Rattle.journal_balance.specs.Legs.{legs_of}
 use Rattle.treasury_core.specs.declared.record.Record.{Record}
 use Rattle.treasury_core.specs.declared.command.Answer.{Answer}
 use Rattle.treasury_core.specs.declared.command.Answer.TheVariants.{Done, Entered, Repeated}
-use Rattle.treasury_core.specs.declared.command.Command.{Command}
 use Rattle.treasury_core.specs.declared.command.Command.TheVariants as cmd
 use Rattle.treasury_core.specs.Federation.{Branch, Federation, has_branch, records_in, records_of, lock_of, entries, book_of}
-use Rattle.treasury_core.specs.Mark.{is_held, is_repeat, mark_of}
+use Rattle.treasury_core.specs.Mark.{is_repeat, mark_of}
 use Rattle.treasury_core.specs.Joined.{with_entered}
-use Rattle.treasury_core.specs.Step.{unless, reply, done, after, step, entered, number_in, fault_on, unbalanced, recorded, records_from, records_in_file, refused_in, new_in, new_records, enter_reply, enter_refusal}
+use Rattle.treasury_core.specs.Step.{unless, reply, done, after, step, entered, number_in, fault_on, unbalanced, recorded, records_from, records_in_file, refused_in, new_in, new_records, enter_refusal}
 use Rattle.treasury_core.specs.Good.{IsGoodRecord, IsGoodBranch, IsGoodState}
 use Rattle.treasury_core.specs.History.{IsAmong, IsOwn, IsOwnJournal}
 use Rattle.treasury_core.proofs.BytesLemmas.{self_bytes, or_true}

@@ -1,16 +1,16 @@
 -- Dispatch and Receive keep the records and the transfers in step
-use Rattle.std.proofs.Common.{◌≡◌, ℕ, Bool, true, false, ◌||◌, cond, List, [], ◌∷◌, ◌++◌, refl, ap, ◌∙◌, sym, subst, Option, Some, None}
-use Rattle.std.specs.Prelude.{if◌then◌else◌, filter, find, codes}
+use Rattle.std.proofs.Common.{◌≡◌, ℕ, Bool, true, false, cond, List, [], ◌∷◌, ◌++◌, refl, ap, ◌∙◌, sym, subst, Option, Some, None}
+use Rattle.std.specs.Prelude.{if◌then◌else◌, find, codes}
 use Rattle.std.specs.Option.{option_or}
 use Rattle.std.specs.Ordering.{is_lt}
-use Rattle.std.specs.List.{list_any, AllByRecursion}
+use Rattle.std.specs.List.{list_any}
 use Rattle.std.specs.Str.{bytes_eq}
 use Rattle.std.proofs.lemmas.List.Folds.{find-append}
 use Rattle.book_core.specs.Account.{name_cmp}
 use Rattle.treasury_core.specs.declared.record.Record.{Record}
 use Rattle.treasury_core.specs.declared.transfer.Receipt.{Receipt}
 use Rattle.treasury_core.specs.declared.transfer.Transfer.{Transfer}
-use Rattle.treasury_core.specs.Mark.{has_mark, held, HaveOwnMarks}
+use Rattle.treasury_core.specs.Mark.{has_mark, held}
 use Rattle.treasury_core.specs.Transfer.{asked, out_records, in_records, out_mark, in_mark, has_id, dispatch_record, receipt_record}
 use Rattle.treasury_core.specs.Joined.{inserted, received, with_receipt}
 use Rattle.treasury_core.proofs.BytesLemmas.{same_bytes, neither}

@@ -4,7 +4,6 @@ use Rattle.std.specs.Prelude.{Result}
 use Rattle.std.specs.List.{AllByRecursion}
 use Rattle.money_core.specs.declared.style.Style.{Style}
 use Rattle.book_core.specs.declared.refusal.Refusal.{Refusal}
-use Rattle.journal_format.specs.declared.txn.Txn.{Txn}
 use Rattle.journal_format.specs.declared.txn.Located.{Located}
 use Rattle.journal_format.specs.CanonicalText.{txn_lines, journal_text}
 use Rattle.journal_format.specs.Pieces.{Reads}
@@ -18,7 +17,7 @@ use Rattle.treasury_core.specs.declared.command.Command.TheVariants.{Enter}
 use Rattle.treasury_core.specs.Federation.{Federation, has_branch, records_of}
 use Rattle.treasury_core.specs.Step.{reply, step}
 use Rattle.treasury_core.specs.Good.{IsGoodRecord, IsGoodState}
-use Rattle.treasury_core.specs.History.{IsOwn, IsOwnJournal, AreAmong, txns_in}
+use Rattle.treasury_core.specs.History.{IsOwnJournal, AreAmong, txns_in}
 use Rattle.treasury_core.proofs.OwnLemmas.{of_branch, among_all, own_reply, none_new_stays}
 
 all_printable : (styles : List Style) (all rs : List Record) → AllByRecursion (IsGoodRecord styles) all → AreAmong all rs → AllByRecursion (IsPrintable styles) (txns_in rs)

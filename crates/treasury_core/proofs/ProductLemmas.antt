@@ -1,8 +1,8 @@
 -- the transactions of transfers can be printed, and do what their two postings say
-use Rattle.std.proofs.Common.{◌≡◌, ◌≤◌, ◌<◌, ◌+◌, ◌-◌, ◌&&◌, ◌||◌, ◌==◌, nat_eq, ℕ, zero, suc, Bool, true, false, List, [], ◌∷◌, ◌++◌, length, ℤ, pos, ◌+ℤ◌, ◌-ℤ◌, refl, ap, ◌∙◌, sym, subst, arith, Option, Some, None, Ok, length-append, append_assoc}
-use Rattle.std.specs.Prelude.{codes, not, nat_lt, nat_le, slice_index, unsigned_abs, int_le, if◌then◌else◌}
+use Rattle.std.proofs.Common.{◌≡◌, ◌≤◌, ◌<◌, ◌+◌, ◌-◌, ◌&&◌, ◌||◌, ◌==◌, nat_eq, ℕ, zero, suc, Bool, true, false, List, [], ◌∷◌, ◌++◌, length, ℤ, pos, ◌+ℤ◌, ◌-ℤ◌, refl, ap, ◌∙◌, sym, arith, Some, None, length-append, append_assoc}
+use Rattle.std.specs.Prelude.{codes, not, nat_lt, nat_le, slice_index, unsigned_abs, if◌then◌else◌}
 use Rattle.std.specs.List.{list_all, slice_split, All, AllByRecursion}
-use Rattle.std.specs.Char.{is_ascii_lowercase, is_ascii_digit}
+use Rattle.std.specs.Char.{is_ascii_lowercase}
 use Rattle.std.specs.Str.{is_utf8}
 use Rattle.std.proofs.lemmas.Bool.{and_from, and_parts, ltb-true, leb-true}
 use Rattle.std.proofs.lemmas.Bool.Decides.{nat_tests}
@@ -16,24 +16,21 @@ use Rattle.money_core.specs.declared.day.Day.{Day}
 use Rattle.money_core.specs.declared.unit.Unit.{Unit as Commodity}
 use Rattle.money_core.specs.Style.{AreStyles}
 use Rattle.money_core.specs.Amount.{limit}
-use Rattle.book_core.specs.declared.leg.Leg.{Leg}
-use Rattle.book_core.specs.Balance.{value}
 use Rattle.book_core.specs.GoodBook.{IsFit}
 use Rattle.journal_lines.specs.Blank.{is_blank, is_trimmed}
 use Rattle.journal_lines.specs.Date.{IsDayNumber}
 use Rattle.journal_lines.specs.Comment.{has_no}
-use Rattle.journal_lines.specs.Printed.{is_clean, is_description, HeaderOk, header_line}
-use Rattle.journal_lines.specs.AccountName.{is_account, is_part, parts, has_gap, is_gap, bars_start}
+use Rattle.journal_lines.specs.Printed.{is_clean, is_description}
+use Rattle.journal_lines.specs.AccountName.{is_account, is_part, has_gap, is_gap}
 use Rattle.journal_lines.specs.AccountName.{is_name_byte as is_account_byte}
 use Rattle.journal_format.specs.declared.posting.Posting.{Posting}
-use Rattle.journal_format.specs.declared.txn.Txn.{Txn}
-use Rattle.journal_format.specs.CanonicalText.{body_text, amount_text}
+use Rattle.journal_format.specs.CanonicalText.{body_text}
 use Rattle.journal_format.specs.Mark.{is_mark, is_mark_byte}
-use Rattle.journal_format.specs.Printable.{IsPrintable, is_amount, is_posting, is_value}
+use Rattle.journal_format.specs.Printable.{is_amount, is_posting, is_value}
 use Rattle.journal_format.proofs.Utf8Lemmas.{utf8_low, utf8_joined, is_low}
 use Rattle.journal_format.proofs.PostingLemmas.{part_length}
 use Rattle.journal_format.proofs.SizeLemmas.{body_size, head_is, header_small, postings-append, posting_size, line_is, posting_small, no_remarks}
-use Rattle.journal_format.specs.BodySize.{postings_size, remarks_size, head_size}
+use Rattle.journal_format.specs.BodySize.{postings_size, remarks_size}
 use Rattle.journal_balance.specs.Legs.{leg}
 use Rattle.journal_balance.proofs.WrittenLemmas.{legs_of-written}
 use Rattle.treasury_core.specs.declared.transfer.Receipt.{Receipt}

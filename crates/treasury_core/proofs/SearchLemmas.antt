@@ -1,9 +1,9 @@
 -- where a transfer stands among those in order of their IDs
-use Rattle.std.proofs.Common.{◌≡◌, ℕ, zero, suc, ◌+◌, ◌≤◌, ◌<◌, Bool, true, false, cond, List, [], ◌∷◌, ◌++◌, length, take, drop, get_or, set, pos, refl, ap, ◌∙◌, sym, subst, arith, Option, Some, None}
+use Rattle.std.proofs.Common.{◌≡◌, ℕ, zero, suc, ◌+◌, ◌≤◌, ◌<◌, Bool, true, false, cond, List, [], ◌∷◌, length, get_or, set, pos, refl, ap, ◌∙◌, sym, subst, arith, Option, Some, None}
 use Rattle.std.specs.Prelude.{if◌then◌else◌, find, insert, is_some, nat_lt, IfSome, option_copied}
 use Rattle.std.specs.Ordering.{is_lt}
 use Rattle.std.specs.declared.cmp.Ordering.TheVariants.{Less}
-use Rattle.std.specs.List.{prefix_len, slice_get, AllByRecursion}
+use Rattle.std.specs.List.{prefix_len, slice_get}
 use Rattle.std.specs.List.Sorted.{IsPartitionedBy, IsPartitionPoint}
 use Rattle.std.specs.Str.{bytes_eq}
 use Rattle.std.proofs.lemmas.List.{set-get_or}
@@ -19,7 +19,7 @@ use Rattle.treasury_core.specs.Transfer.{has_id}
 use Rattle.treasury_core.specs.Joined.{inserted, received, with_receipt}
 use Rattle.treasury_core.specs.Good.{AreAscending}
 use Rattle.treasury_core.specs.Room.{is_before}
-use Rattle.treasury_core.proofs.OrderLemmas.{AreBehind, other_than, none_like, all_after, not_less}
+use Rattle.treasury_core.proofs.OrderLemmas.{AreBehind, other_than, all_after, not_less}
 use Rattle.treasury_core.proofs.BytesLemmas.{self_bytes, other_bytes}
 
 -- some transfer, for places past the end

@@ -1,5 +1,5 @@
 -- what holds of transfers holds with one more, and with one more receipt
-use Rattle.std.proofs.Common.{◌≡◌, ℕ, Bool, true, false, cond, List, [], ◌∷◌, subst, Option, Some}
+use Rattle.std.proofs.Common.{◌≡◌, ℕ, Bool, true, false, cond, List, [], ◌∷◌, subst, Some}
 use Rattle.std.specs.Prelude.{if◌then◌else◌, find}
 use Rattle.std.specs.Ordering.{is_lt}
 use Rattle.std.specs.List.{list_any, AllByRecursion}

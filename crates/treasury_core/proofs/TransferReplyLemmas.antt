@@ -1,17 +1,14 @@
 -- what a dispatch and a receipt are answered, case by case
-use Rattle.std.proofs.Common.{◌≡◌, ◌⊎◌, ◌≤◌, ℕ, Bool, true, false, List, [], ◌∷◌, ◌++◌, refl, ap, ◌∙◌, sym, subst, inl, inr, Option, Some, None, Ok, Err}
-use Rattle.std.specs.Prelude.{if◌then◌else◌, Result, IfOk, IfErr, OnOk, MatchResult, find, cond, unsigned_abs, not, is_some}
-use Rattle.std.specs.List.{AllByRecursion}
+use Rattle.std.proofs.Common.{◌≡◌, ◌⊎◌, ◌≤◌, ℕ, Bool, true, false, List, [], ◌∷◌, refl, ap, ◌∙◌, sym, subst, inl, inr, Option, Some, None, Ok, Err}
+use Rattle.std.specs.Prelude.{Result, IfOk, IfErr, OnOk, MatchResult, find, unsigned_abs, not}
 use Rattle.std.specs.Str.{bytes_eq}
 use Rattle.std.proofs.lemmas.Bool.{and_parts, leb-true}
-use Rattle.money_core.specs.declared.day.Day.{Day}
 use Rattle.money_core.specs.declared.cause.Cause.TheVariants.{OutOfMemory, UnknownBranch, SameBranch, BadId, MarkClash, UnknownTransfer, WrongBranch, AlreadyReceived}
 use Rattle.money_core.specs.Amount.{limit}
 use Rattle.book_core.specs.declared.refusal.Refusal.{Refusal}
 use Rattle.book_core.specs.declared.refusal.Refusal.TheVariants.{Plain}
-use Rattle.journal_format.specs.Printable.{is_amount, is_posting}
+use Rattle.journal_format.specs.Printable.{is_posting}
 use Rattle.journal_balance.specs.Legs.{leg}
-use Rattle.treasury_core.specs.declared.record.Record.{Record}
 use Rattle.treasury_core.specs.declared.transfer.Receipt.{Receipt}
 use Rattle.treasury_core.specs.declared.transfer.Transfer.{Transfer}
 use Rattle.treasury_core.specs.declared.command.Answer.{Answer}
@@ -22,9 +19,9 @@ use Rattle.treasury_core.specs.declared.command.Dispatch.{Dispatch}
 use Rattle.treasury_core.specs.declared.command.Receive.{Receive}
 use Rattle.treasury_core.specs.declared.command.Command.{Command}
 use Rattle.treasury_core.specs.declared.command.Command.TheVariants as cmd
-use Rattle.treasury_core.specs.Federation.{Branch, Federation, has_branch, records_of, lock_of}
+use Rattle.treasury_core.specs.Federation.{Branch, Federation, has_branch}
 use Rattle.treasury_core.specs.Transfer.{is_id, has_id, transit_account, posting, dispatch_record, receipt_record}
-use Rattle.treasury_core.specs.Step.{unless, transfer_at, transfer_of, is_dispatched_so, dispatch_refusal, receipt_of, is_received_so, receipt_refusal, receipt_reply, receipt_records, reply, added, delta, Decides}
+use Rattle.treasury_core.specs.Step.{unless, transfer_at, transfer_of, is_dispatched_so, dispatch_refusal, receipt_of, is_received_so, receipt_refusal, receipt_reply, reply, added, delta, Decides}
 use Rattle.treasury_core.specs.Good.{IsGoodTransfer, IsGoodState}
 use Rattle.treasury_core.proofs.FindLemmas.{IsThere}
 use Rattle.treasury_core.proofs.DispatchLemmas.{dispatch_written}

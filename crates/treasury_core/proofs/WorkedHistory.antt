@@ -7,7 +7,6 @@ use Rattle.money_core.specs.declared.day.Day.{Day}
 use Rattle.money_core.specs.declared.cause.Cause.TheVariants.{UnknownBranch, Unbalanced, ReservedMark, Locked, LockBack}
 use Rattle.book_core.specs.declared.claim.Claim.{Claim}
 use Rattle.book_core.specs.declared.claim.ClaimKind.TheVariants.{Exact}
-use Rattle.book_core.specs.declared.entry.Entry.{Entry}
 use Rattle.book_core.specs.declared.refusal.Refusal.{Refusal}
 use Rattle.book_core.specs.declared.refusal.Refusal.TheVariants.{Plain, Text, ClaimFailed}
 use Rattle.book_core.specs.Balance.{balance}
@@ -22,7 +21,7 @@ use Rattle.treasury_core.specs.declared.command.Answer.TheVariants.{Done, Entere
 use Rattle.treasury_core.specs.declared.command.Command.{Command}
 use Rattle.treasury_core.specs.declared.command.Command.TheVariants.{Branch as NewBranch, Enter, Lock}
 use Rattle.treasury_core.specs.declared.delta.Addition.TheVariants as add
-use Rattle.treasury_core.specs.Federation.{Branch, Federation, records_of, book_of}
+use Rattle.treasury_core.specs.Federation.{Federation, records_of, book_of}
 use Rattle.treasury_core.specs.Step.{reply, done, added}
 use Rattle.treasury_core.specs.History.{Turn, state_after, history, records_among}
 

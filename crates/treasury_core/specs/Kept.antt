@@ -1,4 +1,4 @@
--- Mirrors code: how a state is kept, each branch with its ledger and an index of its marks.
+-- Mirrors code: how a state is kept, with an index of its branches' names, each branch with its ledger and an index of its marks.
 use Rattle.std.specs.Prelude.{ℕ, ◌≡◌, List, map, Option, find}
 use Rattle.std.specs.List.{AllByRecursion, position_from}
 use Rattle.std.specs.HashMap.{HashMap, get_by_text}
@@ -33,6 +33,14 @@ branches_of bs = map branch_of bs
 -- and of a state
 abbrev pub federation_of : {L : Type 0} → List Style → List (Kept L) → List Transfer → Federation
 federation_of styles bs ts = record { styles = styles; branches = branches_of bs; transfers = ts }
+
+-- the place of the first branch of a name
+abbrev pub branch_place : List Branch → List ℕ → Option ℕ
+branch_place bs name = position_from (has_name name) 0 bs
+
+-- the map leads from each name to its branch's place
+abbrev pub ArePlacesOf : HashMap (String Global) ℕ (BuildHasherDefault FoldHasher) → List Branch → Type 0
+ArePlacesOf places bs = (name : List ℕ) → get_by_text places name ≡ branch_place bs name
 
 -- the ledger has the entries of the records, and the index leads to their marks
 pub record IsKept {L : Type 0} (book : L → List Entry) (b : Kept L) : Type 0 where

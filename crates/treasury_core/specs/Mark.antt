@@ -1,5 +1,5 @@
 -- Marks: what a transaction goes by in its branch, and when one is a repeat (own rules; docs/RULES.md, "Marks and repeats").
-use Rattle.std.specs.Prelude.{◌≡◌, ℕ, ◌+◌, nat_eq, Bool, ◌&&◌, ◌||◌, not, List, [], ◌∷◌, ◌++◌, codes, decimal, Option, Some, None, is_some, find, ⊤}
+use Rattle.std.specs.Prelude.{◌≡◌, ℕ, nat_eq, Bool, ◌&&◌, ◌||◌, not, List, [], ◌∷◌, ◌++◌, codes, decimal, Option, Some, None, is_some, find, ⊤}
 use Rattle.std.specs.List.{starts_with, list_any, count_by}
 use Rattle.std.specs.Str.{bytes_eq}
 use Rattle.sha2.specs.Sha256.{sha256}

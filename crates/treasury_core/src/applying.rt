@@ -8,11 +8,11 @@ ghost use Rattle.money_core.specs.Style.{AreStyles};
 ghost use Rattle.treasury_core.specs.Federation.{entries};
 ghost use Rattle.treasury_core.specs.Joined.{new_branch, with_records, with_lock, changed, joined_one, joined};
 ghost use Rattle.treasury_core.specs.Good.{AreAscending, IsGoodState};
-ghost use Rattle.treasury_core.specs.Kept.{branch_of, branches_of, federation_of, IsKept};
+ghost use Rattle.treasury_core.specs.Kept.{branch_of, branches_of, federation_of, ArePlacesOf, IsKept};
 ghost use Rattle.treasury_core.specs.Room.{name_place, HasRoom, IsRoomy};
 
 use crate::delta::{Addition, Delta};
-use crate::index::push_marked;
+use crate::index::{push_marked, put_place};
 use crate::order::{insert_transfer, receive_transfer};
 use crate::record::Record;
 use crate::state::{Branch, State};
@@ -23,15 +23,14 @@ use std::alloc::Global;
 use std::collections::HashMap;
 
 /// The place of the branch of that name; their number where there is none.
-fn place_of<L: Ledger>(branches: &[Branch<L>], name: &str) -> usize
+fn place_of<L: Ledger>(branches: &[Branch<L>], places: &HashMap<String, usize>, name: &str) -> usize
+    requires { ArePlacesOf places.now (branches_of branches.now) }
     ensures { result ≡ name_place (branches_of branches.now) name.now }
 {
-    for (i, branch) in branches.iter().enumerate() {
-        if branch.name.as_str() == name {
-            return i;
-        }
+    match places.get(name) {
+        Some(place) => *place,
+        None => branches.len(),
     }
-    branches.len()
 }
 
 /// A record into the branch's list, its index and its ledger. On 40 the branch is not to be used any more.
@@ -52,16 +51,18 @@ fn add_record<L: Ledger>(alloc: Global, branch: &mut Branch<L>, row: Record) -> 
 fn apply_record<L: Ledger>(
     alloc: Global,
     branches: &mut Vec<Branch<L>>,
+    places: &HashMap<String, usize>,
     name: &str,
     row: Record,
 ) -> Result<(), Cause>
     requires kept { AllByRecursion (IsKept L.book) branches.old.items }
+    requires places { ArePlacesOf places.now (branches_of branches.old.items) }
     requires room { AllByRecursion HasRoom (changed (with_records (row ∷ [])) name.now (branches_of branches.old.items)) }
     ensures ok { OnOk result (branches_of branches.new.items ≡ changed (with_records (row ∷ [])) name.now (branches_of branches.old.items)) }
     ensures kept { OnOk result (AllByRecursion (IsKept L.book) branches.new.items) }
     ensures memory { IsOkUnless result Cause.OutOfMemory }
 {
-    let place = place_of(branches, name);
+    let place = place_of(branches, places, name);
     if place >= branches.len() {
         return Ok(());
     }
@@ -70,12 +71,18 @@ fn apply_record<L: Ledger>(
 }
 
 /// A lock day for the branch of that name, if it is there.
-fn apply_lock<L: Ledger>(branches: &mut Vec<Branch<L>>, name: &str, day: Day)
-    requires { AllByRecursion (IsKept L.book) branches.old.items }
+fn apply_lock<L: Ledger>(
+    branches: &mut Vec<Branch<L>>,
+    places: &HashMap<String, usize>,
+    name: &str,
+    day: Day,
+)
+    requires kept { AllByRecursion (IsKept L.book) branches.old.items }
+    requires places { ArePlacesOf places.now (branches_of branches.old.items) }
     ensures after { branches_of branches.new.items ≡ changed (with_lock day) name.now (branches_of branches.old.items) }
     ensures kept { AllByRecursion (IsKept L.book) branches.new.items }
 {
-    let place = place_of(branches, name);
+    let place = place_of(branches, places, name);
     if place < branches.len() {
         let branch = &mut branches[place];
         branch.locked = Some(day);
@@ -86,13 +93,17 @@ fn apply_lock<L: Ledger>(branches: &mut Vec<Branch<L>>, name: &str, day: Day)
 fn apply_branch<L: Ledger>(
     alloc: Global,
     branches: &mut Vec<Branch<L>>,
+    places: &mut HashMap<String, usize>,
     name: Text,
 ) -> Result<(), Cause>
-    requires { AllByRecursion (IsKept L.book) branches.old.items }
+    requires kept { AllByRecursion (IsKept L.book) branches.old.items }
+    requires places { ArePlacesOf places.old (branches_of branches.old.items) }
     ensures ok { OnOk result (branches_of branches.new.items ≡ branches_of branches.old.items ++ new_branch name ∷ []) }
     ensures kept { OnOk result (AllByRecursion (IsKept L.book) branches.new.items) }
+    ensures places { OnOk result (ArePlacesOf places.new (branches_of branches.new.items)) }
     ensures memory { IsOkUnless result Cause.OutOfMemory }
 {
+    put_place(alloc, places, name.as_str(), branches.len())?;
     let branch = Branch {
         name,
         locked: None,
@@ -121,27 +132,30 @@ fn apply_one<L: Ledger>(
     alloc: Global,
     styles: &mut Styles,
     branches: &mut Vec<Branch<L>>,
+    places: &mut HashMap<String, usize>,
     transfers: &mut Vec<Transfer>,
     addition: Addition,
 ) -> Result<(), Cause>
     requires kept { AllByRecursion (IsKept L.book) branches.old.items }
+    requires places { ArePlacesOf places.old (branches_of branches.old.items) }
     requires room { IsRoomy (joined_one (federation_of styles.old branches.old.items transfers.old.items) addition) }
     requires order { AreAscending transfers.old.items }
     ensures ok { OnOk result (federation_of styles.new branches.new.items transfers.new.items ≡ joined_one (federation_of styles.old branches.old.items transfers.old.items) addition) }
     ensures kept { OnOk result (AllByRecursion (IsKept L.book) branches.new.items) }
+    ensures places { OnOk result (ArePlacesOf places.new (branches_of branches.new.items)) }
     ensures memory { IsOkUnless result Cause.OutOfMemory }
 {
     match addition {
         Addition::Commodity(style) => apply_style(styles, style),
-        Addition::Branch(name) => apply_branch(alloc, branches, name),
-        Addition::Record(name, row) => apply_record(alloc, branches, name.as_str(), row),
+        Addition::Branch(name) => apply_branch(alloc, branches, places, name),
+        Addition::Record(name, row) => apply_record(alloc, branches, places, name.as_str(), row),
         Addition::Dispatched(transfer) => insert_transfer(transfers, transfer),
         Addition::Received(id, day, payee) => {
             receive_transfer(transfers, id.as_str(), Receipt { day, payee });
             Ok(())
         }
         Addition::Locked(name, day) => {
-            apply_lock(branches, name.as_str(), day);
+            apply_lock(branches, places, name.as_str(), day);
             Ok(())
         }
     }
@@ -157,15 +171,24 @@ pub fn apply<L: Ledger>(alloc: Global, state: State<L>, delta: Delta) -> Result<
     let State {
         mut styles,
         mut branches,
+        mut places,
         transfers: list,
     } = state;
     let mut transfers = list.into_vec();
     'additions: for addition in delta.into_items().into_vec() {
-        apply_one(alloc, &mut styles, &mut branches, &mut transfers, addition)?;
+        apply_one(
+            alloc,
+            &mut styles,
+            &mut branches,
+            &mut places,
+            &mut transfers,
+            addition,
+        )?;
     }
     Ok(State {
         styles,
         branches,
+        places,
         transfers: Items::from_vec(transfers),
     })
 }

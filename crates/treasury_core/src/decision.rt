@@ -66,7 +66,7 @@ fn is_branch_name(name: &[u8]) -> bool
 pub(crate) fn has_branch<L: Ledger>(state: &State<L>, name: &str) -> bool
     ensures { result ≡ has_branch state.now name.now }
 {
-    match find_branch(state.branches(), name) {
+    match find_branch(state, name) {
         None => false,
         Some(_) => true,
     }
@@ -76,7 +76,7 @@ pub(crate) fn has_branch<L: Ledger>(state: &State<L>, name: &str) -> bool
 fn lock_of<L: Ledger>(state: &State<L>, name: &str) -> Option<Day>
     ensures { result ≡ lock_of state.now name.now }
 {
-    match find_branch(state.branches(), name) {
+    match find_branch(state, name) {
         None => None,
         Some(branch) => branch.locked,
     }
@@ -350,7 +350,7 @@ fn decide_enter<L: Ledger>(
     ensures { Decides state.now (Command.Enter name.now file.now) result }
 {
     state.is_good();
-    let Some(branch) = find_branch(state.branches(), name.as_str()) else {
+    let Some(branch) = find_branch(state, name.as_str()) else {
         return Err(Refusal::Plain(Cause::UnknownBranch));
     };
     match new_records(alloc, state.styles(), branch, file) {

@@ -143,7 +143,7 @@ pub(crate) fn decide_dispatch<L: Ledger>(
     ensures { Decides state.now (Command.Dispatch dispatch.now) result }
 {
     state.is_good();
-    let Some(source) = find_branch(state.branches(), dispatch.source.as_str()) else {
+    let Some(source) = find_branch(state, dispatch.source.as_str()) else {
         return Err(Refusal::Plain(Cause::UnknownBranch));
     };
     if !has_branch(state, dispatch.target.as_str()) {

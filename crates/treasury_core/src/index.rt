@@ -1,6 +1,9 @@
-//! An index from marks to records.
+//! Indexes: from marks to records, from names to branches.
 
-ghost use Rattle.std.specs.Prelude.{◌≡◌, [], ◌∷◌, ◌++◌, OnOk, option_copied};
+ghost use Rattle.std.specs.Prelude.{◌≡◌, ℕ, List, [], ◌∷◌, ◌++◌, OnOk, option_copied, cond, Some, None};
+ghost use Rattle.std.specs.Option.{option_or};
+ghost use Rattle.std.specs.Str.{bytes_eq};
+ghost use Rattle.std.specs.HashMap.{get_by_text};
 ghost use Rattle.std.specs.Result.{IsOkUnless};
 ghost use Rattle.treasury_core.specs.Mark.{held};
 ghost use Rattle.treasury_core.specs.Kept.{IsIndexOf};
@@ -25,6 +28,28 @@ pub(crate) fn find_mark<'a>(
     }
 }
 
+/// Puts a text with that place into an index, where it is not there yet.
+pub(crate) fn put_place(
+    alloc: Global,
+    index: &mut HashMap<String, usize>,
+    text: &str,
+    place: usize,
+) -> Result<(), Cause>
+    ensures put { OnOk result ((other : List ℕ) → get_by_text index.new other ≡ option_or (get_by_text index.old other) (cond (bytes_eq text.now other) (Some place) None)) }
+    ensures memory { IsOkUnless result Cause.OutOfMemory }
+{
+    if index.contains_key(text) {
+        return Ok(());
+    }
+    let Ok(key) = String::from_str(alloc, text) else {
+        return Err(Cause::OutOfMemory);
+    };
+    let Ok(_old) = index.insert(key, place) else {
+        return Err(Cause::OutOfMemory);
+    };
+    Ok(())
+}
+
 /// Puts the record last, and its mark into the index.
 pub(crate) fn push_marked(
     alloc: Global,
@@ -38,17 +63,8 @@ pub(crate) fn push_marked(
     ensures memory { IsOkUnless result Cause.OutOfMemory }
 {
     let place = records.items().len();
-    let is_held = index.contains_key(row.mark.as_str());
-    if !is_held {
-        let Ok(key) = String::from_str(alloc, row.mark.as_str()) else {
-            return Err(Cause::OutOfMemory);
-        };
-        let Ok(_old) = index.insert(key, place) else {
-            return Err(Cause::OutOfMemory);
-        };
-    }
-    match records.push(row) {
-        Ok(()) => Ok(()),
+    match put_place(alloc, index, row.mark.as_str(), place) {
+        Ok(()) => records.push(row),
         Err(cause) => Err(cause),
     }
 }

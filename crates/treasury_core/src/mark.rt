@@ -11,6 +11,9 @@ use money_core::{Cause, Copied, Styles, Text};
 use sha2::{Digest, Sha256};
 use std::alloc::Global;
 
+/// The number of bytes that the canonical text of most transactions stays under.
+const USUAL_TEXT: usize = 128;
+
 /// The canonical text of a transaction, without its mark.
 pub(crate) fn text_of(alloc: Global, txn: &Txn, styles: &Styles) -> Result<Vec<u8>, Cause>
     requires { IsPrintable styles.now txn.now }
@@ -18,6 +21,7 @@ pub(crate) fn text_of(alloc: Global, txn: &Txn, styles: &Styles) -> Result<Vec<u
     ensures memory { IsOkUnless result Cause.OutOfMemory }
 {
     let mut text = Vec::new(alloc);
+    text.reserve(USUAL_TEXT)?;
     body(alloc, txn, styles, &mut text)?;
     Ok(text)
 }

@@ -119,7 +119,7 @@ pub(crate) fn decide_receive<L: Ledger>(
     ensures { Decides state.now (Command.Receive receive.now) result }
 {
     state.is_good();
-    let Some(target) = find_branch(state.branches(), receive.branch.as_str()) else {
+    let Some(target) = find_branch(state, receive.branch.as_str()) else {
         return Err(Refusal::Plain(Cause::UnknownBranch));
     };
     if !is_id(receive.id.as_str().as_bytes()) {

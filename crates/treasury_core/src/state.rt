@@ -33,18 +33,20 @@ pub struct Branch<L: Ledger> {
 pub struct State<L: Ledger> {
     pub(crate) styles: Styles,
     pub(crate) branches: Vec<Branch<L>>,
+    /// The place of each name's branch.
+    pub(crate) places: HashMap<String, usize>,
     pub(crate) transfers: Items<Transfer>,
 }
 
 impl<L: Ledger> Model for State<L> {
     ghost use Rattle.treasury_core.specs.Federation.{Federation};
-    ghost use Rattle.treasury_core.specs.Kept.{federation_of, AreKept};
+    ghost use Rattle.treasury_core.specs.Kept.{branches_of, federation_of, ArePlacesOf, AreKept};
 
     ghost Value = { Federation };
 
     ghost view = { λ s. federation_of s.styles s.branches.items s.transfers };
 
-    ghost invariant = { λ s. AreKept L.book s.styles s.branches.items s.transfers };
+    ghost invariant = { λ s. AreKept L.book s.styles s.branches.items s.transfers × ArePlacesOf s.places (branches_of s.branches.items) };
 }
 
 impl<L: Ledger> State<L> {
@@ -55,6 +57,7 @@ impl<L: Ledger> State<L> {
         State {
             styles: Styles::empty(alloc),
             branches: Vec::new(alloc),
+            places: HashMap::new(alloc),
             transfers: Items::empty(alloc),
         }
     }
@@ -89,7 +92,7 @@ impl<L: Ledger> State<L> {
         ensures good { IfSome result (λ ledger. IsGoodBook (L.book ledger.now)) }
     {
         self.is_good();
-        match find_branch(self.branches(), name) {
+        match find_branch(self, name) {
             Some(branch) => Some(&branch.ledger),
             None => None,
         }
@@ -103,19 +106,13 @@ impl<L: Ledger> State<L> {
     }
 }
 
-/// The branch of that name.
-pub(crate) fn find_branch<'a, L: Ledger>(
-    branches: &'a [Branch<L>],
-    name: &str,
-) -> Option<&'a Branch<L>>
-    requires { AllByRecursion (IsKept L.book) branches.now }
-    ensures found { MatchOption result (branch_at (branches_of branches.now) name.now ≡ None) (λ b. branch_at (branches_of branches.now) name.now ≡ Some (branch_of b.now)) }
+/// The branch of that name: one look-up, whatever the number of branches.
+pub(crate) fn find_branch<'a, L: Ledger>(state: &'a State<L>, name: &str) -> Option<&'a Branch<L>>
+    ensures found { MatchOption result (branch_at state.now.branches name.now ≡ None) (λ b. branch_at state.now.branches name.now ≡ Some (branch_of b.now)) }
     ensures kept { IfSome result (λ b. IsKept L.book b.now) }
 {
-    for branch in branches {
-        if branch.name.as_str() == name {
-            return Some(branch);
-        }
+    match state.places.get(name) {
+        None => None,
+        Some(place) => state.branches.get(*place),
     }
-    None
 }

@@ -1,8 +1,7 @@
-use Rattle.std.proofs.Common.{◌≡◌, ◌∙◌, sym, ap, subst, ℤ, List, [], ℕ, rules, w64, Vec, Global}
+use Rattle.std.proofs.Common.{◌≡◌, ◌∙◌, sym, ap, subst, ℤ, List, [], ℕ, rules, w64}
 use Rattle.std.proofs.lemmas.Int.{to_z-of_z}
-use Rattle.std.specs.BTreeMap.{BTreeMap}
 use Rattle.day_sums.specs.Row.{Kept, SameRow, has_day}
-use Rattle.day_sums.specs.Sums.{row_at}
+use Rattle.day_sums.specs.Sums.{Names, row_at}
 use Rattle.day_sums.proofs.NameLemmas.{Writes, same_rows, row_own, in_row, blank_same}
 use Rattle.day_sums.proofs.names.open_name.Goals as goal
 
@@ -11,18 +10,18 @@ returns-in-Some-clause-same c =
     let was : c.in-Some.row.now ≡ row_at c.args.names.now c.args.account.now = ap in_row c.in-Some.ensures.value in
     same_rows c.args.account.now c.args.names.now (c.get_mut.follows.lender c.open.new.self) c.open.new.self ((c.get_mut.follows.holds c.open.new.self).3 (search rules)) (subst (λ (r : Kept). SameRow r c.open.new.self) was c.open.ensures.same)
 
-pub returns-clause-same : goal.returns-clause-same
-returns-clause-same c =
+pub returns-in-Ok-clause-same : goal.returns-in-Ok-clause-same
+returns-in-Ok-clause-same c =
     let old = c.get_mut.follows.lender-at-none in
     let kept = c.get_mut.follows.holds-at-none in
     let none : ([], []) ≡ row_at c.args.names.now c.args.account.now = ap in_row c.in_default.ensures.value in
-    let put : Writes c.args.account.now old c.insert.new.self c.open-2.new.self = subst (λ (name : List ℕ). Writes name old c.insert.new.self c.open-2.new.self) c.in_ok-name.ensures.items c.in_ok-insert.ensures.updates in
-    let was : ([], []) ≡ row_at old c.args.account.now = none ∙ ap (λ (m : BTreeMap (Vec ℕ Global) Kept). row_at m c.args.account.now) (sym kept) in
-    subst (λ (m : BTreeMap (Vec ℕ Global) Kept). (a : List ℕ) → SameRow (row_at m a) (row_at c.insert.new.self a)) kept
+    let put : Writes c.args.account.now old c.insert.new.self c.open-2.new.self = subst (λ (name : List ℕ). Writes name old c.insert.new.self c.open-2.new.self) c.in_ok-name.ensures.items c.in-Ok.ensures.updates in
+    let was : ([], []) ≡ row_at old c.args.account.now = none ∙ ap (λ (m : Names). row_at m c.args.account.now) (sym kept) in
+    subst (λ (m : Names). (a : List ℕ) → SameRow (row_at m a) (row_at c.insert.new.self a)) kept
     (same_rows c.args.account.now old c.insert.new.self c.open-2.new.self put (subst (λ (r : Kept). SameRow r c.open-2.new.self) was (blank_same _ c.open-2.new.self c.empty-row.ensures c.in_ok-open.ensures.same)))
 
-pub returns-clause-open : goal.returns-clause-open
-returns-clause-open c =
+pub returns-in-Ok-clause-open : goal.returns-in-Ok-clause-open
+returns-in-Ok-clause-open c =
     let old = c.get_mut.follows.lender-at-none in
-    let put : Writes c.args.account.now old c.insert.new.self c.open-2.new.self = subst (λ (name : List ℕ). Writes name old c.insert.new.self c.open-2.new.self) c.in_ok-name.ensures.items c.in_ok-insert.ensures.updates in
+    let put : Writes c.args.account.now old c.insert.new.self c.open-2.new.self = subst (λ (name : List ℕ). Writes name old c.insert.new.self c.open-2.new.self) c.in_ok-name.ensures.items c.in-Ok.ensures.updates in
     ap (λ (r : Kept). has_day r c.args.day) (row_own c.args.account.now old c.insert.new.self c.open-2.new.self put) ∙ ap (λ (d : ℤ). has_day c.open-2.new.self d) (sym (to_z-of_z w64 c.args.day (search rules))) ∙ c.in_ok-open.ensures.open

@@ -3,10 +3,10 @@ use Rattle.treasury.proofs.words.run.Goals as goal
 
 pub returns-clause-done : goal.returns-clause-done
 returns-clause-done g c =
-    answers_all c.run_lines.result g.R.Read.remaining _ _ g.W.Write.contents _ _ c.run_lines.new.state
-    (rw c.empty-state.ensures at c.run_lines.ensures)
+    answers_all c.run_lines-done.result g.R.Read.remaining _ _ g.W.Write.contents _ _ c.run_lines-done.new.state
+    (rw c.empty-state.ensures at c.run_lines-done.ensures)
 
 pub returns-clause-cut_off : goal.returns-clause-cut_off
 returns-clause-cut_off g c =
-    cut_off c.run_lines.result g.R.Read.remaining _ _ g.W.Write.contents _ _ c.run_lines.new.state
-    (rw c.empty-state.ensures at c.run_lines.ensures)
+    cut_off c.run_lines-done.result g.R.Read.remaining _ _ g.W.Write.contents _ _ c.run_lines-done.new.state
+    (rw c.empty-state.ensures at c.run_lines-done.ensures)

@@ -1,4 +1,4 @@
-use Rattle.std.proofs.Common.{◌≡◌, ◌∷◌, [], ap, sym, ◌∙◌, subst, List}
+use Rattle.std.proofs.Common.{◌≡◌, [], ap, sym, ◌∙◌, subst, List}
 use Rattle.treasury_core.specs.declared.transfer.Transfer.{Transfer}
 use Rattle.treasury_core.specs.Joined.{joined, joined_one}
 use Rattle.treasury_core.specs.Good.{IsGoodState}
@@ -24,8 +24,10 @@ pub invariant_of-result : goal.invariant_of-result
 invariant_of-result g c =
     let s = federation_of c.additions.styles c.additions.branches.items c.additions.transfers.items in
     let none : c.additions.addition-iterator.rest.items ≡ [] = no_more c.additions.addition-iterator.rest.items (sym c.additions.addition-iterator.rest.ok.0 ∙ c.in-None.ensures.steps.0) in
-    let same : s ≡ joined c.args.state c.args.delta = sym (ap (joined s) none) ∙ c.additions.invariant.same in
-    record {
-      kept = c.additions.invariant.kept;
-      good = subst (λ (ts : List Transfer). IsGoodState (federation_of c.additions.styles c.additions.branches.items ts)) (sym c.from_vec.ensures) (subst IsGoodState (sym same) c.requires);
-    }
+    let same : s ≡ joined c.args.state c.args.delta = sym (ap (joined s) none) ∙ c.additions.invariant.same in (
+      record {
+        kept = c.additions.invariant.kept;
+        good = subst (λ (ts : List Transfer). IsGoodState (federation_of c.additions.styles c.additions.branches.items ts)) (sym c.from_vec.ensures) (subst IsGoodState (sym same) c.requires);
+      },
+      c.additions.invariant.places,
+    )

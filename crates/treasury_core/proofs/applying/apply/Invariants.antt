@@ -1,7 +1,7 @@
 use Rattle.std.proofs.Common.{◌≡◌}
 use Rattle.std.specs.List.{AllByRecursion}
 use Rattle.treasury_core.specs.Joined.{joined}
-use Rattle.treasury_core.specs.Kept.{federation_of, IsKept}
+use Rattle.treasury_core.specs.Kept.{branches_of, federation_of, ArePlacesOf, IsKept}
 use Rattle.treasury_core.proofs.applying.apply.Given as goal
 
 -- with the additions that are left, the state is the one that it was with all
@@ -9,4 +9,5 @@ abbrev pub invariant-additions : goal.invariant-additions
 invariant-additions g l = record {
   same : joined (federation_of l.styles l.branches.items l.transfers.items) l.addition-iterator.rest.items ≡ joined l.fn.state l.fn.delta;
   kept : AllByRecursion (IsKept g.L.Ledger.book) l.branches.items;
+  places : ArePlacesOf l.places (branches_of l.branches.items);
 }

@@ -1,4 +1,4 @@
-use Rattle.std.proofs.Common.{◌≡◌, ap, sym, ◌∙◌, refl, arith}
+use Rattle.std.proofs.Common.{ap, sym, ◌∙◌, refl, arith}
 use Rattle.treasury_core.specs.Joined.{with_lock}
 use Rattle.treasury_core.specs.Kept.{branches_of}
 use Rattle.treasury_core.specs.Room.{name_place}

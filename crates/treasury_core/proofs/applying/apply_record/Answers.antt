@@ -1,6 +1,5 @@
-use Rattle.std.proofs.Common.{◌≡◌, ◌∷◌, [], ap, sym, ◌∙◌, refl, arith, List}
+use Rattle.std.proofs.Common.{◌∷◌, [], ap, sym, ◌∙◌, arith}
 use Rattle.std.proofs.lemmas.Result.{on_ok_weaker}
-use Rattle.treasury_core.specs.declared.state.Branch.{Branch as Kept}
 use Rattle.treasury_core.specs.Joined.{with_records}
 use Rattle.treasury_core.specs.Kept.{branch_of, branches_of}
 use Rattle.treasury_core.specs.Room.{name_place, HasRoom}

@@ -1,9 +1,8 @@
-use Rattle.std.proofs.Common.{◌≡◌, ap, sym, subst, ◌∙◌, arith, inr, length, ℕ, List, [], Option, Some, None}
+use Rattle.std.proofs.Common.{◌≡◌, ap, sym, subst, ◌∙◌, arith, inr, length, List, [], Some, None}
 use Rattle.money_core.specs.declared.style.Style.{Style}
-use Rattle.treasury_core.specs.Federation.{Branch}
 use Rattle.treasury_core.specs.Step.{records_in_file}
 use Rattle.treasury_core.specs.Good.{IsGoodBranch}
-use Rattle.treasury_core.specs.Kept.{branch_of, branches_of, branch_at}
+use Rattle.treasury_core.specs.Kept.{branch_of, branch_at}
 use Rattle.treasury_core.proofs.FindLemmas.{there, missing}
 use Rattle.treasury_core.proofs.FileLemmas.{length-new, length-records}
 use Rattle.treasury_core.proofs.DecideLemmas.{found_holds, reply_missing, enters_by, refuses_by}
@@ -14,7 +13,7 @@ returns-in_default g c =
     let f = c.args.state.now in
     let name = c.args.name.now in
     let found : branch_at f.branches name ≡ None =
-    ap (λ (bs : List Branch). branch_at bs name) (sym c.branches.ensures.value) ∙ ap (branch_at (branches_of c.branches.result.now)) (sym c.as_str.ensures) ∙ c.in_default.ensures.found in
+    ap (branch_at f.branches) (sym c.as_str.ensures) ∙ c.in_default.ensures.found in
     inr (reply_missing f name c.args.file.now (missing f.branches name found).none)
 
 pub new_records-requires-clause-good : goal.new_records-requires-clause-good
@@ -23,7 +22,7 @@ new_records-requires-clause-good g c =
     let name = c.args.name.now in
     let b = branch_of c.in-Some.branch.now in
     let found : branch_at f.branches name ≡ Some b =
-    ap (λ (bs : List Branch). branch_at bs name) (sym c.branches.ensures.value) ∙ ap (branch_at (branches_of c.branches.result.now)) (sym c.as_str.ensures) ∙ c.in-Some.ensures.found in
+    ap (branch_at f.branches) (sym c.as_str.ensures) ∙ c.in-Some.ensures.found in
     subst (λ (ss : List Style). IsGoodBranch ss b) (sym c.styles.ensures) (found_holds (IsGoodBranch f.styles) f.branches name b found c.is_good.ensures.branches)
 
 pub entered-requires : goal.entered-requires
@@ -37,7 +36,7 @@ returns-in-Ok g c =
     let name = c.args.name.now in
     let b = branch_of c.in-Some.branch.now in
     let found : branch_at f.branches name ≡ Some b =
-    ap (λ (bs : List Branch). branch_at bs name) (sym c.branches.ensures.value) ∙ ap (branch_at (branches_of c.branches.result.now)) (sym c.as_str.ensures) ∙ c.in-Some.ensures.found in
+    ap (branch_at f.branches) (sym c.as_str.ensures) ∙ c.in-Some.ensures.found in
     enters_by f name c.args.file.now b c.in-Ok.new c.styles.result.now _ c.styles.ensures (there f.branches name b found) c.in-Ok.ensures.value c.in-Ok.ensures.passes c.entered.ensures
 
 pub returns-in-Err : goal.returns-in-Err
@@ -46,5 +45,5 @@ returns-in-Err g c =
     let name = c.args.name.now in
     let b = branch_of c.in-Some.branch.now in
     let found : branch_at f.branches name ≡ Some b =
-    ap (λ (bs : List Branch). branch_at bs name) (sym c.branches.ensures.value) ∙ ap (branch_at (branches_of c.branches.result.now)) (sym c.as_str.ensures) ∙ c.in-Some.ensures.found in
+    ap (branch_at f.branches) (sym c.as_str.ensures) ∙ c.in-Some.ensures.found in
     refuses_by f name c.args.file.now b c.styles.result.now c.in-Err.refusal c.styles.ensures (there f.branches name b found) c.in-Err.ensures.err

@@ -1,12 +1,9 @@
-use Rattle.std.proofs.Common.{◌≡◌, ◌∙◌, sym, ap, ℕ, List, Some, None}
-use Rattle.std.specs.List.{list_any}
-use Rattle.treasury_core.specs.Federation.{Branch, has_name, lock_in}
-use Rattle.treasury_core.specs.Kept.{branch_of}
+use Rattle.std.proofs.Common.{sym}
 use Rattle.treasury_core.proofs.FindLemmas.{there, missing}
 use Rattle.treasury_core.proofs.decision.has_branch.Goals as goal
 
 pub returns-in-None : goal.returns-in-None
-returns-in-None g c = sym (ap (λ (bs : List Branch). list_any (has_name c.args.name.now) bs) (sym c.branches.ensures.value) ∙ (missing _ c.args.name.now c.in-None.ensures.found).none)
+returns-in-None g c = sym (missing _ c.args.name.now c.in-None.ensures.found).none
 
 pub returns-in-Some : goal.returns-in-Some
-returns-in-Some g c = sym (ap (λ (bs : List Branch). list_any (has_name c.args.name.now) bs) (sym c.branches.ensures.value) ∙ (there _ c.args.name.now _ c.in-Some.ensures.found).any)
+returns-in-Some g c = sym (there _ c.args.name.now _ c.in-Some.ensures.found).any

@@ -1,4 +1,4 @@
-use Rattle.std.proofs.Common.{◌≡◌, [], ap, sym, subst, ◌∙◌, arith, List}
+use Rattle.std.proofs.Common.{[], sym, subst, ◌∙◌, arith, List}
 use Rattle.std.specs.List.{AllByRecursion}
 use Rattle.book_core.specs.GoodBook.{IsFit}
 use Rattle.treasury_core.specs.declared.record.Record.{Record}

@@ -1,14 +1,11 @@
-use Rattle.std.proofs.Common.{◌≡◌, ap, sym, ◌∙◌, inr, ℕ, List, Bool, true, false, Option, Some, None, subst}
-use Rattle.std.specs.Prelude.{find}
+use Rattle.std.proofs.Common.{◌≡◌, ap, sym, ◌∙◌, inr, true, false, Some, None}
 use Rattle.std.specs.Str.{bytes_eq}
-use Rattle.book_core.specs.GoodBook.{IsGoodBook}
 use Rattle.treasury_core.specs.declared.command.Command.TheVariants.{Dispatch}
-use Rattle.treasury_core.specs.declared.transfer.Transfer.{Transfer}
-use Rattle.treasury_core.specs.Federation.{Branch, has_branch, entries}
-use Rattle.treasury_core.specs.Transfer.{is_id, has_id, dispatch_record}
-use Rattle.treasury_core.specs.Step.{transfer_at, transfer_of, dispatch_refusal}
+use Rattle.treasury_core.specs.Federation.{has_branch}
+use Rattle.treasury_core.specs.Transfer.{is_id}
+use Rattle.treasury_core.specs.Step.{transfer_at, dispatch_refusal}
 use Rattle.treasury_core.specs.Good.{IsGoodBranch}
-use Rattle.treasury_core.specs.Kept.{branch_of, branches_of, branch_at}
+use Rattle.treasury_core.specs.Kept.{branch_of, branch_at}
 use Rattle.treasury_core.proofs.FindLemmas.{there, missing}
 use Rattle.treasury_core.proofs.DecideLemmas.{found_holds}
 use Rattle.treasury_core.proofs.TransferReplyLemmas.{IsAsked, same_test, same_find, repeats, settles, no_source, no_target, same_branch, bad_id, dispatched_so, dispatched_other, dispatched_new, dispatch_adds}
@@ -19,7 +16,7 @@ returns-in_default g c =
     let f = c.args.state.now in
     let d = c.args.dispatch.now in
     let found : branch_at f.branches d.source ≡ None =
-    ap (λ (bs : List Branch). branch_at bs d.source) (sym c.branches.ensures.value) ∙ ap (branch_at (branches_of c.branches.result.now)) (sym c.as_str.ensures) ∙ c.in_default.ensures.found in
+    ap (branch_at f.branches) (sym c.as_str.ensures) ∙ c.in_default.ensures.found in
     inr (no_source f d (missing f.branches d.source found).none)
 
 pub returns-then-not-has_branch : goal.returns-then-not-has_branch
@@ -28,7 +25,7 @@ returns-then-not-has_branch g c =
     let d = c.args.dispatch.now in
     let b = branch_of c.in-Some.source.now in
     let found : branch_at f.branches d.source ≡ Some b =
-    ap (λ (bs : List Branch). branch_at bs d.source) (sym c.branches.ensures.value) ∙ ap (branch_at (branches_of c.branches.result.now)) (sym c.as_str.ensures) ∙ c.in-Some.ensures.found in
+    ap (branch_at f.branches) (sym c.as_str.ensures) ∙ c.in-Some.ensures.found in
     let source = (there f.branches d.source b found).any in
     inr (no_target f d source (ap (has_branch f) (sym c.as_str-2.ensures) ∙ (sym c.has_branch.ensures ∙ c.if-not-has_branch.true)))
 
@@ -38,7 +35,7 @@ returns-then-eq g c =
     let d = c.args.dispatch.now in
     let b = branch_of c.in-Some.source.now in
     let found : branch_at f.branches d.source ≡ Some b =
-    ap (λ (bs : List Branch). branch_at bs d.source) (sym c.branches.ensures.value) ∙ ap (branch_at (branches_of c.branches.result.now)) (sym c.as_str.ensures) ∙ c.in-Some.ensures.found in
+    ap (branch_at f.branches) (sym c.as_str.ensures) ∙ c.in-Some.ensures.found in
     let source = (there f.branches d.source b found).any in
     let target : has_branch f d.target ≡ true = ap (has_branch f) (sym c.as_str-2.ensures) ∙ (sym c.has_branch.ensures ∙ c.if-not-has_branch.false) in
     inr (same_branch f d source target (same_test c.as_str-3.ensures c.as_str-4.ensures (sym c.eq.ensures ∙ c.if-eq.true)))
@@ -49,7 +46,7 @@ returns-then-not-is_id g c =
     let d = c.args.dispatch.now in
     let b = branch_of c.in-Some.source.now in
     let found : branch_at f.branches d.source ≡ Some b =
-    ap (λ (bs : List Branch). branch_at bs d.source) (sym c.branches.ensures.value) ∙ ap (branch_at (branches_of c.branches.result.now)) (sym c.as_str.ensures) ∙ c.in-Some.ensures.found in
+    ap (branch_at f.branches) (sym c.as_str.ensures) ∙ c.in-Some.ensures.found in
     let source = (there f.branches d.source b found).any in
     let target : has_branch f d.target ≡ true = ap (has_branch f) (sym c.as_str-2.ensures) ∙ (sym c.has_branch.ensures ∙ c.if-not-has_branch.false) in
     let apart : bytes_eq d.source d.target ≡ false = same_test c.as_str-3.ensures c.as_str-4.ensures (sym c.eq.ensures ∙ c.if-eq.false) in
@@ -61,7 +58,7 @@ returns-then-is_dispatched_so g c =
     let d = c.args.dispatch.now in
     let b = branch_of c.in-Some.source.now in
     let found : branch_at f.branches d.source ≡ Some b =
-    ap (λ (bs : List Branch). branch_at bs d.source) (sym c.branches.ensures.value) ∙ ap (branch_at (branches_of c.branches.result.now)) (sym c.as_str.ensures) ∙ c.in-Some.ensures.found in
+    ap (branch_at f.branches) (sym c.as_str.ensures) ∙ c.in-Some.ensures.found in
     let source = (there f.branches d.source b found).any in
     let target : has_branch f d.target ≡ true = ap (has_branch f) (sym c.as_str-2.ensures) ∙ (sym c.has_branch.ensures ∙ c.if-not-has_branch.false) in
     let apart : bytes_eq d.source d.target ≡ false = same_test c.as_str-3.ensures c.as_str-4.ensures (sym c.eq.ensures ∙ c.if-eq.false) in
@@ -76,7 +73,7 @@ returns-in-Some-find_transfer g c =
     let d = c.args.dispatch.now in
     let b = branch_of c.in-Some.source.now in
     let found : branch_at f.branches d.source ≡ Some b =
-    ap (λ (bs : List Branch). branch_at bs d.source) (sym c.branches.ensures.value) ∙ ap (branch_at (branches_of c.branches.result.now)) (sym c.as_str.ensures) ∙ c.in-Some.ensures.found in
+    ap (branch_at f.branches) (sym c.as_str.ensures) ∙ c.in-Some.ensures.found in
     let source = (there f.branches d.source b found).any in
     let target : has_branch f d.target ≡ true = ap (has_branch f) (sym c.as_str-2.ensures) ∙ (sym c.has_branch.ensures ∙ c.if-not-has_branch.false) in
     let apart : bytes_eq d.source d.target ≡ false = same_test c.as_str-3.ensures c.as_str-4.ensures (sym c.eq.ensures ∙ c.if-eq.false) in
@@ -91,7 +88,7 @@ judged-requires-clause-good g c =
     let d = c.args.dispatch.now in
     let b = branch_of c.in-Some.source.now in
     let found : branch_at f.branches d.source ≡ Some b =
-    ap (λ (bs : List Branch). branch_at bs d.source) (sym c.branches.ensures.value) ∙ ap (branch_at (branches_of c.branches.result.now)) (sym c.as_str.ensures) ∙ c.in-Some.ensures.found in
+    ap (branch_at f.branches) (sym c.as_str.ensures) ∙ c.in-Some.ensures.found in
     (found_holds (IsGoodBranch f.styles) f.branches d.source b found c.is_good.ensures.branches).book
 
 pub returns : goal.returns
@@ -100,7 +97,7 @@ returns g c =
     let d = c.args.dispatch.now in
     let b = branch_of c.in-Some.source.now in
     let found : branch_at f.branches d.source ≡ Some b =
-    ap (λ (bs : List Branch). branch_at bs d.source) (sym c.branches.ensures.value) ∙ ap (branch_at (branches_of c.branches.result.now)) (sym c.as_str.ensures) ∙ c.in-Some.ensures.found in
+    ap (branch_at f.branches) (sym c.as_str.ensures) ∙ c.in-Some.ensures.found in
     let source = (there f.branches d.source b found).any in
     let target : has_branch f d.target ≡ true = ap (has_branch f) (sym c.as_str-2.ensures) ∙ (sym c.has_branch.ensures ∙ c.if-not-has_branch.false) in
     let apart : bytes_eq d.source d.target ≡ false = same_test c.as_str-3.ensures c.as_str-4.ensures (sym c.eq.ensures ∙ c.if-eq.false) in

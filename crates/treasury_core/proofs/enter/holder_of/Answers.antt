@@ -1,4 +1,4 @@
-use Rattle.std.proofs.Common.{◌≡◌, sym, ◌∙◌, ap, Option}
+use Rattle.std.proofs.Common.{sym, ◌∙◌, ap, Option}
 use Rattle.std.specs.Option.{option_or}
 use Rattle.std.proofs.lemmas.List.Folds.{find-append}
 use Rattle.treasury_core.specs.declared.record.Record.{Record}

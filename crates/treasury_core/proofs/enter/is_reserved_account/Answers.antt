@@ -1,4 +1,4 @@
-use Rattle.std.proofs.Common.{◌≡◌, ◌∙◌, ap, ℕ, List}
+use Rattle.std.proofs.Common.{◌∙◌, ap}
 use Rattle.book_core.specs.Account.{is_inside}
 use Rattle.journal_lines.specs.AccountName.{transit}
 use Rattle.treasury_core.proofs.TransitLemmas.{reserved_test}

@@ -1,9 +1,7 @@
-use Rattle.std.proofs.Common.{◌≡◌, ◌++◌, ◌∷◌, [], ap, sym, subst, ◌∙◌, inl, inr, ℕ, List, Option, Bool, true, false, Ok, Err}
-use Rattle.std.specs.Prelude.{IfSome, option_copied, Result, ◌⊎◌}
+use Rattle.std.proofs.Common.{◌≡◌, ◌++◌, ap, sym, subst, ◌∙◌, List, Option, Bool, true, false, Ok}
+use Rattle.std.specs.Prelude.{IfSome, option_copied, Result}
 use Rattle.std.specs.List.{AllByRecursion}
-use Rattle.money_core.specs.declared.cause.Cause.TheVariants.{OutOfMemory}
 use Rattle.book_core.specs.declared.refusal.Refusal.{Refusal}
-use Rattle.book_core.specs.declared.refusal.Refusal.TheVariants.{Plain}
 use Rattle.journal_format.specs.Printable.{IsPrintable}
 use Rattle.treasury_core.specs.declared.record.Record.{Record}
 use Rattle.treasury_core.specs.Mark.{held}

@@ -1,6 +1,4 @@
-use Rattle.std.proofs.Common.{◌≡◌, ◌++◌, drop, take, map, List}
-use Rattle.journal_format.specs.declared.txn.Txn.{Txn}
-use Rattle.journal_format.specs.declared.txn.Located.{Located}
+use Rattle.std.proofs.Common.{◌≡◌, ◌++◌, drop, take}
 use Rattle.treasury_core.specs.Step.{unbalanced, records_from, records_in_file}
 use Rattle.treasury_core.specs.Counted.{AreCounted}
 use Rattle.treasury_core.proofs.FileLemmas.{txns_of}

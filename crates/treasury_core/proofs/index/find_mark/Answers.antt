@@ -1,4 +1,4 @@
-use Rattle.std.proofs.Common.{◌≡◌, sym, ◌∙◌, ap}
+use Rattle.std.proofs.Common.{sym, ◌∙◌}
 use Rattle.treasury_core.proofs.IndexLemmas.{found, absent, copied_get}
 use Rattle.treasury_core.proofs.index.find_mark.Goals as goal
 

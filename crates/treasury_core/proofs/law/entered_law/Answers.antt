@@ -1,11 +1,4 @@
-use Rattle.std.proofs.Common.{◌∙◌, ap, Ok}
-use Rattle.std.specs.Prelude.{Result}
-use Rattle.book_core.specs.declared.refusal.Refusal.{Refusal}
-use Rattle.treasury_core.specs.declared.command.Answer.{Answer}
 use Rattle.treasury_core.specs.declared.command.Answer.TheVariants.{Entered}
-use Rattle.treasury_core.specs.declared.command.Command.TheVariants.{Enter}
-use Rattle.treasury_core.specs.Federation.{records_of}
-use Rattle.treasury_core.specs.Step.{after}
 use Rattle.treasury_core.proofs.ReplyLemmas.{accepted_new}
 use Rattle.treasury_core.proofs.OwnLemmas.{accepted_counts}
 use Rattle.treasury_core.proofs.EnteredLemmas.{entered_records}

@@ -1,8 +1,7 @@
-use Rattle.std.proofs.Common.{rules, of_calls, ◌≡◌, sym}
+use Rattle.std.proofs.Common.{rules, of_calls, sym}
 use Rattle.std.proofs.lemmas.Fn.{always_returns_same}
-use Rattle.std.proofs.lemmas.List.Sums.{prefix_len_is}
 use Rattle.treasury_core.specs.Room.{is_before}
-use Rattle.treasury_core.proofs.SearchLemmas.{blank, parted, prefix_at}
+use Rattle.treasury_core.proofs.SearchLemmas.{parted, prefix_at}
 use Rattle.treasury_core.proofs.order.place_of.Goals as goal
 
 pub returns-clause-value : goal.returns-clause-value

@@ -1,11 +1,10 @@
-use Rattle.std.proofs.Common.{◌≡◌, ap, sym, ◌∙◌, inr, ℕ, List, Bool, true, false, Option, Some, None, subst}
+use Rattle.std.proofs.Common.{◌≡◌, ap, sym, ◌∙◌, inr, true, Some, None}
 use Rattle.std.specs.Str.{bytes_eq}
 use Rattle.treasury_core.specs.declared.command.Command.TheVariants.{Receive}
-use Rattle.treasury_core.specs.Federation.{Branch}
 use Rattle.treasury_core.specs.Transfer.{is_id}
 use Rattle.treasury_core.specs.Step.{transfer_at, receipt_refusal}
 use Rattle.treasury_core.specs.Good.{IsGoodBranch}
-use Rattle.treasury_core.specs.Kept.{branch_of, branches_of, branch_at}
+use Rattle.treasury_core.specs.Kept.{branch_of, branch_at}
 use Rattle.treasury_core.proofs.FindLemmas.{there, missing}
 use Rattle.treasury_core.proofs.DecideLemmas.{found_holds}
 use Rattle.treasury_core.proofs.TransferReplyLemmas.{IsClaimed, same_test, same_find, not_true, not_false, repeats, settles, no_branch, bad_receipt_id, no_transfer, wrong_branch, received_so, received_other, received_new, receipt_adds, transfer_small}
@@ -16,7 +15,7 @@ returns-in_default g c =
     let f = c.args.state.now in
     let r = c.args.receive.now in
     let found : branch_at f.branches r.branch ≡ None =
-    ap (λ (bs : List Branch). branch_at bs r.branch) (sym c.branches.ensures.value) ∙ ap (branch_at (branches_of c.branches.result.now)) (sym c.as_str.ensures) ∙ c.in_default.ensures.found in
+    ap (branch_at f.branches) (sym c.as_str.ensures) ∙ c.in_default.ensures.found in
     inr (no_branch f r (missing f.branches r.branch found).none)
 
 pub returns-then-not-is_id : goal.returns-then-not-is_id
@@ -25,7 +24,7 @@ returns-then-not-is_id g c =
     let r = c.args.receive.now in
     let b = branch_of c.in-Some.target.now in
     let found : branch_at f.branches r.branch ≡ Some b =
-    ap (λ (bs : List Branch). branch_at bs r.branch) (sym c.branches.ensures.value) ∙ ap (branch_at (branches_of c.branches.result.now)) (sym c.as_str.ensures) ∙ c.in-Some.ensures.found in
+    ap (branch_at f.branches) (sym c.as_str.ensures) ∙ c.in-Some.ensures.found in
     let branch = (there f.branches r.branch b found).any in
     inr (bad_receipt_id f r branch (ap is_id (sym (c.as_bytes.ensures.value ∙ c.as_str-2.ensures)) ∙ (sym c.is_id.ensures ∙ c.if-not-is_id.true)))
 
@@ -35,7 +34,7 @@ returns-in_default-find_transfer g c =
     let r = c.args.receive.now in
     let b = branch_of c.in-Some.target.now in
     let found : branch_at f.branches r.branch ≡ Some b =
-    ap (λ (bs : List Branch). branch_at bs r.branch) (sym c.branches.ensures.value) ∙ ap (branch_at (branches_of c.branches.result.now)) (sym c.as_str.ensures) ∙ c.in-Some.ensures.found in
+    ap (branch_at f.branches) (sym c.as_str.ensures) ∙ c.in-Some.ensures.found in
     let branch = (there f.branches r.branch b found).any in
     let claimed : IsClaimed f r = record { branch = branch; id = ap is_id (sym (c.as_bytes.ensures.value ∙ c.as_str-2.ensures)) ∙ (sym c.is_id.ensures ∙ c.if-not-is_id.false) } in
     inr (no_transfer f r claimed (same_find (sym c.as_str-3.ensures) (sym c.transfers.ensures) (sym c.in_default-find_transfer.ensures)))
@@ -46,7 +45,7 @@ returns-then-ne g c =
     let r = c.args.receive.now in
     let b = branch_of c.in-Some.target.now in
     let found : branch_at f.branches r.branch ≡ Some b =
-    ap (λ (bs : List Branch). branch_at bs r.branch) (sym c.branches.ensures.value) ∙ ap (branch_at (branches_of c.branches.result.now)) (sym c.as_str.ensures) ∙ c.in-Some.ensures.found in
+    ap (branch_at f.branches) (sym c.as_str.ensures) ∙ c.in-Some.ensures.found in
     let branch = (there f.branches r.branch b found).any in
     let claimed : IsClaimed f r = record { branch = branch; id = ap is_id (sym (c.as_bytes.ensures.value ∙ c.as_str-2.ensures)) ∙ (sym c.is_id.ensures ∙ c.if-not-is_id.false) } in
     let t = c.in-Some-find_transfer.transfer.now in
@@ -59,7 +58,7 @@ judged-requires-clause-good g c =
     let r = c.args.receive.now in
     let b = branch_of c.in-Some.target.now in
     let found : branch_at f.branches r.branch ≡ Some b =
-    ap (λ (bs : List Branch). branch_at bs r.branch) (sym c.branches.ensures.value) ∙ ap (branch_at (branches_of c.branches.result.now)) (sym c.as_str.ensures) ∙ c.in-Some.ensures.found in
+    ap (branch_at f.branches) (sym c.as_str.ensures) ∙ c.in-Some.ensures.found in
     (found_holds (IsGoodBranch f.styles) f.branches r.branch b found c.is_good.ensures.branches).book
 
 pub judged-requires-clause-small : goal.judged-requires-clause-small
@@ -76,7 +75,7 @@ returns-then-is_received_so g c =
     let r = c.args.receive.now in
     let b = branch_of c.in-Some.target.now in
     let found : branch_at f.branches r.branch ≡ Some b =
-    ap (λ (bs : List Branch). branch_at bs r.branch) (sym c.branches.ensures.value) ∙ ap (branch_at (branches_of c.branches.result.now)) (sym c.as_str.ensures) ∙ c.in-Some.ensures.found in
+    ap (branch_at f.branches) (sym c.as_str.ensures) ∙ c.in-Some.ensures.found in
     let branch = (there f.branches r.branch b found).any in
     let claimed : IsClaimed f r = record { branch = branch; id = ap is_id (sym (c.as_bytes.ensures.value ∙ c.as_str-2.ensures)) ∙ (sym c.is_id.ensures ∙ c.if-not-is_id.false) } in
     let t = c.in-Some-find_transfer.transfer.now in
@@ -90,7 +89,7 @@ returns-in-Some-receipt g c =
     let r = c.args.receive.now in
     let b = branch_of c.in-Some.target.now in
     let found : branch_at f.branches r.branch ≡ Some b =
-    ap (λ (bs : List Branch). branch_at bs r.branch) (sym c.branches.ensures.value) ∙ ap (branch_at (branches_of c.branches.result.now)) (sym c.as_str.ensures) ∙ c.in-Some.ensures.found in
+    ap (branch_at f.branches) (sym c.as_str.ensures) ∙ c.in-Some.ensures.found in
     let branch = (there f.branches r.branch b found).any in
     let claimed : IsClaimed f r = record { branch = branch; id = ap is_id (sym (c.as_bytes.ensures.value ∙ c.as_str-2.ensures)) ∙ (sym c.is_id.ensures ∙ c.if-not-is_id.false) } in
     let t = c.in-Some-find_transfer.transfer.now in
@@ -104,7 +103,7 @@ returns g c =
     let r = c.args.receive.now in
     let b = branch_of c.in-Some.target.now in
     let found : branch_at f.branches r.branch ≡ Some b =
-    ap (λ (bs : List Branch). branch_at bs r.branch) (sym c.branches.ensures.value) ∙ ap (branch_at (branches_of c.branches.result.now)) (sym c.as_str.ensures) ∙ c.in-Some.ensures.found in
+    ap (branch_at f.branches) (sym c.as_str.ensures) ∙ c.in-Some.ensures.found in
     let branch = (there f.branches r.branch b found).any in
     let claimed : IsClaimed f r = record { branch = branch; id = ap is_id (sym (c.as_bytes.ensures.value ∙ c.as_str-2.ensures)) ∙ (sym c.is_id.ensures ∙ c.if-not-is_id.false) } in
     let t = c.in-Some-find_transfer.transfer.now in

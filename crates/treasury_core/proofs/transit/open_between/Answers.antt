@@ -1,4 +1,4 @@
-use Rattle.std.proofs.Common.{◌≡◌, ◌+◌, arith, drop, pos, ◌+ℤ◌, ◌≤ℤ◌, FitsSigned, w64, to_z, of_z}
+use Rattle.std.proofs.Common.{◌+◌, arith, drop, ◌+ℤ◌, FitsSigned, w64, to_z, of_z}
 use Rattle.std.proofs.lemmas.Int.{ints}
 use Rattle.treasury_core.specs.Transfer.{is_between, open_of}
 use Rattle.treasury_core.proofs.WayLemmas.{open_sum_low, some_low, open_low}

@@ -1,7 +1,7 @@
-use Rattle.std.proofs.Common.{◌≡◌, ◌++◌, ◌∷◌, [], List, ℕ, Some, None, take, drop, ◌+◌, ap, ◌∙◌, sym, subst, append_assoc}
+use Rattle.std.proofs.Common.{◌≡◌, List, ℕ, Some, None, take, drop, ◌+◌, ap, ◌∙◌, sym, subst}
 use Rattle.treasury.specs.RunEnd.{AnswersWhole}
 use Rattle.treasury.proofs.LineLemmas.{IsFeedPlace, first_feed, cut_at_feed, behind_feed}
-use Rattle.treasury.proofs.RunLemmas.{whole_part, fed_further, fed_stops, gave_up_here}
+use Rattle.treasury.proofs.RunLemmas.{whole_part, fed_further, fed_stops}
 use Rattle.treasury.proofs.lines.run.feed.Goals as goal
 
 pub end_line-requires-clause-more : goal.end_line-requires-clause-more

@@ -1,5 +1,5 @@
 use Rattle.treasury.proofs.ReplyLemmas.{on_ok}
-use Rattle.treasury.proofs.AnswerLemmas.{answered_asked, answered_kept, loses_at}
+use Rattle.treasury.proofs.AnswerLemmas.{answered_kept}
 use Rattle.treasury.proofs.running.StateMachine.answer.Goals as goal
 
 pub returns-in-Err-Kept-clause-ok : goal.returns-in-Err-Kept-clause-ok

@@ -1,9 +1,9 @@
-use Rattle.std.proofs.Common.{◌≡◌, ap, sym, subst, ◌∙◌, true, false, Some, None, List}
+use Rattle.std.proofs.Common.{◌≡◌, ap, sym, subst, ◌∙◌, Some, None, List}
 use Rattle.book_core.specs.declared.entry.Entry.{Entry}
 use Rattle.book_core.specs.GoodBook.{IsGoodBook}
-use Rattle.treasury_core.specs.Federation.{Branch, has_branch, book_of, entries}
+use Rattle.treasury_core.specs.Federation.{entries}
 use Rattle.treasury_core.specs.Good.{IsGoodBranch}
-use Rattle.treasury_core.specs.Kept.{branch_of, branches_of, branch_at}
+use Rattle.treasury_core.specs.Kept.{branch_of, branch_at}
 use Rattle.treasury_core.proofs.FindLemmas.{there, missing}
 use Rattle.treasury_core.proofs.DecideLemmas.{found_holds}
 use Rattle.treasury_core.proofs.state.State.ledger.Goals as goal
@@ -12,7 +12,7 @@ pub returns-in-None-clause-found : goal.returns-in-None-clause-found
 returns-in-None-clause-found g c =
     let f = c.args.self.now in
     let name = c.args.name.now in
-    let found : branch_at f.branches name ≡ None = ap (λ (bs : List Branch). branch_at bs name) (sym c.branches.ensures.value) ∙ c.in-None.ensures.found in
+    let found : branch_at f.branches name ≡ None = c.in-None.ensures.found in
     (missing f.branches name found).none
 
 pub returns-in-Some-clause-found : goal.returns-in-Some-clause-found
@@ -20,7 +20,7 @@ returns-in-Some-clause-found g c =
     let f = c.args.self.now in
     let name = c.args.name.now in
     let b = branch_of c.in-Some.branch.now in
-    let found : branch_at f.branches name ≡ Some b = ap (λ (bs : List Branch). branch_at bs name) (sym c.branches.ensures.value) ∙ c.in-Some.ensures.found in
+    let found : branch_at f.branches name ≡ Some b = c.in-Some.ensures.found in
     let at = there f.branches name b found in
     (at.any, c.in-Some.ensures.kept.ledger ∙ ap entries (sym at.records))
 
@@ -29,6 +29,6 @@ returns-in-Some-clause-good g c =
     let f = c.args.self.now in
     let name = c.args.name.now in
     let b = branch_of c.in-Some.branch.now in
-    let found : branch_at f.branches name ≡ Some b = ap (λ (bs : List Branch). branch_at bs name) (sym c.branches.ensures.value) ∙ c.in-Some.ensures.found in
+    let found : branch_at f.branches name ≡ Some b = c.in-Some.ensures.found in
     let good = found_holds (IsGoodBranch f.styles) f.branches name b found c.is_good.ensures.branches in
     subst (λ (book : List Entry). IsGoodBook book) (sym c.in-Some.ensures.kept.ledger) good.book
