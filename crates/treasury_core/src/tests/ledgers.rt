@@ -62,6 +62,17 @@ fn found_eleven() -> Refusal {
     })
 }
 
+/// The balances of the bank through the 7th to the 10th of January 2024.
+const BALANCES: &[(i32, i64)] = &[(19_729, 0), (19_730, 100), (19_731, 0), (19_732, 1100)];
+
+/// Asserts what the bank has through each day.
+fn assert_balances<L: Ledger>(rt: &impl Abort, ledger: &L, rows: &[(i32, i64)]) {
+    for (day, wanted) in rows {
+        let found = ledger.balance("assets:bank", Unit(0), Day(*day));
+        assert_eq!(rt; found, *wanted, "{day}");
+    }
+}
+
 /// Asserts what files with an assertion, a late receipt and repeats are answered, over any ledger.
 fn assert_decided<L: Ledger>(rt: &impl Abort, alloc: Global, state: State<L>) {
     let rows = [
@@ -85,10 +96,7 @@ fn assert_decided<L: Ledger>(rt: &impl Abort, alloc: Global, state: State<L>) {
     let now = enter_all(rt, alloc, state, &rows);
     assert_eq!(rt; sizes(&now, 0), (4, 4));
     let ledger = now.ledger("north").expect(rt, "a branch");
-    for (day, wanted) in [(2, 0), (3, 100), (4, 0), (5, 1100)] {
-        let found = ledger.balance("assets:bank", Unit(0), Day(JANUARY_5 + day));
-        assert_eq!(rt; found, wanted);
-    }
+    assert_balances(rt, ledger, BALANCES);
     assert!(rt; now.ledger("west").is_none());
 }
 
