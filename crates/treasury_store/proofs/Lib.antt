@@ -13,3 +13,4 @@ pub mod CreateLemmas
 pub mod BesideLemmas
 pub mod OpenLemmas
 pub mod QueriedLemmas
+pub mod LoadLemmas

@@ -3,3 +3,4 @@ pub mod Rows
 pub mod Kept
 pub mod Creating
 pub mod Opening
+pub mod Order

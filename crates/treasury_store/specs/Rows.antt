@@ -16,6 +16,7 @@ use Rattle.treasury_store.specs.declared.rows.EntryRow.{EntryRow}
 use Rattle.treasury_store.specs.declared.rows.LegRow.{LegRow}
 use Rattle.treasury_store.specs.declared.rows.ClaimRow.{ClaimRow}
 use Rattle.treasury_store.specs.declared.rows.TransferRow.{TransferRow}
+use Rattle.treasury_store.specs.declared.rows.Parts.{Parts}
 use Rattle.treasury_store.specs.declared.rows.Change.{Change}
 use Rattle.treasury_store.specs.declared.rows.Change.TheVariants as change
 
@@ -54,13 +55,8 @@ abbrev pub versions : Database → List Value
 versions db = map (λ r. column r 1) (db.trees 0)
 
 -- the rows of each table but `format`, in any order
-pub record Tables : Type 0 where
-  pub units : List UnitRow
-  pub branches : List BranchRow
-  pub entries : List EntryRow
-  pub legs : List LegRow
-  pub claims : List ClaimRow
-  pub transfers : List TransferRow
+abbrev pub Tables : Type 0
+Tables = Parts
 
 abbrev pub no_rows : Tables
 no_rows = record { units = []; branches = []; entries = []; legs = []; claims = []; transfers = [] }

@@ -1,6 +1,6 @@
 //! The rows of the tables, as plain records.
 
-use money_core::Text;
+use money_core::{Items, Text};
 
 /// A commodity. Numbers are those of docs/FORMATS.md, "Tables".
 #[derive(Debug, Drop)]
@@ -66,6 +66,17 @@ pub struct TransferRow {
     pub payer: Text,
     pub received: Option<i64>,
     pub payee: Option<Text>,
+}
+
+/// The rows of all tables but `format`.
+#[derive(Debug, Drop)]
+pub struct Parts {
+    pub units: Items<UnitRow>,
+    pub branches: Items<BranchRow>,
+    pub entries: Items<EntryRow>,
+    pub legs: Items<LegRow>,
+    pub claims: Items<ClaimRow>,
+    pub transfers: Items<TransferRow>,
 }
 
 /// One row more, or one row that is changed.

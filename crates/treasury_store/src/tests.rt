@@ -1,8 +1,8 @@
 //! The tables, over databases in memory.
 
 use crate::{
-    BranchRow, Change, ClaimRow, EntryRow, LegRow, TransferRow, UnitRow, are_tables_there,
-    create_tables, write_all,
+    BranchRow, Change, ClaimRow, EntryRow, LegRow, Parts, TransferRow, UnitRow, are_tables_there,
+    create_tables, load_parts, write_all,
 };
 use money_core::Text;
 use sqlite::types::ValueRef;
@@ -182,6 +182,91 @@ fn each_table_has_what_was_written(rt: HostRuntime) {
     let mut conn = tables(&rt, alloc);
     write_hall(&rt, alloc, &mut conn);
     assert_shown(&rt, alloc, &mut conn, HALL);
+}
+
+/// Asserts that the parts are the hall's, in order.
+fn assert_hall(rt: &impl Abort, parts: &Parts) {
+    let units = parts.units.items();
+    assert_eq!(rt; units.len(), 1);
+    assert_eq!(rt; units[0].symbol.as_str(), "EUR");
+    assert_eq!(rt; units[0].mark.as_str(), ".");
+    assert_eq!(rt;
+        (units[0].nr, units[0].decimals, units[0].grouped),
+        (0, 2, 1)
+    );
+    assert_eq!(rt; (units[0].leftside, units[0].spaced), (0, 1));
+    let branches = parts.branches.items();
+    assert_eq!(rt; branches.len(), 2);
+    assert_eq!(rt; (branches[0].nr, branches[0].name.as_str()), (0, "north"));
+    assert_eq!(rt; (branches[1].nr, branches[1].name.as_str()), (1, "south"));
+    assert_eq!(rt; (branches[0].locked, branches[1].locked), (None, Some(-3)));
+    let entries = parts.entries.items();
+    assert_eq!(rt; entries.len(), 1);
+    assert_eq!(rt;
+        (entries[0].branch, entries[0].nr, entries[0].day),
+        (0, 1, 19727)
+    );
+    assert_eq!(rt;
+        (entries[0].mark.as_str(), entries[0].body.as_str()),
+        ("n-1", "2024-01-05 hall")
+    );
+    let legs = parts.legs.items();
+    assert_eq!(rt; legs.len(), 2);
+    assert_eq!(rt;
+        (legs[0].nr, legs[0].account.as_str(), legs[0].qty),
+        (1, "expenses:hall", 12000)
+    );
+    assert_eq!(rt;
+        (legs[1].nr, legs[1].account.as_str(), legs[1].qty),
+        (2, "assets:bank", -12000)
+    );
+    let claims = parts.claims.items();
+    assert_eq!(rt; claims.len(), 1);
+    assert_eq!(rt;
+        (claims[0].leg, claims[0].kind, claims[0].qty),
+        (2, 1, -12000)
+    );
+}
+
+/// Asserts that the transfers are t7, which was received, and t8.
+fn assert_transfers(rt: &impl Abort, transfers: &[TransferRow]) {
+    assert_eq!(rt; transfers.len(), 2);
+    assert_eq!(rt;
+        (transfers[0].id.as_str(), transfers[0].received),
+        ("t7", Some(19785))
+    );
+    assert_eq!(rt;
+        (transfers[1].id.as_str(), transfers[1].received),
+        ("t8", None)
+    );
+    let payee = transfers[0].payee.as_ref().expect(rt, "a payee");
+    assert_eq!(rt; payee.as_str(), "assets:cash");
+    assert!(rt; transfers[1].payee.is_none());
+    assert_eq!(rt;
+        (transfers[0].source, transfers[0].target, transfers[0].qty),
+        (0, 1, 5000)
+    );
+}
+
+#[test]
+fn rows_are_read_in_order(rt: HostRuntime) {
+    let alloc = rt.alloc();
+    let mut conn = tables(&rt, alloc);
+    let none = load_parts(alloc, &mut conn).expect(&rt, "no rows");
+    assert!(rt; none.units.items().is_empty() && none.transfers.items().is_empty());
+    write_hall(&rt, alloc, &mut conn);
+    let changes = [
+        Change::Lock { branch: 1, day: -3 },
+        Change::Receipt {
+            id: text(&rt, alloc, "t7"),
+            day: 19785,
+            payee: text(&rt, alloc, "assets:cash"),
+        },
+    ];
+    assert!(rt; write_all(&mut conn, changes.as_slice()).is_ok());
+    let parts = load_parts(alloc, &mut conn).expect(&rt, "rows");
+    assert_hall(&rt, &parts);
+    assert_transfers(&rt, parts.transfers.items());
 }
 
 #[test]
