@@ -1,0 +1,16 @@
+pub mod Texts
+pub mod Steps
+pub mod AnySchema
+pub mod RowLemmas
+pub mod InsideLemmas
+pub mod QueryLemmas
+pub mod KeyedLemmas
+pub mod AddLemmas
+pub mod RowsLemmas
+pub mod LockLemmas
+pub mod ReceiptLemmas
+pub mod CreateLemmas
+pub mod BesideLemmas
+pub mod OpenLemmas
+pub mod QueriedLemmas
+pub mod LoadLemmas

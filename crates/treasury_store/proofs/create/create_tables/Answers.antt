@@ -1,0 +1,38 @@
+use Rattle.std.proofs.Common.{◌≡◌, ◌∙◌, sym, ap, subst, false, refl, arith, rules}
+use Rattle.sqlite.specs.State.{HasCleanDisk}
+use Rattle.sqlite.specs.Held.{state}
+use Rattle.treasury_store.specs.Tables.{format}
+use Rattle.treasury_store.specs.Creating.{has_one, has_counter, Makes, Beside}
+use Rattle.treasury_store.proofs.CreateLemmas.{stays_uncounted}
+use Rattle.treasury_store.proofs.BesideLemmas.{no_format_in, whole_beside, holds_none}
+use Rattle.treasury_store.proofs.create.create_tables.Goals as goal
+
+pub returns-clause-beside : goal.returns-clause-beside
+returns-clause-beside g c clean is_made none =
+    let old = c.args.conn.now in
+    let first = c.create_format.new.tx.conn.now in
+    let mid = c.put_format.new.tx.conn.now in
+    let last = c.create_state.new.tx.conn.now in
+    let begun = c.transaction-tx.ensures.begun in
+    let end = c.commit.new.self.0 in
+    let same : end ≡ c.conn-2-1.given.0 = search rules in
+    let clean_end : HasCleanDisk (state g.S.Store end) = search rules in
+    let clean_last : HasCleanDisk (state g.S.Store last) = omega (arith, c.commit.ensures.survives.clean) in
+    let clean_mid : HasCleanDisk (state g.S.Store mid) = omega (arith, c.create_state.ensures.survives.clean, clean_last) in
+    let clean_first : HasCleanDisk (state g.S.Store first) = omega (arith, c.put_format.ensures.survives.clean, clean_mid) in
+    let free : has_one old.schema ≡ false = search rules in
+    let made = subst (λ h. has_counter h.schema ≡ false → Makes format (state g.S.Store h).now (state g.S.Store first).now) begun (c.in_ok-create_format.ensures.creates.makes clean_first) none in
+    let row = c.in_ok-put_format.ensures.gives clean_mid old.schema made.schema (no_format_in old.schema free) made.empty in
+    let rest = c.in_ok-create_state.ensures.makes clean_last (ap has_counter row.schema ∙ stays_uncounted old.schema format refl none) in
+    let done = (c.in_ok-commit.ensures.ok clean_end).1 in
+    subst (λ h. Beside (state g.S.Store old).now (state g.S.Store h).now) same (subst (Beside (state g.S.Store old).now) (sym done.now_is) (whole_beside _ _ _ _ made row rest))
+
+pub returns-clause-made : goal.returns-clause-made
+returns-clause-made g c clean is_made empty =
+    let end = c.commit.new.self.0 in
+    let same : end ≡ c.conn-2-1.given.0 = search rules in
+    let clean_end : HasCleanDisk (state g.S.Store end) = search rules in
+    let done = (c.in_ok-commit.ensures.ok clean_end).1 in (
+      holds_none _ _ empty (returns-clause-beside g c clean is_made (ap has_counter empty)),
+      subst (λ h. (state g.S.Store h).committed ≡ (state g.S.Store h).now) same (done.committed_is ∙ sym done.now_is),
+    )

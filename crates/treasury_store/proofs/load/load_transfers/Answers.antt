@@ -1,0 +1,19 @@
+use Rattle.std.proofs.Common.{◌∙◌, sym, subst}
+use Rattle.sqlite.specs.Held.{state}
+use Rattle.sqlite.specs.Listing.{understood}
+use Rattle.sqlite.proofs.Callers.{IsPlain}
+use Rattle.treasury_store.proofs.Texts.{transfer_rows_text, transfer_rows_is}
+use Rattle.treasury_store.proofs.QueriedLemmas.{shown_same, ok_then}
+use Rattle.treasury_store.proofs.LoadLemmas.{transfers_are, any_ok}
+use Rattle.treasury_store.proofs.load.load_transfers.Goals as goal
+
+pub returns-clause-rows : goal.returns-clause-rows
+returns-clause-rows g c clean =
+    ok_then c.read_all.result _ _
+    (λ xs h t up holds. h t.transfers (c.deref.ensures.value ∙ transfers_are (state g.S.Store c.args.conn.now) (state g.S.Store c.query_all.new.self) t c.in_ok-rows.rows.items holds up.transfers (c.in_ok-rows.ensures.ok clean))) c.read_all.ensures
+
+pub returns-clause-same : goal.returns-clause-same
+returns-clause-same g c clean =
+    any_ok c.read_all.result _
+    (λ t holds. shown_same transfer_rows_text _ (state g.S.Store c.args.conn.now) (state g.S.Store c.query_all.new.self) c.in_ok-rows.rows.items
+    (subst (λ s. IsPlain (understood s transfer_rows_text)) (sym holds.schema) transfer_rows_is.2) (c.in_ok-rows.ensures.ok clean))

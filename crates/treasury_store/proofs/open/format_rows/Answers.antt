@@ -1,0 +1,16 @@
+use Rattle.std.proofs.Common.{sym, subst}
+use Rattle.sqlite.specs.Held.{state}
+use Rattle.sqlite.specs.Listing.{understood}
+use Rattle.sqlite.proofs.Callers.{IsPlain}
+use Rattle.treasury_store.proofs.Texts.{format_rows_text, format_rows_is}
+use Rattle.treasury_store.proofs.QueriedLemmas.{versions_are, shown_same, ok_then}
+use Rattle.treasury_store.proofs.open.format_rows.Goals as goal
+
+pub returns-clause-rows : goal.returns-clause-rows
+returns-clause-rows g c clean =
+    ok_then c.query_all.result _ _ (λ rows h has. versions_are (state g.S.Store c.args.conn.now) (state g.S.Store c.query_all.new.self) rows.items has h) (c.query_all.ensures.ok clean)
+
+pub returns-clause-same : goal.returns-clause-same
+returns-clause-same g c clean =
+    ok_then c.query_all.result _ _ (λ rows h has. shown_same format_rows_text _ (state g.S.Store c.args.conn.now) (state g.S.Store c.query_all.new.self) rows.items
+    (subst (λ s. IsPlain (understood s format_rows_text)) (sym has) format_rows_is.2) h) (c.query_all.ensures.ok clean)

@@ -1,0 +1,17 @@
+-- When the tables of a treasury are there.
+use Rattle.std.specs.Prelude.{◌≡◌, pos, IsTrue, [], ◌∷◌}
+use Rattle.sqlite.specs.declared.types.Value.TheVariants.{Int}
+use Rattle.sqlite.specs.Schema.{Schema}
+use Rattle.sqlite.specs.Effect.{Database}
+use Rattle.treasury_store.specs.Tables.{store_schema}
+use Rattle.treasury_store.specs.Rows.{versions}
+use Rattle.treasury_store.specs.Creating.{has_all}
+
+-- tables with our names were made by our statements, in an empty database to which nothing was added
+abbrev pub MadeHere : Schema → Type 0
+MadeHere s = IsTrue (has_all s) → s ≡ store_schema
+
+-- the tables and the one row of `format` are there
+pub record IsTreasury (db : Database) : Type 0 where
+  pub schema : db.schema ≡ store_schema
+  pub format : versions db ≡ Int (pos 1) ∷ []

@@ -1,0 +1,122 @@
+-- What the tables hold (docs/FORMATS.md, "Tables").
+use Rattle.std.specs.Prelude.{◌≡◌, ℕ, ℤ, pos, Some, List, [], ◌∷◌, map, drop, fold, if◌then◌else◌, IsPermutation}
+use Rattle.std.specs.Ordering.{int_eq}
+use Rattle.std.specs.Str.{bytes_eq}
+use Rattle.sqlite.specs.declared.types.Value.TheVariants.{Null, Int, Text}
+use Rattle.sqlite.specs.declared.types.Value.{Value}
+use Rattle.sqlite.specs.Order.{Row, column}
+use Rattle.sqlite.specs.Values.{or_null}
+use Rattle.sqlite.specs.Effect.{Database}
+use Rattle.sqlite_trees.specs.View.{IsShaped}
+use Rattle.sqlite_trees.specs.declared.store.Shape.TheVariants as shape
+use Rattle.treasury_store.specs.Tables.{store_schema}
+use Rattle.treasury_store.specs.declared.rows.UnitRow.{UnitRow}
+use Rattle.treasury_store.specs.declared.rows.BranchRow.{BranchRow}
+use Rattle.treasury_store.specs.declared.rows.EntryRow.{EntryRow}
+use Rattle.treasury_store.specs.declared.rows.LegRow.{LegRow}
+use Rattle.treasury_store.specs.declared.rows.ClaimRow.{ClaimRow}
+use Rattle.treasury_store.specs.declared.rows.TransferRow.{TransferRow}
+use Rattle.treasury_store.specs.declared.rows.Parts.{Parts}
+use Rattle.treasury_store.specs.declared.rows.Change.{Change}
+use Rattle.treasury_store.specs.declared.rows.Change.TheVariants as change
+
+-- ---- the columns of each row
+abbrev pub format_row : Row
+format_row = Int (pos 1) ∷ []
+
+abbrev pub unit_row : UnitRow → Row
+unit_row u = Int u.nr ∷ Text u.symbol ∷ Int u.decimals ∷ Text u.mark ∷ Int u.grouped ∷ Int u.leftside ∷ Int u.spaced ∷ []
+
+abbrev pub branch_row : BranchRow → Row
+branch_row b = Int b.nr ∷ Text b.name ∷ or_null Int b.locked ∷ []
+
+abbrev pub entry_row : EntryRow → Row
+entry_row e = Int e.branch ∷ Int e.nr ∷ Int e.day ∷ Text e.mark ∷ Text e.body ∷ []
+
+abbrev pub leg_row : LegRow → Row
+leg_row l = Int l.branch ∷ Int l.entry ∷ Int l.nr ∷ Text l.account ∷ Int l.unit ∷ Int l.qty ∷ []
+
+abbrev pub claim_row : ClaimRow → Row
+claim_row c = Int c.branch ∷ Int c.entry ∷ Int c.leg ∷ Int c.kind ∷ Int c.unit ∷ Int c.qty ∷ []
+
+abbrev pub transfer_row : TransferRow → Row
+transfer_row x =
+    Text x.id ∷ Int x.source ∷ Int x.target ∷ Int x.unit ∷ Int x.qty ∷ Int x.dispatched ∷ Text x.payer ∷ or_null Int x.received ∷ or_null Text x.payee ∷ []
+
+-- a commodity and a branch as their trees have them: the number is the rowid, and stands as NULL in its own column
+abbrev pub stored_unit : UnitRow → Row
+stored_unit u = Int u.nr ∷ Null ∷ Text u.symbol ∷ Int u.decimals ∷ Text u.mark ∷ Int u.grouped ∷ Int u.leftside ∷ Int u.spaced ∷ []
+
+abbrev pub stored_branch : BranchRow → Row
+stored_branch b = Int b.nr ∷ Null ∷ Text b.name ∷ or_null Int b.locked ∷ []
+
+-- what `format` holds
+abbrev pub versions : Database → List Value
+versions db = map (λ r. column r 1) (db.trees 0)
+
+-- the rows of each table but `format`, in any order
+abbrev pub Tables : Type 0
+Tables = Parts
+
+abbrev pub no_rows : Tables
+no_rows = record { units = []; branches = []; entries = []; legs = []; claims = []; transfers = [] }
+
+-- The database is these tables, and no other, and `format` has the one row 1. Rowids that are no column are not looked at, but those of transfers
+-- rise, as an UPDATE goes by them.
+pub record Holds (db : Database) (t : Tables) : Type 0 where
+  pub schema : db.schema ≡ store_schema
+  pub format : versions db ≡ Int (pos 1) ∷ []
+  pub units : IsPermutation (map stored_unit t.units) (db.trees 1)
+  pub branches : IsPermutation (map stored_branch t.branches) (db.trees 3)
+  pub entries : IsPermutation (map entry_row t.entries) (map (drop 1) (db.trees 5))
+  pub legs : IsPermutation (map leg_row t.legs) (map (drop 1) (db.trees 8))
+  pub claims : IsPermutation (map claim_row t.claims) (map (drop 1) (db.trees 10))
+  pub transfers : IsPermutation (map transfer_row t.transfers) (map (drop 1) (db.trees 12))
+  pub keyed : IsShaped shape.Table (db.trees 12)
+
+-- ---- changes
+abbrev pub with_unit : UnitRow → Tables → Tables
+with_unit u t = record t { units = u ∷ t.units }
+
+abbrev pub with_branch : BranchRow → Tables → Tables
+with_branch b t = record t { branches = b ∷ t.branches }
+
+abbrev pub with_entry : EntryRow → Tables → Tables
+with_entry e t = record t { entries = e ∷ t.entries }
+
+abbrev pub with_leg : LegRow → Tables → Tables
+with_leg l t = record t { legs = l ∷ t.legs }
+
+abbrev pub with_claim : ClaimRow → Tables → Tables
+with_claim c t = record t { claims = c ∷ t.claims }
+
+abbrev pub with_transfer : TransferRow → Tables → Tables
+with_transfer x t = record t { transfers = x ∷ t.transfers }
+
+-- the branch of that number is locked through the day, and each other stays
+abbrev pub locked : ℤ → ℤ → BranchRow → BranchRow
+locked nr day b = if int_eq b.nr nr then record b { locked = Some day } else b
+
+abbrev pub with_lock : ℤ → ℤ → Tables → Tables
+with_lock nr day t = record t { branches = map (locked nr day) t.branches }
+
+-- the transfer of that ID was received on the day, into the account, and each other stays
+abbrev pub received : List ℕ → ℤ → List ℕ → TransferRow → TransferRow
+received id day payee x = if bytes_eq x.id id then record x { received = Some day; payee = Some payee } else x
+
+abbrev pub with_receipt : List ℕ → ℤ → List ℕ → Tables → Tables
+with_receipt id day payee t = record t { transfers = map (received id day payee) t.transfers }
+
+abbrev pub changed : Change → Tables → Tables
+changed (change.Unit u) t = with_unit u t
+changed (change.Branch b) t = with_branch b t
+changed (change.Entry e) t = with_entry e t
+changed (change.Leg l) t = with_leg l t
+changed (change.Claim c) t = with_claim c t
+changed (change.Transfer x) t = with_transfer x t
+changed (change.Lock nr day) t = with_lock nr day t
+changed (change.Receipt id day payee) t = with_receipt id day payee t
+
+-- one change after another
+abbrev pub joined : List Change → Tables → Tables
+joined cs t = fold (λ u c. changed c u) t cs

@@ -1,0 +1,165 @@
+//! The tables of a new treasury.
+
+ghost use Rattle.std.specs.Prelude.{◌≡◌, OnOk, OnErr, IfOk, IsTrue, false, [], codes};
+ghost use Rattle.std.specs.List.{list_any};
+ghost use Rattle.sqlite_schema.specs.Names.{same_name};
+ghost use Rattle.sqlite.specs.Schema.{Schema};
+ghost use Rattle.sqlite.specs.Change.{created, next_tree};
+ghost use Rattle.sqlite.specs.State.{HasCleanDisk, KeepsCommit, Survives};
+ghost use Rattle.sqlite.specs.Held.{state};
+ghost use Rattle.treasury_store.specs.Rows.{Holds, no_rows};
+ghost use Rattle.treasury_store.specs.Tables.{no_schema, format, unit, branch, entry, leg, claim, transfer, state_tables};
+ghost use Rattle.treasury_store.specs.Creating.{is_ours, has_one, has_counter, Creates, MakesAll, GivesRow, Beside};
+
+use sqlite::types::ToSql;
+use sqlite::{Alter, Connection, Error, ErrorCode, Transaction};
+use sqlite_schema::names::same_name;
+
+fn create_format<S: Alter>(tx: &mut Transaction<'_, S>) -> Result<usize, Error>
+    ensures same_reference { tx.new.conn.ghost_name ≡ tx.old.conn.ghost_name }
+    ensures creates { Creates S.Store tx.old.conn.now tx.new.conn.now result format }
+{
+    tx.execute("CREATE TABLE format (version INTEGER NOT NULL) STRICT", &[])
+}
+
+fn create_unit<S: Alter>(tx: &mut Transaction<'_, S>) -> Result<usize, Error>
+    ensures same_reference { tx.new.conn.ghost_name ≡ tx.old.conn.ghost_name }
+    ensures creates { Creates S.Store tx.old.conn.now tx.new.conn.now result unit }
+{
+    tx.execute(
+        "CREATE TABLE unit (nr INTEGER PRIMARY KEY, symbol TEXT NOT NULL UNIQUE, decimals INTEGER NOT NULL, mark TEXT NOT NULL, grouped INTEGER NOT NULL, leftside INTEGER NOT NULL, spaced INTEGER NOT NULL) STRICT",
+        &[],
+    )
+}
+
+fn create_branch<S: Alter>(tx: &mut Transaction<'_, S>) -> Result<usize, Error>
+    ensures same_reference { tx.new.conn.ghost_name ≡ tx.old.conn.ghost_name }
+    ensures creates { Creates S.Store tx.old.conn.now tx.new.conn.now result branch }
+{
+    tx.execute(
+        "CREATE TABLE branch (nr INTEGER PRIMARY KEY, name TEXT NOT NULL UNIQUE, locked INTEGER) STRICT",
+        &[],
+    )
+}
+
+fn create_entry<S: Alter>(tx: &mut Transaction<'_, S>) -> Result<usize, Error>
+    ensures same_reference { tx.new.conn.ghost_name ≡ tx.old.conn.ghost_name }
+    ensures creates { Creates S.Store tx.old.conn.now tx.new.conn.now result entry }
+{
+    tx.execute(
+        "CREATE TABLE entry (branch INTEGER NOT NULL, nr INTEGER NOT NULL, day INTEGER NOT NULL, mark TEXT NOT NULL, body TEXT NOT NULL, PRIMARY KEY (branch, nr), UNIQUE (branch, mark)) STRICT",
+        &[],
+    )
+}
+
+fn create_leg<S: Alter>(tx: &mut Transaction<'_, S>) -> Result<usize, Error>
+    ensures same_reference { tx.new.conn.ghost_name ≡ tx.old.conn.ghost_name }
+    ensures creates { Creates S.Store tx.old.conn.now tx.new.conn.now result leg }
+{
+    tx.execute(
+        "CREATE TABLE leg (branch INTEGER NOT NULL, entry INTEGER NOT NULL, nr INTEGER NOT NULL, account TEXT NOT NULL, unit INTEGER NOT NULL, qty INTEGER NOT NULL, PRIMARY KEY (branch, entry, nr)) STRICT",
+        &[],
+    )
+}
+
+fn create_claim<S: Alter>(tx: &mut Transaction<'_, S>) -> Result<usize, Error>
+    ensures same_reference { tx.new.conn.ghost_name ≡ tx.old.conn.ghost_name }
+    ensures creates { Creates S.Store tx.old.conn.now tx.new.conn.now result claim }
+{
+    tx.execute(
+        "CREATE TABLE claim (branch INTEGER NOT NULL, entry INTEGER NOT NULL, leg INTEGER NOT NULL, kind INTEGER NOT NULL, unit INTEGER NOT NULL, qty INTEGER NOT NULL, PRIMARY KEY (branch, entry, leg)) STRICT",
+        &[],
+    )
+}
+
+fn create_transfer<S: Alter>(tx: &mut Transaction<'_, S>) -> Result<usize, Error>
+    ensures same_reference { tx.new.conn.ghost_name ≡ tx.old.conn.ghost_name }
+    ensures creates { Creates S.Store tx.old.conn.now tx.new.conn.now result transfer }
+{
+    tx.execute(
+        "CREATE TABLE transfer (id TEXT NOT NULL PRIMARY KEY, source INTEGER NOT NULL, target INTEGER NOT NULL, unit INTEGER NOT NULL, qty INTEGER NOT NULL, dispatched INTEGER NOT NULL, payer TEXT NOT NULL, received INTEGER, payee TEXT) STRICT",
+        &[],
+    )
+}
+
+/// Puts the one row of `format`, which is the last table.
+fn put_format<S: Alter>(tx: &mut Transaction<'_, S>) -> Result<usize, Error>
+    ensures same_reference { tx.new.conn.ghost_name ≡ tx.old.conn.ghost_name }
+    ensures gives { HasCleanDisk (state S.Store tx.new.conn.now) → OnOk result ((s : Schema) → (state S.Store tx.old.conn.now).now.schema ≡ created s format
+        → list_any (λ t. same_name t.name (codes "format")) s.tables ≡ false → (state S.Store tx.old.conn.now).now.trees (next_tree s) ≡ [] → GivesRow s (state S.Store tx.old.conn.now).now (state S.Store tx.new.conn.now).now) }
+    ensures inside { HasCleanDisk (state S.Store tx.new.conn.now) → OnOk result (IsTrue (state S.Store tx.new.conn.now).in_transaction) }
+    ensures kept { HasCleanDisk (state S.Store tx.new.conn.now) → KeepsCommit (state S.Store tx.old.conn.now) (state S.Store tx.new.conn.now) }
+    ensures survives { Survives (state S.Store tx.old.conn.now) (state S.Store tx.new.conn.now) (λ _. ⊥) }
+{
+    let version = 1i64.to_sql();
+    tx.execute("INSERT INTO format (version) VALUES (?1)", &[version])
+}
+
+/// Makes the tables of the state.
+fn create_state<S: Alter>(tx: &mut Transaction<'_, S>) -> Result<usize, Error>
+    ensures same_reference { tx.new.conn.ghost_name ≡ tx.old.conn.ghost_name }
+    ensures makes { HasCleanDisk (state S.Store tx.new.conn.now) → OnOk result (has_counter (state S.Store tx.old.conn.now).now.schema ≡ false → MakesAll state_tables (state S.Store tx.old.conn.now).now (state S.Store tx.new.conn.now).now) }
+    ensures inside { HasCleanDisk (state S.Store tx.new.conn.now) → OnOk result (IsTrue (state S.Store tx.new.conn.now).in_transaction) }
+    ensures kept { HasCleanDisk (state S.Store tx.new.conn.now) → KeepsCommit (state S.Store tx.old.conn.now) (state S.Store tx.new.conn.now) }
+    ensures survives { Survives (state S.Store tx.old.conn.now) (state S.Store tx.new.conn.now) (λ _. ⊥) }
+{
+    create_unit(tx)?;
+    create_branch(tx)?;
+    create_entry(tx)?;
+    create_leg(tx)?;
+    create_claim(tx)?;
+    create_transfer(tx)
+}
+
+/// Whether the name is one of our tables', but for the case of ASCII letters.
+fn is_ours(name: &[u8]) -> bool
+    ensures { result ≡ is_ours name.now }
+{
+    same_name(name, b"format".as_slice())
+        || same_name(name, b"unit".as_slice())
+        || same_name(name, b"branch".as_slice())
+        || same_name(name, b"entry".as_slice())
+        || same_name(name, b"leg".as_slice())
+        || same_name(name, b"claim".as_slice())
+        || same_name(name, b"transfer".as_slice())
+}
+
+/// Whether one of our tables is there.
+fn has_one<S: Alter>(conn: &Connection<S>) -> bool
+    ensures { result ≡ has_one (state S.Store conn.now).now.schema }
+{
+    let tables = conn.schema().tables.as_slice();
+    'table: for table in tables {
+        if is_ours(table.name.as_slice()) {
+            return true;
+        }
+    }
+    false
+}
+
+/// Makes the tables of a new treasury in one transaction, or answers `false` where a table of one of their names is there.
+///
+/// An open transaction is an error. After an error of a connection that is still open the database is as it was.
+pub fn create_tables<S: Alter>(conn: &mut Connection<S>) -> Result<bool, Error>
+    // Into an empty database.
+    ensures made { HasCleanDisk (state S.Store conn.new) → IfOk result (λ made. IsTrue made → (state S.Store conn.old).now.schema ≡ no_schema → Holds (state S.Store conn.new).now no_rows × ((state S.Store conn.new).committed ≡ (state S.Store conn.new).now)) }
+    // Beside other tables, none of which has AUTOINCREMENT.
+    ensures beside { HasCleanDisk (state S.Store conn.new) → IfOk result (λ made. IsTrue made → has_counter (state S.Store conn.old).now.schema ≡ false → Beside (state S.Store conn.old).now (state S.Store conn.new).now) }
+    ensures still_open { HasCleanDisk (state S.Store conn.new) → IfOk result (λ made. IsTrue made → IsTrue (state S.Store conn.new).is_open) }
+    ensures free { IfOk result (λ made. IsTrue made → has_one (state S.Store conn.old).now.schema ≡ false) }
+    ensures refused { IfOk result (λ made. made ≡ false → IsTrue (has_one (state S.Store conn.old).now.schema) × (conn.new ≡ conn.old)) }
+    ensures unchanged { HasCleanDisk (state S.Store conn.new) → IsTrue (state S.Store conn.new).is_open → OnErr result (((state S.Store conn.new).now ≡ (state S.Store conn.old).now) × ((state S.Store conn.new).committed ≡ (state S.Store conn.old).committed)) }
+{
+    if has_one(conn) {
+        return Ok(false);
+    }
+    if !conn.is_autocommit() {
+        return Err(Error::SqliteFailure(ErrorCode::TransactionState));
+    }
+    let mut tx = conn.transaction();
+    create_format(&mut tx)?;
+    put_format(&mut tx)?;
+    create_state(&mut tx)?;
+    tx.commit()?;
+    Ok(true)
+}

@@ -1,0 +1,276 @@
+//! The rows of the tables, in order.
+
+ghost use Rattle.std.specs.Prelude.{◌≡◌, ◌≤◌, ℕ, List, map, Option, OnOk, IfOk};
+ghost use Rattle.sqlite_trees.specs.View.{doubt};
+ghost use Rattle.sqlite.specs.declared.types.Value.{Value};
+ghost use Rattle.sqlite.specs.declared.types.Value.TheVariants.{Text as Words};
+ghost use Rattle.sqlite.specs.Order.{column};
+ghost use Rattle.sqlite.specs.Values.{or_null};
+ghost use Rattle.sqlite.specs.State.{HasCleanDisk, IsUnchanged};
+ghost use Rattle.sqlite.specs.Held.{state};
+ghost use Rattle.treasury_store.specs.Rows.{Tables, Holds, unit_row, branch_row, entry_row, leg_row, claim_row, transfer_row};
+ghost use Rattle.treasury_store.specs.Order.{InOrder};
+
+use crate::rows::{BranchRow, ClaimRow, EntryRow, LegRow, Parts, TransferRow, UnitRow};
+use money_core::{Items, Text};
+use sqlite::{Alter, Connection, Error, Row};
+use std::alloc::Global;
+
+/// A row of one of the tables, read from its columns.
+trait FromRow: Drop {
+    /// The columns.
+    ghost columns: { Self → List Value };
+
+    /// The row that has these columns. An error is want of memory, or that no row has them.
+    fn read(row: &Row) -> Result<Self, Error>
+        ensures { IfOk result (λ x. (y : Self) → row.now ≡ columns y → x ≡ y) };
+}
+
+/// The text in a column.
+fn text_at(row: &Row, at: usize) -> Result<Text, Error>
+    ensures { IfOk result (λ text. (words : List ℕ) → column row.now at ≡ Words words → text ≡ words) }
+{
+    let text: String = row.get(at)?;
+    Ok(Text::from_string(text))
+}
+
+/// The text in a column, if there is one.
+fn maybe_text_at(row: &Row, at: usize) -> Result<Option<Text>, Error>
+    ensures { IfOk result (λ text. (words : Option (List ℕ)) → column row.now at ≡ or_null Words words → text ≡ words) }
+{
+    let text: Option<String> = row.get(at)?;
+    match text {
+        Some(text) => Ok(Some(Text::from_string(text))),
+        None => Ok(None),
+    }
+}
+
+impl FromRow for UnitRow {
+    ghost columns = { unit_row };
+
+    fn read(row: &Row) -> Result<Self, Error> {
+        let nr = row.get(0)?;
+        let symbol = text_at(row, 1)?;
+        let decimals = row.get(2)?;
+        let mark = text_at(row, 3)?;
+        let grouped = row.get(4)?;
+        let leftside = row.get(5)?;
+        let spaced = row.get(6)?;
+        Ok(UnitRow {
+            nr,
+            symbol,
+            decimals,
+            mark,
+            grouped,
+            leftside,
+            spaced,
+        })
+    }
+}
+
+impl FromRow for BranchRow {
+    ghost columns = { branch_row };
+
+    fn read(row: &Row) -> Result<Self, Error> {
+        let nr = row.get(0)?;
+        let name = text_at(row, 1)?;
+        let locked = row.get(2)?;
+        Ok(BranchRow { nr, name, locked })
+    }
+}
+
+impl FromRow for EntryRow {
+    ghost columns = { entry_row };
+
+    fn read(row: &Row) -> Result<Self, Error> {
+        let branch = row.get(0)?;
+        let nr = row.get(1)?;
+        let day = row.get(2)?;
+        let mark = text_at(row, 3)?;
+        let body = text_at(row, 4)?;
+        Ok(EntryRow {
+            branch,
+            nr,
+            day,
+            mark,
+            body,
+        })
+    }
+}
+
+impl FromRow for LegRow {
+    ghost columns = { leg_row };
+
+    fn read(row: &Row) -> Result<Self, Error> {
+        let branch = row.get(0)?;
+        let entry = row.get(1)?;
+        let nr = row.get(2)?;
+        let account = text_at(row, 3)?;
+        let unit = row.get(4)?;
+        let qty = row.get(5)?;
+        Ok(LegRow {
+            branch,
+            entry,
+            nr,
+            account,
+            unit,
+            qty,
+        })
+    }
+}
+
+impl FromRow for ClaimRow {
+    ghost columns = { claim_row };
+
+    fn read(row: &Row) -> Result<Self, Error> {
+        let branch = row.get(0)?;
+        let entry = row.get(1)?;
+        let leg = row.get(2)?;
+        let kind = row.get(3)?;
+        let unit = row.get(4)?;
+        let qty = row.get(5)?;
+        Ok(ClaimRow {
+            branch,
+            entry,
+            leg,
+            kind,
+            unit,
+            qty,
+        })
+    }
+}
+
+impl FromRow for TransferRow {
+    ghost columns = { transfer_row };
+
+    fn read(row: &Row) -> Result<Self, Error> {
+        let id = text_at(row, 0)?;
+        let source = row.get(1)?;
+        let target = row.get(2)?;
+        let unit = row.get(3)?;
+        let qty = row.get(4)?;
+        let dispatched = row.get(5)?;
+        let payer = text_at(row, 6)?;
+        let received = row.get(7)?;
+        let payee = maybe_text_at(row, 8)?;
+        Ok(TransferRow {
+            id,
+            source,
+            target,
+            unit,
+            qty,
+            dispatched,
+            payer,
+            received,
+            payee,
+        })
+    }
+}
+
+/// The rows, in order.
+fn read_all<T: FromRow>(alloc: Global, rows: &[Row]) -> Result<Items<T>, Error>
+    ensures { IfOk result (λ xs. (ys : List T) → rows.now ≡ map T.columns ys → xs ≡ ys) }
+{
+    let mut list = Vec::new(alloc);
+    'row: for row in rows {
+        let item = T::read(row)?;
+        list.push(item)?;
+    }
+    Ok(Items::from_vec(list))
+}
+
+fn load_units<S: Alter>(alloc: Global, conn: &mut Connection<S>) -> Result<Items<UnitRow>, Error>
+    ensures rows { HasCleanDisk (state S.Store conn.new) → IfOk result (λ rows. (t : Tables) → InOrder t → Holds (state S.Store conn.old).now t → rows ≡ t.units) }
+    ensures same { HasCleanDisk (state S.Store conn.new) → OnOk result ((t : Tables) → Holds (state S.Store conn.old).now t → IsUnchanged (state S.Store conn.old) (state S.Store conn.new)) }
+    ensures clean { doubt (state S.Store conn.old).is_clean ≤ doubt (state S.Store conn.new).is_clean }
+{
+    let rows = conn.query_all(
+        "SELECT nr, symbol, decimals, mark, grouped, leftside, spaced FROM unit ORDER BY nr",
+        &[],
+    )?;
+    read_all(alloc, &rows)
+}
+
+fn load_branches<S: Alter>(
+    alloc: Global,
+    conn: &mut Connection<S>,
+) -> Result<Items<BranchRow>, Error>
+    ensures rows { HasCleanDisk (state S.Store conn.new) → IfOk result (λ rows. (t : Tables) → InOrder t → Holds (state S.Store conn.old).now t → rows ≡ t.branches) }
+    ensures same { HasCleanDisk (state S.Store conn.new) → OnOk result ((t : Tables) → Holds (state S.Store conn.old).now t → IsUnchanged (state S.Store conn.old) (state S.Store conn.new)) }
+    ensures clean { doubt (state S.Store conn.old).is_clean ≤ doubt (state S.Store conn.new).is_clean }
+{
+    let rows = conn.query_all("SELECT nr, name, locked FROM branch ORDER BY nr", &[])?;
+    read_all(alloc, &rows)
+}
+
+fn load_entries<S: Alter>(alloc: Global, conn: &mut Connection<S>) -> Result<Items<EntryRow>, Error>
+    ensures rows { HasCleanDisk (state S.Store conn.new) → IfOk result (λ rows. (t : Tables) → InOrder t → Holds (state S.Store conn.old).now t → rows ≡ t.entries) }
+    ensures same { HasCleanDisk (state S.Store conn.new) → OnOk result ((t : Tables) → Holds (state S.Store conn.old).now t → IsUnchanged (state S.Store conn.old) (state S.Store conn.new)) }
+    ensures clean { doubt (state S.Store conn.old).is_clean ≤ doubt (state S.Store conn.new).is_clean }
+{
+    let rows = conn.query_all(
+        "SELECT branch, nr, day, mark, body FROM entry ORDER BY branch, nr",
+        &[],
+    )?;
+    read_all(alloc, &rows)
+}
+
+fn load_legs<S: Alter>(alloc: Global, conn: &mut Connection<S>) -> Result<Items<LegRow>, Error>
+    ensures rows { HasCleanDisk (state S.Store conn.new) → IfOk result (λ rows. (t : Tables) → InOrder t → Holds (state S.Store conn.old).now t → rows ≡ t.legs) }
+    ensures same { HasCleanDisk (state S.Store conn.new) → OnOk result ((t : Tables) → Holds (state S.Store conn.old).now t → IsUnchanged (state S.Store conn.old) (state S.Store conn.new)) }
+    ensures clean { doubt (state S.Store conn.old).is_clean ≤ doubt (state S.Store conn.new).is_clean }
+{
+    let rows = conn.query_all(
+        "SELECT branch, entry, nr, account, unit, qty FROM leg ORDER BY branch, entry, nr",
+        &[],
+    )?;
+    read_all(alloc, &rows)
+}
+
+fn load_claims<S: Alter>(alloc: Global, conn: &mut Connection<S>) -> Result<Items<ClaimRow>, Error>
+    ensures rows { HasCleanDisk (state S.Store conn.new) → IfOk result (λ rows. (t : Tables) → InOrder t → Holds (state S.Store conn.old).now t → rows ≡ t.claims) }
+    ensures same { HasCleanDisk (state S.Store conn.new) → OnOk result ((t : Tables) → Holds (state S.Store conn.old).now t → IsUnchanged (state S.Store conn.old) (state S.Store conn.new)) }
+    ensures clean { doubt (state S.Store conn.old).is_clean ≤ doubt (state S.Store conn.new).is_clean }
+{
+    let rows = conn.query_all(
+        "SELECT branch, entry, leg, kind, unit, qty FROM claim ORDER BY branch, entry, leg",
+        &[],
+    )?;
+    read_all(alloc, &rows)
+}
+
+fn load_transfers<S: Alter>(
+    alloc: Global,
+    conn: &mut Connection<S>,
+) -> Result<Items<TransferRow>, Error>
+    ensures rows { HasCleanDisk (state S.Store conn.new) → IfOk result (λ rows. (t : Tables) → InOrder t → Holds (state S.Store conn.old).now t → rows ≡ t.transfers) }
+    ensures same { HasCleanDisk (state S.Store conn.new) → OnOk result ((t : Tables) → Holds (state S.Store conn.old).now t → IsUnchanged (state S.Store conn.old) (state S.Store conn.new)) }
+    ensures clean { doubt (state S.Store conn.old).is_clean ≤ doubt (state S.Store conn.new).is_clean }
+{
+    let rows = conn.query_all(
+        "SELECT id, source, target, unit, qty, dispatched, payer, received, payee FROM transfer ORDER BY id",
+        &[],
+    )?;
+    read_all(alloc, &rows)
+}
+
+/// The rows of all tables, each list in the order of its key: one query a table. It changes nothing.
+pub fn load_parts<S: Alter>(alloc: Global, conn: &mut Connection<S>) -> Result<Parts, Error>
+    ensures parts { HasCleanDisk (state S.Store conn.new) → IfOk result (λ parts. (t : Tables) → InOrder t → Holds (state S.Store conn.old).now t → parts ≡ t) }
+    ensures same { HasCleanDisk (state S.Store conn.new) → OnOk result ((t : Tables) → Holds (state S.Store conn.old).now t → IsUnchanged (state S.Store conn.old) (state S.Store conn.new)) }
+{
+    let units = load_units(alloc, conn)?;
+    let branches = load_branches(alloc, conn)?;
+    let entries = load_entries(alloc, conn)?;
+    let legs = load_legs(alloc, conn)?;
+    let claims = load_claims(alloc, conn)?;
+    let transfers = load_transfers(alloc, conn)?;
+    Ok(Parts {
+        units,
+        branches,
+        entries,
+        legs,
+        claims,
+        transfers,
+    })
+}

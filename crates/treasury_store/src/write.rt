@@ -1,0 +1,210 @@
+//! The writes of one command, in one transaction.
+
+ghost use Rattle.std.specs.Prelude.{◌≡◌, OnOk, OnErr, IsTrue};
+ghost use Rattle.sqlite_value.specs.Value.{owned};
+ghost use Rattle.sqlite.specs.declared.types.Value.TheVariants.{Text as Words};
+ghost use Rattle.sqlite.specs.Values.{or_null};
+ghost use Rattle.sqlite.specs.State.{HasCleanDisk, KeepsCommit, Survives};
+ghost use Rattle.sqlite.specs.Held.{state};
+ghost use Rattle.sqlite.specs.Effect.{Database};
+ghost use Rattle.treasury_store.specs.Rows.{Tables, Holds, with_unit, with_branch, with_entry, with_leg, with_claim, with_transfer, with_lock, with_receipt, changed, joined};
+ghost use Rattle.treasury_store.specs.Kept.{Writes};
+
+use crate::rows::{BranchRow, Change, ClaimRow, EntryRow, LegRow, TransferRow, UnitRow};
+use money_core::Text;
+use sqlite::types::{ToSql, ValueRef};
+use sqlite::{Alter, Connection, Error, ErrorCode, Transaction};
+
+/// A text as a value; NULL where there is none.
+fn text_or_null(text: &Option<Text>) -> ValueRef<'_>
+    ensures { owned result ≡ or_null Words text.now }
+{
+    match text {
+        Some(text) => text.as_str().to_sql(),
+        None => ValueRef::Null,
+    }
+}
+
+/// Inserts a commodity.
+fn put_unit<S: Alter>(tx: &mut Transaction<'_, S>, row: &UnitRow) -> Result<usize, Error>
+    ensures same_reference { tx.new.conn.ghost_name ≡ tx.old.conn.ghost_name }
+    ensures writes { Writes S.Store tx.old.conn.now tx.new.conn.now result (with_unit row.now) }
+{
+    let nr = row.nr.to_sql();
+    let symbol = row.symbol.as_str().to_sql();
+    let decimals = row.decimals.to_sql();
+    let mark = row.mark.as_str().to_sql();
+    let grouped = row.grouped.to_sql();
+    let leftside = row.leftside.to_sql();
+    let spaced = row.spaced.to_sql();
+    tx.execute(
+        "INSERT INTO unit (nr, symbol, decimals, mark, grouped, leftside, spaced) VALUES (?1, ?2, ?3, ?4, ?5, ?6, ?7)",
+        &[nr, symbol, decimals, mark, grouped, leftside, spaced],
+    )
+}
+
+/// Inserts a branch.
+fn put_branch<S: Alter>(tx: &mut Transaction<'_, S>, row: &BranchRow) -> Result<usize, Error>
+    ensures same_reference { tx.new.conn.ghost_name ≡ tx.old.conn.ghost_name }
+    ensures writes { Writes S.Store tx.old.conn.now tx.new.conn.now result (with_branch row.now) }
+{
+    let nr = row.nr.to_sql();
+    let name = row.name.as_str().to_sql();
+    let locked = row.locked.to_sql();
+    tx.execute(
+        "INSERT INTO branch (nr, name, locked) VALUES (?1, ?2, ?3)",
+        &[nr, name, locked],
+    )
+}
+
+/// Inserts an entry.
+fn put_entry<S: Alter>(tx: &mut Transaction<'_, S>, row: &EntryRow) -> Result<usize, Error>
+    ensures same_reference { tx.new.conn.ghost_name ≡ tx.old.conn.ghost_name }
+    ensures writes { Writes S.Store tx.old.conn.now tx.new.conn.now result (with_entry row.now) }
+{
+    let branch = row.branch.to_sql();
+    let nr = row.nr.to_sql();
+    let day = row.day.to_sql();
+    let mark = row.mark.as_str().to_sql();
+    let body = row.body.as_str().to_sql();
+    tx.execute(
+        "INSERT INTO entry (branch, nr, day, mark, body) VALUES (?1, ?2, ?3, ?4, ?5)",
+        &[branch, nr, day, mark, body],
+    )
+}
+
+/// Inserts a leg.
+fn put_leg<S: Alter>(tx: &mut Transaction<'_, S>, row: &LegRow) -> Result<usize, Error>
+    ensures same_reference { tx.new.conn.ghost_name ≡ tx.old.conn.ghost_name }
+    ensures writes { Writes S.Store tx.old.conn.now tx.new.conn.now result (with_leg row.now) }
+{
+    let branch = row.branch.to_sql();
+    let entry = row.entry.to_sql();
+    let nr = row.nr.to_sql();
+    let account = row.account.as_str().to_sql();
+    let unit = row.unit.to_sql();
+    let qty = row.qty.to_sql();
+    tx.execute(
+        "INSERT INTO leg (branch, entry, nr, account, unit, qty) VALUES (?1, ?2, ?3, ?4, ?5, ?6)",
+        &[branch, entry, nr, account, unit, qty],
+    )
+}
+
+/// Inserts a claim.
+fn put_claim<S: Alter>(tx: &mut Transaction<'_, S>, row: &ClaimRow) -> Result<usize, Error>
+    ensures same_reference { tx.new.conn.ghost_name ≡ tx.old.conn.ghost_name }
+    ensures writes { Writes S.Store tx.old.conn.now tx.new.conn.now result (with_claim row.now) }
+{
+    let branch = row.branch.to_sql();
+    let entry = row.entry.to_sql();
+    let leg = row.leg.to_sql();
+    let kind = row.kind.to_sql();
+    let unit = row.unit.to_sql();
+    let qty = row.qty.to_sql();
+    tx.execute(
+        "INSERT INTO claim (branch, entry, leg, kind, unit, qty) VALUES (?1, ?2, ?3, ?4, ?5, ?6)",
+        &[branch, entry, leg, kind, unit, qty],
+    )
+}
+
+/// Inserts a transfer.
+fn put_transfer<S: Alter>(tx: &mut Transaction<'_, S>, row: &TransferRow) -> Result<usize, Error>
+    ensures same_reference { tx.new.conn.ghost_name ≡ tx.old.conn.ghost_name }
+    ensures writes { Writes S.Store tx.old.conn.now tx.new.conn.now result (with_transfer row.now) }
+{
+    let id = row.id.as_str().to_sql();
+    let source = row.source.to_sql();
+    let target = row.target.to_sql();
+    let unit = row.unit.to_sql();
+    let qty = row.qty.to_sql();
+    let dispatched = row.dispatched.to_sql();
+    let payer = row.payer.as_str().to_sql();
+    let received = row.received.to_sql();
+    let payee = text_or_null(&row.payee);
+    tx.execute(
+        "INSERT INTO transfer (id, source, target, unit, qty, dispatched, payer, received, payee) VALUES (?1, ?2, ?3, ?4, ?5, ?6, ?7, ?8, ?9)",
+        &[
+            id, source, target, unit, qty, dispatched, payer, received, payee,
+        ],
+    )
+}
+
+/// Locks the branch of that number through a day.
+fn set_lock<S: Alter>(tx: &mut Transaction<'_, S>, branch: i64, day: i64) -> Result<usize, Error>
+    ensures same_reference { tx.new.conn.ghost_name ≡ tx.old.conn.ghost_name }
+    ensures writes { Writes S.Store tx.old.conn.now tx.new.conn.now result (with_lock branch day) }
+{
+    let nr = branch.to_sql();
+    let locked = day.to_sql();
+    tx.execute("UPDATE branch SET locked = ?2 WHERE nr = ?1", &[nr, locked])
+}
+
+/// Keeps the receipt of the transfer of that ID.
+fn set_receipt<S: Alter>(
+    tx: &mut Transaction<'_, S>,
+    id: &str,
+    day: i64,
+    payee: &str,
+) -> Result<usize, Error>
+    ensures same_reference { tx.new.conn.ghost_name ≡ tx.old.conn.ghost_name }
+    ensures writes { Writes S.Store tx.old.conn.now tx.new.conn.now result (with_receipt id.now day payee.now) }
+{
+    let key = id.to_sql();
+    let received = day.to_sql();
+    let account = payee.to_sql();
+    tx.execute(
+        "UPDATE transfer SET received = ?2, payee = ?3 WHERE id = ?1",
+        &[key, received, account],
+    )
+}
+
+/// Writes one change.
+fn put<S: Alter>(tx: &mut Transaction<'_, S>, change: &Change) -> Result<usize, Error>
+    ensures same_reference { tx.new.conn.ghost_name ≡ tx.old.conn.ghost_name }
+    ensures writes { Writes S.Store tx.old.conn.now tx.new.conn.now result (changed change.now) }
+{
+    match change {
+        Change::Unit(row) => put_unit(tx, row),
+        Change::Branch(row) => put_branch(tx, row),
+        Change::Entry(row) => put_entry(tx, row),
+        Change::Leg(row) => put_leg(tx, row),
+        Change::Claim(row) => put_claim(tx, row),
+        Change::Transfer(row) => put_transfer(tx, row),
+        Change::Lock { branch, day } => set_lock(tx, *branch, *day),
+        Change::Receipt { id, day, payee } => set_receipt(tx, id.as_str(), *day, payee.as_str()),
+    }
+}
+
+/// Writes the changes, one after another.
+fn put_all<S: Alter>(tx: &mut Transaction<'_, S>, changes: &[Change]) -> Result<(), Error>
+    ensures same_reference { tx.new.conn.ghost_name ≡ tx.old.conn.ghost_name }
+    ensures rows { HasCleanDisk (state S.Store tx.new.conn.now) → OnOk result ((t : Tables) → Holds (state S.Store tx.old.conn.now).now t → Holds (state S.Store tx.new.conn.now).now (joined changes.now t)) }
+    ensures inside { HasCleanDisk (state S.Store tx.new.conn.now) → OnOk result (IsTrue (state S.Store tx.old.conn.now).in_transaction → IsTrue (state S.Store tx.new.conn.now).in_transaction) }
+    ensures kept { HasCleanDisk (state S.Store tx.new.conn.now) → KeepsCommit (state S.Store tx.old.conn.now) (state S.Store tx.new.conn.now) }
+    ensures survives { Survives (state S.Store tx.old.conn.now) (state S.Store tx.new.conn.now) (λ _. ⊥) }
+{
+    'change: for change in changes {
+        put(tx, change)?;
+    }
+    Ok(())
+}
+
+/// Writes the changes in one transaction, all or none. It asks that none is open, and answers an error where one is.
+///
+/// After an error of a connection that is still open the tables are as they were. What a stop or a crash leaves is the
+/// tables of before or those with all changes.
+pub fn write_all<S: Alter>(conn: &mut Connection<S>, changes: &[Change]) -> Result<(), Error>
+    ensures rows { HasCleanDisk (state S.Store conn.new) → OnOk result ((t : Tables) → Holds (state S.Store conn.old).now t → Holds (state S.Store conn.new).now (joined changes.now t) × ((state S.Store conn.new).committed ≡ (state S.Store conn.new).now)) }
+    ensures still_open { HasCleanDisk (state S.Store conn.new) → OnOk result (IsTrue (state S.Store conn.new).is_open) }
+    ensures unchanged { HasCleanDisk (state S.Store conn.new) → IsTrue (state S.Store conn.new).is_open → OnErr result (((state S.Store conn.new).now ≡ (state S.Store conn.old).now) × ((state S.Store conn.new).committed ≡ (state S.Store conn.old).committed)) }
+    ensures was_open { HasCleanDisk (state S.Store conn.new) → IsTrue (state S.Store conn.new).is_open → IsTrue (state S.Store conn.old).is_open }
+    ensures crash { Survives (state S.Store conn.old) (state S.Store conn.new) (λ trees. (db : Database) × (trees ≡ db.trees) × ((t : Tables) → Holds (state S.Store conn.old).now t → Holds db (joined changes.now t))) }
+{
+    if !conn.is_autocommit() {
+        return Err(Error::SqliteFailure(ErrorCode::TransactionState));
+    }
+    let mut tx = conn.transaction();
+    put_all(&mut tx, changes)?;
+    tx.commit()?;
+    Ok(())
+}
