@@ -6,8 +6,6 @@ mod conversion;
 mod entering;
 mod law;
 mod missing_amount;
-#[cfg(test)]
-mod tests;
 mod value;
 
 pub use balancing::legs;

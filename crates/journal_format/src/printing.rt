@@ -334,6 +334,3 @@ pub fn print_journal(
     }
     done
 }
-
-#[cfg(test)]
-mod tests;

@@ -10,8 +10,6 @@ mod line_kind;
 mod lines;
 mod printed;
 mod tag;
-#[cfg(test)]
-mod tests;
 
 pub use account::{MAX_NAME, is_account, is_reserved, name_end};
 pub use blank::{first_word, is_blank, trim, trim_end, trim_start};

@@ -151,6 +151,3 @@ pub fn amounts_bound(styles: &Styles)
 {
     styles.are_styles();
 }
-
-#[cfg(test)]
-mod tests;

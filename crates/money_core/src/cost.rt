@@ -73,6 +73,3 @@ pub fn cost_of(qty: i64, unit: Unit, price: &Price, styles: &Styles) -> Result<i
         } => product(qty, digits, own.decimals + decimals - style.decimals),
     }
 }
-
-#[cfg(test)]
-mod tests;

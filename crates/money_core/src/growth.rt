@@ -7,6 +7,3 @@ ghost use Rattle.money_core.specs.Growth.{StylesGrow};
 pub fn growth_law()
     ensures { StylesGrow }
 {}
-
-#[cfg(test)]
-mod tests;

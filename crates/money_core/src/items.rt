@@ -77,12 +77,12 @@ fn copies_of<T: Copied>(alloc: Global, items: &[T]) -> Result<Items<T>, Cause>
     ensures equal { IfOk result (λ list. list ≡ items.now) }
     ensures memory { IsOkUnless result Cause.OutOfMemory }
 {
-    let mut list = Items::empty(alloc);
+    let mut list = Vec::with_capacity(alloc, items.len())?;
     for item in items {
         let copy = item.copy()?;
         list.push(copy)?;
     }
-    Ok(list)
+    Ok(Items::from_vec(list))
 }
 
 impl<T: Copied> Copied for Items<T> {
@@ -90,6 +90,3 @@ impl<T: Copied> Copied for Items<T> {
         copies_of(*self.list.allocator(), self.list.as_slice())
     }
 }
-
-#[cfg(test)]
-mod tests;

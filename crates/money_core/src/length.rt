@@ -165,6 +165,3 @@ pub fn price_len(price: &Price, styles: &Styles) -> usize
     let style = styles.style(price.unit()).unwrap();
     cost_len(style, price)
 }
-
-#[cfg(test)]
-mod tests;

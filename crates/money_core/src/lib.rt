@@ -8,8 +8,6 @@ mod cause;
 mod class;
 mod cost;
 mod day;
-#[cfg(test)]
-mod fixture;
 mod growth;
 mod items;
 mod length;

@@ -227,6 +227,3 @@ pub fn prices_bound(styles: &Styles)
 {
     styles.are_styles();
 }
-
-#[cfg(test)]
-mod tests;

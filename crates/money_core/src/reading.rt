@@ -95,6 +95,3 @@ pub fn read_amount(text: &str, styles: &Styles) -> Result<(Unit, i64), Cause>
 {
     amount_of_parts(amount_parts(text.as_bytes()), styles)
 }
-
-#[cfg(test)]
-mod tests;

@@ -38,6 +38,3 @@ impl<T: Same> Same for Items<T> {
         are_same(self.items(), other.items())
     }
 }
-
-#[cfg(test)]
-mod tests;

@@ -122,6 +122,3 @@ pub fn read_style(alloc: Global, text: &str) -> Result<Style, Cause>
         None => Err(Cause::Amount),
     }
 }
-
-#[cfg(test)]
-mod tests;

@@ -50,6 +50,3 @@ pub fn is_style(style: &Style) -> bool
 {
     symbol::is_symbol(style.symbol.as_str().as_bytes()) && style.decimals <= MAX_DECIMALS
 }
-
-#[cfg(test)]
-mod tests;

@@ -149,6 +149,3 @@ impl Styles {
         let _ = &self.list;
     }
 }
-
-#[cfg(test)]
-mod tests;

@@ -196,6 +196,3 @@ pub fn read_symbol(text: &str) -> Option<&str>
 pub fn name_part_law()
     ensures { SymbolsAreNameParts }
 {}
-
-#[cfg(test)]
-mod tests;

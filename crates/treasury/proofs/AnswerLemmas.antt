@@ -15,9 +15,10 @@ use Rattle.journal_format.specs.Fault.{IsFirstFault}
 use Rattle.treasury_core.specs.declared.command.Command.TheVariants as cmd
 use Rattle.treasury_core.specs.Federation.{Federation}
 use Rattle.treasury.specs.declared.request.Request.{Request}
-use Rattle.treasury.specs.declared.request.Request.TheVariants.{Branch as ForBranch, Commodity as ForCommodity, Import as ForImport, Dispatch as ForDispatch, Receive as ForReceive, Lock as ForLock, Balance as ForBalance}
+use Rattle.treasury.specs.declared.request.Request.TheVariants.{Branch as ForBranch, Commodity as ForCommodity, Import as ForImport, Dispatch as ForDispatch, Receive as ForReceive, Lock as ForLock, Balance as ForBalance, Register as ForRegister, Transit as ForTransit, Journal as ForJournal}
 use Rattle.treasury.specs.declared.asking.Asked.{Asked}
-use Rattle.treasury.specs.declared.asking.Asked.TheVariants.{Command, Balances}
+use Rattle.treasury.specs.declared.asking.Asked.TheVariants.{Command, Report}
+use Rattle.treasury.specs.declared.report.Report.TheVariants as report
 use Rattle.treasury.specs.Request.{spelled}
 use Rattle.treasury.specs.Asked.{asked_by_sample, asked_by_amount, JournalAsks, RequestAsks, Asks}
 use Rattle.treasury.specs.Answer.{answer_text}
@@ -44,7 +45,10 @@ request_asks law styles (ForImport name journal) = journal_asks law styles name 
 request_asks law styles (ForDispatch id from to day text account) = (asked_by_amount id from to day account (amount styles text), refl)
 request_asks law styles (ForReceive id name day account) = (Ok (Command (cmd.Receive (record { id = id; branch = name; day = day; account = account }))), refl)
 request_asks law styles (ForLock name day) = (Ok (Command (cmd.Lock name day)), refl)
-request_asks law styles (ForBalance name day) = (Ok (Balances name day), refl)
+request_asks law styles (ForBalance name day) = (Ok (Report (report.Balance name day)), refl)
+request_asks law styles (ForRegister name account tag) = (Ok (Report (report.Register name account tag)), refl)
+request_asks law styles (ForTransit day) = (Ok (Report (report.Transit day)), refl)
+request_asks law styles (ForJournal name) = (Ok (Report (report.Journal name)), refl)
 
 line_asks : ReadsAll → (styles : List Style) (line : List ℕ) → (asked : Result Asked Refusal) × Asks styles line asked
 line_asks law styles line = by_request (spelled line) refl
@@ -76,7 +80,7 @@ answered_memory law f line before written h =
   where
     after_memory : (f : Federation) (asked : Result Asked Refusal) → f ≡ after f asked (Err (Plain OutOfMemory))
     after_memory f (Ok (Command c)) = refl
-    after_memory f (Ok (Balances name day)) = refl
+    after_memory f (Ok (Report asked)) = refl
     after_memory f (Err refusal) = refl
 
 -- what is asked, where it is not want of memory

@@ -24,9 +24,9 @@ use Rattle.treasury_core.specs.declared.command.Command.{Command as AnyCommand}
 use Rattle.treasury_core.specs.declared.command.Command.TheVariants as cmd
 use Rattle.treasury_core.specs.Good.{IsFile, Fits}
 use Rattle.treasury.specs.declared.request.Request.{Request}
-use Rattle.treasury.specs.declared.request.Request.TheVariants.{Branch as ForBranch, Commodity as ForCommodity, Import as ForImport, Dispatch as ForDispatch, Receive as ForReceive, Lock as ForLock, Balance as ForBalance}
+use Rattle.treasury.specs.declared.request.Request.TheVariants.{Branch as ForBranch, Commodity as ForCommodity, Import as ForImport, Dispatch as ForDispatch, Receive as ForReceive, Lock as ForLock, Balance as ForBalance, Register as ForRegister, Transit as ForTransit, Journal as ForJournal}
 use Rattle.treasury.specs.declared.asking.Asked.TheVariants.{Command}
-use Rattle.treasury.specs.Request.{text_at, day_at, is_form, dispatch_at, receive_at, form, request_of, spelled, HasDayNumbers}
+use Rattle.treasury.specs.Request.{text_at, day_at, is_form, dispatch_at, receive_at, register_at, tagged_at, report_form, form, request_of, spelled, HasDayNumbers}
 use Rattle.treasury.specs.Asked.{asked_by_sample, asked_by_amount, RequestAsks, Asks}
 
 -- ---- the days of a request that is spelled
@@ -82,6 +82,31 @@ receive_days d request h =
     let account = by_text (λ account. ForReceive id.0 branch.0 day.0 account) (text_at (codes "account") d) request day.1.0 in
     subst HasDayNumbers account.1 day.1.1
 
+register_days : (d : Data) (request : Request) → register_at d ≡ Some request → HasDayNumbers request
+register_days d request h =
+    let branch = by_texts (λ branch. option_map (λ account. ForRegister branch account None) (text_at (codes "account") d)) (text_at (codes "branch") d) request h in
+    let account = by_text (λ account. ForRegister branch.0 account None) (text_at (codes "account") d) request branch.1 in
+    subst HasDayNumbers account.1 tt
+
+tagged_days : (d : Data) (request : Request) → tagged_at d ≡ Some request → HasDayNumbers request
+tagged_days d request h =
+    let branch = by_texts (λ branch. option_and_then (λ account. option_map (λ tag. ForRegister branch account (Some tag)) (text_at (codes "tag") d)) (text_at (codes "account") d)) (text_at (codes "branch") d) request h in
+    let account = by_texts (λ account. option_map (λ tag. ForRegister branch.0 account (Some tag)) (text_at (codes "tag") d)) (text_at (codes "account") d) request branch.1 in
+    let tag = by_text (λ tag. ForRegister branch.0 account.0 (Some tag)) (text_at (codes "tag") d) request account.1 in
+    subst HasDayNumbers tag.1 tt
+
+report_days : (word : List ℕ) (d : Data) (request : Request) → report_form word d ≡ Some request → HasDayNumbers request
+report_days word d request e =
+    one_of (is_form (codes "balance") 3 word d) _ _ request (HasDayNumbers request) e
+    (λ h. let b = by_texts (λ branch. option_map (ForBalance branch) (day_at (codes "day") d)) (text_at (codes "branch") d) request h in
+    let l = by_day (codes "day") d (ForBalance b.0) request b.1 in subst HasDayNumbers l.1.0 l.1.1) (λ e1.
+    one_of (is_form (codes "register") 3 word d) _ _ request (HasDayNumbers request) e1 (register_days d request) (λ e2.
+    one_of (is_form (codes "register") 4 word d) _ _ request (HasDayNumbers request) e2 (tagged_days d request) (λ e3.
+    one_of (is_form (codes "transit") 2 word d) _ _ request (HasDayNumbers request) e3
+    (λ h. let l = by_day (codes "day") d ForTransit request h in subst HasDayNumbers l.1.0 l.1.1) (λ e4.
+    one_of (is_form (codes "journal") 2 word d) _ _ request (HasDayNumbers request) e4
+    (λ h. let b = by_text ForJournal (text_at (codes "branch") d) request h in subst HasDayNumbers b.1 tt) (λ e5. absurd cc)))))
+
 form_days : (word : List ℕ) (d : Data) (request : Request) → form word d ≡ Some request → HasDayNumbers request
 form_days word d request e =
     one_of (is_form (codes "branch") 2 word d) _ _ request (HasDayNumbers request) e (λ h. let b = by_text ForBranch (text_at (codes "name") d) request h in subst HasDayNumbers b.1 tt) (λ e1.
@@ -93,10 +118,7 @@ form_days word d request e =
     one_of (is_form (codes "receive") 5 word d) _ _ request (HasDayNumbers request) e4 (receive_days d request) (λ e5.
     one_of (is_form (codes "lock") 3 word d) _ _ request (HasDayNumbers request) e5
     (λ h. let b = by_texts (λ branch. option_map (ForLock branch) (day_at (codes "day") d)) (text_at (codes "branch") d) request h in
-    let l = by_day (codes "day") d (ForLock b.0) request b.1 in subst HasDayNumbers l.1.0 l.1.1) (λ e6.
-    one_of (is_form (codes "balance") 3 word d) _ _ request (HasDayNumbers request) e6
-    (λ h. let b = by_texts (λ branch. option_map (ForBalance branch) (day_at (codes "day") d)) (text_at (codes "branch") d) request h in
-    let l = by_day (codes "day") d (ForBalance b.0) request b.1 in subst HasDayNumbers l.1.0 l.1.1) (λ e7. absurd cc)))))))
+    let l = by_day (codes "day") d (ForLock b.0) request b.1 in subst HasDayNumbers l.1.0 l.1.1) (report_days word d request))))))
 
 request_days : (o : Option Data) (request : Request) → option_and_then request_of o ≡ Some request → HasDayNumbers request
 request_days None request e = absurd cc
@@ -142,6 +164,9 @@ request_fits styles (ForReceive id name day account) c days h =
     subst (Fits styles) (sym same) (record { day = days })
 request_fits styles (ForLock name day) c days h = let same : c ≡ cmd.Lock name day = cc in subst (Fits styles) (sym same) days
 request_fits styles (ForBalance name day) c days h = absurd cc
+request_fits styles (ForRegister name account tag) c days h = absurd cc
+request_fits styles (ForTransit day) c days h = absurd cc
+request_fits styles (ForJournal name) c days h = absurd cc
 
 pub asked_fits : (styles : List Style) (line : List ℕ) (c : AnyCommand) → Asks styles line (Ok (Command c)) → Fits styles c
 asked_fits styles line c (inl asks) = request_fits styles asks.0 c (spelled_days line asks.0 asks.1.0) asks.1.1

@@ -8,7 +8,7 @@ use Rattle.treasury_core.specs.Good.{IsGoodState}
 use Rattle.treasury_core.proofs.ReplyLemmas.{run_good}
 use Rattle.treasury_core.specs.History.{IsRun as IsCommandRun, state_after, IsRefusedOrRepeated}
 use Rattle.treasury.specs.declared.asking.Asked.{Asked}
-use Rattle.treasury.specs.declared.asking.Asked.TheVariants.{Command, Balances}
+use Rattle.treasury.specs.declared.asking.Asked.TheVariants.{Command, Report}
 use Rattle.treasury.specs.Asked.{Asks}
 use Rattle.treasury.specs.Answer.{answer_text}
 use Rattle.treasury.specs.Step.{after, reply_text, Replies, Answers}
@@ -70,7 +70,7 @@ commands_run start (t ∷ ts) h = with_first t.asked t.reply h.0 h.1 h.2 (λ f k
     with_first : (asked : Result Asked Refusal) (r : Result Answer Refusal) → Asks start.styles t.line asked → Replies start asked r → AreTurns (after start asked r) ts
         → ((f : Federation) → AreTurns f ts → IsCommandRun f (commands_of ts)) → IsCommandRun start (command_if asked r ++ commands_of ts)
     with_first (Ok (Command c)) r asks replies follow rest = (asked_fits start.styles t.line c asks, replies, rest (after start (Ok (Command c)) r) follow)
-    with_first (Ok (Balances name day)) r asks replies follow rest = rest start follow
+    with_first (Ok (Report report)) r asks replies follow rest = rest start follow
     with_first (Err refusal) r asks replies follow rest = rest start follow
 
 pub commands_end : (start : Federation) (turns : List Turn) → end_of start turns ≡ state_after start (commands_of turns)
@@ -80,7 +80,7 @@ commands_end start (t ∷ ts) = with_first t.asked t.reply (λ f. commands_end f
     with_first : (asked : Result Asked Refusal) (r : Result Answer Refusal) → ((f : Federation) → end_of f ts ≡ state_after f (commands_of ts))
         → end_of (after start asked r) ts ≡ state_after start (command_if asked r ++ commands_of ts)
     with_first (Ok (Command c)) r rest = rest (after start (Ok (Command c)) r)
-    with_first (Ok (Balances name day)) r rest = rest start
+    with_first (Ok (Report report)) r rest = rest start
     with_first (Err refusal) r rest = rest start
 
 pub turns_good : (start : Federation) (turns : List Turn) → AreTurns start turns → IsGoodState start → IsGoodState (end_of start turns)
@@ -98,7 +98,7 @@ reply_leaves f (Ok (Command c)) (Ok Done) h = absurd h
 reply_leaves f (Ok (Command c)) (Ok Repeated) h = refl
 reply_leaves f (Ok (Command c)) (Ok (Entered n m)) h = absurd h
 reply_leaves f (Ok (Command c)) (Err refusal) h = refl
-reply_leaves f (Ok (Balances name day)) r h = refl
+reply_leaves f (Ok (Report report)) r h = refl
 reply_leaves f (Err refusal) r h = refl
 
 pub turns_leave : (start : Federation) (turns : List Turn) → RefusalsLeave start turns
@@ -123,7 +123,7 @@ told_leaves f (Ok (Command c)) (Ok Done) h = not_done f _ h
 told_leaves f (Ok (Command c)) (Ok Repeated) h = refl
 told_leaves f (Ok (Command c)) (Ok (Entered n m)) h = not_entered f n m _ h
 told_leaves f (Ok (Command c)) (Err refusal) h = refl
-told_leaves f (Ok (Balances name day)) r h = refl
+told_leaves f (Ok (Report report)) r h = refl
 told_leaves f (Err refusal) r h = refl
 
 pub answered_leaves : (f : Federation) (line text : List ℕ) (g : Federation) → Answers f line text g → IsRefusalOrRepeat text → g ≡ f

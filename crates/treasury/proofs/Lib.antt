@@ -4,9 +4,6 @@ pub mod LineLemmas
 pub mod RunLemmas
 pub mod WorkedValues
 pub mod AppendLemmas
-pub mod AccountOrder
-pub mod BalanceLemmas
-pub mod UnitLemmas
 pub mod VerdictLemmas
 pub mod PrintableLemmas
 pub mod AskedLemmas
@@ -15,5 +12,6 @@ pub mod AnswerLemmas
 pub mod HistoryLemmas
 pub mod RunEndLemmas
 pub mod WorkedHistory
+pub mod WorkedReports
 pub mod WordLemmas
 pub mod WorkedWords

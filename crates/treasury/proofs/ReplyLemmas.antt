@@ -1,20 +1,20 @@
 -- What a reply leaves, and what it says, of a command and of a report.
 use Rattle.std.proofs.Common.{◌≡◌, ◌++◌, ◌⊎◌, ℕ, List, Bool, true, false, not, Result, Ok, Err, refl, ap, ◌∙◌, sym, subst, inl, inr, if◌then◌else◌, append_assoc, OnOk}
-use Rattle.money_core.specs.declared.day.Day.{Day}
+use Rattle.std.specs.Prelude.{◌↔◌}
 use Rattle.money_core.specs.declared.cause.Cause.TheVariants.{OutOfMemory, UnknownBranch}
-use Rattle.book_core.specs.declared.entry.Entry.{Entry}
 use Rattle.book_core.specs.declared.refusal.Refusal.{Refusal}
 use Rattle.book_core.specs.declared.refusal.Refusal.TheVariants.{Plain}
 use Rattle.treasury_core.specs.declared.command.Answer.{Answer}
 use Rattle.treasury_core.specs.declared.command.Answer.TheVariants.{Done, Entered, Repeated}
 use Rattle.treasury_core.specs.declared.command.Command.{Command as AnyCommand}
 use Rattle.treasury_core.specs.declared.delta.Addition.{Addition}
-use Rattle.treasury_core.specs.Federation.{Federation, has_branch, book_of}
+use Rattle.treasury_core.specs.Federation.{Federation}
 use Rattle.treasury_core.specs.Joined.{joined}
 use Rattle.treasury_core.specs.Step.{step, reply as command_reply, after as after_command}
-use Rattle.treasury.specs.declared.asking.Asked.TheVariants.{Command, Balances}
+use Rattle.treasury.specs.declared.asking.Asked.TheVariants.{Command, Report}
 use Rattle.treasury.specs.Answer.{answer_text}
-use Rattle.treasury.specs.BalanceReport.{report_text}
+use Rattle.treasury.specs.declared.report.Report.{Report as AnyReport}
+use Rattle.treasury.specs.Report.{report_text, has_its_branch}
 use Rattle.treasury.specs.Step.{reply_text, IsDone}
 use Rattle.treasury.specs.Replied.{IsReplied}
 
@@ -26,25 +26,29 @@ pub on_ok2 : {T E : Type 0} (r : Result T E) (A B C : Type 0) → OnOk r A → O
 on_ok2 (Ok x) A B C a b f = f a b
 on_ok2 (Err e) A B C a b f = tt
 
--- ---- a report on a branch that is there, and one on a branch that is not
+-- ---- a report whose branch is there, and one whose branch is not
 
-pub replied_there : (f : Federation) (name : List ℕ) (day : Day) (book : List Entry) (before mid written : List ℕ) → has_branch f name ≡ true → book ≡ book_of f name
-    → mid ≡ before ++ report_text f.styles book day → written ≡ mid ++ answer_text f.styles (Ok Done) → IsReplied f (Ok (Balances name day)) before written f
-replied_there f name day book before mid written there same h k = record {
+pub replied_there : (f : Federation) (report : AnyReport) (before mid written : List ℕ) → has_its_branch f report ≡ true
+    → mid ≡ before ++ report_text f report → written ≡ mid ++ answer_text f.styles (Ok Done) → IsReplied f (Ok (Report report)) before written f
+replied_there f report before mid written there h k = record {
   text =
       k ∙ (ap (λ (xs : List ℕ). xs ++ answer_text f.styles (Ok Done)) h
-      ∙ (append_assoc before (report_text f.styles book day) (answer_text f.styles (Ok Done))
-      ∙ (ap (λ (b : List Entry). before ++ (report_text f.styles b day ++ answer_text f.styles (Ok Done))) same
-      ∙ ap (λ (t : Bool). before ++ reply_text f (Ok (Balances name day)) (if not t then Err (Plain UnknownBranch) else Ok Done)) (sym there))));
+      ∙ (append_assoc before (report_text f report) (answer_text f.styles (Ok Done))
+      ∙ ap (λ (t : Bool). before ++ reply_text f (Ok (Report report)) (if not t then Err (Plain UnknownBranch) else Ok Done)) (sym there)));
   state = refl;
 }
 
-pub replied_nowhere : (f : Federation) (name : List ℕ) (day : Day) (before written : List ℕ) → has_branch f name ≡ false
-    → written ≡ before ++ answer_text f.styles (Err (Plain UnknownBranch)) → IsReplied f (Ok (Balances name day)) before written f
-replied_nowhere f name day before written none h = record {
-  text = h ∙ ap (λ (t : Bool). before ++ reply_text f (Ok (Balances name day)) (if not t then Err (Plain UnknownBranch) else Ok Done)) (sym none);
+pub replied_nowhere : (f : Federation) (report : AnyReport) (before written : List ℕ) → has_its_branch f report ≡ false
+    → written ≡ before ++ answer_text f.styles (Err (Plain UnknownBranch)) → IsReplied f (Ok (Report report)) before written f
+replied_nowhere f report before written none h = record {
+  text = h ∙ ap (λ (t : Bool). before ++ reply_text f (Ok (Report report)) (if not t then Err (Plain UnknownBranch) else Ok Done)) (sym none);
   state = refl;
 }
+
+-- a branch that is not missed is there
+pub not_missed : (t : Bool) (Missed : Type 0) → Missed ↔ (t ≡ false) → (Missed → ⊥) → t ≡ true
+not_missed true Missed h other = refl
+not_missed false Missed h other = absurd (other (h.1 refl))
 
 -- ---- a command that is refused, repeated, or done
 

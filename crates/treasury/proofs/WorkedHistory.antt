@@ -11,7 +11,8 @@ use Rattle.treasury_core.specs.Federation.{Federation}
 use Rattle.treasury_core.specs.Joined.{new_branch}
 use Rattle.treasury_core.specs.Step.{done}
 use Rattle.treasury.specs.declared.asking.Asked.{Asked}
-use Rattle.treasury.specs.declared.asking.Asked.TheVariants.{Command, Balances}
+use Rattle.treasury.specs.declared.asking.Asked.TheVariants.{Command, Report}
+use Rattle.treasury.specs.declared.report.Report.TheVariants as report
 use Rattle.treasury.specs.Answer.{answer_text}
 use Rattle.treasury.specs.Step.{reply, reply_text}
 use Rattle.treasury.specs.History.{Turn, end_of, commands_of, IsRefusalOrRepeat}
@@ -22,7 +23,7 @@ abbrev turns : Day → Refusal → List Turn
 turns day refusal =
     record { line = codes "a"; asked = Ok (Command (cmd.Branch (codes "north"))); reply = Ok Done }
     ∷ record { line = codes "b"; asked = Err (Plain Amount); reply = Err (Plain Amount) }
-    ∷ record { line = codes "c"; asked = Ok (Balances (codes "north") day); reply = Ok Done }
+    ∷ record { line = codes "c"; asked = Ok (Report (report.Balance (codes "north") day)); reply = Ok Done }
     ∷ record { line = codes "d"; asked = Ok (Command (cmd.Lock (codes "north") day)); reply = Err refusal } ∷ []
 
 pub run : (day : Day) (refusal : Refusal) → (end_of nothing (turns day refusal) ≡ record { styles = []; branches = new_branch (codes "north") ∷ []; transfers = [] })
@@ -31,7 +32,7 @@ unfolding done
 run day refusal = (refl, refl)
 
 -- a report on a branch that is not there
-pub nowhere : (day : Day) → reply nothing (Ok (Balances (codes "north") day)) ≡ Err (Plain UnknownBranch)
+pub nowhere : (day : Day) → reply nothing (Ok (Report (report.Balance (codes "north") day))) ≡ Err (Plain UnknownBranch)
 nowhere day = refl
 
 -- whatever is asked, every refusal and `repeated` are answered with the lines that leave the state

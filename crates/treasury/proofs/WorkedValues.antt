@@ -1,7 +1,11 @@
 -- Values worked out by hand, so that a wrong definition does not check.
-use Rattle.std.specs.Prelude.{◌≡◌, [], ◌∷◌, Some, None, codes, refl}
+use Rattle.std.specs.Prelude.{◌≡◌, ℕ, List, [], ◌∷◌, ◌++◌, Some, None, Err, codes, decimal, refl}
 use Rattle.std.specs.Str.{is_utf8, chars}
 use Rattle.serde_json.proofs.OnLiterals.{serde_json_on_literals}
+use Rattle.money_core.specs.declared.style.Style.{Style}
+use Rattle.money_core.specs.declared.cause.Cause.TheVariants.{OutOfMemory}
+use Rattle.book_core.specs.declared.refusal.Refusal.TheVariants.{Plain, Text}
+use Rattle.treasury.specs.Answer.{answer_text}
 use Rattle.treasury.specs.Request.{spelled}
 use Rattle.treasury.specs.Transcript.{requests_in}
 use Rattle.treasury.specs.declared.request.Request.TheVariants.{Branch}
@@ -41,3 +45,19 @@ key_twice = refl
 pub no_text : spelled (codes "{\"do\":\"commodity\",\"sample\":1}") ≡ None
 unfolding serde_json_on_literals spelled is_utf8 chars
 no_text = refl
+
+-- an empty text, which no line of an input asks
+pub no_object : spelled [] ≡ None
+unfolding serde_json_on_literals spelled is_utf8 chars
+no_object = refl
+
+-- want of memory, to which no input leads by itself
+pub no_memory : (styles : List Style) → answer_text styles (Err (Plain OutOfMemory)) ≡ codes "refused " ++ decimal 40 ++ codes " " ++ codes "OutOfMemory" ++ codes "\n"
+unfolding answer_text
+no_memory styles = refl
+
+-- the same while a journal is read: it is no fault of a line
+pub no_memory_for_a_journal : (styles : List Style) (line : ℕ)
+    → answer_text styles (Err (Text (record { line = line; cause = OutOfMemory }))) ≡ codes "refused " ++ decimal 40 ++ codes " " ++ codes "OutOfMemory" ++ [] ++ codes "\n"
+unfolding answer_text
+no_memory_for_a_journal styles line = refl

@@ -6,7 +6,7 @@ use Rattle.treasury_core.specs.declared.command.Answer.{Answer}
 use Rattle.treasury_core.specs.Federation.{Federation}
 use Rattle.treasury_core.specs.History.{Turn as CommandTurn, IsRefusedOrRepeated}
 use Rattle.treasury.specs.declared.asking.Asked.{Asked}
-use Rattle.treasury.specs.declared.asking.Asked.TheVariants.{Command, Balances}
+use Rattle.treasury.specs.declared.asking.Asked.TheVariants.{Command, Report}
 use Rattle.treasury.specs.Asked.{Asks}
 use Rattle.treasury.specs.Step.{after, reply_text, Replies}
 use Rattle.treasury.specs.Transcript.{requests_in}
@@ -46,7 +46,7 @@ pub record IsRun (start : Federation) (input output : List ℕ) (end : Federatio
 -- the command that is asked for, with its reply; none where a report is asked for, or nothing
 abbrev pub command_if : Result Asked Refusal → Result Answer Refusal → List CommandTurn
 command_if (Ok (Command c)) r = record { command = c; reply = r } ∷ []
-command_if (Ok (Balances name day)) r = []
+command_if (Ok (Report report)) r = []
 command_if (Err refusal) r = []
 
 -- the commands of turns with their replies, in order

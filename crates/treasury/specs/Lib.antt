@@ -3,13 +3,12 @@ pub mod Request
 pub mod Transcript
 pub mod RunEnd
 pub mod Asked
+pub mod Report
 pub mod Step
 pub mod Answer
-pub mod BalanceReport
 pub mod History
 pub mod Words
 -- What mirrors code, for private clauses: nobody has to believe it
 pub mod Replied
 pub mod Form
 pub mod Served
-pub mod Echo

@@ -9,7 +9,7 @@ use Rattle.treasury_core.specs.Federation.{Federation}
 use Rattle.treasury_core.specs.Good.{Fits}
 use Rattle.treasury_core.specs.Step.{reply as command_reply}
 use Rattle.treasury.specs.declared.asking.Asked.{Asked}
-use Rattle.treasury.specs.declared.asking.Asked.TheVariants.{Command, Balances}
+use Rattle.treasury.specs.declared.asking.Asked.TheVariants.{Command, Report}
 use Rattle.treasury.specs.Answer.{IsPrintableRefusal}
 use Rattle.treasury.specs.Step.{reply, after, reply_text, IsDone}
 
@@ -26,7 +26,7 @@ MayLose f asked = (c : AnyCommand) × ((asked ≡ Ok (Command c)) × IsDone (com
 -- what is asked can be answered: its command fits the commodities, its refusal can be printed
 abbrev pub IsReady : List Style → Result Asked Refusal → Type 0
 IsReady styles (Ok (Command c)) = Fits styles c
-IsReady styles (Ok (Balances name day)) = ⊤
+IsReady styles (Ok (Report report)) = ⊤
 IsReady styles (Err refusal) = IsPrintableRefusal styles refusal
 
 -- what is asked is what is meant, or want of memory

@@ -1,7 +1,7 @@
 -- The requests (own rule; docs/FORMATS.md, "Requests"). A request is one JSON object, and each of its values is a text.
 -- What JSON is, `serde_json` says: arrays and objects nest 127 deep, and of a key that is written twice the last one stays.
 use Rattle.std.specs.Prelude.{ℕ, ◌+◌, Bool, ◌==◌, ◌&&◌, if◌then◌else◌, List, codes, ⊤}
-use Rattle.std.specs.Prelude.{Option, None, option_map, option_and_then}
+use Rattle.std.specs.Prelude.{Option, Some, None, option_map, option_and_then}
 use Rattle.std.specs.Str.{bytes_eq, is_utf8}
 use Rattle.serde_json.specs.Data.{Data, null, boolean, number, string, array, object, Members, no_members, member}
 use Rattle.serde_json.specs.Find.{get, as_str}
@@ -10,7 +10,7 @@ use Rattle.money_core.specs.declared.day.Day.{Day}
 use Rattle.journal_lines.specs.Date.{IsDayNumber}
 use Rattle.journal_lines.specs.DateReading.{date_of}
 use Rattle.treasury.specs.declared.request.Request.{Request}
-use Rattle.treasury.specs.declared.request.Request.TheVariants.{Branch, Commodity, Import, Dispatch, Receive, Lock, Balance}
+use Rattle.treasury.specs.declared.request.Request.TheVariants.{Branch, Commodity, Import, Dispatch, Receive, Lock, Balance, Register, Transit, Journal}
 
 -- the text at a key of an object
 abbrev pub text_at : List ℕ → Data → Option (List ℕ)
@@ -51,6 +51,28 @@ receive_at d =
     option_map (λ account. Receive id branch day account) (text_at (codes "account") d))
     (day_at (codes "day") d)) (text_at (codes "branch") d)) (text_at (codes "id") d)
 
+-- the request of a register, without a tag and with one
+abbrev pub register_at : Data → Option Request
+register_at d =
+    option_and_then (λ branch. option_map (λ account. Register branch account None) (text_at (codes "account") d)) (text_at (codes "branch") d)
+
+abbrev pub tagged_at : Data → Option Request
+tagged_at d =
+    option_and_then (λ branch. option_and_then (λ account.
+    option_map (λ tag. Register branch account (Some tag)) (text_at (codes "tag") d))
+    (text_at (codes "account") d)) (text_at (codes "branch") d)
+
+-- the request of each word that asks for a report
+abbrev pub report_form : List ℕ → Data → Option Request
+report_form word d =
+    if is_form (codes "balance") 3 word d
+    then option_and_then (λ branch. option_map (Balance branch) (day_at (codes "day") d)) (text_at (codes "branch") d)
+    else if is_form (codes "register") 3 word d then register_at d
+    else if is_form (codes "register") 4 word d then tagged_at d
+    else if is_form (codes "transit") 2 word d then option_map Transit (day_at (codes "day") d)
+    else if is_form (codes "journal") 2 word d then option_map Journal (text_at (codes "branch") d)
+    else None
+
 -- the request of each word: its keys are all there, each with a text, and since they are so many there is no further one
 abbrev pub form : List ℕ → Data → Option Request
 form word d =
@@ -62,9 +84,7 @@ form word d =
     else if is_form (codes "receive") 5 word d then receive_at d
     else if is_form (codes "lock") 3 word d
     then option_and_then (λ branch. option_map (Lock branch) (day_at (codes "day") d)) (text_at (codes "branch") d)
-    else if is_form (codes "balance") 3 word d
-    then option_and_then (λ branch. option_map (Balance branch) (day_at (codes "day") d)) (text_at (codes "branch") d)
-    else None
+    else report_form word d
 
 -- the request that an object is
 abbrev pub request_of : Data → Option Request
@@ -83,3 +103,6 @@ HasDayNumbers (Dispatch id from to day amount account) = IsDayNumber day
 HasDayNumbers (Receive id branch day account) = IsDayNumber day
 HasDayNumbers (Lock branch day) = IsDayNumber day
 HasDayNumbers (Balance branch day) = IsDayNumber day
+HasDayNumbers (Register branch account tag) = ⊤
+HasDayNumbers (Transit day) = IsDayNumber day
+HasDayNumbers (Journal branch) = ⊤

@@ -7,34 +7,35 @@ use Rattle.book_core.specs.declared.refusal.Refusal.TheVariants.{Plain}
 use Rattle.treasury_core.specs.declared.command.Answer.{Answer}
 use Rattle.treasury_core.specs.declared.command.Answer.TheVariants.{Done, Entered, Repeated}
 use Rattle.treasury_core.specs.declared.command.Command.{Command as AnyCommand}
-use Rattle.treasury_core.specs.Federation.{Federation, has_branch, book_of}
+use Rattle.treasury_core.specs.Federation.{Federation}
 use Rattle.treasury_core.specs.Step.{reply as command_reply, after as after_command}
 use Rattle.treasury.specs.declared.asking.Asked.{Asked}
-use Rattle.treasury.specs.declared.asking.Asked.TheVariants.{Command, Balances}
+use Rattle.treasury.specs.declared.asking.Asked.TheVariants.{Command, Report}
 use Rattle.treasury.specs.Asked.{Asks}
 use Rattle.treasury.specs.Answer.{answer_text}
-use Rattle.treasury.specs.BalanceReport.{report_text}
+use Rattle.treasury.specs.declared.report.Report.{Report as AnyReport}
+use Rattle.treasury.specs.Report.{report_text, has_its_branch}
 
--- a report on a branch, which has to be there
-abbrev pub balances_reply : Federation → List ℕ → Result Answer Refusal
-balances_reply f name = if not (has_branch f name) then Err (Plain UnknownBranch) else Ok Done
+-- a report, whose branch has to be there
+abbrev pub report_reply : Federation → AnyReport → Result Answer Refusal
+report_reply f report = if not (has_its_branch f report) then Err (Plain UnknownBranch) else Ok Done
 
 -- the reply to what is asked
 abbrev pub reply : Federation → Result Asked Refusal → Result Answer Refusal
 reply f (Ok (Command c)) = command_reply f c
-reply f (Ok (Balances name day)) = balances_reply f name
+reply f (Ok (Report report)) = report_reply f report
 reply f (Err refusal) = Err refusal
 
 -- the state after the reply: only a command changes it
 abbrev pub after : Federation → Result Asked Refusal → Result Answer Refusal → Federation
 after f (Ok (Command c)) r = after_command f c r
-after f (Ok (Balances name day)) r = f
+after f (Ok (Report report)) r = f
 after f (Err refusal) r = f
 
 -- the lines of the report that is asked for
 abbrev pub report_lines : Federation → Result Asked Refusal → List ℕ
 report_lines f (Ok (Command c)) = []
-report_lines f (Ok (Balances name day)) = report_text f.styles (book_of f name) day
+report_lines f (Ok (Report report)) = report_text f report
 report_lines f (Err refusal) = []
 
 -- the text of a reply: the lines of a report where it is no refusal, then the line of the reply

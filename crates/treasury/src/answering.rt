@@ -11,10 +11,10 @@ ghost use Rattle.treasury.specs.Replied.{IsReplied, MayLose, IsReady};
 
 use crate::answers::answer_line;
 use crate::asking::Asked;
-use crate::balance_report::balance_report;
 use crate::lines::Shortage;
+use crate::report::{Report, push_report};
 use book_core::{Ledger, Refusal};
-use money_core::{Cause, Day};
+use money_core::Cause;
 use std::alloc::Global;
 use std::mem;
 use treasury_core::{Answer, Command, Delta, State, apply, decide};
@@ -84,25 +84,24 @@ fn answer_command<L: Ledger>(
     }
 }
 
-/// Appends a branch's balances: the report and `ok`, or that the branch is not there.
-fn answer_balances<L: Ledger>(
+/// Appends the answer to a report: its lines and `ok`, or that its branch is not there.
+fn answer_report<L: Ledger>(
     alloc: Global,
     state: &State<L>,
-    name: &str,
-    day: Day,
+    report: &Report,
     out: &mut Vec<u8>,
 ) -> Result<(), Cause>
-    ensures ok { OnOk result (IsReplied state.now (Ok (Asked.Balances name.now day)) out.old.items out.new.items state.now) }
+    ensures ok { OnOk result (IsReplied state.now (Ok (Asked.Report report.now)) out.old.items out.new.items state.now) }
     ensures err { OnErr result (out.new.items ≡ out.old.items) }
     ensures memory { IsOkUnless result Cause.OutOfMemory }
 {
-    let Some(ledger) = state.ledger(name) else {
-        let refusal = Err(Refusal::Plain(Cause::UnknownBranch));
-        return answer_line(alloc, &refusal, state.styles(), out);
-    };
     let before = out.len();
-    match balance_report(alloc, ledger, state.styles(), day, out) {
+    match push_report(alloc, state, report, out) {
         Ok(()) => {}
+        Err(Cause::UnknownBranch) => {
+            let refusal = Err(Refusal::Plain(Cause::UnknownBranch));
+            return answer_line(alloc, &refusal, state.styles(), out);
+        }
         Err(cause) => return Err(cause),
     }
     match answer_line(alloc, &Ok(Answer::Done), state.styles(), out) {
@@ -130,12 +129,10 @@ pub fn answer_asked<L: Ledger>(
 {
     match asked {
         Ok(Asked::Command(command)) => answer_command(alloc, state, &command, out),
-        Ok(Asked::Balances(name, day)) => {
-            match answer_balances(alloc, state, name.as_str(), day, out) {
-                Ok(()) => Ok(()),
-                Err(_) => Err(Shortage::Kept),
-            }
-        }
+        Ok(Asked::Report(report)) => match answer_report(alloc, state, &report, out) {
+            Ok(()) => Ok(()),
+            Err(_) => Err(Shortage::Kept),
+        },
         Err(refusal) => answer_refusal(alloc, state, refusal, out),
     }
 }

@@ -195,6 +195,3 @@ pub fn answer_line(
         Err(error) => Err(Cause::from(error)),
     }
 }
-
-#[cfg(test)]
-mod tests;

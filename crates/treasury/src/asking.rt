@@ -8,6 +8,7 @@ ghost use Rattle.treasury.specs.Asked.{asked_by_sample, asked_by_amount, Journal
 ghost use Rattle.treasury.specs.Request.{HasDayNumbers};
 ghost use Rattle.treasury.specs.Replied.{IsReady, OrMemory};
 
+use crate::report::Report;
 use crate::request::{Request, read_line};
 use book_core::Refusal;
 use journal_format::read_journal;
@@ -19,8 +20,7 @@ use treasury_core::{Command, Dispatch, Receive};
 #[derive(Drop)]
 pub enum Asked {
     Command(Command),
-    /// The balances of the branch of that name through the day.
-    Balances(Text, Day),
+    Report(Report),
 }
 
 /// Want of memory.
@@ -117,7 +117,18 @@ fn asked_by_request(alloc: Global, styles: &Styles, request: Request) -> Result<
             account,
         }))),
         Request::Lock { branch, day } => Ok(Asked::Command(Command::Lock(branch, day))),
-        Request::Balance { branch, day } => Ok(Asked::Balances(branch, day)),
+        Request::Balance { branch, day } => Ok(Asked::Report(Report::Balance { branch, day })),
+        Request::Register {
+            branch,
+            account,
+            tag,
+        } => Ok(Asked::Report(Report::Register {
+            branch,
+            account,
+            tag,
+        })),
+        Request::Transit { day } => Ok(Asked::Report(Report::Transit { day })),
+        Request::Journal { branch } => Ok(Asked::Report(Report::Journal { branch })),
     }
 }
 

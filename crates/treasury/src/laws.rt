@@ -1,11 +1,11 @@
 //! What transcripts mean, in the words of the machine of commands.
 
 ghost use Rattle.std.specs.Prelude.{◌≡◌, List, ℕ, Result, Ok};
-ghost use Rattle.money_core.specs.declared.day.Day.{Day};
 ghost use Rattle.book_core.specs.declared.refusal.Refusal.{Refusal as Refused};
 ghost use Rattle.treasury_core.specs.declared.command.Answer.{Answer};
 ghost use Rattle.treasury_core.specs.Federation.{Federation};
 ghost use Rattle.treasury_core.specs.History.{IsRun as IsCommandRun, state_after};
+ghost use Rattle.treasury.specs.declared.report.Report.{Report};
 ghost use Rattle.treasury.specs.Transcript.{IsTranscript};
 ghost use Rattle.treasury.specs.Step.{after, Answers};
 ghost use Rattle.treasury.specs.History.{Turn, AreTurns, end_of, IsRun, commands_of};
@@ -38,6 +38,6 @@ pub fn refusal_law()
         → Answers f line text g → IsRefusalOrRepeat text → g ≡ f }
     ensures along { (start : Federation) (input output : List ℕ) (end : Federation) (turns : List Turn)
         → IsRun start input output end turns → RefusedLinesLeave start turns }
-    ensures report { (f : Federation) (name : List ℕ) (day : Day) (r : Result Answer Refused)
-        → after f (Ok (Asked.Balances name day)) r ≡ f }
+    ensures report { (f : Federation) (report : Report) (r : Result Answer Refused)
+        → after f (Ok (Asked.Report report)) r ≡ f }
 {}

@@ -2,8 +2,6 @@
 
 mod machine;
 mod run;
-#[cfg(test)]
-mod tests;
 mod write;
 
 pub use machine::{Machine, Shortage};

@@ -4,13 +4,10 @@
 mod answering;
 mod answers;
 mod asking;
-mod balance_report;
 mod bytes;
-mod columns;
-#[cfg(test)]
-mod fixture;
 mod laws;
 mod lines;
+mod report;
 mod request;
 mod running;
 mod words;

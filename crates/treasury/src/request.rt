@@ -2,8 +2,9 @@
 
 mod form;
 mod reading;
-#[cfg(test)]
-mod tests;
+
+ghost use Rattle.std.specs.Prelude.{◌≡◌, IfOk};
+ghost use Rattle.std.specs.Result.{IsOkUnless};
 
 use crate::bytes::Bytes;
 use money_core::{Cause, Copied, Day, Text};
@@ -51,6 +52,34 @@ pub enum Request {
         branch: Text,
         day: Day,
     },
+    /// The register of an account in the branch of that name, with a tag if one is wanted.
+    Register {
+        branch: Text,
+        account: Text,
+        tag: Option<Text>,
+    },
+    /// What is on its way between branches through the day.
+    Transit {
+        day: Day,
+    },
+    /// The journal of the branch of that name.
+    Journal {
+        branch: Text,
+    },
+}
+
+/// An equal text, if there is one.
+fn copied(text: &Option<Text>) -> Result<Option<Text>, Cause>
+    ensures equal { IfOk result (λ copy. copy ≡ text.now) }
+    ensures memory { IsOkUnless result Cause.OutOfMemory }
+{
+    match text {
+        Some(text) => {
+            let copy = text.copy()?;
+            Ok(Some(copy))
+        }
+        None => Ok(None),
+    }
 }
 
 impl Copied for Request {
@@ -114,6 +143,25 @@ impl Copied for Request {
             Request::Balance { branch, day } => {
                 let branch = branch.copy()?;
                 Ok(Request::Balance { branch, day: *day })
+            }
+            Request::Register {
+                branch,
+                account,
+                tag,
+            } => {
+                let branch = branch.copy()?;
+                let account = account.copy()?;
+                let tag = copied(tag)?;
+                Ok(Request::Register {
+                    branch,
+                    account,
+                    tag,
+                })
+            }
+            Request::Transit { day } => Ok(Request::Transit { day: *day }),
+            Request::Journal { branch } => {
+                let branch = branch.copy()?;
+                Ok(Request::Journal { branch })
             }
         }
     }

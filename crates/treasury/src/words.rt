@@ -5,9 +5,6 @@ ghost use Rattle.std.specs.String.{string_bytes};
 ghost use Rattle.clap.specs.Simple.{app_of};
 ghost use Rattle.treasury.specs.Words.{known, AskForRun, MayAskForHelp, AnswersAll, IsCutOffBy, IsCutOff};
 
-#[cfg(test)]
-mod tests;
-
 use crate::laws::{commands_law, refusal_law, run_law};
 use crate::running::run_lines;
 use book_core::DayLedger;
@@ -48,9 +45,16 @@ const EXAMPLE_RUN: &str = r#"Requests:
   {"do":"receive","id":ID,"branch":NAME,"day":DAY,"account":ACCOUNT}
                                                  money that has come into the branch's account
   {"do":"lock","branch":NAME,"day":DAY}          no more entries through the day
-  {"do":"balance","branch":NAME,"day":DAY}       the branch's balances through the day
 
-Each is answered by a line that begins with ok, repeated or refused; a balance report stands above its ok.
+Reports:
+  {"do":"balance","branch":NAME,"day":DAY}       the branch's balances through the day
+  {"do":"register","branch":NAME,"account":ACCOUNT}
+                                                 the account's and its subaccounts' postings, with running sums;
+                                                 with "tag":TAG or "tag":"TAG=VALUE" of transactions that have it
+  {"do":"transit","day":DAY}                     what is on its way between branches through the day
+  {"do":"journal","branch":NAME}                 the branch's journal
+
+Each is answered by a line that begins with ok, repeated or refused; a report stands above its ok.
 All is kept in memory, and ends with the input.
 
 Example:

@@ -57,7 +57,7 @@ found_back styles style s i None are h e =
     let here = prefix_len_passes (λ (x : Style). not (p x)) styles i s (omega (arith, all, slice_get_within styles i s h)) in
     absurd (not_true (p (get_or styles i s)) (ap p (get_or_from_slice_get styles i s s h) ∙ self_bytes s.symbol) here)
 
-styles_back : (styles : List Style) (style : Style) → AreStyles (styles ++ style ∷ []) → AreStyles styles
+pub styles_back : (styles : List Style) (style : Style) → AreStyles (styles ++ style ∷ []) → AreStyles styles
 styles_back styles style are = record {
   each = λ i s h. are.each i s (slice_front styles (style ∷ []) i s h);
   found = λ i s h. found_back styles style s i (place_of styles s.symbol) are h refl;

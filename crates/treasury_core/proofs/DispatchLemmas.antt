@@ -115,7 +115,7 @@ kept_at : (P : Record → Type 0) (m : List ℕ) (x r : Record) (xs : List Recor
 kept_at P m x r xs true e p h = held_at P x r (held xs m) (bytes_eq x.mark m) e p h
 kept_at P m x r xs false e p h = h e
 
-held_holds : (P : Record → Type 0) (m : List ℕ) (r : Record) (rs : List Record) → held (filter is_of_transfer rs) m ≡ Some r → AllByRecursion P rs → P r
+pub held_holds : (P : Record → Type 0) (m : List ℕ) (r : Record) (rs : List Record) → held (filter is_of_transfer rs) m ≡ Some r → AllByRecursion P rs → P r
 held_holds P m r [] e h = absurd cc
 held_holds P m r (x ∷ xs) e h = kept_at P m x r (filter is_of_transfer xs) (is_of_transfer x) e h.0 (λ k. held_holds P m r xs k h.1)
 

@@ -63,7 +63,7 @@ zero_small z e = omega (arith, ints)
 book_high : (b : List Entry) → IsGoodBook b → (a : List ℕ) (u : Commodity) (d : Day) → balance Own b a u (Through d) ≤ℤ pos 10000000000000000
 book_high b good a u d = let w = (small_within b good.within.small Own a u (Through d)).high in omega (arith, ints, w)
 
-good_book : (f : Federation) (name : List ℕ) → IsGoodState f → IsGoodBook (book_of f name)
+pub good_book : (f : Federation) (name : List ℕ) → IsGoodState f → IsGoodBook (book_of f name)
 good_book f name good = of_branch (λ xs. IsGoodBook (entries xs)) f.styles f.branches name good_nil (λ b h. h.book) good.branches
 
 small_at : (f : Federation) (from to : List ℕ) (u : Commodity) (d : Day) (a b c : Bool) → IsGoodState f → has_branch f from ≡ a → has_branch f to ≡ b → bytes_eq from to ≡ c → open_amount f.transfers from to u d ≤ℤ pos 20000000000000000

@@ -242,7 +242,7 @@ balanced_at : (t : Bool) (q : ℤ) → ((if t then q else pos 0) +ℤ ((if t the
 balanced_at true q = omega (arith, ints)
 balanced_at false q = refl
 
-line_small : (styles : List Style) → AreStyles styles → (p : Posting) → is_posting styles p ≡ true → p.comments ≡ [] → postings_size styles (p ∷ []) ≤ 500
+pub line_small : (styles : List Style) → AreStyles styles → (p : Posting) → is_posting styles p ≡ true → p.comments ≡ [] → postings_size styles (p ∷ []) ≤ 500
 line_small styles are p h none =
     let small = posting_small styles p h in
     let amount = part_length styles are p.amount p.price p.claim small.2 in

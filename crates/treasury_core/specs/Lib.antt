@@ -5,11 +5,16 @@ pub mod Transfer
 pub mod Joined
 pub mod Step
 pub mod Good
+pub mod Rows
 pub mod Sound
+pub mod Accounts
+pub mod Closing
+pub mod Closed
 pub mod History
 -- What mirrors code, for private clauses: nobody has to believe it
 pub mod Kept
 pub mod Counted
 pub mod Judged
 pub mod Room
+pub mod Drafted
 pub mod Fair

@@ -34,7 +34,11 @@ fn place_of<L: Ledger>(branches: &[Branch<L>], places: &HashMap<String, usize>, 
 }
 
 /// A record into the branch's list, its index and its ledger. On 40 the branch is not to be used any more.
-fn add_record<L: Ledger>(alloc: Global, branch: &mut Branch<L>, row: Record) -> Result<(), Cause>
+pub(crate) fn add_record<L: Ledger>(
+    alloc: Global,
+    branch: &mut Branch<L>,
+    row: Record,
+) -> Result<(), Cause>
     requires kept { IsKept L.book branch.old }
     requires fit { IsFit row.entry }
     requires room { IsWithin (entries branch.old.records ++ row.entry ∷ []) }

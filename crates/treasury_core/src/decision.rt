@@ -56,7 +56,7 @@ fn first_byte(name: &[u8]) -> u8
 }
 
 /// Whether the name is well formed.
-fn is_branch_name(name: &[u8]) -> bool
+pub(crate) fn is_branch_name(name: &[u8]) -> bool
     ensures { result ≡ is_branch_name name.now }
 {
     first_byte(name).is_ascii_lowercase() && has_name_bytes(name) && name.len() <= MAX_NAME
@@ -209,16 +209,16 @@ fn entries_of(alloc: Global, rows: &[Record]) -> Result<Items<Entry>, Cause>
     ensures value { IfOk result (λ list. list ≡ entries rows.now) }
     ensures memory { IsOkUnless result Cause.OutOfMemory }
 {
-    let mut list = Items::empty(alloc);
+    let mut list = Vec::with_capacity(alloc, rows.len())?;
     for row in rows {
         let entry = row.entry.copy()?;
         list.push(entry)?;
     }
-    Ok(list)
+    Ok(Items::from_vec(list))
 }
 
 /// Checks the book with all new records; where there are none, it stays as good as it is.
-fn check<L: Ledger>(alloc: Global, ledger: &L, new: &[Record]) -> Result<(), Refusal>
+pub(crate) fn check<L: Ledger>(alloc: Global, ledger: &L, new: &[Record]) -> Result<(), Refusal>
     requires good { IsGoodBook (L.book ledger.now) }
     requires fit { AllByRecursion IsFit (entries new.now) }
     ensures { Checks (L.book ledger.now ++ entries new.now) result }
@@ -237,12 +237,12 @@ fn additions_of(alloc: Global, name: &Text, rows: Items<Record>) -> Result<Delta
     ensures value { IfOk result (λ delta. delta ≡ map (λ (r : Row). Addition.Record name.now r) rows) }
     ensures memory { IsOkUnless result Cause.OutOfMemory }
 {
-    let mut list = Items::empty(alloc);
+    let mut list = Vec::with_capacity(alloc, rows.items().len())?;
     'rows: for row in rows.into_vec() {
         let name = name.copy()?;
         list.push(Addition::Record(name, row))?;
     }
-    Ok(Delta::of(list))
+    Ok(Delta::of(Items::from_vec(list)))
 }
 
 /// A record of the branch of that name, and what else is added with it.

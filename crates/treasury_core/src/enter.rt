@@ -23,7 +23,7 @@ use std::alloc::Global;
 use std::collections::HashMap;
 
 /// Whether the mark belongs to the product.
-fn is_product_mark(mark: &str) -> bool
+pub(crate) fn is_product_mark(mark: &str) -> bool
     ensures { result ≡ is_product_mark mark.now }
 {
     mark.starts_with("out:") || mark.starts_with("in:") || mark.starts_with("close:")
@@ -52,7 +52,7 @@ fn is_transit(leg: &Leg) -> bool
 }
 
 /// Whether one of the legs is.
-fn has_transit(legs: &[Leg]) -> bool
+pub(crate) fn has_transit(legs: &[Leg]) -> bool
     ensures { result ≡ list_any is_transit legs.now }
 {
     legs.iter().any(|leg| is_transit(leg))

@@ -131,15 +131,17 @@ pub(crate) fn records_in_file(
     ensures err { IfErr result (λ e. (e ≡ Refusal.Plain Cause.OutOfMemory) ⊎ (unbalanced styles.now file.now ≡ Some e)) }
 {
     let mut counts = HashMap::new(alloc);
-    let mut rows = Items::empty(alloc);
+    let Ok(mut rows) = Vec::with_capacity(alloc, file.len()) else {
+        return Err(Refusal::Plain(Cause::OutOfMemory));
+    };
     for located in file {
         let row = match record_in_file(alloc, styles, &mut counts, located) {
             Ok(row) => row,
             Err(refusal) => return Err(refusal),
         };
-        if let Err(cause) = rows.push(row) {
-            return Err(Refusal::Plain(cause));
-        }
+        let Ok(()) = rows.push(row) else {
+            return Err(Refusal::Plain(Cause::OutOfMemory));
+        };
     }
-    Ok(rows)
+    Ok(Items::from_vec(rows))
 }

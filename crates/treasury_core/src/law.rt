@@ -1,6 +1,6 @@
 //! What holds of every step and of every run of commands.
 
-ghost use Rattle.std.specs.Prelude.{◌≡◌, ◌≤◌, [], ◌∷◌, ◌++◌, ◌+◌, ◌+ℤ◌, ◌≤ℤ◌, ℕ, pos, true, false, List, length, None, Result, Ok, Err, IsErr};
+ghost use Rattle.std.specs.Prelude.{◌≡◌, ◌≤◌, [], ◌∷◌, ◌++◌, ◌+◌, ◌+ℤ◌, ◌-ℤ◌, ◌≤ℤ◌, int_le, ℕ, pos, Bool, true, false, List, Some, length, None, Result, Ok, Err, IsErr};
 ghost use Rattle.std.specs.List.{AllByRecursion};
 ghost use Rattle.std.specs.Str.{bytes_eq};
 ghost use Rattle.money_core.specs.declared.unit.Unit.{Unit as Commodity};
@@ -10,14 +10,19 @@ ghost use Rattle.book_core.specs.declared.refusal.Failure.{Failure};
 ghost use Rattle.book_core.specs.declared.refusal.Refusal.{Refusal};
 ghost use Rattle.book_core.specs.declared.refusal.Refusal.TheVariants.{Plain, ClaimFailed};
 ghost use Rattle.book_core.specs.declared.account.Reach.{Reach};
+ghost use Rattle.book_core.specs.declared.account.Reach.TheVariants.{Own};
 ghost use Rattle.book_core.specs.declared.place.Until.TheVariants.{Through};
 ghost use Rattle.book_core.specs.Balance.{balance};
 ghost use Rattle.book_core.specs.Claim.{IsFirstFailure};
 ghost use Rattle.book_core.specs.GoodBook.{IsWithin};
+ghost use Rattle.journal_lines.specs.Date.{IsDayNumber};
 ghost use Rattle.journal_format.specs.declared.txn.Located.{Located};
-ghost use Rattle.journal_format.specs.Pieces.{Reads};
+ghost use Rattle.journal_format.specs.declared.txn.Txn.{Txn};
+ghost use Rattle.journal_format.specs.Pieces.{Reads, posting_limit};
 ghost use Rattle.journal_format.specs.CanonicalText.{journal_text};
-ghost use Rattle.journal_format.specs.Printable.{FitsText, located_from};
+ghost use Rattle.journal_format.specs.Printable.{FitsText, IsPrintable, located_from};
+ghost use Rattle.journal_balance.specs.Legs.{legs_of};
+ghost use Rattle.journal_balance.specs.Plain.{written_entry};
 ghost use Rattle.treasury_core.specs.declared.record.Record.{Record};
 ghost use Rattle.treasury_core.specs.declared.command.Command.{Command};
 ghost use Rattle.treasury_core.specs.declared.command.Command.TheVariants.{Enter};
@@ -30,7 +35,10 @@ ghost use Rattle.treasury_core.specs.Joined.{joined};
 ghost use Rattle.treasury_core.specs.Step.{reply, after, delta, step, new_records, is_locked, unbalanced, refused_in, records_in_file};
 ghost use Rattle.treasury_core.specs.Good.{Fits, IsGoodState};
 ghost use Rattle.treasury_core.specs.Sound.{EachBalances, EachAssertionHolds, BreaksAssertion};
+ghost use Rattle.treasury_core.specs.Closing.{selected, held_in, closing_in};
+ghost use Rattle.treasury_core.specs.Closed.{IsClosing, closed_book};
 ghost use Rattle.treasury_core.specs.History.{Turn, Replies, IsRun, state_after, history, records_among, IsRefusedOrRepeated, IsNew, IsOwn, IsOwnJournal, AreAmong, txns_in, HasGrown, AddsUp};
+ghost use Rattle.treasury_core.specs.Rows.{rows};
 
 /// A law of steps and runs: the empty state is good, and each leaves a good state good. Costs nothing.
 pub fn good_law()
@@ -147,4 +155,40 @@ pub fn lock_law()
 pub fn transit_law()
     ensures adds_up { (f : Federation) (from to : List ℕ) → IsGoodState f → has_branch f from ≡ true → has_branch f to ≡ true → bytes_eq from to ≡ false → AddsUp f from to }
     ensures low { (f : Federation) (from to : List ℕ) (unit : Commodity) (day : Day) → IsGoodState f → pos 0 ≤ℤ open_amount f.transfers from to unit day }
+{}
+
+/// A law of rows: two good states with the same rows are equal. Costs nothing.
+pub fn rows_law()
+    ensures { (f g : Federation) → IsGoodState f → IsGoodState g → rows f ≡ rows g → f ≡ g }
+{}
+
+/// A law of closings: what a closing does are the legs and assertions of its postings as they are written, and within the
+/// limit of postings it can be printed. Costs nothing.
+pub fn closing_law()
+    ensures entry { (select : List ℕ → Bool) (into : List ℕ) (f : Federation) (name : List ℕ) (day : Day) (t : Txn)
+        → IsClosing select into f name day t → legs_of f.styles t ≡ Ok (written_entry t) }
+    ensures printable { (f : Federation) (name : List ℕ) (day : Day) (t : Txn) → IsGoodState f → IsDayNumber day
+        → closing_in f name day ≡ Some t → length t.postings ≤ posting_limit → IsPrintable f.styles t }
+{}
+
+/// A law of books with their closing: through its day each selected account is at zero in every commodity. Through that
+/// day and each later one it has moved by what it held through that day, and the account that gets it by the sum. No
+/// other account moves, and none through an earlier day. Costs nothing.
+pub fn closed_law()
+    ensures closed { (select : List ℕ → Bool) (into : List ℕ) (f : Federation) (name : List ℕ) (day : Day) (t : Txn) (account : List ℕ) (unit : Commodity)
+        → IsClosing select into f name day t → select account ≡ true → balance Own (closed_book f name t) account unit (Through day) ≡ pos 0 }
+    ensures moved { (select : List ℕ → Bool) (into : List ℕ) (f : Federation) (name : List ℕ) (day : Day) (t : Txn) (account : List ℕ) (unit : Commodity) (later : Day)
+        → IsClosing select into f name day t → select account ≡ true → int_le day.0 later.0 ≡ true
+        → balance Own (closed_book f name t) account unit (Through later)
+        ≡ balance Own (book_of f name) account unit (Through later) -ℤ balance Own (book_of f name) account unit (Through day) }
+    ensures gained { (select : List ℕ → Bool) (into : List ℕ) (f : Federation) (name : List ℕ) (day : Day) (t : Txn) (unit : Commodity) (later : Day)
+        → IsClosing select into f name day t → int_le day.0 later.0 ≡ true
+        → balance Own (closed_book f name t) into unit (Through later)
+        ≡ balance Own (book_of f name) into unit (Through later) +ℤ held_in (book_of f name) day unit (selected select (book_of f name)) }
+    ensures untouched { (select : List ℕ → Bool) (into : List ℕ) (f : Federation) (name : List ℕ) (day : Day) (t : Txn) (account : List ℕ) (unit : Commodity) (on : Day)
+        → IsClosing select into f name day t → select account ≡ false → bytes_eq into account ≡ false
+        → balance Own (closed_book f name t) account unit (Through on) ≡ balance Own (book_of f name) account unit (Through on) }
+    ensures before { (select : List ℕ → Bool) (into : List ℕ) (f : Federation) (name : List ℕ) (day : Day) (t : Txn) (account : List ℕ) (unit : Commodity) (earlier : Day)
+        → IsClosing select into f name day t → int_le day.0 earlier.0 ≡ false
+        → balance Own (closed_book f name t) account unit (Through earlier) ≡ balance Own (book_of f name) account unit (Through earlier) }
 {}

@@ -2,35 +2,44 @@
 #![tactic(auto)]
 
 mod applying;
+mod build;
+mod closing;
 mod command;
 mod decision;
 mod delta;
 mod dispatch;
+mod draft;
+mod drafting;
 mod enter;
 mod file;
 mod index;
+mod judging;
+mod keeping;
 mod law;
 mod mark;
 mod order;
 mod product;
 mod receive;
 mod record;
+mod rows;
+mod same_rows;
 mod state;
-#[cfg(test)]
-mod tests;
 mod transfer;
 mod transit;
 
 pub use applying::apply;
+pub use closing::closing_entry;
 pub use command::{Answer, Command, Dispatch, Receive};
 pub use decision::{MAX_BRANCHES, decide};
 pub use delta::{Addition, Delta};
 pub use law::{
-    entered_law, good_law, growing_law, joined_law, late_entry_law, lock_law, other_journal_law,
-    own_journal_law, printed_journal_law, records_law, sound_law, transit_law, unchanged_law,
+    closed_law, closing_law, entered_law, good_law, growing_law, joined_law, late_entry_law,
+    lock_law, other_journal_law, own_journal_law, printed_journal_law, records_law, rows_law,
+    sound_law, transit_law, unchanged_law,
 };
 pub use mark::mark_of;
 pub use record::Record;
+pub use rows::{BranchRow, ClaimRow, EntryRow, LegRow, Parts, TransferRow, UnitRow};
 pub use state::{Branch, State};
 pub use transfer::{Receipt, Transfer};
 pub use transit::open_amount;

@@ -14,6 +14,9 @@ use std::alloc::Global;
 /// The number of bytes that the canonical text of most transactions stays under.
 const USUAL_TEXT: usize = 128;
 
+/// The number of bytes of the mark of an unmarked transaction, but for the digits of its number after the third.
+const USUAL_MARK: usize = 70;
+
 /// The canonical text of a transaction, without its mark.
 pub(crate) fn text_of(alloc: Global, txn: &Txn, styles: &Styles) -> Result<Vec<u8>, Cause>
     requires { IsPrintable styles.now txn.now }
@@ -33,7 +36,8 @@ pub(crate) fn hash_mark(alloc: Global, text: &[u8], n: usize) -> Result<Text, Ca
     ensures memory { IsOkUnless result Cause.OutOfMemory }
 {
     let hash = hex::encode(alloc, Sha256::digest(text))?;
-    let mark = format!(in alloc; "h-{hash}-{n}")?;
+    let mut mark = String::with_capacity(alloc, USUAL_MARK)?;
+    write!(mark, "h-{hash}-{n}")?;
     Ok(Text::from_string(mark))
 }
 

@@ -13,4 +13,15 @@ pub mod CreateLemmas
 pub mod BesideLemmas
 pub mod OpenLemmas
 pub mod QueriedLemmas
+pub mod QueriesLemmas
 pub mod LoadLemmas
+pub mod SameLemmas
+pub mod NumberedLemmas
+pub mod AdditionLemmas
+pub mod WritableLemmas
+pub mod BodyLemmas
+pub mod OrderedLemmas
+pub mod ListLemmas
+pub mod StoreLemmas
+pub mod StateLoadLemmas
+pub mod PushLemmas

@@ -20,12 +20,12 @@ use Rattle.sqlite.proofs.Callers.{IsPlain, command_of, reads_as}
 use Rattle.treasury_store.specs.Tables.{store_schema}
 use Rattle.treasury_store.specs.Rows.{Tables, Holds, unit_row, branch_row, entry_row, leg_row, claim_row, transfer_row, stored_unit, stored_branch}
 use Rattle.treasury_store.specs.Order.{unit_cmp, branch_cmp, entry_cmp, leg_cmp, claim_cmp, transfer_cmp}
-use Rattle.treasury_store.specs.declared.rows.UnitRow.{UnitRow}
-use Rattle.treasury_store.specs.declared.rows.BranchRow.{BranchRow}
-use Rattle.treasury_store.specs.declared.rows.EntryRow.{EntryRow}
-use Rattle.treasury_store.specs.declared.rows.LegRow.{LegRow}
-use Rattle.treasury_store.specs.declared.rows.ClaimRow.{ClaimRow}
-use Rattle.treasury_store.specs.declared.rows.TransferRow.{TransferRow}
+use Rattle.treasury_core.specs.declared.rows.UnitRow.{UnitRow}
+use Rattle.treasury_core.specs.declared.rows.BranchRow.{BranchRow}
+use Rattle.treasury_core.specs.declared.rows.EntryRow.{EntryRow}
+use Rattle.treasury_core.specs.declared.rows.LegRow.{LegRow}
+use Rattle.treasury_core.specs.declared.rows.ClaimRow.{ClaimRow}
+use Rattle.treasury_core.specs.declared.rows.TransferRow.{TransferRow}
 use Rattle.treasury_store.proofs.Texts.{table_query, unit_rows_text, unit_rows_is, unit_columns, unit_order, unit_query, branch_rows_text, branch_rows_is, branch_columns, branch_order, branch_query, entry_rows_text, entry_rows_is, entry_columns, entry_order, entry_query, leg_rows_text, leg_rows_is, leg_columns, leg_order, leg_query, claim_rows_text, claim_rows_is, claim_columns, claim_order, claim_query, transfer_rows_text, transfer_rows_is, transfer_columns, transfer_order, transfer_query}
 use Rattle.treasury_store.proofs.QueryLemmas.{at, answer_is}
 use Rattle.treasury_store.proofs.QueriedLemmas.{all_chosen}

@@ -31,7 +31,7 @@ use Rattle.sqlite.specs.Listing.{understood}
 use Rattle.sqlite.specs.State.{State, mode_of, Executes}
 use Rattle.sqlite.proofs.Callers.{statement_of, runs_as}
 use Rattle.treasury_store.specs.Tables.{branch, store_schema}
-use Rattle.treasury_store.specs.declared.rows.BranchRow.{BranchRow}
+use Rattle.treasury_core.specs.declared.rows.BranchRow.{BranchRow}
 use Rattle.treasury_store.specs.Rows.{Tables, Holds, entry_row, leg_row, claim_row, transfer_row, stored_branch, locked, with_lock}
 use Rattle.treasury_store.proofs.Steps.{updates}
 use Rattle.treasury_store.proofs.Texts.{lock_text, lock_is, lock_filter, lock_terms, lock_query}

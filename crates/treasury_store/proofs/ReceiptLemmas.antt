@@ -25,7 +25,7 @@ use Rattle.sqlite.specs.Listing.{understood}
 use Rattle.sqlite.specs.State.{State, mode_of, Executes}
 use Rattle.sqlite.proofs.Callers.{statement_of, runs_as}
 use Rattle.treasury_store.specs.Tables.{transfer, store_schema}
-use Rattle.treasury_store.specs.declared.rows.TransferRow.{TransferRow}
+use Rattle.treasury_core.specs.declared.rows.TransferRow.{TransferRow}
 use Rattle.treasury_store.specs.Rows.{Tables, Holds, entry_row, leg_row, claim_row, transfer_row, received, with_receipt}
 use Rattle.treasury_store.proofs.Steps.{updates}
 use Rattle.treasury_store.proofs.Texts.{receive_text, receive_is, receive_filter, receive_terms, receive_query}

@@ -14,12 +14,12 @@ use Rattle.sqlite.specs.Rowids.TheVariants.{Chosen}
 use Rattle.sqlite.specs.Tree.{Trees}
 use Rattle.sqlite.specs.Effect.{value_rows}
 use Rattle.sqlite.specs.State.{State, Executes}
-use Rattle.treasury_store.specs.declared.rows.UnitRow.{UnitRow}
-use Rattle.treasury_store.specs.declared.rows.BranchRow.{BranchRow}
-use Rattle.treasury_store.specs.declared.rows.EntryRow.{EntryRow}
-use Rattle.treasury_store.specs.declared.rows.LegRow.{LegRow}
-use Rattle.treasury_store.specs.declared.rows.ClaimRow.{ClaimRow}
-use Rattle.treasury_store.specs.declared.rows.TransferRow.{TransferRow}
+use Rattle.treasury_core.specs.declared.rows.UnitRow.{UnitRow}
+use Rattle.treasury_core.specs.declared.rows.BranchRow.{BranchRow}
+use Rattle.treasury_core.specs.declared.rows.EntryRow.{EntryRow}
+use Rattle.treasury_core.specs.declared.rows.LegRow.{LegRow}
+use Rattle.treasury_core.specs.declared.rows.ClaimRow.{ClaimRow}
+use Rattle.treasury_core.specs.declared.rows.TransferRow.{TransferRow}
 use Rattle.treasury_store.specs.Tables.{unit, branch, entry, leg, claim, transfer, store_schema}
 use Rattle.treasury_store.specs.Rows.{Tables, Holds, unit_row, branch_row, entry_row, leg_row, claim_row, transfer_row, stored_unit, stored_branch, with_unit, with_branch, with_entry, with_leg, with_claim, with_transfer}
 use Rattle.treasury_store.proofs.Texts.{add_unit_text, add_unit_is, unit_terms, add_branch_text, add_branch_is, branch_terms, add_entry_text, add_entry_is, entry_terms, add_leg_text, add_leg_is, leg_terms, add_claim_text, add_claim_is, claim_terms, add_transfer_text, add_transfer_is, transfer_terms}

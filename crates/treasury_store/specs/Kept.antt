@@ -1,5 +1,5 @@
 -- What a statement makes of the tables that a connection has.
-use Rattle.std.specs.Prelude.{ℕ, Result, OnOk, IsTrue}
+use Rattle.std.specs.Prelude.{◌≡◌, ℕ, Result, OnOk, OnErr, IsTrue}
 use Rattle.sqlite.specs.Store.{Ghosts}
 use Rattle.sqlite.specs.declared.error.Error.{Error}
 use Rattle.sqlite.specs.State.{HasCleanDisk, KeepsCommit, Survives}
@@ -12,3 +12,12 @@ pub record Writes {S : Type 0} (g : Ghosts S) (old new : Held S) (r : Result ℕ
   pub inside : HasCleanDisk (state g new) → OnOk r (IsTrue (state g new).in_transaction)
   pub kept : HasCleanDisk (state g new) → KeepsCommit (state g old) (state g new)
   pub survives : Survives (state g old) (state g new) (λ _. ⊥)
+
+-- Queries of our tables: those that succeed are of a connection that is open, and one that is open was so; where the tables are committed, they stay
+-- as they are also where a query fails; and a crash leaves what it would have left before.
+pub record Queries {S X : Type 0} (g : Ghosts S) (old new : Held S) (r : Result X Error) : Type 0 where
+  pub opened : HasCleanDisk (state g new) → OnOk r (IsTrue (state g old).is_open × IsTrue (state g new).is_open)
+  pub was_open : HasCleanDisk (state g new) → IsTrue (state g new).is_open → IsTrue (state g old).is_open
+  pub undone : HasCleanDisk (state g new) → IsTrue (state g new).is_open
+      → OnErr r ((t : Tables) → Holds (state g old).now t → (state g old).committed ≡ (state g old).now → ((state g new).now ≡ (state g old).now) × ((state g new).committed ≡ (state g old).committed))
+  pub survives : Survives (state g old) (state g new) (λ _. (t : Tables) → Holds (state g old).now t → ⊥)

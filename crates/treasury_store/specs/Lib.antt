@@ -4,3 +4,7 @@ pub mod Kept
 pub mod Creating
 pub mod Opening
 pub mod Order
+pub mod Numbers
+pub mod Store
+-- What mirrors code, for private clauses: nobody has to believe it
+pub mod Changes

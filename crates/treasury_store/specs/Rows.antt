@@ -10,15 +10,15 @@ use Rattle.sqlite.specs.Effect.{Database}
 use Rattle.sqlite_trees.specs.View.{IsShaped}
 use Rattle.sqlite_trees.specs.declared.store.Shape.TheVariants as shape
 use Rattle.treasury_store.specs.Tables.{store_schema}
-use Rattle.treasury_store.specs.declared.rows.UnitRow.{UnitRow}
-use Rattle.treasury_store.specs.declared.rows.BranchRow.{BranchRow}
-use Rattle.treasury_store.specs.declared.rows.EntryRow.{EntryRow}
-use Rattle.treasury_store.specs.declared.rows.LegRow.{LegRow}
-use Rattle.treasury_store.specs.declared.rows.ClaimRow.{ClaimRow}
-use Rattle.treasury_store.specs.declared.rows.TransferRow.{TransferRow}
-use Rattle.treasury_store.specs.declared.rows.Parts.{Parts}
-use Rattle.treasury_store.specs.declared.rows.Change.{Change}
-use Rattle.treasury_store.specs.declared.rows.Change.TheVariants as change
+use Rattle.treasury_core.specs.declared.rows.UnitRow.{UnitRow}
+use Rattle.treasury_core.specs.declared.rows.BranchRow.{BranchRow}
+use Rattle.treasury_core.specs.declared.rows.EntryRow.{EntryRow}
+use Rattle.treasury_core.specs.declared.rows.LegRow.{LegRow}
+use Rattle.treasury_core.specs.declared.rows.ClaimRow.{ClaimRow}
+use Rattle.treasury_core.specs.declared.rows.TransferRow.{TransferRow}
+use Rattle.treasury_core.specs.declared.rows.Parts.{Parts}
+use Rattle.treasury_store.specs.declared.change.Change.{Change}
+use Rattle.treasury_store.specs.declared.change.Change.TheVariants as change
 
 -- ---- the columns of each row
 abbrev pub format_row : Row

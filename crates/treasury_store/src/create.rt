@@ -1,6 +1,6 @@
 //! The tables of a new treasury.
 
-ghost use Rattle.std.specs.Prelude.{◌≡◌, OnOk, OnErr, IfOk, IsTrue, false, [], codes};
+ghost use Rattle.std.specs.Prelude.{◌≡◌, Ok, OnOk, OnErr, IfOk, IsTrue, false, [], codes};
 ghost use Rattle.std.specs.List.{list_any};
 ghost use Rattle.sqlite_schema.specs.Names.{same_name};
 ghost use Rattle.sqlite.specs.Schema.{Schema};
@@ -146,6 +146,7 @@ pub fn create_tables<S: Alter>(conn: &mut Connection<S>) -> Result<bool, Error>
     // Beside other tables, none of which has AUTOINCREMENT.
     ensures beside { HasCleanDisk (state S.Store conn.new) → IfOk result (λ made. IsTrue made → has_counter (state S.Store conn.old).now.schema ≡ false → Beside (state S.Store conn.old).now (state S.Store conn.new).now) }
     ensures still_open { HasCleanDisk (state S.Store conn.new) → IfOk result (λ made. IsTrue made → IsTrue (state S.Store conn.new).is_open) }
+    ensures taken { IsTrue (has_one (state S.Store conn.old).now.schema) → (result ≡ Ok false) × (conn.new ≡ conn.old) }
     ensures free { IfOk result (λ made. IsTrue made → has_one (state S.Store conn.old).now.schema ≡ false) }
     ensures refused { IfOk result (λ made. made ≡ false → IsTrue (has_one (state S.Store conn.old).now.schema) × (conn.new ≡ conn.old)) }
     ensures unchanged { HasCleanDisk (state S.Store conn.new) → IsTrue (state S.Store conn.new).is_open → OnErr result (((state S.Store conn.new).now ≡ (state S.Store conn.old).now) × ((state S.Store conn.new).committed ≡ (state S.Store conn.old).committed)) }

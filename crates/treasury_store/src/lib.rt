@@ -1,17 +1,18 @@
 //! The tables of a treasury, in SQLite.
 #![tactic(auto)]
 
+mod change;
+mod changes;
 mod create;
 mod load;
+mod numbers;
 mod open;
-mod rows;
+mod store;
 mod write;
 
+pub use change::Change;
 pub use create::create_tables;
 pub use load::load_parts;
 pub use open::are_tables_there;
-pub use rows::{BranchRow, Change, ClaimRow, EntryRow, LegRow, Parts, TransferRow, UnitRow};
+pub use store::{Refused, Store};
 pub use write::write_all;
-
-#[cfg(test)]
-mod tests;

@@ -1,20 +1,23 @@
 //! The rows of the tables, in order.
 
-ghost use Rattle.std.specs.Prelude.{◌≡◌, ◌≤◌, ℕ, List, map, Option, OnOk, IfOk};
-ghost use Rattle.sqlite_trees.specs.View.{doubt};
+ghost use Rattle.std.specs.Prelude.{◌≡◌, ℕ, List, [], map, Option, OnOk, IfOk};
 ghost use Rattle.sqlite.specs.declared.types.Value.{Value};
 ghost use Rattle.sqlite.specs.declared.types.Value.TheVariants.{Text as Words};
 ghost use Rattle.sqlite.specs.Order.{column};
 ghost use Rattle.sqlite.specs.Values.{or_null};
-ghost use Rattle.sqlite.specs.State.{HasCleanDisk, IsUnchanged};
+ghost use Rattle.sqlite.specs.State.{HasCleanDisk, IsUnchanged, Shown};
+ghost use Rattle.sqlite.specs.Given.{IsPlain};
+ghost use Rattle.sqlite.specs.Listing.{understood};
 ghost use Rattle.sqlite.specs.Held.{state};
+ghost use Rattle.treasury_store.specs.Tables.{store_schema};
 ghost use Rattle.treasury_store.specs.Rows.{Tables, Holds, unit_row, branch_row, entry_row, leg_row, claim_row, transfer_row};
+ghost use Rattle.treasury_store.specs.Kept.{Queries};
 ghost use Rattle.treasury_store.specs.Order.{InOrder};
 
-use crate::rows::{BranchRow, ClaimRow, EntryRow, LegRow, Parts, TransferRow, UnitRow};
 use money_core::{Items, Text};
 use sqlite::{Alter, Connection, Error, Row};
 use std::alloc::Global;
+use treasury_core::{BranchRow, ClaimRow, EntryRow, LegRow, Parts, TransferRow, UnitRow};
 
 /// A row of one of the tables, read from its columns.
 trait FromRow: Drop {
@@ -179,14 +182,23 @@ fn read_all<T: FromRow>(alloc: Global, rows: &[Row]) -> Result<Items<T>, Error>
     Ok(Items::from_vec(list))
 }
 
+/// The rows of a query of our tables.
+fn queried<S: Alter>(conn: &mut Connection<S>, sql: &str) -> Result<Vec<Row>, Error>
+    requires { IsPlain (understood store_schema sql.now) }
+    ensures shown { HasCleanDisk (state S.Store conn.new) → IfOk result (λ rows. Shown sql.now [] (state S.Store conn.old) (state S.Store conn.new) rows.items) }
+    ensures queries { Queries S.Store conn.old conn.new result }
+{
+    conn.query_all(sql, &[])
+}
+
 fn load_units<S: Alter>(alloc: Global, conn: &mut Connection<S>) -> Result<Items<UnitRow>, Error>
     ensures rows { HasCleanDisk (state S.Store conn.new) → IfOk result (λ rows. (t : Tables) → InOrder t → Holds (state S.Store conn.old).now t → rows ≡ t.units) }
     ensures same { HasCleanDisk (state S.Store conn.new) → OnOk result ((t : Tables) → Holds (state S.Store conn.old).now t → IsUnchanged (state S.Store conn.old) (state S.Store conn.new)) }
-    ensures clean { doubt (state S.Store conn.old).is_clean ≤ doubt (state S.Store conn.new).is_clean }
+    ensures queries { Queries S.Store conn.old conn.new result }
 {
-    let rows = conn.query_all(
+    let rows = queried(
+        conn,
         "SELECT nr, symbol, decimals, mark, grouped, leftside, spaced FROM unit ORDER BY nr",
-        &[],
     )?;
     read_all(alloc, &rows)
 }
@@ -197,20 +209,20 @@ fn load_branches<S: Alter>(
 ) -> Result<Items<BranchRow>, Error>
     ensures rows { HasCleanDisk (state S.Store conn.new) → IfOk result (λ rows. (t : Tables) → InOrder t → Holds (state S.Store conn.old).now t → rows ≡ t.branches) }
     ensures same { HasCleanDisk (state S.Store conn.new) → OnOk result ((t : Tables) → Holds (state S.Store conn.old).now t → IsUnchanged (state S.Store conn.old) (state S.Store conn.new)) }
-    ensures clean { doubt (state S.Store conn.old).is_clean ≤ doubt (state S.Store conn.new).is_clean }
+    ensures queries { Queries S.Store conn.old conn.new result }
 {
-    let rows = conn.query_all("SELECT nr, name, locked FROM branch ORDER BY nr", &[])?;
+    let rows = queried(conn, "SELECT nr, name, locked FROM branch ORDER BY nr")?;
     read_all(alloc, &rows)
 }
 
 fn load_entries<S: Alter>(alloc: Global, conn: &mut Connection<S>) -> Result<Items<EntryRow>, Error>
     ensures rows { HasCleanDisk (state S.Store conn.new) → IfOk result (λ rows. (t : Tables) → InOrder t → Holds (state S.Store conn.old).now t → rows ≡ t.entries) }
     ensures same { HasCleanDisk (state S.Store conn.new) → OnOk result ((t : Tables) → Holds (state S.Store conn.old).now t → IsUnchanged (state S.Store conn.old) (state S.Store conn.new)) }
-    ensures clean { doubt (state S.Store conn.old).is_clean ≤ doubt (state S.Store conn.new).is_clean }
+    ensures queries { Queries S.Store conn.old conn.new result }
 {
-    let rows = conn.query_all(
+    let rows = queried(
+        conn,
         "SELECT branch, nr, day, mark, body FROM entry ORDER BY branch, nr",
-        &[],
     )?;
     read_all(alloc, &rows)
 }
@@ -218,11 +230,11 @@ fn load_entries<S: Alter>(alloc: Global, conn: &mut Connection<S>) -> Result<Ite
 fn load_legs<S: Alter>(alloc: Global, conn: &mut Connection<S>) -> Result<Items<LegRow>, Error>
     ensures rows { HasCleanDisk (state S.Store conn.new) → IfOk result (λ rows. (t : Tables) → InOrder t → Holds (state S.Store conn.old).now t → rows ≡ t.legs) }
     ensures same { HasCleanDisk (state S.Store conn.new) → OnOk result ((t : Tables) → Holds (state S.Store conn.old).now t → IsUnchanged (state S.Store conn.old) (state S.Store conn.new)) }
-    ensures clean { doubt (state S.Store conn.old).is_clean ≤ doubt (state S.Store conn.new).is_clean }
+    ensures queries { Queries S.Store conn.old conn.new result }
 {
-    let rows = conn.query_all(
+    let rows = queried(
+        conn,
         "SELECT branch, entry, nr, account, unit, qty FROM leg ORDER BY branch, entry, nr",
-        &[],
     )?;
     read_all(alloc, &rows)
 }
@@ -230,11 +242,11 @@ fn load_legs<S: Alter>(alloc: Global, conn: &mut Connection<S>) -> Result<Items<
 fn load_claims<S: Alter>(alloc: Global, conn: &mut Connection<S>) -> Result<Items<ClaimRow>, Error>
     ensures rows { HasCleanDisk (state S.Store conn.new) → IfOk result (λ rows. (t : Tables) → InOrder t → Holds (state S.Store conn.old).now t → rows ≡ t.claims) }
     ensures same { HasCleanDisk (state S.Store conn.new) → OnOk result ((t : Tables) → Holds (state S.Store conn.old).now t → IsUnchanged (state S.Store conn.old) (state S.Store conn.new)) }
-    ensures clean { doubt (state S.Store conn.old).is_clean ≤ doubt (state S.Store conn.new).is_clean }
+    ensures queries { Queries S.Store conn.old conn.new result }
 {
-    let rows = conn.query_all(
+    let rows = queried(
+        conn,
         "SELECT branch, entry, leg, kind, unit, qty FROM claim ORDER BY branch, entry, leg",
-        &[],
     )?;
     read_all(alloc, &rows)
 }
@@ -245,19 +257,23 @@ fn load_transfers<S: Alter>(
 ) -> Result<Items<TransferRow>, Error>
     ensures rows { HasCleanDisk (state S.Store conn.new) → IfOk result (λ rows. (t : Tables) → InOrder t → Holds (state S.Store conn.old).now t → rows ≡ t.transfers) }
     ensures same { HasCleanDisk (state S.Store conn.new) → OnOk result ((t : Tables) → Holds (state S.Store conn.old).now t → IsUnchanged (state S.Store conn.old) (state S.Store conn.new)) }
-    ensures clean { doubt (state S.Store conn.old).is_clean ≤ doubt (state S.Store conn.new).is_clean }
+    ensures queries { Queries S.Store conn.old conn.new result }
 {
-    let rows = conn.query_all(
+    let rows = queried(
+        conn,
         "SELECT id, source, target, unit, qty, dispatched, payer, received, payee FROM transfer ORDER BY id",
-        &[],
     )?;
     read_all(alloc, &rows)
 }
 
-/// The rows of all tables, each list in the order of its key: one query a table. It changes nothing.
+/// The rows of all tables, each list in the order of its key: one query a table.
+///
+/// Where the tables hold rows, a success changes nothing; where they are committed, nor does an error of a connection that
+/// is still open.
 pub fn load_parts<S: Alter>(alloc: Global, conn: &mut Connection<S>) -> Result<Parts, Error>
     ensures parts { HasCleanDisk (state S.Store conn.new) → IfOk result (λ parts. (t : Tables) → InOrder t → Holds (state S.Store conn.old).now t → parts ≡ t) }
     ensures same { HasCleanDisk (state S.Store conn.new) → OnOk result ((t : Tables) → Holds (state S.Store conn.old).now t → IsUnchanged (state S.Store conn.old) (state S.Store conn.new)) }
+    ensures queries { Queries S.Store conn.old conn.new result }
 {
     let units = load_units(alloc, conn)?;
     let branches = load_branches(alloc, conn)?;

@@ -77,7 +77,10 @@ fn is_version(rows: &[Row]) -> bool
     rows.len() == 1 && is_one(&rows[0])
 }
 
-/// Whether the tables and the one row of `format` are there. It changes nothing.
+/// Whether the tables and the one row of `format` are there.
+///
+/// Where one of our names is missing, nothing changes; nor where it succeeds, if tables of these names were made by our
+/// statements.
 pub fn are_tables_there<S: Alter>(conn: &mut Connection<S>) -> Result<bool, Error>
     ensures there { HasCleanDisk (state S.Store conn.new) → IfOk result (λ there. MadeHere (state S.Store conn.old).now.schema → IsTrue there ↔ IsTreasury (state S.Store conn.old).now) }
     ensures tables { IfOk result (λ there. IsTrue there → IsTrue (has_all (state S.Store conn.old).now.schema)) }

@@ -10,10 +10,11 @@ ghost use Rattle.sqlite.specs.Effect.{Database};
 ghost use Rattle.treasury_store.specs.Rows.{Tables, Holds, with_unit, with_branch, with_entry, with_leg, with_claim, with_transfer, with_lock, with_receipt, changed, joined};
 ghost use Rattle.treasury_store.specs.Kept.{Writes};
 
-use crate::rows::{BranchRow, Change, ClaimRow, EntryRow, LegRow, TransferRow, UnitRow};
+use crate::change::Change;
 use money_core::Text;
 use sqlite::types::{ToSql, ValueRef};
 use sqlite::{Alter, Connection, Error, ErrorCode, Transaction};
+use treasury_core::{BranchRow, ClaimRow, EntryRow, LegRow, TransferRow, UnitRow};
 
 /// A text as a value; NULL where there is none.
 fn text_or_null(text: &Option<Text>) -> ValueRef<'_>

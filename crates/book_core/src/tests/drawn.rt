@@ -5,12 +5,11 @@ ghost use Rattle.book_core.specs.GoodBook.{IsGoodBook};
 
 use super::{enter, leg};
 use crate::{
-    Cause, Claim, ClaimKind, Copied, Count, Day, DayLedger, Entry, Items, Ledger, Placed,
-    PlainLedger, Unit,
+    Claim, ClaimKind, Copied, Count, Day, DayLedger, Entry, Items, Ledger, Leg, Placed,
+    PlainLedger, Text, Unit,
 };
 use std::alloc::Global;
 use std::process::Abort;
-use std::test::Fail;
 
 const ACCOUNTS: [&str; 6] = ["a", "a:b", "a:b:c", "a:b2", "b", "b:a"];
 
@@ -40,31 +39,51 @@ fn draw_day(state: &mut u64) -> Day {
     Day(draw(state, 9) as i32)
 }
 
+/// A quantity of -2 to 2 from one account to another.
+fn draw_legs(rt: &impl Abort, alloc: Global, state: &mut u64, legs: &mut Items<Leg>) {
+    let unit = draw(state, 3) as u16;
+    let qty = draw(state, 5) as i64 - 2;
+    let one = leg(rt, alloc, draw_account(state), unit, qty);
+    legs.push(one).expect(rt, "memory");
+    let other = leg(rt, alloc, draw_account(state), unit, -qty);
+    legs.push(other).expect(rt, "memory");
+}
+
+/// An assertion of what the ledger has on the leg, or of one more.
+fn draw_claim(state: &mut u64, ledger: &PlainLedger, first: &Leg, day: Day) -> Claim {
+    let known = ledger.balance(first.account.as_str(), first.unit, day);
+    let more = draw(state, 3) as i64;
+    Claim {
+        kind: KINDS[draw(state, 4) as usize],
+        unit: first.unit,
+        qty: known.wrapping_add(first.qty).wrapping_add(more / 2),
+    }
+}
+
 /// An entry of one to three quantities from one account to another; every other one asserts what the ledger has on
 /// its first leg, or what is drawn.
-fn draw_entry(alloc: Global, state: &mut u64, ledger: &PlainLedger) -> Result<Entry, Cause> {
+fn draw_entry(rt: &impl Abort, alloc: Global, state: &mut u64, ledger: &PlainLedger) -> Entry {
     let day = draw_day(state);
     let mut legs = Items::empty(alloc);
     for _ in 0..draw(state, 3) + 1 {
-        let unit = draw(state, 3) as u16;
-        let qty = draw(state, 5) as i64 - 2;
-        legs.push(leg(alloc, draw_account(state), unit, qty)?)?;
-        legs.push(leg(alloc, draw_account(state), unit, -qty)?)?;
+        draw_legs(rt, alloc, state, &mut legs);
     }
     let mut claims = Items::empty(alloc);
     if let Some(first) = legs.items().first() {
-        let known = ledger.balance(first.account.as_str(), first.unit, day);
-        let more = draw(state, 3) as i64;
-        let claim = Claim {
-            kind: KINDS[draw(state, 4) as usize],
-            unit: first.unit,
-            qty: known.wrapping_add(first.qty).wrapping_add(more / 2),
-        };
+        let claim = draw_claim(state, ledger, first, day);
         if draw(state, 2) == 0 {
-            claims.push(Placed { leg: 1, claim })?;
+            claims.push(Placed { leg: 1, claim }).expect(rt, "memory");
         }
     }
-    Ok(Entry { day, legs, claims })
+    Entry { day, legs, claims }
+}
+
+/// Two ledgers have the same accounts.
+fn agree_on_accounts(rt: &impl Abort, one: &[Text], other: &[Text]) {
+    assert_eq!(rt; one.len(), other.len());
+    for (name, same) in one.iter().zip(other) {
+        assert_eq!(rt; name.as_str(), same.as_str());
+    }
 }
 
 /// Two ledgers give the same answers about an account.
@@ -77,18 +96,19 @@ fn agree<L: Ledger, M: Ledger>(
     day: Day,
 ) {
     assert_eq!(rt; one.len(), other.len());
-    assert_eq!(rt;
-        one.balance(account, unit, day),
-        other.balance(account, unit, day)
-    );
-    assert_eq!(rt;
-        one.balance_in(account, unit, day),
-        other.balance_in(account, unit, day)
-    );
-    assert_eq!(rt; one.accounts().len(), other.accounts().len());
-    for (name, same) in one.accounts().iter().zip(other.accounts().iter()) {
-        assert_eq!(rt; name.as_str(), same.as_str());
-    }
+    let known = one.balance(account, unit, day);
+    assert_eq!(rt; known, other.balance(account, unit, day));
+    let known = one.balance_in(account, unit, day);
+    assert_eq!(rt; known, other.balance_in(account, unit, day));
+    agree_on_accounts(rt, one.accounts(), other.accounts());
+}
+
+/// Two ledgers give the same answers about an account that is drawn.
+fn agree_on_drawn<L: Ledger, M: Ledger>(rt: &impl Abort, state: &mut u64, one: &L, other: &M) {
+    let account = draw_account(state);
+    let unit = Unit(draw(state, 3) as u16);
+    let day = draw_day(state);
+    agree(rt, one, other, account, unit, day);
 }
 
 /// One entry more, where both ledgers take it; they say the same of it.
@@ -98,40 +118,31 @@ fn step(
     state: &mut u64,
     plain: &mut PlainLedger,
     by_day: &mut DayLedger,
-) -> Result<(), Fail>
+)
     requires plain { IsGoodBook plain.old }
     requires by_day { IsGoodBook by_day.old }
     ensures plain { IsGoodBook plain.new }
     ensures by_day { IsGoodBook by_day.new }
 {
-    let one = draw_entry(alloc, state, plain)?;
-    let copy = one.copy()?;
+    let one = draw_entry(rt, alloc, state, plain);
+    let copy = one.copy().expect(rt, "memory");
     let mut examined = Count { claims: 0 };
     let mut reached = Count { claims: 0 };
     let answer = enter(rt, plain, one, &mut examined);
     assert_eq!(rt; enter(rt, by_day, copy, &mut reached), answer);
     assert!(rt; reached.claims <= examined.claims);
-    agree(
-        rt,
-        plain,
-        by_day,
-        draw_account(state),
-        Unit(draw(state, 3) as u16),
-        draw_day(state),
-    );
-    Ok(())
+    agree_on_drawn(rt, state, plain, by_day);
 }
 
 #[test]
-fn both_ledgers_give_the_same_answers(rt: HostRuntime) -> Result<(), Fail> {
+fn both_ledgers_give_the_same_answers(rt: HostRuntime) {
     let alloc = rt.alloc();
     let mut state = 20_240_115;
     for _ in 0..2_000 {
         let mut plain = PlainLedger::empty(alloc);
         let mut by_day = DayLedger::empty(alloc);
         for _ in 0..12 {
-            step(&rt, alloc, &mut state, &mut plain, &mut by_day)?;
+            step(&rt, alloc, &mut state, &mut plain, &mut by_day);
         }
     }
-    Ok(())
 }

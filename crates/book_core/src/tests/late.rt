@@ -1,43 +1,40 @@
 //! Late entries: what they reach, and what of it fails.
 
-use super::{EUR, USD, at, checked_by, entry, fails, holding};
+use super::{
+    BANK, EUR, Failing, SAVINGS, USD, answer_of, assert_balances, at, checked_by, entry, holding,
+    moves, transfer,
+};
 use crate::reached::reached_places;
 use crate::turnover::passes_limit;
 use crate::{
-    ClaimKind, Copied, Count, Day, DayLedger, Entry, Failure, Ledger, MAX_ENTRIES, Place,
-    PlainLedger, Refusal, Unit, are_fit,
+    Cause, ClaimKind, Copied, Count, DayLedger, Entry, Failure, Ledger, MAX_ENTRIES, Place,
+    PlainLedger, Unit, are_fit,
 };
 use day_sums::NamedSpots;
 use std::alloc::Global;
 use std::process::Abort;
 use std::slice::from_ref;
-use std::test::Fail;
 
-/// Both ledgers answer `want`, and the one with sums by day examines so many assertions.
-fn answers(
+/// Asserts that both ledgers answer what fails, and that the one with sums by day examines so many assertions.
+fn assert_answers(
     rt: &impl Abort,
     alloc: Global,
     old: &[Entry],
     new: &[Entry],
-    want: (Result<(), Refusal>, u64),
+    want: (Option<Failing>, u64),
 ) {
+    let (failing, examined) = want;
     let (plain, _) = checked_by::<PlainLedger>(rt, alloc, old, new);
-    assert_eq!(rt; plain, want.0);
-    assert_eq!(rt; checked_by::<DayLedger>(rt, alloc, old, new), want);
+    assert_eq!(rt; plain, answer_of(failing), "{new:?}");
+    let (by_day, reached) = checked_by::<DayLedger>(rt, alloc, old, new);
+    assert_eq!(rt; by_day, answer_of(failing), "{new:?}");
+    assert_eq!(rt; reached, examined, "{new:?}");
 }
 
 /// Ten euros on the 10th with an assertion of ten, and five on the 20th with one of fifteen.
-fn two_assertions(alloc: Global) -> Result<Vec<Entry>, Fail> {
-    let mut entries = Vec::new(alloc);
-    for (day, qty, asserted) in [(10, 1000, 1000), (20, 500, 1500)] {
-        entries.push(entry(
-            alloc,
-            day,
-            &[("assets:bank", EUR, qty), ("income:dues", EUR, -qty)],
-            Some((ClaimKind::Exact, asserted)),
-        )?)?;
-    }
-    Ok(entries)
+fn two_assertions(rt: &impl Abort, alloc: Global) -> Vec<Entry> {
+    const ROWS: &[(i32, i64, Option<i64>)] = &[(10, 1000, Some(1000)), (20, 500, Some(1500))];
+    moves(rt, alloc, "income:dues", ROWS)
 }
 
 /// The places of the entries' assertions, in order, each with the failure there and how many assertions were examined
@@ -46,7 +43,7 @@ fn examined_alone(
     rt: &impl Abort,
     alloc: Global,
     entries: &[Entry],
-) -> Result<Vec<(Place, Option<Failure>, u64)>, Fail> {
+) -> Result<Vec<(Place, Option<Failure>, u64)>, Cause> {
     assert!(rt; are_fit(entries));
     let mut found = Vec::new(alloc);
     if entries.len() > MAX_ENTRIES {
@@ -68,10 +65,22 @@ fn examined_alone(
     Ok(found)
 }
 
+/// Asserts what fails after a euro of the day, entered last, each assertion examined alone.
+fn assert_alone(rt: &impl Abort, alloc: Global, day: i32, wanted: [Option<Failure>; 2]) {
+    let mut entries = two_assertions(rt, alloc);
+    let late = transfer(rt, alloc, day, (BANK, EUR, 100), "income:dues", None);
+    entries.push(late).expect(rt, "memory");
+    let found = examined_alone(rt, alloc, &entries).expect(rt, "memory");
+    assert_eq!(rt; found.len(), 2);
+    for (one, want) in found.iter().zip(wanted) {
+        assert_eq!(rt; one.1, want, "{day}");
+        assert_eq!(rt; one.2, 1, "{day}");
+    }
+}
+
 // A euro of the 15th, entered last, breaks the assertion of the 20th alone, and one of the 5th breaks both.
 #[test]
-fn each_assertion_is_examined_alone(rt: HostRuntime) -> Result<(), Fail> {
-    let alloc = rt.alloc();
+fn each_assertion_is_examined_alone(rt: HostRuntime) {
     let first = Failure {
         place: at(10, 1),
         unit: Unit(EUR),
@@ -84,207 +93,157 @@ fn each_assertion_is_examined_alone(rt: HostRuntime) -> Result<(), Fail> {
         asserted: 1500,
         found: 1600,
     };
-    for (day, wanted) in [(15, [None, Some(second)]), (5, [Some(first), Some(second)])] {
-        let mut entries = two_assertions(alloc)?;
-        entries.push(entry(
-            alloc,
-            day,
-            &[("assets:bank", EUR, 100), ("income:dues", EUR, -100)],
-            None,
-        )?)?;
-        let found = examined_alone(&rt, alloc, &entries)?;
-        assert_eq!(rt; found.len(), 2);
-        for (one, want) in found.iter().zip(wanted) {
-            assert_eq!(rt; one.1, want, "{day}");
-            assert_eq!(rt; one.2, 1, "{day}");
-        }
+    assert_alone(&rt, rt.alloc(), 15, [None, Some(second)]);
+    assert_alone(&rt, rt.alloc(), 5, [Some(first), Some(second)]);
+}
+
+fn assert_reached(rt: &impl Abort, alloc: Global, rows: &[(i32, &str, (Option<Failing>, u64))]) {
+    for (day, account, want) in rows {
+        let old = two_assertions(rt, alloc);
+        let late = transfer(rt, alloc, *day, (*account, EUR, 100), "income:dues", None);
+        assert_answers(rt, alloc, &old, from_ref(&late), *want);
     }
-    Ok(())
 }
 
 // One euro more on a day; the last two rows are before all other days, and behind them.
 #[test]
-fn a_late_entry_reaches_the_assertions_behind_it(rt: HostRuntime) -> Result<(), Fail> {
-    let alloc = rt.alloc();
-    let bank = "assets:bank";
-    let rows = [
-        (15, bank, (fails(at(20, 2), EUR, 1500, 1600), 1)),
-        (5, bank, (fails(at(10, 1), EUR, 1000, 1100), 1)),
-        (15, "assets:cash", (Ok(()), 0)),
-        (10, bank, (fails(at(20, 2), EUR, 1500, 1600), 1)),
-        (20, bank, (Ok(()), 0)),
-        (1, bank, (fails(at(10, 1), EUR, 1000, 1100), 1)),
-        (31, bank, (Ok(()), 0)),
+fn a_late_entry_reaches_the_assertions_behind_it(rt: HostRuntime) {
+    const ROWS: &[(i32, &str, (Option<Failing>, u64))] = &[
+        (15, BANK, (Some((20, 2, EUR, 1500, 1600)), 1)),
+        (5, BANK, (Some((10, 1, EUR, 1000, 1100)), 1)),
+        (15, "assets:cash", (None, 0)),
+        (10, BANK, (Some((20, 2, EUR, 1500, 1600)), 1)),
+        (20, BANK, (None, 0)),
+        (1, BANK, (Some((10, 1, EUR, 1000, 1100)), 1)),
+        (31, BANK, (None, 0)),
     ];
-    for (day, account, want) in rows {
-        let old = two_assertions(alloc)?;
-        let late = entry(
-            alloc,
-            day,
-            &[(account, EUR, 100), ("income:dues", EUR, -100)],
-            None,
-        )?;
-        answers(&rt, alloc, &old, &[late], want);
+    assert_reached(&rt, rt.alloc(), ROWS);
+}
+
+fn assert_in_order(
+    rt: &impl Abort,
+    alloc: Global,
+    rows: &[(&[(i32, i64, Option<i64>)], (Option<Failing>, u64))],
+) {
+    for (new, want) in rows {
+        let old = two_assertions(rt, alloc);
+        let entries = moves(rt, alloc, "income:dues", *new);
+        assert_answers(rt, alloc, &old, &entries, *want);
     }
-    Ok(())
 }
 
 // An entry of the 20th with its own assertion, a euro of the same day entered before it or behind it, and one of the
 // 15th that is taken back on the 16th.
 #[test]
-fn new_entries_count_in_the_order_of_entry(rt: HostRuntime) -> Result<(), Fail> {
-    let alloc = rt.alloc();
-    let rows = [
-        ([(20, 100, None), (20, 1, Some(1601))], (Ok(()), 1)),
-        ([(20, 1, Some(1501)), (20, 100, None)], (Ok(()), 1)),
+fn new_entries_count_in_the_order_of_entry(rt: HostRuntime) {
+    const ROWS: &[(&[(i32, i64, Option<i64>)], (Option<Failing>, u64))] = &[
+        (&[(20, 100, None), (20, 1, Some(1601))], (None, 1)),
+        (&[(20, 1, Some(1501)), (20, 100, None)], (None, 1)),
         (
-            [(20, 100, None), (20, 1, Some(1501))],
-            (fails(at(20, 4), EUR, 1501, 1601), 1),
+            &[(20, 100, None), (20, 1, Some(1501))],
+            (Some((20, 4, EUR, 1501, 1601)), 1),
         ),
-        ([(15, 100, None), (16, -100, None)], (Ok(()), 1)),
+        (&[(15, 100, None), (16, -100, None)], (None, 1)),
         (
-            [(9, 100, None), (11, -100, None)],
-            (fails(at(10, 1), EUR, 1000, 1100), 1),
+            &[(9, 100, None), (11, -100, None)],
+            (Some((10, 1, EUR, 1000, 1100)), 1),
         ),
         (
-            [(9, 100, None), (10, -100, Some(1000))],
-            (fails(at(10, 1), EUR, 1000, 1100), 1),
+            &[(9, 100, None), (10, -100, Some(1000))],
+            (Some((10, 1, EUR, 1000, 1100)), 1),
         ),
-        ([(10, 100, None), (10, -100, Some(1000))], (Ok(()), 2)),
+        (&[(10, 100, None), (10, -100, Some(1000))], (None, 2)),
     ];
-    for (new, want) in rows {
-        let old = two_assertions(alloc)?;
-        let mut entries = Vec::new(alloc);
-        for (day, qty, asserted) in new {
-            let claim = match asserted {
-                Some(qty) => Some((ClaimKind::Exact, qty)),
-                None => None,
-            };
-            entries.push(entry(
-                alloc,
-                day,
-                &[
-                    ("assets:bank", EUR, qty),
-                    ("income:dues", EUR, qty.wrapping_neg()),
-                ],
-                claim,
-            )?)?;
-        }
-        answers(&rt, alloc, &old, &entries, want);
+    assert_in_order(&rt, rt.alloc(), ROWS);
+}
+
+fn assert_kinds(
+    rt: &impl Abort,
+    alloc: Global,
+    rows: &[(ClaimKind, &str, u16, (Option<Failing>, u64))],
+) {
+    for (kind, account, unit, want) in rows {
+        let ten = (BANK, EUR, 1000);
+        let first = transfer(rt, alloc, 10, ten, "income", Some((*kind, 1000)));
+        let late = transfer(rt, alloc, 9, (*account, *unit, 100), "income", None);
+        assert_answers(rt, alloc, from_ref(&first), from_ref(&late), *want);
     }
-    Ok(())
 }
 
 // Ten euros on the 10th with an assertion of ten of a kind, and one of a commodity more on the 9th.
 #[test]
-fn kinds_are_reached_by_other_commodities_and_subaccounts(rt: HostRuntime) -> Result<(), Fail> {
-    let alloc = rt.alloc();
-    let bank = "assets:bank";
-    let savings = "assets:bank:savings";
-    let rows = [
-        (ClaimKind::Exact, bank, USD, (Ok(()), 0)),
-        (ClaimKind::Exact, savings, EUR, (Ok(()), 0)),
+fn kinds_are_reached_by_other_commodities_and_subaccounts(rt: HostRuntime) {
+    const ROWS: &[(ClaimKind, &str, u16, (Option<Failing>, u64))] = &[
+        (ClaimKind::Exact, BANK, USD, (None, 0)),
+        (ClaimKind::Exact, SAVINGS, EUR, (None, 0)),
+        (ClaimKind::Sole, BANK, USD, (Some((10, 1, USD, 0, 100)), 1)),
         (
             ClaimKind::Sole,
-            bank,
-            USD,
-            (fails(at(10, 1), USD, 0, 100), 1),
-        ),
-        (
-            ClaimKind::Sole,
-            bank,
+            BANK,
             EUR,
-            (fails(at(10, 1), EUR, 1000, 1100), 1),
+            (Some((10, 1, EUR, 1000, 1100)), 1),
         ),
-        (ClaimKind::Sole, savings, USD, (Ok(()), 0)),
+        (ClaimKind::Sole, SAVINGS, USD, (None, 0)),
         (
             ClaimKind::ExactIn,
-            savings,
+            SAVINGS,
             EUR,
-            (fails(at(10, 1), EUR, 1000, 1100), 1),
+            (Some((10, 1, EUR, 1000, 1100)), 1),
         ),
-        (ClaimKind::ExactIn, savings, USD, (Ok(()), 0)),
-        (ClaimKind::ExactIn, "assets:bank2", EUR, (Ok(()), 0)),
-        (ClaimKind::ExactIn, "assets", EUR, (Ok(()), 0)),
+        (ClaimKind::ExactIn, SAVINGS, USD, (None, 0)),
+        (ClaimKind::ExactIn, "assets:bank2", EUR, (None, 0)),
+        (ClaimKind::ExactIn, "assets", EUR, (None, 0)),
         (
             ClaimKind::SoleIn,
-            savings,
+            SAVINGS,
             USD,
-            (fails(at(10, 1), USD, 0, 100), 1),
+            (Some((10, 1, USD, 0, 100)), 1),
         ),
-        (ClaimKind::SoleIn, "assets:bank2", USD, (Ok(()), 0)),
+        (ClaimKind::SoleIn, "assets:bank2", USD, (None, 0)),
     ];
-    for (kind, account, unit, want) in rows {
-        let first = entry(
-            alloc,
-            10,
-            &[(bank, EUR, 1000), ("income", EUR, -1000)],
-            Some((kind, 1000)),
-        )?;
-        let late = entry(
-            alloc,
-            9,
-            &[(account, unit, 100), ("income", unit, -100)],
-            None,
-        )?;
-        answers(&rt, alloc, &[first], &[late], want);
-    }
-    Ok(())
+    assert_kinds(&rt, rt.alloc(), ROWS);
 }
 
 /// The balances of a ledger after two assertions and a late entry, and those of accounts above others.
-fn balances<L: Ledger>(rt: &impl Abort, ledger: &L) {
-    let rows = [
-        ("income:dues", 9, 0, 0),
-        ("income:dues", 14, -1000, -1000),
-        ("income:dues", 15, -1100, -1100),
-        ("income:dues", 20, -1600, -1600),
-        ("income", 31, 0, -1600),
-        ("assets", 14, 0, 1000),
-        ("assets", 15, 7, 1100),
-        ("assets:cash", 15, 93, 93),
-        ("assets:bank", 15, 1000, 1000),
-        ("assets:bank", 31, 1500, 1500),
-        ("assets:b", 31, 0, 0),
-        ("assets:", 31, 0, 0),
-        ("", 31, 0, 0),
+const BALANCES: &[(&str, u16, i32, i64, i64)] = &[
+    ("income:dues", EUR, 9, 0, 0),
+    ("income:dues", EUR, 14, -1000, -1000),
+    ("income:dues", EUR, 15, -1100, -1100),
+    ("income:dues", EUR, 20, -1600, -1600),
+    ("income", EUR, 31, 0, -1600),
+    ("assets", EUR, 14, 0, 1000),
+    ("assets", EUR, 15, 7, 1100),
+    ("assets:cash", EUR, 15, 93, 93),
+    ("assets:bank", EUR, 15, 1000, 1000),
+    ("assets:bank", EUR, 31, 1500, 1500),
+    ("assets:b", EUR, 31, 0, 0),
+    ("assets:", EUR, 31, 0, 0),
+    ("", EUR, 31, 0, 0),
+];
+
+fn assert_held<L: Ledger>(rt: &impl Abort, alloc: Global, entries: &[Entry]) {
+    let ledger = holding::<L>(rt, alloc, entries).expect(rt, "a ledger");
+    assert_balances(rt, &ledger, BALANCES);
+}
+
+/// Two assertions, and a late entry behind them.
+fn with_late_entry(rt: &impl Abort, alloc: Global) -> Vec<Entry> {
+    const LEGS: &[(&str, u16, i64)] = &[
+        ("assets:cash", EUR, 93),
+        ("income:dues", EUR, -100),
+        ("assets", EUR, 7),
     ];
-    for (account, day, own, inside) in rows {
-        assert_eq!(rt;
-            ledger.balance(account, Unit(EUR), Day(day)),
-            own,
-            "{account} on the {day}th"
-        );
-        assert_eq!(rt;
-            ledger.balance_in(account, Unit(EUR), Day(day)),
-            inside,
-            "{account} on the {day}th"
-        );
-    }
+    let mut entries = two_assertions(rt, alloc);
+    let late = entry(rt, alloc, 15, LEGS, None);
+    entries.push(late).expect(rt, "memory");
+    entries
 }
 
 // The account `assets` has a leg of its own, and is above the others.
 #[test]
-fn a_late_entry_changes_the_balances_from_its_day_on(rt: HostRuntime) -> Result<(), Fail> {
+fn a_late_entry_changes_the_balances_from_its_day_on(rt: HostRuntime) {
     let alloc = rt.alloc();
-    let mut entries = two_assertions(alloc)?;
-    entries.push(entry(
-        alloc,
-        15,
-        &[
-            ("assets:cash", EUR, 93),
-            ("income:dues", EUR, -100),
-            ("assets", EUR, 7),
-        ],
-        None,
-    )?)?;
-    match holding::<PlainLedger>(&rt, alloc, &entries) {
-        Ok(ledger) => balances(&rt, &ledger),
-        Err(refusal) => assert!(rt; false, "{refusal:?}"),
-    }
-    match holding::<DayLedger>(&rt, alloc, &entries) {
-        Ok(ledger) => balances(&rt, &ledger),
-        Err(refusal) => assert!(rt; false, "{refusal:?}"),
-    }
-    Ok(())
+    let entries = with_late_entry(&rt, alloc);
+    assert_held::<PlainLedger>(&rt, alloc, &entries);
+    assert_held::<DayLedger>(&rt, alloc, &entries);
 }

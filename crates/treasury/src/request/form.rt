@@ -3,7 +3,7 @@
 ghost use Rattle.std.specs.Prelude.{◌≡◌, option_map, option_and_then, IfSome};
 ghost use Rattle.serde_json.specs.View.{view};
 ghost use Rattle.journal_lines.specs.Date.{IsDayNumber};
-ghost use Rattle.treasury.specs.Request.{text_at, day_at, key_count, dispatch_at, receive_at, request_of, HasDayNumbers};
+ghost use Rattle.treasury.specs.Request.{text_at, day_at, key_count, dispatch_at, receive_at, tagged_at, report_form, request_of, HasDayNumbers};
 ghost use Rattle.treasury.specs.Form.{shown};
 
 use journal_lines::read_date;
@@ -44,6 +44,17 @@ pub enum Form<'a> {
     Balance {
         branch: &'a str,
         day: Day,
+    },
+    Register {
+        branch: &'a str,
+        account: &'a str,
+        tag: Option<&'a str>,
+    },
+    Transit {
+        day: Day,
+    },
+    Journal {
+        branch: &'a str,
     },
 }
 
@@ -111,6 +122,52 @@ fn receive_of<'a>(value: &'a Value) -> Option<Form<'a>>
     })
 }
 
+/// The form of a register with a tag, where all its keys are there.
+fn tagged_of<'a>(value: &'a Value) -> Option<Form<'a>>
+    ensures value { option_map shown result ≡ tagged_at (view value.now) }
+    ensures days { IfSome result (λ form. HasDayNumbers (shown form)) }
+{
+    let branch = text_at(value, "branch")?;
+    let account = text_at(value, "account")?;
+    let tag = text_at(value, "tag")?;
+    Some(Form::Register {
+        branch,
+        account,
+        tag: Some(tag),
+    })
+}
+
+/// The form of a report's word, if the value has one of so many keys.
+fn report_of<'a>(word: &str, keys: usize, value: &'a Value) -> Option<Form<'a>>
+    requires { keys ≡ key_count (view value.now) }
+    ensures value { option_map shown result ≡ report_form word.now (view value.now) }
+    ensures days { IfSome result (λ form. HasDayNumbers (shown form)) }
+{
+    if word == "balance" && keys == 3 {
+        let branch = text_at(value, "branch")?;
+        let day = day_at(value, "day")?;
+        Some(Form::Balance { branch, day })
+    } else if word == "register" && keys == 3 {
+        let branch = text_at(value, "branch")?;
+        let account = text_at(value, "account")?;
+        Some(Form::Register {
+            branch,
+            account,
+            tag: None,
+        })
+    } else if word == "register" && keys == 4 {
+        tagged_of(value)
+    } else if word == "transit" && keys == 2 {
+        let day = day_at(value, "day")?;
+        Some(Form::Transit { day })
+    } else if word == "journal" && keys == 2 {
+        let branch = text_at(value, "branch")?;
+        Some(Form::Journal { branch })
+    } else {
+        None
+    }
+}
+
 /// The form of a value, if it has one: the word's keys, each with a text, and no further key.
 pub fn form_of<'a>(value: &'a Value) -> Option<Form<'a>>
     ensures value { option_map shown result ≡ request_of (view value.now) }
@@ -136,11 +193,7 @@ pub fn form_of<'a>(value: &'a Value) -> Option<Form<'a>>
         let branch = text_at(value, "branch")?;
         let day = day_at(value, "day")?;
         Some(Form::Lock { branch, day })
-    } else if word == "balance" && keys == 3 {
-        let branch = text_at(value, "branch")?;
-        let day = day_at(value, "day")?;
-        Some(Form::Balance { branch, day })
     } else {
-        None
+        report_of(word, keys, value)
     }
 }

@@ -1,6 +1,6 @@
 //! Requests out of JSON.
 
-ghost use Rattle.std.specs.Prelude.{◌≡◌, ◌⊎◌, Some, None, Ok, Err, IfOk, IfErr};
+ghost use Rattle.std.specs.Prelude.{◌≡◌, ◌⊎◌, Some, None, Ok, Err, IfOk, IfErr, option_copied};
 ghost use Rattle.std.specs.Result.{IsOkUnless};
 ghost use Rattle.treasury.specs.Request.{spelled, HasDayNumbers};
 ghost use Rattle.treasury.specs.Form.{shown};
@@ -11,6 +11,20 @@ use crate::request::form::{Form, form_of};
 use money_core::{Cause, Text};
 use serde_json::Value;
 use std::alloc::Global;
+
+/// A text of its own, if there is one.
+fn owned_text(alloc: Global, text: Option<&str>) -> Result<Option<Text>, Cause>
+    ensures equal { IfOk result (λ owned. owned ≡ option_copied text.entry) }
+    ensures memory { IsOkUnless result Cause.OutOfMemory }
+{
+    match text {
+        Some(text) => {
+            let text = Text::of(alloc, text)?;
+            Ok(Some(text))
+        }
+        None => Ok(None),
+    }
+}
 
 /// The request of a form, with texts of its own.
 fn owned(alloc: Global, form: Form) -> Result<Request, Cause>
@@ -76,6 +90,25 @@ fn owned(alloc: Global, form: Form) -> Result<Request, Cause>
         Form::Balance { branch, day } => {
             let branch = Text::of(alloc, branch)?;
             Ok(Request::Balance { branch, day })
+        }
+        Form::Register {
+            branch,
+            account,
+            tag,
+        } => {
+            let branch = Text::of(alloc, branch)?;
+            let account = Text::of(alloc, account)?;
+            let tag = owned_text(alloc, tag)?;
+            Ok(Request::Register {
+                branch,
+                account,
+                tag,
+            })
+        }
+        Form::Transit { day } => Ok(Request::Transit { day }),
+        Form::Journal { branch } => {
+            let branch = Text::of(alloc, branch)?;
+            Ok(Request::Journal { branch })
         }
     }
 }

@@ -2,4 +2,4 @@ use Rattle.std.proofs.Common.{◌≡◌, take}
 use Rattle.money_core.proofs.items.copies_of.Given as goal
 
 abbrev pub invariant-loop-item : goal.invariant-loop-item
-invariant-loop-item g l = l.list ≡ take l.item-index l.items
+invariant-loop-item g l = l.list.items ≡ take l.item-index l.items

@@ -12,4 +12,4 @@ pub returns-clause-along : goal.returns-clause-along
 returns-clause-along c = λ start _ _ _ turns _. lines_leave start turns
 
 pub returns-clause-report : goal.returns-clause-report
-returns-clause-report c = λ f name day r. refl
+returns-clause-report c = λ f report r. refl

@@ -4,16 +4,29 @@ use Rattle.sqlite.specs.Listing.{understood}
 use Rattle.sqlite.proofs.Callers.{IsPlain}
 use Rattle.treasury_store.proofs.Texts.{transfer_rows_text, transfer_rows_is}
 use Rattle.treasury_store.proofs.QueriedLemmas.{shown_same, ok_then}
+use Rattle.treasury_store.proofs.QueriesLemmas.{same_error, then_made}
 use Rattle.treasury_store.proofs.LoadLemmas.{transfers_are, any_ok}
 use Rattle.treasury_store.proofs.load.load_transfers.Goals as goal
+
+pub queried-requires : goal.queried-requires
+queried-requires g c = transfer_rows_is.2
 
 pub returns-clause-rows : goal.returns-clause-rows
 returns-clause-rows g c clean =
     ok_then c.read_all.result _ _
-    (λ xs h t up holds. h t.transfers (c.deref.ensures.value ∙ transfers_are (state g.S.Store c.args.conn.now) (state g.S.Store c.query_all.new.self) t c.in_ok-rows.rows.items holds up.transfers (c.in_ok-rows.ensures.ok clean))) c.read_all.ensures
+    (λ xs h t up holds. h t.transfers (c.deref.ensures.value ∙ transfers_are (state g.S.Store c.args.conn.now) (state g.S.Store c.queried.new.conn) t c.in_ok-rows.rows.items holds up.transfers (c.in_ok-rows.ensures.shown clean))) c.read_all.ensures
 
 pub returns-clause-same : goal.returns-clause-same
 returns-clause-same g c clean =
     any_ok c.read_all.result _
-    (λ t holds. shown_same transfer_rows_text _ (state g.S.Store c.args.conn.now) (state g.S.Store c.query_all.new.self) c.in_ok-rows.rows.items
-    (subst (λ s. IsPlain (understood s transfer_rows_text)) (sym holds.schema) transfer_rows_is.2) (c.in_ok-rows.ensures.ok clean))
+    (λ t holds. shown_same transfer_rows_text _ (state g.S.Store c.args.conn.now) (state g.S.Store c.queried.new.conn) c.in_ok-rows.rows.items
+    (subst (λ s. IsPlain (understood s transfer_rows_text)) (sym holds.schema) transfer_rows_is.2) (c.in_ok-rows.ensures.shown clean))
+
+pub returns-clause-queries : goal.returns-clause-queries
+returns-clause-queries g c =
+    then_made g.S.Store c.args.conn.now c.queried.new.conn c.in_ok-rows.rows c.in_ok-rows.ensures.queries
+    (λ clean t holds. shown_same transfer_rows_text _ (state g.S.Store c.args.conn.now) (state g.S.Store c.queried.new.conn) c.in_ok-rows.rows.items
+    (subst (λ s. IsPlain (understood s transfer_rows_text)) (sym holds.schema) transfer_rows_is.2) (c.in_ok-rows.ensures.shown clean)) c.read_all.result
+
+pub returns-in_err-rows-clause-queries : goal.returns-in_err-rows-clause-queries
+returns-in_err-rows-clause-queries g c = same_error _ c.from_residual.result c.from_residual.ensures.1 c.in_err-rows.ensures.queries

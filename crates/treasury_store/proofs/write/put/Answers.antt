@@ -1,6 +1,6 @@
 use Rattle.std.proofs.Common.{◌≡◌, sym, subst, subst₂, rules, w64, to_z, of_z, List, ℕ, ℤ}
 use Rattle.std.proofs.lemmas.Int.{to_z-of_z}
-use Rattle.treasury_store.specs.declared.rows.Change.{Change}
+use Rattle.treasury_store.specs.declared.change.Change.{Change}
 use Rattle.treasury_store.specs.Rows.{changed, with_lock, with_receipt}
 use Rattle.treasury_store.specs.Kept.{Writes}
 use Rattle.treasury_store.proofs.write.put.Goals as goal

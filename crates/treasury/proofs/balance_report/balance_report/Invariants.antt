@@ -1,7 +1,0 @@
-use Rattle.std.proofs.Common.{◌≡◌, ◌++◌, take}
-use Rattle.std.specs.List.{flat_map}
-use Rattle.treasury.specs.BalanceReport.{account_lines}
-use Rattle.treasury.proofs.balance_report.balance_report.Given as goal
-
-abbrev pub invariant-accounts : goal.invariant-accounts
-invariant-accounts g l = l.out.items ≡ l.fn.out.items ++ flat_map (account_lines l.styles (g.L.Ledger.book l.ledger) l.day) (take l.account-index l.account-items)

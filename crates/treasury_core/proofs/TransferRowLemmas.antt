@@ -1,0 +1,149 @@
+-- transfers, read from their rows
+use Rattle.std.proofs.Common.{◌≡◌, ◌<◌, ◌≤◌, ◌+◌, ◌^◌, ℕ, suc, ℤ, pos, Bool, true, false, ◌||◌, cond, List, [], ◌∷◌, ◌++◌, length, get_or, refl, ap, ◌∙◌, sym, subst, arith, map, inl, inr, ltb, Option, Some, None, Ok, Err, neg_ℤ, ◌≤ℤ◌, FitsSigned, w32}
+use Rattle.std.specs.Prelude.{if◌then◌else◌, find, filter, Result, IfOk}
+use Rattle.std.specs.Result.{IsOkUnless}
+use Rattle.std.specs.List.{list_any, slice_get, AllByRecursion}
+use Rattle.std.specs.Str.{bytes_eq}
+use Rattle.std.proofs.lemmas.Bool.{and_parts, ltb-true, lt-ltb}
+use Rattle.std.proofs.lemmas.Int.{ints}
+use Rattle.std.proofs.lemmas.Option.{slice_get_within, slice_get_read}
+use Rattle.money_core.specs.declared.cause.Cause.{Cause}
+use Rattle.money_core.specs.declared.cause.Cause.TheVariants.{OutOfMemory, Damaged}
+use Rattle.money_core.specs.declared.day.Day.{Day}
+use Rattle.money_core.specs.declared.style.Style.{Style}
+use Rattle.money_core.specs.declared.unit.Unit.{Unit as Commodity}
+use Rattle.journal_lines.specs.Date.{IsDayNumber}
+use Rattle.journal_lines.proofs.DateLemmas.{day_number_bounds}
+use Rattle.journal_format.specs.Printable.{is_posting, is_amount}
+use Rattle.journal_balance.specs.Legs.{leg}
+use Rattle.treasury_core.specs.declared.record.Record.{Record}
+use Rattle.treasury_core.specs.declared.transfer.Receipt.{Receipt}
+use Rattle.treasury_core.specs.declared.transfer.Transfer.{Transfer}
+use Rattle.treasury_core.specs.Federation.{Branch, Federation, has_name}
+use Rattle.treasury_core.specs.Mark.{held, is_of_transfer}
+use Rattle.treasury_core.specs.Transfer.{asked, out_records, in_records, in_mark, has_id, receipt_record, posting, transit_account}
+use Rattle.treasury_core.specs.Good.{IsGoodRecord, IsGoodTransfer, IsGoodState}
+use Rattle.treasury_core.specs.Room.{name_place}
+use Rattle.treasury_core.specs.Drafted.{IsFault, IsReading, IsShort, HasShortReceipt, IsNamed}
+use Rattle.treasury_core.proofs.AskedLemmas.{HaveOwnIds}
+use Rattle.treasury_core.proofs.BytesLemmas.{same_bytes, self_bytes, other_bytes, neither}
+use Rattle.treasury_core.proofs.DispatchLemmas.{IsWhole, all_whole, dispatch_written, held_holds}
+use Rattle.treasury_core.proofs.DraftLemmas.{numbered}
+use Rattle.treasury_core.proofs.FairLemmas.{found}
+use Rattle.treasury_core.proofs.LookupLemmas.{first_held}
+use Rattle.treasury_core.proofs.OrderLemmas.{own_ids}
+use Rattle.treasury_core.proofs.PassLemmas.{pass_in, same_transfer}
+use Rattle.treasury_core.proofs.ProductLemmas.{amount_of}
+
+-- the rows of transfers have no number
+pub unnumbered : {X Y : Type 0} (g : X → Y) (n : ℕ) (xs : List X) → numbered (λ (k : ℕ). g) n xs ≡ map g xs
+unnumbered g n [] = refl
+unnumbered g n (x ∷ xs) = ap (λ ys. g x ∷ ys) (unnumbered g (n + 1) xs)
+
+-- the branch of a name stands at its place
+pub name_found : (bs : List Branch) (name : List ℕ) → list_any (has_name name) bs ≡ true → (b : Branch) × ((slice_get bs (name_place bs name) ≡ Some b) × (b.name ≡ name))
+name_found [] name e = absurd cc
+name_found (b ∷ bs) name e = by_test (bytes_eq b.name name) refl e (name_found bs name)
+  where
+    by_test : (t : Bool) → bytes_eq b.name name ≡ t → (t || list_any (has_name name) bs) ≡ true
+        → (list_any (has_name name) bs ≡ true → (x : Branch) × ((slice_get bs (name_place bs name) ≡ Some x) × (x.name ≡ name)))
+        → (x : Branch) × ((slice_get (b ∷ bs) (if bytes_eq b.name name then 0 else suc (name_place bs name)) ≡ Some x) × (x.name ≡ name))
+    by_test true g k later = (b, (ap (λ (t : Bool). slice_get (b ∷ bs) (if t then 0 else suc (name_place bs name))) g, same_bytes b.name name g))
+    by_test false g k later = let r = later k in (r.0, (ap (λ (t : Bool). slice_get (b ∷ bs) (if t then 0 else suc (name_place bs name))) g ∙ r.1.0, r.1.1))
+
+-- a name is read from its place
+abbrev pub IsNameAt : List Branch → ℕ → List ℕ → Type 0
+IsNameAt bs place name = (list_any (has_name name) bs ≡ true) × (name_place bs name ≡ place)
+
+pub name_reading : (bs : List Branch) (place : ℕ) (b : Branch) (nm : List ℕ) (r : Result (List ℕ) Cause) → true ≡ ltb place (length bs) → b ≡ get_or bs place b → nm ≡ b.name
+    → IfOk r (λ y. y ≡ nm) → IsOkUnless r OutOfMemory → IsReading (IsNameAt bs place) r
+name_reading bs place b nm (Ok y) h is named copied m = λ name p.
+    let x = name_found bs name p.0 in
+    let at : slice_get bs place ≡ Some b = slice_get_read bs (length bs) place b refl (ltb-true place (length bs) (sym h)) is in
+    let same : ◌≡◌ {A = Option Branch} (Some x.0) (Some b) = sym x.1.0 ∙ (ap (slice_get bs) p.1 ∙ at) in
+    let one : x.0 ≡ b = cc in
+    sym x.1.1 ∙ (ap (λ (z : Branch). z.name) one ∙ (sym named ∙ sym copied))
+name_reading bs place b nm (Err e) h is named copied m = inl m
+
+pub name_missing : (bs : List Branch) (place : ℕ) → false ≡ ltb place (length bs) → IsFault (IsNameAt bs place) Damaged
+name_missing bs place h = inr (
+  refl,
+  λ name p.
+      let x = name_found bs name p.0 in
+      let lt : name_place bs name < length bs = slice_get_within bs (name_place bs name) x.0 x.1.0 in
+      let there : ltb place (length bs) ≡ true = lt-ltb place (length bs) (subst (λ (k : ℕ). k < length bs) p.1 lt) in
+      let e : false ≡ true = h ∙ there in cc,
+)
+
+-- each transfer is found by its ID
+found_more : (t : Transfer) (ts xs : List Transfer) → list_any (has_id t.id) xs ≡ false → AllByRecursion (λ (y : Transfer). find (has_id y.id) ts ≡ Some y) xs → AllByRecursion (λ (y : Transfer). find (has_id y.id) (t ∷ ts) ≡ Some y) xs
+found_more t ts [] n h = tt
+found_more t ts (y ∷ xs) n h =
+    let k = neither (bytes_eq y.id t.id) (list_any (has_id t.id) xs) n in
+    (ap (λ (b : Bool). cond b (Some t) (find (has_id y.id) ts)) (other_bytes y.id t.id k.0) ∙ h.0, found_more t ts xs k.1 h.1)
+
+all_found : (ts : List Transfer) → HaveOwnIds ts → AllByRecursion (λ (y : Transfer). find (has_id y.id) ts ≡ Some y) ts
+all_found [] h = tt
+all_found (t ∷ ts) h = (ap (λ (b : Bool). cond b (Some t) (find (has_id t.id) ts)) (self_bytes t.id), found_more t ts ts h.0 (all_found ts h.1))
+
+-- the record of a receipt stands in its target's book
+in_first : (x : Transfer) (rest : List Record) (a b : Bool) (r : Receipt) → b ≡ true → held (out_records x a ++ (in_records x b (Some r) ++ rest)) (in_mark x) ≡ Some (receipt_record x r)
+in_first x rest true true r e = first_held (receipt_record x r) rest
+in_first x rest false true r e = first_held (receipt_record x r) rest
+in_first x rest a false r e = absurd cc
+
+in_at : (t x : Transfer) (xs : List Transfer) (r : Receipt) (c : Bool) → t.receipt ≡ Some r → bytes_eq x.id t.id ≡ c → cond c (Some x) (find (has_id t.id) xs) ≡ Some t
+    → (find (has_id t.id) xs ≡ Some t → held (asked xs t.target) (in_mark t) ≡ Some (receipt_record t r)) → held (asked (x ∷ xs) t.target) (in_mark t) ≡ Some (receipt_record t r)
+in_at t x xs r true o g e h =
+    let same = same_transfer x t e in
+    let P : Transfer → Type 0 = λ y. held (asked (x ∷ xs) y.target) (in_mark y) ≡ Some (receipt_record y r) in
+    let there : x.receipt ≡ Some r = ap (λ (y : Transfer). y.receipt) same ∙ o in
+    subst P same
+    (ap (λ (p : Option Receipt). held (out_records x (bytes_eq x.source x.target) ++ (in_records x (bytes_eq x.target x.target) p ++ asked xs x.target)) (in_mark x)) there
+    ∙ in_first x (asked xs x.target) (bytes_eq x.source x.target) (bytes_eq x.target x.target) r (self_bytes x.target))
+in_at t x xs r false o g e h = pass_in x (asked xs t.target) t.id (bytes_eq x.source t.target) (bytes_eq x.target t.target) x.receipt g ∙ h e
+
+asked_in : (t : Transfer) (ts : List Transfer) (r : Receipt) → t.receipt ≡ Some r → find (has_id t.id) ts ≡ Some t → held (asked ts t.target) (in_mark t) ≡ Some (receipt_record t r)
+asked_in t [] r o e = absurd cc
+asked_in t (x ∷ xs) r o e = in_at t x xs r (bytes_eq x.id t.id) o refl e (asked_in t xs r o)
+
+receipt_written : (f : Federation) (t : Transfer) (r : Receipt) → IsGoodState f → find (has_id t.id) f.transfers ≡ Some t → IsGoodTransfer f.branches t → t.receipt ≡ Some r → IsGoodRecord f.styles (receipt_record t r)
+receipt_written f t r good here fair o =
+    let b = found (IsWhole f.styles f.transfers) f.branches t.target (all_whole f.styles f.transfers f.branches good.branches good.carried) fair.target in
+    let at : held (filter is_of_transfer b.branch.records) (in_mark t) ≡ Some (receipt_record t r) =
+    b.holds.carried (in_mark t) ∙ (ap (λ (n : List ℕ). held (asked f.transfers n) (in_mark t)) b.named ∙ asked_in t f.transfers r o here) in
+    held_holds (IsGoodRecord f.styles) (in_mark t) (receipt_record t r) b.branch.records at b.holds.good.records
+
+-- the transfers of a good state can be kept
+short_bounds : (z : ℤ) → neg_ℤ (pos 719_162) ≤ℤ z → z ≤ℤ pos 2_932_896 → FitsSigned w32 z
+short_bounds z low high = omega (arith, ints)
+
+short_day : (d : Day) → IsDayNumber d → IsShort d
+short_day d h = let low = (day_number_bounds d h).0 in let high = (day_number_bounds d h).1 in short_bounds d.0 low high
+
+short_receipt : (o : Option Receipt) → ((r : Receipt) → o ≡ Some r → IsDayNumber r.day) → HasShortReceipt o
+short_receipt None h = tt
+short_receipt (Some r) h = short_day r.day (h r refl)
+
+small_unit : (styles : List Style) (u : Commodity) (q : ℤ) → length styles ≤ 16 → is_amount styles u q ≡ true → u.0 < 2 ^ 16
+small_unit styles u q few h = let lt = ltb-true u.0 (length styles) (and_parts _ _ h).0 in omega (arith, lt, few)
+
+named_one : (f : Federation) (t : Transfer) → IsGoodState f → find (has_id t.id) f.transfers ≡ Some t → IsGoodTransfer f.branches t → IsNamed f.branches t
+named_one f t good here fair =
+    let written = dispatch_written f t good here fair in
+    let account = transit_account t.source t.target in
+    let first = (and_parts (is_posting f.styles (posting (leg account t.unit t.qty))) _ written.printable.postings).0 in
+    record {
+      source = fair.source;
+      target = fair.target;
+      unit = small_unit f.styles t.unit t.qty good.styles.few (amount_of f.styles account t.unit t.qty first);
+      day = short_day t.day written.printable.header.number;
+      receipt = short_receipt t.receipt (λ r o. (receipt_written f t r good here fair o).printable.header.number);
+    }
+
+named_from : (f : Federation) (xs : List Transfer) → IsGoodState f → AllByRecursion (λ (y : Transfer). find (has_id y.id) f.transfers ≡ Some y) xs → AllByRecursion (IsGoodTransfer f.branches) xs → AllByRecursion (IsNamed f.branches) xs
+named_from f [] good h k = tt
+named_from f (t ∷ xs) good h k = (named_one f t good h.0 k.0, named_from f xs good h.1 k.1)
+
+pub all_named : (f : Federation) → IsGoodState f → AllByRecursion (IsNamed f.branches) f.transfers
+all_named f good = named_from f f.transfers good (all_found f.transfers (own_ids f.transfers good.ids)) good.transfers

@@ -1,0 +1,10 @@
+use Rattle.std.proofs.Common.{◌≡◌, drop, Some}
+use Rattle.std.specs.Prelude.{◌↔◌}
+use Rattle.std.specs.List.{AllByRecursion}
+use Rattle.treasury_core.specs.declared.record.Record.{Record}
+use Rattle.treasury_core.specs.Mark.{held}
+use Rattle.treasury_core.proofs.judging.carried.are_held.Given as goal
+
+abbrev pub invariant-loop-row : goal.invariant-loop-row
+invariant-loop-row l =
+    AllByRecursion (λ (r : Record). held l.records r.mark ≡ Some r) (drop l.row-index l.rows) ↔ AllByRecursion (λ (r : Record). held l.records r.mark ≡ Some r) l.rows

@@ -1,0 +1,12 @@
+use Rattle.std.proofs.Common.{◌∙◌, ap, sym, subst, List}
+use Rattle.std.specs.List.{AllByRecursion}
+use Rattle.book_core.specs.GoodBook.{IsFit}
+use Rattle.treasury_core.specs.declared.record.Record.{Record}
+use Rattle.treasury_core.specs.Federation.{Branch, entries}
+use Rattle.treasury_core.proofs.KeepLemmas.{fit_records}
+use Rattle.treasury_core.proofs.judging.is_good_branch.Goals as goal
+
+pub is_good_book-requires : goal.is_good_book-requires
+is_good_book-requires g c =
+    subst (λ (rs : List Record). AllByRecursion IsFit (entries rs)) (sym (c.items-rows.ensures ∙ ap (λ (x : Branch). x.records) c.branch.view_is))
+    (fit_records c.args.styles.now c.args.branch.now.records c.requires.records)

@@ -1,0 +1,11 @@
+use Rattle.std.proofs.Common.{◌≡◌}
+use Rattle.treasury_core.specs.Kept.{branch_of, IsKept}
+use Rattle.treasury_core.specs.Joined.{with_records}
+use Rattle.treasury_core.proofs.keeping.branch_of.Given as goal
+
+-- with the records that are left, the branch is the one that it is to be
+abbrev pub invariant-records : goal.invariant-records
+invariant-records g l = record {
+  same : with_records l.row-iterator.rest.items (branch_of l.kept) ≡ l.fn.branch;
+  kept : IsKept g.L.Ledger.book l.kept;
+}

@@ -1,0 +1,36 @@
+//! A state out of its rows.
+
+ghost use Rattle.std.specs.Prelude.{◌≡◌, ◌⊎◌, IfOk, IfErr};
+ghost use Rattle.treasury_core.specs.Federation.{Federation};
+ghost use Rattle.treasury_core.specs.Good.{IsGoodState};
+ghost use Rattle.treasury_core.specs.Rows.{rows};
+ghost use Rattle.treasury_core.specs.Drafted.{HasShortLocks};
+
+use crate::drafting::drafted;
+use crate::judging::is_good;
+use crate::keeping::state_of;
+use crate::rows::Parts;
+use crate::same_rows::has_rows;
+use crate::state::State;
+use book_core::Ledger;
+use money_core::Cause;
+use std::alloc::Global;
+
+impl<L: Ledger> State<L> {
+    /// The state that has these rows: they are read, what they spell is judged, and its own rows are compared with them.
+    ///
+    /// It answers 43 where they are no good state's, and 40 for want of memory. It costs what the rows have, and one check
+    /// of each book.
+    pub fn build(alloc: Global, parts: Parts) -> Result<Self, Cause>
+        ensures built { IfOk result (λ f. rows f ≡ parts) }
+        // No state in memory has a lock day that is not in 32 bits.
+        ensures err { IfErr result (λ e. (e ≡ Cause.OutOfMemory)
+            ⊎ ((e ≡ Cause.Damaged) × ((f : Federation) → IsGoodState f → HasShortLocks f → rows f ≡ parts → ⊥))) }
+    {
+        let draft = drafted(alloc, &parts)?;
+        if !is_good::<L>(alloc, &draft)? || !has_rows(alloc, &draft, &parts)? {
+            return Err(Cause::Damaged);
+        }
+        state_of(alloc, draft)
+    }
+}

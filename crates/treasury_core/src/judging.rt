@@ -1,0 +1,169 @@
+//! Whether a draft is a good state.
+
+ghost use Rattle.std.specs.Prelude.{◌≡◌, ◌↔◌, ◌≤◌, IsTrue, IfOk, false, unsigned_abs};
+ghost use Rattle.std.specs.List.{list_any, AllByRecursion};
+ghost use Rattle.std.specs.Result.{IsOkUnless};
+ghost use Rattle.money_core.specs.Amount.{limit};
+ghost use Rattle.book_core.specs.GoodBook.{IsFit, IsGoodBook};
+ghost use Rattle.treasury_core.specs.declared.record.Record.{Record as Row};
+ghost use Rattle.treasury_core.specs.declared.transfer.Transfer.{Transfer as Moved};
+ghost use Rattle.treasury_core.specs.Federation.{Branch, has_name, entries};
+ghost use Rattle.treasury_core.specs.Mark.{is_of_transfer};
+ghost use Rattle.treasury_core.specs.Good.{AreAscending, HaveOwnNames, IsCarried, IsGoodBranch, IsGoodRecord, IsGoodState, IsOfFile};
+
+mod carried;
+mod marks;
+mod same;
+mod transfers;
+
+use crate::decision::{MAX_BRANCHES, check, is_branch_name};
+use crate::draft::{Draft, DraftBranch};
+use crate::enter::{has_transit, is_product_mark};
+use crate::record::Record;
+use crate::transfer::Transfer;
+use book_core::{Ledger, Refusal};
+use carried::is_carried;
+use marks::own_index;
+use money_core::{Cause, Styles};
+use std::alloc::Global;
+use transfers::{are_ascending, are_good_transfers, are_small};
+
+/// Whether one of the branches has that name.
+fn has_name(branches: &[DraftBranch], name: &str) -> bool
+    ensures { result ≡ list_any (has_name name.now) branches.now }
+{
+    branches.iter().any(|branch| branch.name.as_str() == name)
+}
+
+/// Whether no two of the branches, of which there are few, have the same name.
+fn have_own_names(branches: &[DraftBranch]) -> bool
+    ensures { IsTrue result ↔ HaveOwnNames branches.now }
+{
+    for (i, branch) in branches.iter().enumerate() {
+        if has_name(&branches[i + 1..], branch.name.as_str()) {
+            return false;
+        }
+    }
+    true
+}
+
+/// Whether the record has the mark of a dispatch or a receipt.
+fn is_of_transfer(row: &Record) -> bool
+    ensures { result ≡ is_of_transfer row.now }
+{
+    let mark = row.mark.as_str();
+    mark.starts_with("out:") || mark.starts_with("in:")
+}
+
+/// Whether the record may be one of a file.
+fn is_of_file(row: &Record) -> bool
+    ensures { IsTrue result ↔ IsOfFile row.now }
+{
+    !is_product_mark(row.mark.as_str()) && !has_transit(row.entry.legs.items())
+}
+
+/// Whether each record is of a transfer or may be one of a file.
+fn are_of_files(rows: &[Record]) -> bool
+    ensures { IsTrue result ↔ AllByRecursion (λ (r : Row). is_of_transfer r ≡ false → IsOfFile r) rows.now }
+{
+    for row in rows {
+        if !is_of_transfer(row) && !is_of_file(row) {
+            return false;
+        }
+    }
+    true
+}
+
+/// Whether memory was refused.
+fn is_memory(refusal: Refusal) -> bool
+    ensures { IsTrue result ↔ (refusal ≡ Refusal.Plain Cause.OutOfMemory) }
+{
+    refusal == Refusal::Plain(Cause::OutOfMemory)
+}
+
+/// Whether the book of the records is good: one check of all entries.
+fn is_good_book<L: Ledger>(alloc: Global, rows: &[Record]) -> Result<bool, Cause>
+    requires { AllByRecursion IsFit (entries rows.now) }
+    ensures value { IfOk result (λ is. IsTrue is ↔ IsGoodBook (entries rows.now)) }
+    ensures memory { IsOkUnless result Cause.OutOfMemory }
+{
+    let ledger = L::empty(alloc);
+    let Err(refusal) = check(alloc, &ledger, rows) else {
+        return Ok(true);
+    };
+    if is_memory(refusal) {
+        return Err(Cause::OutOfMemory);
+    }
+    Ok(false)
+}
+
+/// Whether a branch of good records is good, and carries what the transfers ask for.
+fn is_good_branch<L: Ledger>(
+    alloc: Global,
+    styles: &Styles,
+    transfers: &[Transfer],
+    branch: &DraftBranch,
+) -> Result<bool, Cause>
+    requires records { AllByRecursion (IsGoodRecord styles.now) branch.now.records }
+    requires ids { AreAscending transfers.now }
+    requires small { AllByRecursion (λ (t : Moved). unsigned_abs t.qty ≤ limit) transfers.now }
+    ensures value { IfOk result (λ is. IsTrue is ↔ IsGoodBranch styles.now branch.now × IsCarried transfers.now branch.now) }
+    ensures memory { IsOkUnless result Cause.OutOfMemory }
+{
+    let rows = branch.records.items();
+    if !is_branch_name(branch.name.as_str().as_bytes()) || !are_of_files(rows) {
+        return Ok(false);
+    }
+    let Some(index) = own_index(alloc, rows)? else {
+        return Ok(false);
+    };
+    if !is_carried(alloc, transfers, branch, &index)? {
+        return Ok(false);
+    }
+    is_good_book::<L>(alloc, rows)
+}
+
+/// Whether each branch of good records is good, and carries what the transfers ask for.
+fn are_good_branches<L: Ledger>(
+    alloc: Global,
+    styles: &Styles,
+    transfers: &[Transfer],
+    branches: &[DraftBranch],
+) -> Result<bool, Cause>
+    requires records { AllByRecursion (λ (b : Branch). AllByRecursion (IsGoodRecord styles.now) b.records) branches.now }
+    requires ids { AreAscending transfers.now }
+    requires small { AllByRecursion (λ (t : Moved). unsigned_abs t.qty ≤ limit) transfers.now }
+    ensures value { IfOk result (λ is. IsTrue is ↔ AllByRecursion (λ (b : Branch). IsGoodBranch styles.now b × IsCarried transfers.now b) branches.now) }
+    ensures memory { IsOkUnless result Cause.OutOfMemory }
+{
+    for branch in branches {
+        if !is_good_branch::<L>(alloc, styles, transfers, branch)? {
+            return Ok(false);
+        }
+    }
+    Ok(true)
+}
+
+/// Whether a draft of good records is a good state. A mark or an ID is found by one look-up: it costs what the draft
+/// has, and one check of each book.
+///
+/// Where memory is refused, it answers 40.
+pub(crate) fn is_good<L: Ledger>(alloc: Global, draft: &Draft) -> Result<bool, Cause>
+    requires records { AllByRecursion (λ (b : Branch). AllByRecursion (IsGoodRecord draft.now.styles) b.records) draft.now.branches }
+    ensures value { IfOk result (λ is. IsTrue is ↔ IsGoodState draft.now) }
+    ensures memory { IsOkUnless result Cause.OutOfMemory }
+{
+    draft.styles.are_styles();
+    let branches = draft.branches.items();
+    let transfers = draft.transfers.items();
+    if branches.len() > MAX_BRANCHES || !have_own_names(branches) {
+        return Ok(false);
+    }
+    if !are_ascending(transfers) || !are_good_transfers(transfers, branches) {
+        return Ok(false);
+    }
+    if !are_small(transfers) {
+        return Ok(false);
+    }
+    are_good_branches::<L>(alloc, &draft.styles, transfers, branches)
+}

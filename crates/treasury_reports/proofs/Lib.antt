@@ -1,0 +1,10 @@
+pub mod AppendLemmas
+pub mod AccountOrder
+pub mod BalanceLemmas
+pub mod UnitLemmas
+pub mod SortLemmas
+pub mod FilterLemmas
+pub mod OpenLemmas
+pub mod RegisterLemmas
+pub mod NameLemmas
+pub mod WorkedReports

@@ -1,0 +1,8 @@
+use Rattle.std.proofs.Common.{take}
+use Rattle.treasury_core.specs.Kept.{branches_of}
+use Rattle.treasury_core.specs.History.{names_of}
+use Rattle.treasury_reports.proofs.NameLemmas.{InOrder}
+use Rattle.treasury_reports.proofs.names.names_in_order.Given as goal
+
+abbrev pub invariant-branches : goal.invariant-branches
+invariant-branches g l = InOrder l.names.items (names_of (branches_of (take l.branch-index l.branches)))

@@ -1,0 +1,65 @@
+-- The balance report of a book (own rule; docs/FORMATS.md, "Balance report"; hledger manual, "balance").
+use Rattle.std.specs.Prelude.{ℕ, zero, suc, ℤ, pos, if◌then◌else◌, List, [], ◌∷◌, ◌++◌, length, codes}
+use Rattle.std.specs.List.{flat_map}
+use Rattle.std.specs.Ordering.{int_eq}
+use Rattle.std.specs.declared.cmp.Ordering.{Ordering}
+use Rattle.std.specs.declared.cmp.Ordering.TheVariants.{Less, Equal, Greater}
+use Rattle.money_core.specs.declared.style.Style.{Style}
+use Rattle.money_core.specs.declared.unit.Unit.{Unit as Commodity}
+use Rattle.money_core.specs.declared.day.Day.{Day}
+use Rattle.book_core.specs.declared.entry.Entry.{Entry}
+use Rattle.book_core.specs.declared.account.Reach.TheVariants.{Own}
+use Rattle.book_core.specs.declared.place.Until.TheVariants.{Through}
+use Rattle.book_core.specs.Account.{name_cmp}
+use Rattle.book_core.specs.Book.{legs_of, accounts_of}
+use Rattle.book_core.specs.Balance.{balance}
+use Rattle.treasury_core.specs.Federation.{Federation, book_of}
+use Rattle.treasury_reports.specs.Columns.{amount_column}
+
+-- the list with the name before the first one that is greater, if it is not there yet
+abbrev pub placed_name : Ordering → List ℕ → List ℕ → List (List ℕ) → List (List ℕ) → List (List ℕ)
+placed_name Less name first rest more = name ∷ (first ∷ rest)
+placed_name Equal name first rest more = first ∷ rest
+placed_name Greater name first rest more = first ∷ more
+
+-- a list in byte order with one name more, if it is not there yet
+abbrev pub with_name : List ℕ → List (List ℕ) → List (List ℕ)
+with_name name [] = name ∷ []
+with_name name (first ∷ rest) = placed_name (name_cmp name first) name first rest (with_name name rest)
+
+-- the names, each once, in byte order
+abbrev pub ordered_names : List (List ℕ) → List (List ℕ)
+ordered_names [] = []
+ordered_names (name ∷ names) = with_name name (ordered_names names)
+
+-- the accounts of all legs of a book, each once, in byte order
+unfoldable pub book_accounts : List Entry → List (List ℕ)
+book_accounts entries = ordered_names (accounts_of (legs_of entries))
+
+-- the first commodities, so many, in declared order
+abbrev pub first_units : ℕ → List Commodity
+first_units zero = []
+first_units (suc n) = first_units n ++ record { 0 = n } ∷ []
+
+-- the line of one balance; none where it is zero
+abbrev pub amount_line : List Style → List ℕ → Commodity → ℤ → List ℕ
+amount_line styles account unit quantity =
+    if int_eq quantity (pos 0) then []
+    else amount_column styles unit quantity ++ codes "  " ++ account ++ codes "\n"
+
+-- the line of an account's own balance in a commodity through the day
+abbrev pub balance_line : List Style → List Entry → Day → List ℕ → Commodity → List ℕ
+balance_line styles entries day account unit =
+    amount_line styles account unit (balance Own entries account unit (Through day))
+
+-- the lines of an account
+abbrev pub account_lines : List Style → List Entry → Day → List ℕ → List ℕ
+account_lines styles entries day account = flat_map (balance_line styles entries day account) (first_units (length styles))
+
+-- the balances of a book through the day that are not zero, account by account, each in the commodities as they were declared
+unfoldable pub book_balances : List Style → List Entry → Day → List ℕ
+book_balances styles entries day = flat_map (account_lines styles entries day) (book_accounts entries)
+
+-- the report of a branch
+abbrev pub balance_text : Federation → List ℕ → Day → List ℕ
+balance_text f name day = book_balances f.styles (book_of f name) day

@@ -1,0 +1,25 @@
+-- Columns of a report: texts right-aligned by characters (own rule; docs/FORMATS.md, "Balance report", "Register report", "Transit report").
+use Rattle.std.specs.Prelude.{ℕ, ◌-◌, ℤ, Bool, ◌&&◌, not, nat_le, nat_lt, List, ◌++◌, count_by, replicate}
+use Rattle.money_core.specs.declared.style.Style.{Style}
+use Rattle.money_core.specs.declared.unit.Unit.{Unit as Commodity}
+use Rattle.money_core.specs.AmountText.{printed_in}
+
+-- a byte that goes on with a character, in UTF-8: one of 128 to 191
+abbrev pub is_continuation : ℕ → Bool
+is_continuation b = nat_le 128 b && nat_lt b 192
+
+-- how many characters a text has: one for each byte that begins one
+abbrev pub char_count : List ℕ → ℕ
+char_count text = count_by (λ b. not (is_continuation b)) text
+
+-- the text right-aligned in so many characters; a longer one as it stands
+abbrev pub right_aligned : ℕ → List ℕ → List ℕ
+right_aligned width text = replicate (width - char_count text) 32 ++ text
+
+-- how wide an amount stands in a report
+abbrev pub amount_width : ℕ
+amount_width = 20
+
+-- a quantity of a commodity, in smallest units, as an amount in its column
+abbrev pub amount_column : List Style → Commodity → ℤ → List ℕ
+amount_column styles unit quantity = right_aligned amount_width (printed_in styles unit quantity)

@@ -1,0 +1,8 @@
+-- What a reader has to believe, in reading order
+pub mod Columns
+pub mod BalanceReport
+pub mod RegisterReport
+pub mod TransitReport
+pub mod JournalReport
+-- What mirrors code, for private clauses: nobody has to believe it
+pub mod Lent

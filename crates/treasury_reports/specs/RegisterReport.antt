@@ -1,0 +1,99 @@
+-- The register of an account (own rule; docs/FORMATS.md, "Register report"; hledger manual, "register", "Tags").
+use Rattle.std.specs.Prelude.{ℕ, ◌+◌, ◌==◌, nat_lt, Bool, true, ◌&&◌, ◌||◌, not, if◌then◌else◌, ℤ, int_le, List, [], ◌∷◌, ◌++◌, map, length, take, drop, codes, decimal, Option, Some, None}
+use Rattle.std.specs.List.{list_any, position_or_len}
+use Rattle.std.specs.Str.{bytes_eq}
+use Rattle.money_core.specs.declared.style.Style.{Style}
+use Rattle.book_core.specs.declared.leg.Leg.{Leg}
+use Rattle.book_core.specs.Account.{is_inside}
+use Rattle.book_core.specs.Balance.{value}
+use Rattle.journal_lines.specs.Date.{printed_date}
+use Rattle.journal_lines.specs.Tag.{tags_of}
+use Rattle.journal_format.specs.declared.posting.Posting.{Posting}
+use Rattle.journal_format.specs.declared.txn.Txn.{Txn}
+use Rattle.treasury_core.specs.declared.record.Record.{Record}
+use Rattle.treasury_core.specs.Federation.{Federation, records_of}
+use Rattle.treasury_reports.specs.declared.listed.Listed.{Listed}
+use Rattle.treasury_reports.specs.Columns.{right_aligned, amount_column}
+
+-- where the first `=` of what is asked for stands; its length where there is none
+abbrev pub cut : List ℕ → ℕ
+cut asked = position_or_len (λ b. b == 61) asked
+
+-- a tag, a name and a value, is the one that is asked for by `NAME`, with any value, or by `NAME=VALUE`
+abbrev pub is_asked : List ℕ → List ℕ × List ℕ → Bool
+is_asked asked tag =
+    bytes_eq tag.0 (take (cut asked) asked) && (not (nat_lt (cut asked) (length asked)) || bytes_eq tag.1 (drop (cut asked + 1) asked))
+
+-- a comment has it among its tags
+abbrev pub comment_has : List ℕ → List ℕ → Bool
+comment_has asked comment = list_any (is_asked asked) (tags_of comment)
+
+-- one of the comments has it
+abbrev pub have_tag : List ℕ → List (List ℕ) → Bool
+have_tag asked comments = list_any (comment_has asked) comments
+
+-- a comment of the transaction or of one of its postings has it; the mark is no comment
+abbrev pub txn_has : List ℕ → Txn → Bool
+txn_has asked t = have_tag asked t.comments || list_any (λ (p : Posting). have_tag asked p.comments) t.postings
+
+-- the transaction has the tag, where one is asked for
+abbrev pub is_wanted : Option (List ℕ) → Txn → Bool
+is_wanted None t = true
+is_wanted (Some asked) t = txn_has asked t
+
+-- a leg of record n, as it is listed
+abbrev pub listed_leg : ℕ → Record → Leg → Listed
+listed_leg n r x = record { day = r.entry.day; number = n; leg = x; description = r.txn.description }
+
+-- those of its legs that are on the account or a subaccount
+abbrev pub listed_legs : List ℕ → ℕ → Record → List Leg → List Listed
+listed_legs account n r [] = []
+listed_legs account n r (x ∷ xs) = if is_inside account x.account then listed_leg n r x ∷ listed_legs account n r xs else listed_legs account n r xs
+
+-- what is listed of record n
+abbrev pub listed_in : List ℕ → Option (List ℕ) → ℕ → Record → List Listed
+listed_in account tag n r = if is_wanted tag r.txn then listed_legs account n r r.entry.legs else []
+
+-- and of records, numbered from n, in order of entry
+abbrev pub listed_from : List ℕ → Option (List ℕ) → ℕ → List Record → List Listed
+listed_from account tag n [] = []
+listed_from account tag n (r ∷ rs) = listed_in account tag n r ++ listed_from account tag (n + 1) rs
+
+-- before the first that is not earlier
+abbrev pub put_by_day : Listed → List Listed → List Listed
+put_by_day x [] = x ∷ []
+put_by_day x (y ∷ ys) = if int_le x.day.0 y.day.0 then x ∷ (y ∷ ys) else y ∷ put_by_day x ys
+
+-- by day, and on one day in the order in which they stood: so by place
+abbrev pub by_day : List Listed → List Listed
+by_day [] = []
+by_day (x ∷ xs) = put_by_day x (by_day xs)
+
+-- the legs that are listed
+abbrev pub legs_in : List Listed → List Leg
+legs_in xs = map (λ (x : Listed). x.leg) xs
+
+-- a description behind two spaces; nothing where it is empty
+abbrev pub description_column : List ℕ → List ℕ
+description_column [] = []
+description_column (b ∷ bs) = codes "  " ++ (b ∷ bs)
+
+-- how wide the number of an entry stands
+abbrev pub number_width : ℕ
+number_width = 6
+
+-- day, entry number, amount, sum so far, account and description of a listed leg
+unfoldable pub register_line : List Style → Listed → ℤ → List ℕ
+register_line styles x sum =
+    printed_date x.day ++ codes "  " ++ right_aligned number_width (decimal x.number) ++ codes "  " ++ amount_column styles x.leg.unit x.leg.qty ++ codes "  "
+    ++ amount_column styles x.leg.unit sum ++ codes "  " ++ x.leg.account ++ description_column x.description ++ codes "\n"
+
+-- the lines of what is listed behind other lines, each with the sum of all that is listed so far in its commodity
+abbrev pub register_lines : List Style → List Listed → List Listed → List ℕ
+register_lines styles before [] = []
+register_lines styles before (x ∷ xs) =
+    register_line styles x (value x.leg.unit (legs_in (before ++ x ∷ []))) ++ register_lines styles (before ++ x ∷ []) xs
+
+-- the register of an account and its subaccounts in a branch, in order of place
+unfoldable pub register_text : Federation → List ℕ → List ℕ → Option (List ℕ) → List ℕ
+register_text f name account tag = register_lines f.styles [] (by_day (listed_from account tag 1 (records_of f name)))

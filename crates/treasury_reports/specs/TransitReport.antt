@@ -1,0 +1,49 @@
+-- What is on its way between branches (own rule; docs/FORMATS.md, "Transit report").
+use Rattle.std.specs.Prelude.{ℕ, nat_eq, Bool, ◌&&◌, if◌then◌else◌, List, [], ◌++◌, length, codes, int_le}
+use Rattle.std.specs.List.{list_any, flat_map}
+use Rattle.std.specs.Str.{bytes_eq}
+use Rattle.money_core.specs.declared.unit.Unit.{Unit as Commodity}
+use Rattle.money_core.specs.declared.day.Day.{Day}
+use Rattle.treasury_core.specs.declared.transfer.Transfer.{Transfer}
+use Rattle.treasury_core.specs.Federation.{Federation}
+use Rattle.treasury_core.specs.Transfer.{open_amount}
+use Rattle.treasury_core.specs.History.{names_of}
+use Rattle.treasury_reports.specs.Columns.{amount_column}
+use Rattle.treasury_reports.specs.BalanceReport.{ordered_names, first_units}
+
+-- the transfer was dispatched from that branch on or before the day
+abbrev pub is_from : List ℕ → Day → Transfer → Bool
+is_from from day t = int_le t.day.0 day.0 && bytes_eq t.source from
+
+-- and goes to that one
+abbrev pub is_way : List ℕ → List ℕ → Day → Transfer → Bool
+is_way from to day t = is_from from day t && bytes_eq t.target to
+
+-- one of the transfers was, in the commodity
+abbrev pub has_way : List Transfer → List ℕ → List ℕ → Commodity → Day → Bool
+has_way ts from to unit day = list_any (λ (t : Transfer). is_way from to day t && nat_eq t.unit.0 unit.0) ts
+
+-- the open amount between two branches in a commodity, and where it goes
+abbrev pub open_line : Federation → Day → List ℕ → List ℕ → Commodity → List ℕ
+open_line f day from to unit =
+    amount_column f.styles unit (open_amount f.transfers from to unit day) ++ codes "  " ++ from ++ codes " to " ++ to ++ codes "\n"
+
+-- its line, where a transfer was dispatched so on or before the day
+abbrev pub transit_line : Federation → Day → List ℕ → List ℕ → Commodity → List ℕ
+transit_line f day from to unit = if has_way f.transfers from to unit day then open_line f day from to unit else []
+
+-- the lines from one branch to another, commodities in declared order
+abbrev pub way_lines : Federation → Day → List ℕ → List ℕ → List ℕ
+way_lines f day from to = flat_map (transit_line f day from to) (first_units (length f.styles))
+
+-- the names of the branches in byte order
+abbrev pub branch_names : Federation → List (List ℕ)
+branch_names f = ordered_names (names_of f.branches)
+
+-- the lines from one branch
+abbrev pub lines_from : Federation → Day → List ℕ → List ℕ
+lines_from f day from = flat_map (way_lines f day from) (branch_names f)
+
+-- the report: from each branch to each, in byte order of their names
+unfoldable pub transit_text : Federation → Day → List ℕ
+transit_text f day = flat_map (lines_from f day) (branch_names f)

@@ -1,0 +1,55 @@
+//! Columns of a report.
+
+ghost use Rattle.std.specs.Prelude.{◌≡◌, ◌++◌, OnOk};
+ghost use Rattle.std.specs.Result.{IsOkUnless};
+ghost use Rattle.money_core.specs.AmountText.{IsDeclared};
+ghost use Rattle.treasury_reports.specs.Columns.{is_continuation, char_count, right_aligned, amount_column};
+
+use money_core::{Cause, Styles, Unit, print_amount};
+use std::alloc::{AllocError, Global};
+
+/// How wide an amount stands in a report, in characters.
+const AMOUNT_WIDTH: usize = 20;
+
+/// Whether the byte goes on with a character, in UTF-8.
+fn is_continuation(byte: u8) -> bool
+    ensures { result ≡ is_continuation byte }
+{
+    128 <= byte && byte < 192
+}
+
+/// How many characters the text has.
+fn char_count(text: &[u8]) -> usize
+    ensures { result ≡ char_count text.now }
+{
+    text.iter().filter(|byte| !is_continuation(**byte)).count()
+}
+
+/// Appends the text, right-aligned in `width` characters.
+pub fn push_right_aligned(out: &mut Vec<u8>, width: usize, text: &[u8]) -> Result<(), AllocError>
+    ensures { OnOk result (out.new.items ≡ out.old.items ++ right_aligned width text.now) }
+{
+    let blanks = width.saturating_sub(char_count(text));
+    'blanks: for _ in 0..blanks {
+        out.push(b' ')?;
+    }
+    out.extend_from_slice(text)
+}
+
+/// Appends a quantity of a commodity, in smallest units, as an amount in its column.
+pub fn push_amount(
+    alloc: Global,
+    styles: &Styles,
+    unit: Unit,
+    qty: i64,
+    out: &mut Vec<u8>,
+) -> Result<(), Cause>
+    requires { IsDeclared styles.now unit qty }
+    ensures ok { OnOk result (out.new.items ≡ out.old.items ++ amount_column styles.now unit qty) }
+    ensures memory { IsOkUnless result Cause.OutOfMemory }
+{
+    let mut amount = Vec::new(alloc);
+    print_amount(alloc, unit, qty, styles, &mut amount)?;
+    push_right_aligned(out, AMOUNT_WIDTH, &amount)?;
+    Ok(())
+}

@@ -1,0 +1,153 @@
+//! The register report of an account.
+
+ghost use Rattle.std.specs.Prelude.{◌≡◌, ◌↔◌, ◌⊎◌, ◌++◌, ◌<◌, ◌≤◌, ◌+ℤ◌, [], length, slice_set, unsigned_abs, false, decimal, IfOk, OnOk, OnErr, IfErr, Err, option_copied};
+ghost use Rattle.std.specs.Result.{IsOkUnless};
+ghost use Rattle.std.specs.List.{AllByRecursion};
+ghost use Rattle.money_core.specs.Amount.{limit};
+ghost use Rattle.money_core.specs.AmountText.{IsDeclared};
+ghost use Rattle.book_core.specs.GoodBook.{HasRoom};
+ghost use Rattle.treasury_core.specs.Federation.{has_branch, entries};
+ghost use Rattle.treasury_core.specs.Good.{IsGoodRecord};
+ghost use Rattle.treasury_reports.specs.RegisterReport.{register_line, register_lines, register_text, description_column, by_day, listed_from};
+ghost use Rattle.treasury_reports.specs.Columns.{right_aligned};
+ghost use Rattle.treasury_reports.specs.Lent.{IsListable, HaveRoom, sum_at};
+
+use crate::branch::records_of;
+use crate::columns::{push_amount, push_right_aligned};
+use crate::listed::{Listed, listed_of, sort_by_day};
+use book_core::Ledger;
+use journal_lines::print_date;
+use money_core::{Cause, Styles, Unit};
+use std::alloc::{AllocError, Global};
+use treasury_core::{Record, State};
+
+/// How wide the number of an entry stands, in characters.
+const NUMBER_WIDTH: usize = 6;
+
+/// Appends the number of an entry in its column.
+fn push_number(alloc: Global, number: usize, out: &mut Vec<u8>) -> Result<(), AllocError>
+    ensures { OnOk result (out.new.items ≡ out.old.items ++ right_aligned 6 (decimal number)) }
+{
+    let text = format!(in alloc; "{number}")?;
+    push_right_aligned(out, NUMBER_WIDTH, text.as_bytes())
+}
+
+/// Appends a description behind two spaces, where it is not empty.
+fn push_description(description: &[u8], out: &mut Vec<u8>) -> Result<(), AllocError>
+    ensures { OnOk result (out.new.items ≡ out.old.items ++ description_column description.now) }
+{
+    if description.is_empty() {
+        return Ok(());
+    }
+    out.extend_from_slice(b"  ")?;
+    out.extend_from_slice(description)
+}
+
+/// Appends the line of a listed leg, with the sum so far.
+fn push_line(
+    alloc: Global,
+    styles: &Styles,
+    one: &Listed,
+    sum: i64,
+    out: &mut Vec<u8>,
+) -> Result<(), Cause>
+    requires listable { IsListable styles.now one.now }
+    requires sum { IsDeclared styles.now one.now.leg.unit sum }
+    ensures ok { OnOk result (out.new.items ≡ out.old.items ++ register_line styles.now one.now sum) }
+    ensures memory { IsOkUnless result Cause.OutOfMemory }
+{
+    print_date(alloc, one.day, out)?;
+    out.extend_from_slice(b"  ")?;
+    push_number(alloc, one.number, out)?;
+    out.extend_from_slice(b"  ")?;
+    push_amount(alloc, styles, one.leg.unit, one.leg.qty, out)?;
+    out.extend_from_slice(b"  ")?;
+    push_amount(alloc, styles, one.leg.unit, sum, out)?;
+    out.extend_from_slice(b"  ")?;
+    out.extend_from_slice(one.leg.account.as_str().as_bytes())?;
+    push_description(one.description.as_str().as_bytes(), out)?;
+    out.push(b'\n')?;
+    Ok(())
+}
+
+/// Adds to the sum of a commodity, and answers it.
+fn add_to(sums: &mut Vec<i64>, unit: Unit, qty: i64) -> i64
+    requires known { unit.0 < length sums.old.items }
+    requires small { unsigned_abs (sum_at sums.old.items unit +ℤ qty) ≤ limit }
+    ensures sum { result ≡ sum_at sums.old.items unit +ℤ qty }
+    ensures sums { sums.new.items ≡ slice_set sums.old.items unit.0 (sum_at sums.old.items unit +ℤ qty) }
+{
+    let at = usize::from(unit.0);
+    let sum = sums[at] + qty;
+    sums[at] = sum;
+    sum
+}
+
+/// The lines of listed legs, each with the sum so far in its commodity. One pass: the sums are kept.
+fn lines_of(alloc: Global, styles: &Styles, all: &[Listed]) -> Result<Vec<u8>, Cause>
+    requires listable { AllByRecursion (IsListable styles.now) all.now }
+    requires room { HaveRoom all.now }
+    ensures ok { IfOk result (λ text. text.items ≡ register_lines styles.now [] all.now) }
+    ensures memory { IsOkUnless result Cause.OutOfMemory }
+{
+    let mut text = Vec::new(alloc);
+    let mut sums: Vec<i64> = Vec::new(alloc);
+    sums.resize(styles.len(), 0)?;
+    'lines: for one in all {
+        let sum = add_to(&mut sums, one.leg.unit, one.leg.qty);
+        push_line(alloc, styles, one, sum, &mut text)?;
+    }
+    Ok(text)
+}
+
+/// The register of an account over the records of a branch, in order of place.
+fn text_of(
+    alloc: Global,
+    styles: &Styles,
+    records: &[Record],
+    account: &str,
+    tag: Option<&str>,
+) -> Result<Vec<u8>, Cause>
+    requires good { AllByRecursion (IsGoodRecord styles.now) records.now }
+    requires room { HasRoom (entries records.now) }
+    ensures ok { IfOk result (λ text. text.items
+        ≡ register_lines styles.now [] (by_day (listed_from account.now (option_copied tag.entry) 1 records.now))) }
+    ensures memory { IsOkUnless result Cause.OutOfMemory }
+{
+    let mut all = listed_of(alloc, records, account, tag)?;
+    sort_by_day(&mut all)?;
+    lines_of(alloc, styles, &all)
+}
+
+/// Appends the register of an account and its subaccounts in a branch, in order of place: a line for each leg, with the
+/// sum so far of the listed legs in its commodity. With a tag, `NAME` or `NAME=VALUE`, only the legs of entries whose
+/// transaction has it in a comment of its own or of a posting are listed.
+///
+/// Refuses with 20 where the branch is not there, or with 40; the vector is then as it was. Costs one pass over the
+/// branch's entries, and the sorting of what is listed.
+pub fn register_report<L: Ledger>(
+    alloc: Global,
+    state: &State<L>,
+    branch: &str,
+    account: &str,
+    tag: Option<&str>,
+    out: &mut Vec<u8>,
+) -> Result<(), Cause>
+    ensures ok { OnOk result (out.new.items ≡ out.old.items ++ register_text state.now branch.now account.now (option_copied tag.entry)) }
+    ensures unknown { (result ≡ Err Cause.UnknownBranch) ↔ (has_branch state.now branch.now ≡ false) }
+    ensures err { OnErr result (out.new.items ≡ out.old.items) }
+    ensures causes { IfErr result (λ cause. (cause ≡ Cause.UnknownBranch) ⊎ (cause ≡ Cause.OutOfMemory)) }
+{
+    let Some(records) = records_of(state, branch) else {
+        return Err(Cause::UnknownBranch);
+    };
+    state.is_good();
+    let text = match text_of(alloc, state.styles(), records, account, tag) {
+        Ok(text) => text,
+        Err(cause) => return Err(cause),
+    };
+    match out.extend_from_slice(&text) {
+        Ok(()) => Ok(()),
+        Err(error) => Err(Cause::from(error)),
+    }
+}

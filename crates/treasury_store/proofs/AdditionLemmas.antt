@@ -1,0 +1,346 @@
+-- What the changes by additions make of the rows of a state.
+use Rattle.std.proofs.Common.{◌≡◌, ℕ, ℤ, zero, suc, ◌+◌, ◌<◌, ◌≤◌, ◌⊎◌, inl, inr, pos, Bool, true, false, cond, ◌||◌, List, [], ◌∷◌, ◌++◌, map, length, get_or, set, refl, sym, ap, subst, subst₂, ◌∙◌, IsPermutation, true≢false, arith, bytes_eq, Some, nat_lt}
+use Rattle.std.specs.Prelude.{if◌then◌else◌}
+use Rattle.std.specs.List.{enumerate_from, flat_map, list_any, AllByRecursion}
+use Rattle.std.specs.Ordering.{is_lt}
+use Rattle.std.proofs.lemmas.List.{map-append, append_assoc, append-nil, length-append, length-map, set_past}
+use Rattle.std.proofs.lemmas.List.Concat.{flat_map_single}
+use Rattle.std.proofs.lemmas.List.Sorted.{IsPermutation-refl, IsPermutation-trans, IsPermutation-cons, IsPermutation-map}
+use Rattle.std.proofs.lemmas.Bool.{ltb-true, lt-ltb}
+use Rattle.money_core.specs.declared.day.Day.{Day}
+use Rattle.money_core.specs.declared.style.Style.{Style}
+use Rattle.book_core.specs.Account.{name_cmp}
+use Rattle.journal_format.proofs.MoreStylesLemmas.{printable_stays}
+use Rattle.treasury_core.specs.declared.record.Record.{Record}
+use Rattle.treasury_core.specs.declared.transfer.Receipt.{Receipt}
+use Rattle.treasury_core.specs.declared.transfer.Transfer.{Transfer}
+use Rattle.treasury_core.specs.declared.delta.Addition.{Addition}
+use Rattle.treasury_core.specs.declared.delta.Addition.TheVariants as add
+use Rattle.treasury_core.specs.declared.rows.EntryRow.{EntryRow}
+use Rattle.treasury_core.specs.declared.rows.LegRow.{LegRow}
+use Rattle.treasury_core.specs.declared.rows.ClaimRow.{ClaimRow}
+use Rattle.treasury_core.specs.declared.rows.TransferRow.{TransferRow}
+use Rattle.treasury_core.specs.Federation.{Branch, Federation, has_name}
+use Rattle.treasury_core.specs.Good.{IsGoodRecord, IsGoodBranch, IsGoodTransfer, IsGoodState}
+use Rattle.treasury_core.specs.History.{names_of, Grows}
+use Rattle.treasury_core.specs.Joined.{new_branch, with_records, with_lock, changed, inserted, with_receipt, received, with_entered, joined_one, joined}
+use Rattle.treasury_core.specs.Room.{name_place, IsRoomy}
+use Rattle.treasury_core.specs.Rows.{unit_row, branch_row, entry_row, entry_rows_from, leg_rows, claim_rows, transfer_row, rows}
+use Rattle.treasury_core.specs.Transfer.{has_id}
+use Rattle.treasury_core.proofs.AskedLemmas.{HaveOwnIds}
+use Rattle.treasury_core.proofs.BackLemmas.{room_back}
+use Rattle.treasury_core.proofs.BytesLemmas.{neither, same_bytes}
+use Rattle.treasury_core.proofs.OrderLemmas.{own_ids}
+use Rattle.treasury_store.specs.declared.change.Change.TheVariants as change
+use Rattle.treasury_store.specs.Rows.{Tables, locked, received as takes, joined as written}
+use Rattle.treasury_store.specs.Numbers.{records_each, numbers_of}
+use Rattle.treasury_store.specs.Changes.{Counts, named, place_in, record_changes, changes_by, counted, changes_from, counted_all, style_with, name_with, styles_with, names_with, counts_of, changes_of, numbers_with}
+use Rattle.treasury_store.proofs.SameLemmas.{Same, same_refl, same_trans, same_joined, other_units, other_transfers, joined-append, legs_joined, claims_joined, second_first}
+use Rattle.treasury_store.proofs.NumberedLemmas.{place_named, IsFront, front_place, changed_past, one_more, rows_from, none_more, rows-locked, record_in, branch_rows, branches-entered, none_locked, branch_locked, each-entered, each-locked, names-changed}
+
+-- ---- the rows of a state, with bodies under these styles and transfers between branches of these names
+abbrev pub rows_under : List Style → List (List ℕ) → Federation → Tables
+rows_under S N f = record {
+  units = map (λ (p : ℕ × Style). unit_row p.0 p.1) (enumerate_from 0 f.styles);
+  branches = branch_rows 0 f.branches;
+  entries = flat_map (λ (p : ℕ × Branch). entry_rows_from S p.0 1 p.1.records) (enumerate_from 0 f.branches);
+  legs = rows_from leg_rows 0 f.branches;
+  claims = rows_from claim_rows 0 f.branches;
+  transfers = map (transfer_row (named N)) f.transfers;
+}
+
+same_rows : {X : Type 0} (xs ys : List X) → xs ≡ ys → IsPermutation xs ys
+same_rows xs ys e = subst (IsPermutation xs) e (IsPermutation-refl xs)
+
+side : (p n : ℕ) → (p < n) ⊎ (n ≤ p)
+side p zero = inr (omega arith)
+side zero (suc n) = inl (omega arith)
+side (suc p) (suc n) = elim (side p n) [ inl l ↦ inl (omega (arith, l)) | inr l ↦ inr (omega (arith, l)) ]
+
+-- an entry's row alone
+abbrev pub entry_alone : List Style → ℕ → ℕ → Record → List EntryRow
+entry_alone S b n r = entry_row S b n r ∷ []
+
+pub alone : (S : List Style) (bs : List Branch) → rows_from (entry_alone S) 0 bs ≡ flat_map (λ (p : ℕ × Branch). entry_rows_from S p.0 1 p.1.records) (enumerate_from 0 bs)
+alone S bs = λ i. flat_map (λ (p : ℕ × Branch). flat_map_single (λ (q : ℕ × Record). entry_row S p.0 q.0 q.1) (enumerate_from 1 p.1.records) i) (enumerate_from 0 bs)
+
+-- ---- transfers
+inserted_at : (t x : Transfer) (xs : List Transfer) (c : Bool) → IsPermutation (t ∷ xs) (inserted t xs) → IsPermutation (t ∷ x ∷ xs) (if c then x ∷ inserted t xs else t ∷ x ∷ xs)
+inserted_at t x xs true h = IsPermutation-trans _ _ _ (second_first t x xs) (IsPermutation-cons x _ _ h)
+inserted_at t x xs false h = IsPermutation-refl (t ∷ x ∷ xs)
+
+put_in : (t : Transfer) (ts : List Transfer) → IsPermutation (t ∷ ts) (inserted t ts)
+put_in t [] = IsPermutation-refl (t ∷ [])
+put_in t (x ∷ xs) = inserted_at t x xs (is_lt (name_cmp x.id t.id)) (put_in t xs)
+
+none_taken : (bs : List Branch) (id : List ℕ) (day : ℤ) (payee : List ℕ) (ts : List Transfer) → list_any (has_id id) ts ≡ false → map (takes id day payee) (map (transfer_row bs) ts) ≡ map (transfer_row bs) ts
+none_taken bs id day payee [] h = refl
+none_taken bs id day payee (x ∷ xs) h =
+    let n = neither (bytes_eq x.id id) (list_any (has_id id) xs) h in
+    ap (λ (c : Bool). cond c (let r : TransferRow = record (transfer_row bs x) { received = Some day; payee = Some payee } in r) (transfer_row bs x) ∷ map (takes id day payee) (map (transfer_row bs) xs)) n.0
+    ∙ ap (λ l. transfer_row bs x ∷ l) (none_taken bs id day payee xs n.1)
+
+taken_at : (bs : List Branch) (id : List ℕ) (r : Receipt) (x : Transfer) (xs : List Transfer) (c : Bool) → bytes_eq x.id id ≡ c → list_any (has_id x.id) xs ≡ false
+    → map (takes id r.day.0 r.payee) (map (transfer_row bs) xs) ≡ map (transfer_row bs) (received id r xs)
+    → map (takes id r.day.0 r.payee) (map (transfer_row bs) (x ∷ xs)) ≡ map (transfer_row bs) (if c then with_receipt r x ∷ xs else x ∷ received id r xs)
+taken_at bs id r x xs true e own h =
+    ap (λ (c : Bool). cond c (let y : TransferRow = record (transfer_row bs x) { received = Some r.day.0; payee = Some r.payee } in y) (transfer_row bs x) ∷ map (takes id r.day.0 r.payee) (map (transfer_row bs) xs)) e
+    ∙ ap (λ l. transfer_row bs (with_receipt r x) ∷ l) (none_taken bs id r.day.0 r.payee xs (subst (λ (k : List ℕ). list_any (has_id k) xs ≡ false) (same_bytes x.id id e) own))
+taken_at bs id r x xs false e own h =
+    ap (λ (c : Bool). cond c (let y : TransferRow = record (transfer_row bs x) { received = Some r.day.0; payee = Some r.payee } in y) (transfer_row bs x) ∷ map (takes id r.day.0 r.payee) (map (transfer_row bs) xs)) e
+    ∙ ap (λ l. transfer_row bs x ∷ l) h
+
+taken : (bs : List Branch) (id : List ℕ) (r : Receipt) (ts : List Transfer) → HaveOwnIds ts → map (takes id r.day.0 r.payee) (map (transfer_row bs) ts) ≡ map (transfer_row bs) (received id r ts)
+taken bs id r [] h = refl
+taken bs id r (x ∷ xs) h = taken_at bs id r x xs (bytes_eq x.id id) refl h.0 (taken bs id r xs h.1)
+
+-- ---- one addition
+record_written : (e : EntryRow) (ls : List LegRow) (cs : List ClaimRow) (t : Tables)
+    → Same (written (change.Entry e ∷ (map change.Leg ls ++ map change.Claim cs)) t) (record t { entries = e ∷ t.entries; legs = ls ++ t.legs; claims = cs ++ t.claims })
+record_written e ls cs t =
+    let u : Tables = record t { entries = e ∷ t.entries } in
+    let v : Tables = record u { legs = ls ++ u.legs } in
+    let w : Tables = record v { claims = cs ++ v.claims } in
+    subst (λ x. Same x w) (sym (joined-append (map change.Leg ls) (map change.Claim cs) u))
+    (same_trans (written (map change.Claim cs) (written (map change.Leg ls) u)) (written (map change.Claim cs) v) w (same_joined (map change.Claim cs) _ v (legs_joined ls u)) (claims_joined cs v))
+
+module _ (S : List Style) (N : List (List ℕ)) (f : Federation) (more : List (List ℕ)) (names : N ≡ names_of f.branches ++ more) where
+  abbrev bs : List Branch
+  bs = f.branches
+
+  pub place_front : (name : List ℕ) → IsFront (length bs) (name_place bs name) (place_in N name)
+  place_front name =
+      subst₂ (λ (n p : ℕ). IsFront n p (place_in N name)) (length-map bs (λ (b : Branch). b.name)) (sym (place_named bs name))
+      (subst (λ (ns : List (List ℕ)). IsFront (length (names_of bs)) (place_in (names_of bs) name) (place_in ns name)) (sym names) (front_place (names_of bs) more name))
+
+  -- where the name is among those of the branches, its place is the same; else it is past them
+  pub place_same : (name : List ℕ) → place_in N name < length bs → place_in N name ≡ name_place bs name
+  place_same name h = let w = place_front name in elim (side (name_place bs name) (length bs)) [ inl l ↦ w.inside l | inr l ↦ absurd (omega (arith, w.past l, h)) ]
+
+  place_past : (name : List ℕ) → length bs ≤ place_in N name → length bs ≤ name_place bs name
+  place_past name h = let w = place_front name in elim (side (name_place bs name) (length bs)) [ inl l ↦ absurd (omega (arith, w.inside l, l, h)) | inr l ↦ l ]
+
+  count_of : length (records_each bs) ≡ length bs
+  count_of = length-map bs (λ (b : Branch). length b.records)
+
+  branch_step : (name : List ℕ) → Same (written (changes_by S N (counts_of (numbers_of f)) (add.Branch name)) (rows_under S N f)) (rows_under S N (joined_one f (add.Branch name)))
+  branch_step name = record {
+    units = IsPermutation-refl (rows_under S N f).units;
+    transfers = IsPermutation-refl (rows_under S N f).transfers;
+    branches = subst (λ (n : ℕ). IsPermutation (branch_row n (new_branch name) ∷ branch_rows 0 bs) (branch_rows 0 (bs ++ new_branch name ∷ []))) (sym count_of) (one_more branch_row bs (new_branch name));
+    entries = same_rows _ _ (sym (sym (alone S (bs ++ new_branch name ∷ [])) ∙ (none_more (entry_alone S) bs name ∙ alone S bs)));
+    legs = same_rows _ _ (sym (none_more leg_rows bs name));
+    claims = same_rows _ _ (sym (none_more claim_rows bs name));
+  }
+
+  record_in_place : (name : List ℕ) (r : Record) → place_in N name < length bs
+      → Same (written (record_changes S (place_in N name) (suc (get_or (records_each bs) (place_in N name) 0)) r) (rows_under S N f)) (rows_under S N (with_entered f name (r ∷ [])))
+  record_in_place name r h =
+      let p = place_in N name in
+      let k = get_or (records_each bs) p 0 in
+      let same = place_same name h in
+      let at : p ≡ 0 + name_place bs name = omega (arith, same) in
+      let low : name_place bs name < length bs = omega (arith, same, h) in
+      let count : k ≡ get_or (records_each bs) (name_place bs name) 0 = ap (λ (q : ℕ). get_or (records_each bs) q 0) same in
+      let t = rows_under S N f in
+      let mid : Tables = record t { entries = entry_row S p (suc k) r ∷ t.entries; legs = leg_rows p (suc k) r ++ t.legs; claims = claim_rows p (suc k) r ++ t.claims } in
+      same_trans _ mid _ (record_written (entry_row S p (suc k) r) (leg_rows p (suc k) r) (claim_rows p (suc k) r) t) (record {
+        units = IsPermutation-refl t.units;
+        branches = same_rows _ _ (sym (branches-entered 0 (r ∷ []) name bs));
+        entries = subst₂ (λ xs ys. IsPermutation (entry_row S p (suc k) r ∷ xs) ys) (alone S bs) (alone S (changed (with_records (r ∷ [])) name bs)) (record_in (entry_alone S) 0 p k r name bs at low count);
+        legs = record_in leg_rows 0 p k r name bs at low count;
+        claims = record_in claim_rows 0 p k r name bs at low count;
+        transfers = IsPermutation-refl t.transfers;
+      })
+
+  nowhere : (name : List ℕ) (r : Record) → length bs ≤ place_in N name → with_entered f name (r ∷ []) ≡ f
+  nowhere name r h = ap (λ (xs : List Branch). let g : Federation = record f { branches = xs } in g) (changed_past (with_records (r ∷ [])) name bs (place_past name h))
+
+  record_step : (name : List ℕ) (r : Record) (c : Bool) → nat_lt (place_in N name) (length (records_each bs)) ≡ c
+      → Same (written (if c then record_changes S (place_in N name) (suc (get_or (records_each bs) (place_in N name) 0)) r else []) (rows_under S N f)) (rows_under S N (with_entered f name (r ∷ [])))
+  record_step name r true e = record_in_place name r (omega (arith, ltb-true (place_in N name) (length (records_each bs)) e, count_of))
+  record_step name r false e =
+      let past : length bs ≤ place_in N name = elim (side (place_in N name) (length bs)) [ inl l ↦ absurd (true≢false (sym (lt-ltb (place_in N name) (length (records_each bs)) (omega (arith, l, count_of))) ∙ e)) | inr l ↦ l ] in
+      subst (λ (g : Federation). Same (rows_under S N f) (rows_under S N g)) (sym (nowhere name r past)) (same_refl (rows_under S N f))
+
+  lock_rows : (name : List ℕ) (day : Day) → map (locked (pos (place_in N name)) day.0) (branch_rows 0 bs) ≡ branch_rows 0 (changed (with_lock day) name bs)
+  lock_rows name day = elim (side (place_in N name) (length bs)) [
+    | inl l ↦ branch_locked (place_in N name) 0 day name bs (let same = place_same name l in omega (arith, same))
+    | inr l ↦ none_locked (place_in N name) 0 day.0 bs (inr (omega (arith, l))) ∙ ap (branch_rows 0) (sym (changed_past (with_lock day) name bs (place_past name l)))
+  ]
+
+  lock_step : (name : List ℕ) (day : Day) → Same (written (changes_by S N (counts_of (numbers_of f)) (add.Locked name day)) (rows_under S N f)) (rows_under S N (joined_one f (add.Locked name day)))
+  lock_step name day = record {
+    units = IsPermutation-refl (rows_under S N f).units;
+    transfers = IsPermutation-refl (rows_under S N f).transfers;
+    branches = same_rows _ _ (lock_rows name day);
+    entries = same_rows _ _ (sym (sym (alone S (changed (with_lock day) name bs)) ∙ (rows-locked (entry_alone S) 0 day name bs ∙ alone S bs)));
+    legs = same_rows _ _ (sym (rows-locked leg_rows 0 day name bs));
+    claims = same_rows _ _ (sym (rows-locked claim_rows 0 day name bs));
+  }
+
+  pub step : (x : Addition) → HaveOwnIds f.transfers → Same (written (changes_by S N (counts_of (numbers_of f)) x) (rows_under S N f)) (rows_under S N (joined_one f x))
+  step (add.Commodity style) h = let t = rows_under S N f in other_units t t _ _ (same_refl t) (one_more unit_row f.styles style)
+  step (add.Branch name) h = branch_step name
+  step (add.Record name r) h = record_step name r (nat_lt (place_in N name) (length (records_each bs))) refl
+  step (add.Dispatched t) h =
+      let u = rows_under S N f in
+      other_transfers u u _ _ (same_refl u) (IsPermutation-map (transfer_row (named N)) (t ∷ f.transfers) (inserted t f.transfers) (put_in t f.transfers))
+  step (add.Received id day payee) h =
+      let u = rows_under S N f in
+      let r : Receipt = record { day = day; payee = payee } in
+      other_transfers u u _ _ (same_refl u) (same_rows _ _ (taken (named N) id r f.transfers h))
+  step (add.Locked name day) h = lock_step name day
+
+  -- the counts behind it are those of the next state
+  one_count : (name : List ℕ) (r : Record) → set (records_each bs) (place_in N name) (suc (get_or (records_each bs) (place_in N name) 0)) ≡ records_each (changed (with_records (r ∷ [])) name bs)
+  one_count name r = elim (side (place_in N name) (length bs)) [
+    | inl l ↦ ap (λ (p : ℕ). set (records_each bs) p (suc (get_or (records_each bs) p 0))) (place_same name l) ∙ sym (each-entered r name bs)
+    | inr l ↦ set_past (records_each bs) (place_in N name) _ (omega (arith, l, count_of)) ∙ ap records_each (sym (changed_past (with_records (r ∷ [])) name bs (place_past name l)))
+  ]
+
+  abbrev counts_as : ℕ → List ℕ → Counts
+  counts_as n ks = record { units = n; records = ks }
+
+  pub count_step : (x : Addition) → counted N (counts_of (numbers_of f)) x ≡ counts_of (numbers_of (joined_one f x))
+  count_step (add.Commodity style) = ap (λ (n : ℕ). counts_as n (records_each bs)) (let l = length-append f.styles (style ∷ []) in omega (arith, l))
+  count_step (add.Branch name) = ap (counts_as (length f.styles)) (sym (map-append (λ (b : Branch). length b.records) bs (new_branch name ∷ [])))
+  count_step (add.Record name r) = ap (counts_as (length f.styles)) (one_count name r)
+  count_step (add.Dispatched t) = refl
+  count_step (add.Received id day payee) = refl
+  count_step (add.Locked name day) = ap (counts_as (length f.styles)) (sym (each-locked day name bs))
+
+-- ---- styles and names grow
+style_joined : (f : Federation) (x : Addition) → style_with f.styles x ≡ (joined_one f x).styles
+style_joined f (add.Commodity style) = refl
+style_joined f (add.Branch name) = refl
+style_joined f (add.Record name r) = refl
+style_joined f (add.Dispatched t) = refl
+style_joined f (add.Received id day payee) = refl
+style_joined f (add.Locked name day) = refl
+
+pub styles_joined : (xs : List Addition) (f : Federation) → styles_with f.styles xs ≡ (joined f xs).styles
+styles_joined [] f = refl
+styles_joined (x ∷ xs) f = ap (λ (styles : List Style). styles_with styles xs) (style_joined f x) ∙ styles_joined xs (joined_one f x)
+
+name_joined : (f : Federation) (x : Addition) → name_with (names_of f.branches) x ≡ names_of (joined_one f x).branches
+name_joined f (add.Commodity style) = refl
+name_joined f (add.Branch name) = sym (map-append (λ (b : Branch). b.name) f.branches (new_branch name ∷ []))
+name_joined f (add.Record name r) = sym (names-changed (with_records (r ∷ [])) name f.branches (λ b. refl))
+name_joined f (add.Dispatched t) = refl
+name_joined f (add.Received id day payee) = refl
+name_joined f (add.Locked name day) = sym (names-changed (with_lock day) name f.branches (λ b. refl))
+
+pub names_joined : (xs : List Addition) (f : Federation) → names_with (names_of f.branches) xs ≡ names_of (joined f xs).branches
+names_joined [] f = refl
+names_joined (x ∷ xs) f = ap (λ (ns : List (List ℕ)). names_with ns xs) (name_joined f x) ∙ names_joined xs (joined_one f x)
+
+both_grow : {X : Type 0} (xs ys zs : List X) → Grows xs ys → Grows ys zs → Grows xs zs
+both_grow xs ys zs h k = (h.0 ++ k.0, k.1 ∙ (ap (λ us. us ++ k.0) h.1 ∙ append_assoc xs h.0 k.0))
+
+style_grows : (styles : List Style) (x : Addition) → Grows styles (style_with styles x)
+style_grows styles (add.Commodity style) = (style ∷ [], refl)
+style_grows styles (add.Branch name) = ([], sym (append-nil styles))
+style_grows styles (add.Record name r) = ([], sym (append-nil styles))
+style_grows styles (add.Dispatched t) = ([], sym (append-nil styles))
+style_grows styles (add.Received id day payee) = ([], sym (append-nil styles))
+style_grows styles (add.Locked name day) = ([], sym (append-nil styles))
+
+pub styles_grow : (xs : List Addition) (styles : List Style) → Grows styles (styles_with styles xs)
+styles_grow [] styles = ([], sym (append-nil styles))
+styles_grow (x ∷ xs) styles = both_grow styles (style_with styles x) (styles_with (style_with styles x) xs) (style_grows styles x) (styles_grow xs (style_with styles x))
+
+name_grows : (names : List (List ℕ)) (x : Addition) → Grows names (name_with names x)
+name_grows names (add.Commodity style) = ([], sym (append-nil names))
+name_grows names (add.Branch name) = (name ∷ [], refl)
+name_grows names (add.Record name r) = ([], sym (append-nil names))
+name_grows names (add.Dispatched t) = ([], sym (append-nil names))
+name_grows names (add.Received id day payee) = ([], sym (append-nil names))
+name_grows names (add.Locked name day) = ([], sym (append-nil names))
+
+names_grow : (xs : List Addition) (names : List (List ℕ)) → Grows names (names_with names xs)
+names_grow [] names = ([], sym (append-nil names))
+names_grow (x ∷ xs) names = both_grow names (name_with names x) (names_with (name_with names x) xs) (name_grows names x) (names_grow xs (name_with names x))
+
+pub grown : (xs : List Addition) (f : Federation) (N : List (List ℕ)) → N ≡ names_of (joined f xs).branches → Grows (names_of f.branches) N
+grown xs f N e = let w = names_grow xs (names_of f.branches) in (w.0, e ∙ (sym (names_joined xs f) ∙ w.1))
+
+-- ---- all additions
+pub all_counted : (N : List (List ℕ)) (xs : List Addition) (f : Federation) → N ≡ names_of (joined f xs).branches → counted_all N (counts_of (numbers_of f)) xs ≡ counts_of (numbers_of (joined f xs))
+all_counted N [] f e = refl
+all_counted N (x ∷ xs) f e =
+    let w = grown (x ∷ xs) f N e in
+    ap (λ (c : Counts). counted_all N c xs) (count_step [] N f w.0 w.1 x) ∙ all_counted N xs (joined_one f x) e
+
+pub numbers_joined : (f : Federation) (xs : List Addition) → numbers_with (numbers_of f) xs ≡ numbers_of (joined f xs)
+numbers_joined f xs =
+    let N = names_with (names_of f.branches) xs in
+    let counts = all_counted N xs f (names_joined xs f) in
+    λ i. record { styles = styles_joined xs f i; names = names_joined xs f i; records = (counts i).records }
+
+all_written : (S : List Style) (N : List (List ℕ)) (xs : List Addition) (f : Federation) → N ≡ names_of (joined f xs).branches → IsRoomy (joined f xs)
+    → Same (written (changes_from S N (counts_of (numbers_of f)) xs) (rows_under S N f)) (rows_under S N (joined f xs))
+all_written S N [] f e room = same_refl (rows_under S N f)
+all_written S N (x ∷ xs) f e room =
+    let w = grown (x ∷ xs) f N e in
+    let c = counts_of (numbers_of f) in
+    let next = joined_one f x in
+    let first = changes_by S N c x in
+    let rest = changes_from S N (counted N c x) xs in
+    let one = step S N f w.0 w.1 x (own_ids f.transfers (room_back (x ∷ xs) f room).ids) in
+    let later = subst (λ (d : Counts). Same (written (changes_from S N d xs) (rows_under S N next)) (rows_under S N (joined next xs))) (sym (count_step S N f w.0 w.1 x)) (all_written S N xs next e room) in
+    subst (λ u. Same u (rows_under S N (joined next xs))) (sym (joined-append first rest (rows_under S N f)))
+    (same_trans (written rest (written first (rows_under S N f))) (written rest (rows_under S N next)) (rows_under S N (joined next xs)) (same_joined rest (written first (rows_under S N f)) (rows_under S N next) one) later)
+
+-- ---- the rows of a good state, and those under more styles and names
+entry_grown : (styles more : List Style) (b n : ℕ) (rs : List Record) → AllByRecursion (IsGoodRecord styles) rs → entry_rows_from (styles ++ more) b n rs ≡ entry_rows_from styles b n rs
+entry_grown styles more b n [] h = refl
+entry_grown styles more b n (r ∷ rs) h =
+    let body = (printable_stays styles more r.txn h.0.printable).body in
+    ap (λ (text : List ℕ). (let e : EntryRow = record { branch = pos b; nr = pos n; day = r.entry.day.0; mark = r.mark; body = text } in e) ∷ entry_rows_from (styles ++ more) b (n + 1) rs) body
+    ∙ ap (λ l. entry_row styles b n r ∷ l) (entry_grown styles more b (n + 1) rs h.1)
+
+entries_grown : (styles more : List Style) (n : ℕ) (bs : List Branch) → AllByRecursion (IsGoodBranch styles) bs
+    → flat_map (λ (p : ℕ × Branch). entry_rows_from (styles ++ more) p.0 1 p.1.records) (enumerate_from n bs) ≡ flat_map (λ (p : ℕ × Branch). entry_rows_from styles p.0 1 p.1.records) (enumerate_from n bs)
+entries_grown styles more n [] h = refl
+entries_grown styles more n (b ∷ bs) h =
+    ap (λ l. l ++ flat_map (λ (p : ℕ × Branch). entry_rows_from (styles ++ more) p.0 1 p.1.records) (enumerate_from (n + 1) bs)) (entry_grown styles more n 1 b.records h.0.records)
+    ∙ ap (λ l. entry_rows_from styles n 1 b.records ++ l) (entries_grown styles more (n + 1) bs h.1)
+
+there_at : (n p : ℕ) (t u : Bool) → (t || u) ≡ true → (u ≡ true → p < n) → (if t then 0 else suc p) < suc n
+there_at n p true u h k = omega arith
+there_at n p false u h k = omega (arith, k h)
+
+there : (name : List ℕ) (bs : List Branch) → list_any (has_name name) bs ≡ true → name_place bs name < length bs
+there name [] h = absurd (let no : false ≡ true = h in cc)
+there name (b ∷ bs) h = there_at (length bs) (name_place bs name) (bytes_eq b.name name) (list_any (has_name name) bs) h (there name bs)
+
+abbrev between : Transfer → ℕ → ℕ → TransferRow
+between t a b = record (transfer_row [] t) { source = pos a; target = pos b }
+
+transfers_grown : (N more : List (List ℕ)) (bs : List Branch) (ts : List Transfer) → N ≡ names_of bs ++ more → AllByRecursion (IsGoodTransfer bs) ts → map (transfer_row (named N)) ts ≡ map (transfer_row bs) ts
+transfers_grown N more held [] e h = refl
+transfers_grown N more held (t ∷ ts) e h =
+    let f : Federation = record { styles = []; branches = held; transfers = [] } in
+    let source = (place_front [] N f more e t.source).inside (there t.source held h.0.source) in
+    let target = (place_front [] N f more e t.target).inside (there t.target held h.0.target) in
+    λ i. between t (source i) (target i) ∷ transfers_grown N more held ts e h.1 i
+
+rows_before : (f : Federation) (more : List Style) (N others : List (List ℕ)) → IsGoodState f → N ≡ names_of f.branches ++ others → rows_under (f.styles ++ more) N f ≡ rows f
+rows_before f more N others good e =
+    let entries = entries_grown f.styles more 0 f.branches good.branches in
+    let transfers = transfers_grown N others f.branches f.transfers e good.transfers in
+    λ i. record (rows f) { entries = entries i; transfers = transfers i }
+
+-- The law: written to the rows of a good state, the changes by additions make those of the joined state, if that is good.
+pub writes_joined : (f : Federation) (xs : List Addition) → IsGoodState f → IsGoodState (joined f xs) → IsRoomy (joined f xs) → Same (written (changes_of (numbers_of f) xs) (rows f)) (rows (joined f xs))
+writes_joined f xs good next room =
+    let S = styles_with f.styles xs in
+    let N = names_with (names_of f.branches) xs in
+    let s = styles_grow xs f.styles in
+    let n = names_grow xs (names_of f.branches) in
+    let before : rows_under S N f ≡ rows f = ap (λ (styles : List Style). rows_under styles N f) s.1 ∙ rows_before f s.0 N n.0 good n.1 in
+    let last = joined f xs in
+    let behind : rows_under S N last ≡ rows last =
+    ap (λ (styles : List Style). rows_under styles N last) (styles_joined xs f ∙ sym (append-nil last.styles)) ∙ rows_before last [] N [] next (names_joined xs f ∙ sym (append-nil (names_of last.branches))) in
+    subst₂ (λ t u. Same (written (changes_of (numbers_of f) xs) t) u) before behind (all_written S N xs f (names_joined xs f) room)

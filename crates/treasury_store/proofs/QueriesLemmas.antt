@@ -1,0 +1,139 @@
+-- What queries of our tables leave, whatever they answer.
+use Rattle.std.proofs.Common.{◌≡◌, ◌∙◌, ◌⊎◌, inl, inr, ℕ, List, Option, Some, None, Ok, Err, Result, IfOk, IfErr, IsSome, IsTrue, true≢false, sym, ap, subst, arith}
+use Rattle.std.specs.Prelude.{IsErrAnd}
+use Rattle.std.proofs.lemmas.Result.{err_from_is_err_and}
+use Rattle.sqlite.specs.Order.{Row}
+use Rattle.sqlite.specs.Store.{Ghosts}
+use Rattle.sqlite.specs.Effect.{Database}
+use Rattle.sqlite.specs.Tree.{Trees}
+use Rattle.sqlite.specs.declared.error.Error.{Error}
+use Rattle.sqlite.specs.State.{State, HasCleanDisk, Survives, IsUnchanged, IsRolledBack, Shown, FailsToQuery, FailsToShow, ShowsRows, IsNotRun, CommitsShowing}
+use Rattle.sqlite.specs.Held.{Held, state}
+use Rattle.sqlite.specs.Clock.{timed}
+use Rattle.sqlite.specs.Listing.{understood}
+use Rattle.sqlite_schema.specs.declared.command.Returning.{Returning}
+use Rattle.sqlite.specs.Given.{IsPlain}
+use Rattle.sqlite.proofs.StateLemmas.{survives_then, survives_weaker}
+use Rattle.treasury_store.specs.Tables.{store_schema}
+use Rattle.treasury_store.specs.Rows.{Tables, Holds}
+use Rattle.treasury_store.specs.Kept.{Queries}
+
+module _ (sql : List ℕ) (params : Row) (old new : State) where
+  -- a query that answers is of a connection that is open
+  shown_open : (rows : List Row) → Shown sql params old new rows → IsTrue old.is_open × IsTrue new.is_open
+  unfolding Shown
+  shown_open rows h = opens h.0.returning h.2
+    where
+      opens : (o : Option Returning) → ShowsRows old new sql h.0 (timed params h.0.formats h.1.now) rows o → IsTrue old.is_open × IsTrue new.is_open
+      opens None k = (k.3.0.was_open, k.3.0.is_open)
+      opens (Some what) k = (k.1.shown.was_open, k.1.shown.is_open)
+
+  -- one that fails changes nothing, or undoes the transaction
+  failed_back : (e : Error) → FailsToQuery sql params old new e → IsUnchanged old new ⊎ IsRolledBack old new
+  unfolding FailsToQuery IsNotRun
+  failed_back e (inl (inl h)) = inl h.1
+  failed_back e (inl (inr h)) = inr h.3
+  failed_back e (inr h) = fails h.0.returning h.2
+    where
+      fails : (o : Option Returning) → FailsToShow old new sql h.0 (timed params h.0.formats h.1.now) e o → IsUnchanged old new ⊎ IsRolledBack old new
+      fails None k = inl k.3
+      fails (Some what) (inl k) = inl k.1
+      fails (Some what) (inr k) = inr k.3
+
+  -- a crash leaves what it would have left before
+  shows_no_commit : IsPlain (understood store_schema sql) → (trees : Trees) → CommitsShowing sql params old trees → (t : Tables) → Holds old.now t → ⊥
+  unfolding CommitsShowing
+  shows_no_commit plain trees h t holds =
+      let bare = (subst IsPlain (ap (λ s. understood s sql) (sym holds.schema) ∙ h.1.is) plain).0 in
+      true≢false (sym (subst IsSome bare h.2))
+
+was_back : (old new : State) → IsUnchanged old new ⊎ IsRolledBack old new → IsTrue new.is_open → IsTrue old.is_open
+was_back old new (inl h) is = h.0.was_open
+was_back old new (inr h) is = h.was_open is
+
+same_back : (old new : State) → IsUnchanged old new ⊎ IsRolledBack old new → IsTrue new.is_open → old.committed ≡ old.now → (new.now ≡ old.now) × (new.committed ≡ old.committed)
+same_back old new (inl h) is all = (h.0.now_is, h.0.committed_is)
+same_back old new (inr h) is all = ((h.undone is).0 ∙ all, (h.undone is).1)
+
+-- the same error of another answer
+of_error : {S Y : Type 0} (g : Ghosts S) (old new : Held S) (e : Error) (r : Result Y Error) → IsErrAnd r (λ y. y ≡ e) → Queries {X = Y} g old new (Err e) → Queries g old new r
+of_error g old new e r is q = let p = err_from_is_err_and r is in subst (Queries g old new) (sym (p.1 ∙ ap Err p.2)) q
+
+pub same_error : {S X Y : Type 0} {g : Ghosts S} {old new : Held S} (e : Error) (r : Result Y Error) → IsErrAnd r (λ y. y ≡ e) → Queries {X = X} g old new (Err e) → Queries g old new r
+same_error {g = g} {old = old} {new = new} e r is q = of_error g old new e r is (record { opened = λ clean. tt; was_open = q.was_open; undone = q.undone; survives = q.survives })
+
+module _ {S : Type 0} (g : Ghosts S) where
+  -- one query
+  pub one_query : {X : Type 0} (old new : Held S) (sql : List ℕ) (params : Row) (rows : X → List Row) (r : Result X Error) → IsPlain (understood store_schema sql)
+      → (HasCleanDisk (state g new) → IfOk r (λ x. Shown sql params (state g old) (state g new) (rows x)))
+      → (HasCleanDisk (state g new) → IfErr r (FailsToQuery sql params (state g old) (state g new)))
+      → Survives (state g old) (state g new) (CommitsShowing sql params (state g old)) → Queries g old new r
+  one_query old new sql params rows (Ok x) plain ok err left = record {
+    opened = λ clean. shown_open sql params (state g old) (state g new) (rows x) (ok clean);
+    was_open = λ clean is. (shown_open sql params (state g old) (state g new) (rows x) (ok clean)).0;
+    undone = λ clean is. tt;
+    survives = survives_weaker (state g old) (state g new) _ _ (λ clean trees h. shows_no_commit sql params (state g old) (state g new) plain trees h) left;
+  }
+  one_query old new sql params rows (Err e) plain ok err left = record {
+    opened = λ clean. tt;
+    was_open = λ clean is. was_back (state g old) (state g new) (failed_back sql params (state g old) (state g new) e (err clean)) is;
+    undone = λ clean is t holds all. same_back (state g old) (state g new) (failed_back sql params (state g old) (state g new) e (err clean)) is all;
+    survives = survives_weaker (state g old) (state g new) _ _ (λ clean trees h. shows_no_commit sql params (state g old) (state g new) plain trees h) left;
+  }
+
+  -- what is made of the rows of a query that changed nothing
+  pub then_made : {X Y : Type 0} (old new : Held S) (x : X) → Queries g old new (Ok x) → (HasCleanDisk (state g new) → (t : Tables) → Holds (state g old).now t → IsUnchanged (state g old) (state g new))
+      → (r : Result Y Error) → Queries g old new r
+  then_made old new x q same (Ok y) = record { opened = q.opened; was_open = q.was_open; undone = λ clean is. tt; survives = q.survives }
+  then_made old new x q same (Err e) = record {
+    opened = λ clean. tt;
+    was_open = q.was_open;
+    undone = λ clean is t holds all. let kept = same clean t holds in (kept.0.now_is, kept.0.committed_is);
+    survives = q.survives;
+  }
+
+-- queries that changed nothing, one after another
+pub record Quiet {S : Type 0} (g : Ghosts S) (a b : Held S) : Type 0 where
+  pub opened : HasCleanDisk (state g b) → IsTrue (state g a).is_open × IsTrue (state g b).is_open
+  pub same : HasCleanDisk (state g b) → (t : Tables) → Holds (state g a).now t → ((state g b).now ≡ (state g a).now) × ((state g b).committed ≡ (state g a).committed)
+  pub survives : Survives (state g a) (state g b) (λ _. (t : Tables) → Holds (state g a).now t → ⊥)
+
+pub quiet : {S X : Type 0} {g : Ghosts S} {a b : Held S} {x : X} → Queries g a b (Ok x) → (HasCleanDisk (state g b) → (t : Tables) → Holds (state g a).now t → IsUnchanged (state g a) (state g b)) → Quiet g a b
+quiet q same = record { opened = q.opened; same = λ clean t holds. let kept = (same clean t holds).0 in (kept.now_is, kept.committed_is); survives = q.survives }
+
+module _ {S : Type 0} (g : Ghosts S) (a b c : Held S) (one : Quiet g a b) (two : Survives (state g b) (state g c) (λ _. (t : Tables) → Holds (state g b).now t → ⊥)) where
+  cleaner : HasCleanDisk (state g c) → HasCleanDisk (state g b)
+  cleaner clean = omega (arith, two.clean, clean)
+
+  still : HasCleanDisk (state g c) → (t : Tables) → Holds (state g a).now t → Holds (state g b).now t
+  still clean t holds = subst (λ (d : Database). Holds d t) (sym (one.same (cleaner clean) t holds).0) holds
+
+  left : Survives (state g a) (state g c) (λ _. (t : Tables) → Holds (state g a).now t → ⊥)
+  left = survives_then (state g a) (state g b) (state g c) _ _ _ (λ clean trees h. h) (λ clean trees h t holds. h t (still clean t holds)) one.survives two
+
+pub quiet_more : {S X : Type 0} {g : Ghosts S} {a b c : Held S} {x : X} → Quiet g a b → Queries g b c (Ok x)
+    → (HasCleanDisk (state g c) → (t : Tables) → Holds (state g b).now t → IsUnchanged (state g b) (state g c)) → Quiet g a c
+quiet_more {g = g} {a = a} {b = b} {c = c} one two same = record {
+  opened = λ clean. ((one.opened (cleaner g a b c one two.survives clean)).0, (two.opened clean).1);
+  same = λ clean t holds.
+      let first = one.same (cleaner g a b c one two.survives clean) t holds in
+      let second = (same clean t (still g a b c one two.survives clean t holds)).0 in
+      (second.now_is ∙ first.0, second.committed_is ∙ first.1);
+  survives = left g a b c one two.survives;
+}
+
+-- one that fails behind them
+pub quiet_error : {S X Y : Type 0} {g : Ghosts S} {a b c : Held S} (e : Error) (r : Result Y Error) → IsErrAnd r (λ y. y ≡ e) → Quiet g a b → Queries {X = X} g b c (Err e) → Queries g a c r
+quiet_error {g = g} {a = a} {b = b} {c = c} e r is one two = of_error g a c e r is (record {
+  opened = λ clean. tt;
+  was_open = λ clean is. (one.opened (cleaner g a b c one two.survives clean)).0;
+  undone = λ clean is t holds all.
+      let first = one.same (cleaner g a b c one two.survives clean) t holds in
+      let back = two.undone clean is t (still g a b c one two.survives clean t holds) (first.1 ∙ all ∙ sym first.0) in
+      (back.0 ∙ first.0, back.1 ∙ first.1);
+  survives = left g a b c one two.survives;
+})
+
+-- none that fails
+pub quiet_ok : {S Y : Type 0} {g : Ghosts S} {a b : Held S} {y : Y} → Quiet g a b → Queries g a b (Ok y)
+quiet_ok one = record { opened = one.opened; was_open = λ clean is. (one.opened clean).0; undone = λ clean is. tt; survives = one.survives }

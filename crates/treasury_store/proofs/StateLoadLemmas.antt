@@ -1,0 +1,95 @@
+-- What a store is of, once its state is loaded, and where it is not.
+use Rattle.std.proofs.Common.{◌≡◌, ◌∙◌, ◌⊎◌, inl, inr, Result, Ok, Err, OnErr, IsTrue, sym, subst, arith}
+use Rattle.std.specs.Prelude.{IsErrAnd}
+use Rattle.std.proofs.lemmas.Result.{err_from_is_err_and}
+use Rattle.sqlite.specs.Store.{Ghosts}
+use Rattle.sqlite.specs.declared.error.Error.{Error}
+use Rattle.sqlite.specs.Effect.{Database}
+use Rattle.sqlite.specs.State.{HasCleanDisk, IsUnchanged}
+use Rattle.sqlite.specs.Held.{Held, state}
+use Rattle.money_core.specs.declared.cause.Cause.{Cause}
+use Rattle.money_core.specs.declared.cause.Cause.TheVariants.{OutOfMemory, Damaged}
+use Rattle.treasury_core.specs.declared.rows.Parts.{Parts}
+use Rattle.treasury_core.specs.Federation.{Federation}
+use Rattle.treasury_core.specs.Good.{IsGoodState}
+use Rattle.treasury_core.specs.Drafted.{HasShortLocks}
+use Rattle.treasury_core.specs.Rows.{rows}
+use Rattle.treasury_core.proofs.RowsLawLemmas.{same_state}
+use Rattle.treasury_store.specs.declared.store.Store.{Store}
+use Rattle.treasury_store.specs.Rows.{Tables, Holds}
+use Rattle.treasury_store.specs.Kept.{Queries}
+use Rattle.treasury_store.specs.Order.{InOrder}
+use Rattle.treasury_store.specs.Store.{TablesAre, Knows, IsOf}
+use Rattle.treasury_store.proofs.OrderedLemmas.{rows_in_order}
+
+module _ {S : Type 0} (g : Ghosts S) (old new : Held S) (cleaner : HasCleanDisk (state g new) → HasCleanDisk (state g old)) where
+  -- tables that stay
+  pub tables_stay : (t : Tables) → (HasCleanDisk (state g new) → IsTrue (state g new).is_open → IsTrue (state g old).is_open)
+      → (HasCleanDisk (state g new) → IsTrue (state g new).is_open → Holds (state g old).now t → (state g old).committed ≡ (state g old).now → ((state g new).now ≡ (state g old).now) × ((state g new).committed ≡ (state g old).committed))
+      → TablesAre g old t → TablesAre g new t
+  tables_stay t was_open same are clean is_open =
+      let was = are (cleaner clean) (was_open clean is_open) in
+      let kept = same clean is_open was.0 was.1 in
+      (subst (λ (db : Database). Holds db t) (sym kept.0) was.0, kept.1 ∙ (was.1 ∙ sym kept.0))
+
+  module _ (opened : HasCleanDisk (state g new) → IsTrue (state g old).is_open × IsTrue (state g new).is_open)
+      (same : HasCleanDisk (state g new) → (t : Tables) → Holds (state g old).now t → IsUnchanged (state g old) (state g new)) where
+    pub read_tables_stay : (t : Tables) → TablesAre g old t → TablesAre g new t
+    read_tables_stay t are =
+        tables_stay t (λ clean is_open. (opened clean).0) (λ clean is_open holds all. let kept = (same clean t holds).0 in (kept.now_is, kept.committed_is)) are
+
+    module _ (parts : Parts) (read : HasCleanDisk (state g new) → (t : Tables) → InOrder t → Holds (state g old).now t → parts ≡ t) (f : Federation) (good : IsGoodState f) (are : TablesAre g old (rows f)) where
+      -- the rows that were read are the state's
+      pub parts_are : HasCleanDisk (state g new) → rows f ≡ parts
+      parts_are clean = sym (read clean (rows f) (rows_in_order f good) (are (cleaner clean) (opened clean).0).0)
+
+      pub loaded_is : (s : Federation) → IsGoodState s → rows s ≡ parts → HasCleanDisk (state g new) → s ≡ f
+      loaded_is s fine built clean = same_state s f fine good (built ∙ sym (parts_are clean))
+
+      pub loaded_tables : (s : Federation) → IsGoodState s → rows s ≡ parts → TablesAre g new (rows s)
+      loaded_tables s fine built clean is_open =
+          subst (λ (x : Federation). TablesAre g new (rows x)) (sym (loaded_is s fine built clean)) (read_tables_stay (rows f) are) clean is_open
+
+      -- rows that are no state's are not this one's
+      pub not_damaged : (e : Cause) → (e ≡ OutOfMemory) ⊎ ((e ≡ Damaged) × ((x : Federation) → IsGoodState x → HasShortLocks x → rows x ≡ parts → ⊥)) → e ≡ Damaged → HasShortLocks f → HasCleanDisk (state g new) → ⊥
+      not_damaged e (inl memory) is short clean = absurd cc
+      not_damaged e (inr none) is short clean = none.1 f good short (parts_are clean)
+
+-- whatever an error, this holds of it
+pub any_err : {X E : Type 0} (r : Result X E) (P : Type 0) → P → OnErr r P
+any_err (Ok x) P h = tt
+any_err (Err e) P h = h
+
+module _ {S X : Type 0} (g : Ghosts S) (old new : Store S) (f : Federation) where
+  -- where the rows are not read, the store is of the state that it was of
+  pub failed_of : (e : Error) → Queries {X = X} g old.conn new.conn (Err e) → new.numbers ≡ old.numbers → IsOf g old f → IsOf g new f
+  failed_of e q numbers of = record {
+    good = of.good;
+    tables = tables_stay g old.conn new.conn (λ clean. omega (arith, q.survives.clean, clean)) (rows f) q.was_open (λ clean is holds all. q.undone clean is (rows f) holds all) of.tables;
+    numbers = numbers ∙ of.numbers;
+  }
+
+  module _ (x : X) (q : Queries g old.conn new.conn (Ok x)) (same : HasCleanDisk (state g new.conn) → (t : Tables) → Holds (state g old.conn).now t → IsUnchanged (state g old.conn) (state g new.conn)) where
+    cleaner : HasCleanDisk (state g new.conn) → HasCleanDisk (state g old.conn)
+    cleaner clean = omega (arith, q.survives.clean, clean)
+
+    -- and where they are no state's
+    pub read_of : new.numbers ≡ old.numbers → IsOf g old f → IsOf g new f
+    read_of numbers of = record { good = of.good; tables = read_tables_stay g old.conn new.conn cleaner q.opened same (rows f) of.tables; numbers = numbers ∙ of.numbers }
+
+    module _ (parts : Parts) (read : HasCleanDisk (state g new.conn) → (t : Tables) → InOrder t → Holds (state g old.conn).now t → parts ≡ t) (good : IsGoodState f) (are : TablesAre g old.conn (rows f)) where
+      -- where they are, it is of the state that they make, which is the one whose rows the tables are
+      pub loaded_of : (s : Federation) → IsGoodState s → rows s ≡ parts → Knows new s → IsOf g new s × (HasCleanDisk (state g new.conn) → s ≡ f)
+      loaded_of s fine built knows = (
+        record { good = fine; tables = loaded_tables g old.conn new.conn cleaner q.opened same parts read f good are s fine built; numbers = knows },
+        loaded_is g old.conn new.conn cleaner q.opened same parts read f good are s fine built,
+      )
+
+      pub none_damaged : {Y : Type 0} (r : Result Y Cause) (e : Cause) → IsErrAnd r (λ y. y ≡ e) → (e ≡ OutOfMemory) ⊎ ((e ≡ Damaged) × ((x : Federation) → IsGoodState x → HasShortLocks x → rows x ≡ parts → ⊥)) → r ≡ Err Damaged → HasShortLocks f → HasCleanDisk (state g new.conn) → ⊥
+      none_damaged r e is why damaged short clean =
+          let p = err_from_is_err_and r is in
+          let same_cause : p.0 ≡ Damaged = cause_is p.0 (sym p.1 ∙ damaged) in
+          not_damaged g old.conn new.conn cleaner q.opened same parts read f good are e why (sym p.2 ∙ same_cause) short clean
+        where
+          cause_is : {Y : Type 0} (x : Cause) → ◌≡◌ {A = Result Y Cause} (Err x) (Err Damaged) → x ≡ Damaged
+          cause_is x e = cc

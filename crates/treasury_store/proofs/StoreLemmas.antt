@@ -1,0 +1,100 @@
+-- What a store is of, once its changes are written, and where they are not.
+use Rattle.std.proofs.Common.{◌≡◌, List, Option, Some, refl, sym, ap, subst, ◌∙◌, inl, arith, IsTrue}
+use Rattle.sqlite.specs.Store.{Ghosts}
+use Rattle.sqlite.specs.Effect.{Database}
+use Rattle.sqlite.specs.Tree.{Trees}
+use Rattle.sqlite.specs.State.{State, HasCleanDisk, Survives}
+use Rattle.sqlite.specs.Held.{Held, state}
+use Rattle.sqlite.proofs.StateLemmas.{survives_weaker}
+use Rattle.treasury_core.specs.declared.delta.Addition.{Addition}
+use Rattle.treasury_core.specs.Federation.{Federation}
+use Rattle.treasury_core.specs.Good.{IsGoodState}
+use Rattle.treasury_core.specs.Joined.{joined}
+use Rattle.treasury_core.specs.Rows.{rows}
+use Rattle.treasury_core.proofs.BackLemmas.{good_room}
+use Rattle.treasury_store.specs.declared.change.Change.{Change}
+use Rattle.treasury_store.specs.declared.store.Store.{Store}
+use Rattle.treasury_store.specs.Rows.{Tables, Holds, joined as written}
+use Rattle.treasury_store.specs.Numbers.{Numbering, numbers_of}
+use Rattle.treasury_store.specs.Changes.{changes_of, numbers_with}
+use Rattle.treasury_store.specs.Store.{IsOf, empty_state}
+use Rattle.treasury_store.proofs.SameLemmas.{Same, holds_same}
+use Rattle.treasury_store.proofs.AdditionLemmas.{writes_joined, numbers_joined}
+
+pub survives_same : (s : State) (P : Trees → Type 0) → Survives s s P
+survives_same s P = record {
+  clean = omega arith;
+  shield = λ h. h;
+  counts = omega arith;
+  limit = refl;
+  closes = λ clean is. inl is;
+  crash = λ clean db left. inl left;
+}
+
+pub some_numbers : (n m : Numbering) → ◌≡◌ {A = Option Numbering} (Some n) (Some m) → n ≡ m
+some_numbers n m e = cc
+
+-- the changes written to the rows of the state are the rows of the joined one
+pub holds_joined : (f : Federation) (xs : List Addition) (n : Numbering) (changes : List Change) (db : Database) → IsGoodState f → IsGoodState (joined f xs) → n ≡ numbers_of f → changes ≡ changes_of n xs
+    → Holds db (written changes (rows f)) → Holds db (rows (joined f xs))
+holds_joined f xs n changes db good next e is h =
+    holds_same db (written changes (rows f)) (rows (joined f xs))
+    (subst (λ (cs : List Change). Same (written cs (rows f)) (rows (joined f xs))) (sym (is ∙ ap (λ (m : Numbering). changes_of m xs) e)) (writes_joined f xs good next (good_room (joined f xs) next))) h
+
+module _ {S : Type 0} (g : Ghosts S) (old : Store S) (f : Federation) (of : IsOf g old f) where
+  -- while the tables stay, so does the state
+  pub stays_of : (new : Store S) → new.numbers ≡ old.numbers → (HasCleanDisk (state g new.conn) → HasCleanDisk (state g old.conn))
+      → (HasCleanDisk (state g new.conn) → IsTrue (state g new.conn).is_open → IsTrue (state g old.conn).is_open)
+      → (HasCleanDisk (state g new.conn) → IsTrue (state g new.conn).is_open → ((state g new.conn).now ≡ (state g old.conn).now) × ((state g new.conn).committed ≡ (state g old.conn).committed)) → IsOf g new f
+  stays_of new numbers clean opened same = record {
+    good = of.good;
+    tables = λ is_clean is_open.
+        let was = of.tables (clean is_clean) (opened is_clean is_open) in
+        let now = same is_clean is_open in
+        (subst (λ (db : Database). Holds db (rows f)) (sym now.0) was.0, now.1 ∙ (was.1 ∙ sym now.0));
+    numbers = numbers ∙ of.numbers;
+  }
+
+  module _ (xs : List Addition) (next : IsGoodState (joined f xs)) (n : Numbering) (known : old.numbers ≡ Some n) (changes : List Change) (is : changes ≡ changes_of n xs) where
+    same_numbers : n ≡ numbers_of f
+    same_numbers = some_numbers n (numbers_of f) (sym known ∙ of.numbers)
+
+    pub holds_next : (db : Database) → Holds db (written changes (rows f)) → Holds db (rows (joined f xs))
+    holds_next db h = holds_joined f xs n changes db of.good next same_numbers is h
+
+    -- once the changes are written, the store is of the joined state
+    pub becomes_of : (new : Store S) → new.numbers ≡ Some (numbers_with n xs) → (HasCleanDisk (state g new.conn) → HasCleanDisk (state g old.conn))
+        → (HasCleanDisk (state g new.conn) → IsTrue (state g new.conn).is_open → IsTrue (state g old.conn).is_open)
+        → (HasCleanDisk (state g new.conn) → (t : Tables) → Holds (state g old.conn).now t → Holds (state g new.conn).now (written changes t) × ((state g new.conn).committed ≡ (state g new.conn).now))
+        → IsOf g new (joined f xs)
+    becomes_of new numbers clean opened puts = record {
+      good = next;
+      tables = λ is_clean is_open.
+          let was = of.tables (clean is_clean) (opened is_clean is_open) in
+          let put = puts is_clean (rows f) was.0 in
+          (holds_next (state g new.conn).now put.0, put.1);
+      numbers = numbers ∙ ap (λ (m : Numbering). Some m) (ap (λ (m : Numbering). numbers_with m xs) same_numbers ∙ numbers_joined f xs);
+    }
+
+-- the numbers behind what is written are those of the joined state
+pub knows_joined : (f : Federation) (xs : List Addition) (n : Numbering) (now : Option Numbering) → now ≡ Some n → now ≡ Some (numbers_of f) → ◌≡◌ {A = Option Numbering} (Some (numbers_with n xs)) (Some (numbers_of (joined f xs)))
+knows_joined f xs n now known knows =
+    ap (λ (m : Numbering). Some m) (ap (λ (m : Numbering). numbers_with m xs) (some_numbers n (numbers_of f) (sym known ∙ knows)) ∙ numbers_joined f xs)
+
+-- what a crash leaves are the rows of one of the two states
+pub crash_joined : {S : Type 0} (g : Ghosts S) (old : Store S) (new : Held S) (xs : List Addition) (n : Numbering) → old.numbers ≡ Some n → (changes : List Change) → changes ≡ changes_of n xs
+    → Survives (state g old.conn) (state g new) (λ trees. (db : Database) × (trees ≡ db.trees) × ((t : Tables) → Holds (state g old.conn).now t → Holds db (written changes t)))
+    → Survives (state g old.conn) (state g new) (λ trees. (db : Database) × (trees ≡ db.trees) × ((f : Federation) → IsOf g old f → IsGoodState (joined f xs) → Holds (state g old.conn).now (rows f) → Holds db (rows (joined f xs))))
+crash_joined g old new xs n known changes is left =
+    survives_weaker (state g old.conn) (state g new) _ _ (λ clean trees p. (p.0, p.1, λ f of next h. holds_next g old f of xs next n known changes is p.0 (p.2 (rows f) h))) left
+
+pub empty_good : IsGoodState empty_state
+empty_good = record {
+  styles = record { each = λ i style h. absurd cc; found = λ i style h. absurd cc; few = omega arith };
+  few = omega arith;
+  names = tt;
+  branches = tt;
+  ids = tt;
+  transfers = tt;
+  carried = tt;
+}

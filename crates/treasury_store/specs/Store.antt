@@ -1,0 +1,39 @@
+-- What a store is of.
+use Rattle.std.specs.Prelude.{◌≡◌, ◌⊎◌, Bool, true, false, [], Some, Result, Err, IsTrue, MatchResult}
+use Rattle.money_core.specs.declared.cause.Cause.{Cause}
+use Rattle.money_core.specs.declared.cause.Cause.TheVariants.{OutOfMemory, Store as Failed, Damaged}
+use Rattle.sqlite.specs.Store.{Ghosts}
+use Rattle.sqlite.specs.State.{HasCleanDisk}
+use Rattle.sqlite.specs.Held.{Held, state}
+use Rattle.treasury_core.specs.Federation.{Federation}
+use Rattle.treasury_core.specs.Good.{IsGoodState}
+use Rattle.treasury_core.specs.Rows.{rows}
+use Rattle.treasury_store.specs.Rows.{Tables, Holds}
+use Rattle.treasury_store.specs.Numbers.{numbers_of}
+use Rattle.treasury_store.specs.declared.store.Store.{Store}
+
+-- no commodity, branch or transfer
+abbrev pub empty_state : Federation
+empty_state = record { styles = []; branches = []; transfers = [] }
+
+-- while the disk returned what was written and the connection is open, the tables hold these rows, and so does what is committed
+abbrev pub TablesAre : {S : Type 0} → Ghosts S → Held S → Tables → Type 0
+TablesAre g h t = HasCleanDisk (state g h) → IsTrue (state g h).is_open → Holds (state g h).now t × ((state g h).committed ≡ (state g h).now)
+
+-- the store knows by which numbers the rows of a state go on
+abbrev pub Knows : {S : Type 0} → Store S → Federation → Type 0
+Knows s f = s.numbers ≡ Some (numbers_of f)
+
+-- The store is of a good state: its tables are that state's rows, and new rows are numbered behind these.
+pub record IsOf {S : Type 0} (g : Ghosts S) (s : Store S) (f : Federation) : Type 0 where
+  pub good : IsGoodState f
+  pub tables : TablesAre g s.conn (rows f)
+  pub numbers : Knows s f
+
+-- what a call on a store that no call has failed answers, and whether it has failed then: 40 and 41 are its errors, and 41 is for ever
+abbrev pub Answers : {T : Type 0} → Result T Cause → Bool → Type 0
+Answers r failed = MatchResult r (λ _. failed ≡ false) (λ e. ((e ≡ OutOfMemory) × (failed ≡ false)) ⊎ ((e ≡ Failed) × (failed ≡ true)))
+
+-- the same of a call that reads the rows of a state, which also answers 43, and has not failed then
+abbrev pub AnswersState : {T : Type 0} → Result T Cause → Bool → Type 0
+AnswersState r failed = Answers r failed ⊎ ((r ≡ Err Damaged) × (failed ≡ false))

@@ -1,0 +1,212 @@
+//! The store of a treasury: a connection whose tables are the rows of a state.
+
+ghost use Rattle.std.specs.Prelude.{◌≡◌, ◌⊎◌, ◌↔◌, [], false, None, Some, Err, OnOk, OnErr, IfOk, IfErr, IsTrue};
+ghost use Rattle.sqlite.specs.State.{HasCleanDisk, Survives};
+ghost use Rattle.sqlite.specs.Held.{state};
+ghost use Rattle.sqlite.specs.Effect.{Database};
+ghost use Rattle.treasury_core.specs.Federation.{Federation};
+ghost use Rattle.treasury_core.specs.Good.{IsGoodState};
+ghost use Rattle.treasury_core.specs.Drafted.{HasShortLocks};
+ghost use Rattle.treasury_core.specs.Joined.{joined};
+ghost use Rattle.treasury_core.specs.Rows.{rows};
+ghost use Rattle.treasury_store.specs.Rows.{Tables, Holds};
+ghost use Rattle.treasury_store.specs.Tables.{no_schema};
+ghost use Rattle.treasury_store.specs.Creating.{has_one, has_all, has_counter, Beside};
+ghost use Rattle.treasury_store.specs.Opening.{MadeHere, IsTreasury};
+ghost use Rattle.treasury_store.specs.Store.{empty_state, TablesAre, Knows, IsOf, Answers, AnswersState};
+
+use crate::changes::changes_of;
+use crate::create::create_tables;
+use crate::load::load_parts;
+use crate::numbers::{Numbers, numbers_of};
+use crate::open::are_tables_there;
+use crate::write::write_all;
+use book_core::Ledger;
+use money_core::Cause;
+use sqlite::{Alter, Connection, Error, ErrorCode};
+use std::alloc::Global;
+use treasury_core::{Delta, State};
+
+/// A connection whose tables are the rows of a state.
+#[derive(Drop)]
+pub struct Store<S: Alter> {
+    alloc: Global,
+    conn: Connection<S>,
+    /// What new rows are numbered by, once the state is known.
+    numbers: Option<Numbers>,
+    /// A call of the database failed.
+    failed: bool,
+}
+
+/// A connection that became no store, and why.
+#[derive(Drop)]
+pub struct Refused<S: Alter> {
+    pub conn: Connection<S>,
+    pub cause: Cause,
+}
+
+/// The refusal by an error of the database: 40 for memory, else 41.
+fn cause_of(error: Error) -> Cause
+    ensures either { (result ≡ Cause.OutOfMemory) ⊎ (result ≡ Cause.Store) }
+    ensures memory { (result ≡ Cause.OutOfMemory) ↔ (error ≡ Error.SqliteFailure ErrorCode.OutOfMemory) }
+{
+    match error {
+        Error::SqliteFailure(ErrorCode::OutOfMemory) => Cause::OutOfMemory,
+        _ => Cause::Store,
+    }
+}
+
+impl<S: Alter> Store<S> {
+    /// A store of the empty state, with tables that are made now.
+    ///
+    /// It asks that no transaction is open. Where a table has the name of one of ours, but for the case of letters, it
+    /// answers 43, and nothing is changed. After 40, and while the connection is open after 41, its tables are as they were.
+    pub fn create(alloc: Global, mut conn: Connection<S>) -> Result<Self, Refused<S>>
+        requires { conn.in_transaction ≡ false }
+        // Into an empty database.
+        ensures made { IfOk result (λ s. (state S.Store conn).now.schema ≡ no_schema → IsOf S.Store s empty_state) }
+        // Beside other tables, none of which has AUTOINCREMENT.
+        ensures beside { IfOk result (λ s. HasCleanDisk (state S.Store s.conn) → has_counter (state S.Store conn).now.schema ≡ false → Beside (state S.Store conn).now (state S.Store s.conn).now) }
+        ensures still_open { IfOk result (λ s. HasCleanDisk (state S.Store s.conn) → IsTrue (state S.Store s.conn).is_open) }
+        ensures fresh { IfOk result (λ s. Knows s empty_state × (s.failed ≡ false)) }
+        ensures free { IfOk result (λ s. has_one (state S.Store conn).now.schema ≡ false) }
+        ensures taken { IsTrue (has_one (state S.Store conn).now.schema) → result ≡ Err (record { conn = conn; cause = Cause.Damaged }) }
+        ensures refused { IfErr result (λ r. ((r.cause ≡ Cause.Damaged) × IsTrue (has_one (state S.Store conn).now.schema)) ⊎ ((r.cause ≡ Cause.OutOfMemory) ⊎ (r.cause ≡ Cause.Store))) }
+        ensures unchanged { IfErr result (λ r. HasCleanDisk (state S.Store r.conn) → IsTrue (state S.Store r.conn).is_open → ((state S.Store r.conn).now ≡ (state S.Store conn).now) × ((state S.Store r.conn).committed ≡ (state S.Store conn).committed)) }
+    {
+        match create_tables(&mut conn) {
+            Ok(true) => Ok(Store {
+                alloc,
+                conn,
+                numbers: Some(Numbers::none(alloc)),
+                failed: false,
+            }),
+            Ok(false) => Err(Refused {
+                conn,
+                cause: Cause::Damaged,
+            }),
+            Err(error) => Err(Refused {
+                conn,
+                cause: cause_of(error),
+            }),
+        }
+    }
+
+    /// A store of the state whose rows the tables are.
+    ///
+    /// It asks that no transaction is open. Where the tables or the one row of `format` are not there, it answers 43.
+    pub fn open(alloc: Global, mut conn: Connection<S>) -> Result<Self, Refused<S>>
+        requires { conn.in_transaction ≡ false }
+        ensures there { IfOk result (λ s. HasCleanDisk (state S.Store s.conn) → MadeHere (state S.Store conn).now.schema → IsTreasury (state S.Store conn).now) }
+        ensures tables { IfOk result (λ s. IsTrue (has_all (state S.Store conn).now.schema)) }
+        ensures same { IfOk result (λ s. HasCleanDisk (state S.Store s.conn) → MadeHere (state S.Store conn).now.schema → ((state S.Store s.conn).now ≡ (state S.Store conn).now) × ((state S.Store s.conn).committed ≡ (state S.Store conn).committed)) }
+        ensures fresh { IfOk result (λ s. (s.numbers ≡ None) × (s.failed ≡ false)) }
+        ensures none { has_all (state S.Store conn).now.schema ≡ false → result ≡ Err (record { conn = conn; cause = Cause.Damaged }) }
+        ensures refused { IfErr result (λ r. (r.cause ≡ Cause.Damaged) ⊎ ((r.cause ≡ Cause.OutOfMemory) ⊎ (r.cause ≡ Cause.Store))) }
+        ensures damaged { IfErr result (λ r. r.cause ≡ Cause.Damaged → HasCleanDisk (state S.Store r.conn) → MadeHere (state S.Store conn).now.schema → (IsTreasury (state S.Store conn).now → ⊥)
+            × ((state S.Store r.conn).now ≡ (state S.Store conn).now) × ((state S.Store r.conn).committed ≡ (state S.Store conn).committed)) }
+    {
+        match are_tables_there(&mut conn) {
+            Ok(true) => Ok(Store {
+                alloc,
+                conn,
+                numbers: None,
+                failed: false,
+            }),
+            Ok(false) => Err(Refused {
+                conn,
+                cause: Cause::Damaged,
+            }),
+            Err(error) => Err(Refused {
+                conn,
+                cause: cause_of(error),
+            }),
+        }
+    }
+
+    /// The connection, with its tables as they stand.
+    pub fn into_connection(self) -> Connection<S>
+        ensures { result ≡ self.conn }
+    {
+        let Store {
+            alloc: _,
+            conn,
+            numbers: _,
+            failed: _,
+        } = self;
+        conn
+    }
+
+    /// The state whose rows the tables are, read from them and nothing else. The store is of it then.
+    ///
+    /// Where the tables are no state's rows, it answers 43, and after that and 40 the store is as it was. After 41 every
+    /// later call answers 42, and changes nothing.
+    pub fn load<L: Ledger>(&mut self) -> Result<State<L>, Cause>
+        // Of whichever good state the tables are the rows, also those that were opened.
+        ensures ok { IfOk result (λ s. (f : Federation) → IsGoodState f → TablesAre S.Store self.old.conn (rows f) → IsOf S.Store self.new s × (HasCleanDisk (state S.Store self.new.conn) → s ≡ f)) }
+        ensures known { IfOk result (λ s. Knows self.new s) }
+        ensures still_open { OnOk result (HasCleanDisk (state S.Store self.new.conn) → IsTrue (state S.Store self.new.conn).is_open) }
+        // No state in memory has a lock day that is not in 32 bits.
+        ensures damaged { result ≡ Err Cause.Damaged → HasCleanDisk (state S.Store self.new.conn) → (f : Federation) → IsGoodState f → HasShortLocks f → TablesAre S.Store self.old.conn (rows f) → ⊥ }
+        ensures err { OnErr result ((f : Federation) → IsOf S.Store self.old f → IsOf S.Store self.new f) }
+        ensures tables { OnErr result ((t : Tables) → TablesAre S.Store self.old.conn t → TablesAre S.Store self.new.conn t) }
+        ensures unknown { OnErr result (self.new.numbers ≡ self.old.numbers) }
+        ensures answers { self.old.failed ≡ false → AnswersState result self.new.failed }
+        ensures closed { IsTrue self.old.failed → (result ≡ Err Cause.Closed) × (self.new ≡ self.old) }
+        ensures crash { Survives (state S.Store self.old.conn) (state S.Store self.new.conn) (λ _. (t : Tables) → Holds (state S.Store self.old.conn).now t → ⊥) }
+    {
+        if self.failed {
+            return Err(Cause::Closed);
+        }
+        let parts = match load_parts(self.alloc, &mut self.conn) {
+            Ok(parts) => parts,
+            Err(Error::SqliteFailure(ErrorCode::OutOfMemory)) => return Err(Cause::OutOfMemory),
+            Err(_) => {
+                self.failed = true;
+                return Err(Cause::Store);
+            }
+        };
+        let now = State::build(self.alloc, parts)?;
+        now.is_good();
+        let numbers = numbers_of(self.alloc, &now)?;
+        self.numbers = Some(numbers);
+        Ok(now)
+    }
+
+    /// Writes what a decided command adds, in one transaction.
+    ///
+    /// It asks that the store knows a state, and that the state with what is added is good. A store of the one is then of
+    /// the other, or it answers 40 or 41 and is of the old one. After 41 every later call answers 42, and changes nothing. What a stop or a
+    /// crash leaves are the rows of one of the two.
+    pub fn commit(&mut self, delta: &Delta) -> Result<(), Cause>
+        requires { (f : Federation) × Knows self.old f × IsGoodState (joined f delta.now) }
+        ensures ok { OnOk result ((f : Federation) → IsOf S.Store self.old f → IsGoodState (joined f delta.now) → IsOf S.Store self.new (joined f delta.now)) }
+        ensures knows { OnOk result ((f : Federation) → Knows self.old f → Knows self.new (joined f delta.now)) }
+        ensures still_open { OnOk result (HasCleanDisk (state S.Store self.new.conn) → IsTrue (state S.Store self.new.conn).is_open) }
+        ensures err { OnErr result ((f : Federation) → IsOf S.Store self.old f → IsOf S.Store self.new f) }
+        ensures known { OnErr result (self.new.numbers ≡ self.old.numbers) }
+        ensures answers { self.old.failed ≡ false → Answers result self.new.failed }
+        ensures closed { IsTrue self.old.failed → (result ≡ Err Cause.Closed) × (self.new ≡ self.old) }
+        ensures crash { Survives (state S.Store self.old.conn) (state S.Store self.new.conn) (λ trees. (db : Database) × (trees ≡ db.trees)
+            × ((f : Federation) → IsOf S.Store self.old f → IsGoodState (joined f delta.now) → Holds (state S.Store self.old.conn).now (rows f) → Holds db (rows (joined f delta.now)))) }
+    {
+        if self.failed {
+            return Err(Cause::Closed);
+        }
+        let Some(numbers) = &self.numbers else {
+            unreachable!()
+        };
+        let (changes, numbers) = changes_of(self.alloc, numbers, delta.additions())?;
+        match write_all(&mut self.conn, changes.items()) {
+            Ok(()) => {
+                self.numbers = Some(numbers);
+                Ok(())
+            }
+            Err(Error::SqliteFailure(ErrorCode::OutOfMemory)) => Err(Cause::OutOfMemory),
+            Err(_) => {
+                self.failed = true;
+                Err(Cause::Store)
+            }
+        }
+    }
+}

@@ -1,0 +1,11 @@
+//! The tests of the treasury's libraries, by their public calls.
+#![tactic(auto)]
+
+#[cfg(test)]
+mod machine;
+#[cfg(test)]
+mod memory;
+#[cfg(test)]
+mod reports;
+#[cfg(test)]
+mod store;
