@@ -15,7 +15,7 @@ use Rattle.journal_format.specs.Fault.{IsFirstFault}
 use Rattle.treasury_core.specs.declared.command.Command.TheVariants as cmd
 use Rattle.treasury_core.specs.Federation.{Federation}
 use Rattle.treasury.specs.declared.request.Request.{Request}
-use Rattle.treasury.specs.declared.request.Request.TheVariants.{Branch as ForBranch, Commodity as ForCommodity, Import as ForImport, Dispatch as ForDispatch, Receive as ForReceive, Lock as ForLock, Balance as ForBalance, Register as ForRegister, Transit as ForTransit, Journal as ForJournal}
+use Rattle.treasury.specs.declared.request.Request.TheVariants.{Branch as ForBranch, Commodity as ForCommodity, Import as ForImport, Dispatch as ForDispatch, Receive as ForReceive, Lock as ForLock, Close as ForClose, Balance as ForBalance, Register as ForRegister, Transit as ForTransit, Journal as ForJournal}
 use Rattle.treasury.specs.declared.asking.Asked.{Asked}
 use Rattle.treasury.specs.declared.asking.Asked.TheVariants.{Command, Report}
 use Rattle.treasury.specs.declared.report.Report.TheVariants as report
@@ -45,6 +45,7 @@ request_asks law styles (ForImport name journal) = journal_asks law styles name 
 request_asks law styles (ForDispatch id from to day text account) = (asked_by_amount id from to day account (amount styles text), refl)
 request_asks law styles (ForReceive id name day account) = (Ok (Command (cmd.Receive (record { id = id; branch = name; day = day; account = account }))), refl)
 request_asks law styles (ForLock name day) = (Ok (Command (cmd.Lock name day)), refl)
+request_asks law styles (ForClose name day) = (Ok (Command (cmd.Close name day)), refl)
 request_asks law styles (ForBalance name day) = (Ok (Report (report.Balance name day)), refl)
 request_asks law styles (ForRegister name account tag) = (Ok (Report (report.Register name account tag)), refl)
 request_asks law styles (ForTransit day) = (Ok (Report (report.Transit day)), refl)

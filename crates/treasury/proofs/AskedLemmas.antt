@@ -24,7 +24,7 @@ use Rattle.treasury_core.specs.declared.command.Command.{Command as AnyCommand}
 use Rattle.treasury_core.specs.declared.command.Command.TheVariants as cmd
 use Rattle.treasury_core.specs.Good.{IsFile, Fits}
 use Rattle.treasury.specs.declared.request.Request.{Request}
-use Rattle.treasury.specs.declared.request.Request.TheVariants.{Branch as ForBranch, Commodity as ForCommodity, Import as ForImport, Dispatch as ForDispatch, Receive as ForReceive, Lock as ForLock, Balance as ForBalance, Register as ForRegister, Transit as ForTransit, Journal as ForJournal}
+use Rattle.treasury.specs.declared.request.Request.TheVariants.{Branch as ForBranch, Commodity as ForCommodity, Import as ForImport, Dispatch as ForDispatch, Receive as ForReceive, Lock as ForLock, Close as ForClose, Balance as ForBalance, Register as ForRegister, Transit as ForTransit, Journal as ForJournal}
 use Rattle.treasury.specs.declared.asking.Asked.TheVariants.{Command}
 use Rattle.treasury.specs.Request.{text_at, day_at, is_form, dispatch_at, receive_at, register_at, tagged_at, report_form, form, request_of, spelled, HasDayNumbers}
 use Rattle.treasury.specs.Asked.{asked_by_sample, asked_by_amount, RequestAsks, Asks}
@@ -118,7 +118,10 @@ form_days word d request e =
     one_of (is_form (codes "receive") 5 word d) _ _ request (HasDayNumbers request) e4 (receive_days d request) (λ e5.
     one_of (is_form (codes "lock") 3 word d) _ _ request (HasDayNumbers request) e5
     (λ h. let b = by_texts (λ branch. option_map (ForLock branch) (day_at (codes "day") d)) (text_at (codes "branch") d) request h in
-    let l = by_day (codes "day") d (ForLock b.0) request b.1 in subst HasDayNumbers l.1.0 l.1.1) (report_days word d request))))))
+    let l = by_day (codes "day") d (ForLock b.0) request b.1 in subst HasDayNumbers l.1.0 l.1.1) (λ e6.
+    one_of (is_form (codes "close") 3 word d) _ _ request (HasDayNumbers request) e6
+    (λ h. let b = by_texts (λ branch. option_map (ForClose branch) (day_at (codes "day") d)) (text_at (codes "branch") d) request h in
+    let l = by_day (codes "day") d (ForClose b.0) request b.1 in subst HasDayNumbers l.1.0 l.1.1) (report_days word d request)))))))
 
 request_days : (o : Option Data) (request : Request) → option_and_then request_of o ≡ Some request → HasDayNumbers request
 request_days None request e = absurd cc
@@ -163,6 +166,7 @@ request_fits styles (ForReceive id name day account) c days h =
     let same : c ≡ cmd.Receive (record { id = id; branch = name; day = day; account = account }) = cc in
     subst (Fits styles) (sym same) (record { day = days })
 request_fits styles (ForLock name day) c days h = let same : c ≡ cmd.Lock name day = cc in subst (Fits styles) (sym same) days
+request_fits styles (ForClose name day) c days h = let same : c ≡ cmd.Close name day = cc in subst (Fits styles) (sym same) days
 request_fits styles (ForBalance name day) c days h = absurd cc
 request_fits styles (ForRegister name account tag) c days h = absurd cc
 request_fits styles (ForTransit day) c days h = absurd cc

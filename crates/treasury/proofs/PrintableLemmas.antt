@@ -1,5 +1,5 @@
 -- A refusal can be printed: a failed assertion of a book names a date, a commodity and quantities of its entries.
-use Rattle.std.proofs.Common.{◌≡◌, ◌≤◌, ◌<◌, ◌⊎◌, ◌++◌, List, [], ◌∷◌, length, Option, Some, None, Result, Ok, Err, ℤ, pos, arith, refl, sym, subst, inl, inr, ℕ, Bool, true, false, not, nat_le}
+use Rattle.std.proofs.Common.{◌≡◌, ◌≤◌, ◌<◌, ◌⊎◌, ◌++◌, List, [], ◌∷◌, length, Option, Some, None, Result, Ok, Err, ℤ, pos, arith, refl, sym, subst, inl, inr, ℕ, Bool, true, false, not, nat_le, nat_lt}
 use Rattle.std.specs.Prelude.{Contains, unsigned_abs, if◌then◌else◌, int_le, int_lt, is_some}
 use Rattle.std.specs.Str.{bytes_eq}
 use Rattle.std.specs.List.{AllByRecursion, list_any}
@@ -10,7 +10,7 @@ use Rattle.money_core.specs.declared.unit.Declared.{Declared}
 use Rattle.money_core.specs.declared.unit.Declared.TheVariants.{New, Same}
 use Rattle.money_core.specs.declared.day.Day.{Day}
 use Rattle.money_core.specs.declared.cause.Cause.{Cause}
-use Rattle.money_core.specs.declared.cause.Cause.TheVariants.{OutOfMemory, UnknownTransfer}
+use Rattle.money_core.specs.declared.cause.Cause.TheVariants.{OutOfMemory, UnknownTransfer, NothingToClose, Limit}
 use Rattle.money_core.specs.Amount.{limit}
 use Rattle.money_core.specs.AmountText.{IsDeclared}
 use Rattle.money_core.specs.Style.{declared}
@@ -27,6 +27,7 @@ use Rattle.book_core.specs.Named.{IsOfBook, units_of}
 use Rattle.book_core.proofs.NamedLemmas.{failed_named, named_unit}
 use Rattle.journal_format.specs.declared.txn.Txn.{Txn}
 use Rattle.journal_format.specs.declared.txn.Located.{Located}
+use Rattle.journal_format.specs.Pieces.{posting_limit}
 use Rattle.journal_format.specs.Printable.{IsPrintable}
 use Rattle.journal_balance.specs.Legs.{legs_of}
 use Rattle.journal_balance.proofs.EntryLemmas.{entry_day}
@@ -42,10 +43,13 @@ use Rattle.treasury_core.specs.declared.command.Receive.{Receive}
 use Rattle.treasury_core.specs.declared.transfer.Transfer.{Transfer}
 use Rattle.treasury_core.specs.Mark.{is_held, is_repeat, is_product_mark}
 use Rattle.treasury_core.specs.Transfer.{is_id, is_account_text, is_reserved, is_transit, dispatch_record, receipt_record}
-use Rattle.treasury_core.specs.Step.{unless, commodity_reply, is_locked, is_lock, goes_back, fault_on, unbalanced, records_in_file, barred, refusal_of, refused_in, new_records, enter_refusal, transfer_at, transfer_of, is_dispatched_so, dispatch_refusal, dispatch_reply, receipt_of, is_received_so, receipt_refusal, receipt_reply, receive_reply, reply}
+use Rattle.treasury_core.specs.Closing.{close_mark, closing_record, closing_answer, closing_in}
+use Rattle.treasury_core.specs.Step.{unless, commodity_reply, is_locked, is_lock, goes_back, fault_on, unbalanced, records_in_file, barred, refusal_of, refused_in, new_records, enter_refusal, transfer_at, transfer_of, is_dispatched_so, dispatch_refusal, dispatch_reply, receipt_of, is_received_so, receipt_refusal, receipt_reply, receive_reply, entering_refusal, close_refusal, reply}
 use Rattle.treasury_core.specs.Good.{IsGoodRecord, IsGoodState, Fits}
 use Rattle.treasury_core.proofs.LateEntryLemmas.{all_at}
 use Rattle.treasury_core.proofs.OwnLemmas.{of_branch}
+use Rattle.treasury_core.proofs.ClosingReply.{not_more}
+use Rattle.treasury_core.proofs.ClosingRecord.{closing_record_good}
 use Rattle.treasury_core.proofs.ReplyLemmas.{new_good, dispatch_record_good, receipt_record_good}
 use Rattle.treasury.specs.Answer.{IsPrintableFailure, IsPrintableRefusal}
 
@@ -220,6 +224,17 @@ receive_printable : (f : Federation) (r : Receive) (e : Refusal) → IsGoodState
 receive_printable f r e good fits h =
     replied_there f.styles (has_branch f r.branch) _ _ e h (λ there h1. replied_there f.styles (is_id r.id) _ _ e h1 (λ id h2. receipt_printable f r (transfer_at f r.id) e good fits refl h2))
 
+entering_printable : (f : Federation) (name : List ℕ) (day : Day) (t : Txn) (b : Bool) (e : Refusal) → IsGoodState f → IsDayNumber day → closing_in f name day ≡ Some t → nat_lt posting_limit (length t.postings) ≡ b
+    → entering_refusal (records_of f name) day (if b then Err (Plain Limit) else Ok t) ≡ Some e → IsPrintableRefusal f.styles e
+entering_printable f name day t true e good days closes few h = plain_printable f.styles Limit e cc
+entering_printable f name day t false e good days closes few h =
+    with_record_printable f name (closing_record day t) e good (closing_record_good f name day t good days closes (not_more (length t.postings) few)) h
+
+closing_printable : (f : Federation) (name : List ℕ) (day : Day) (o : Option Txn) (e : Refusal) → IsGoodState f → IsDayNumber day → closing_in f name day ≡ o
+    → entering_refusal (records_of f name) day (closing_answer o) ≡ Some e → IsPrintableRefusal f.styles e
+closing_printable f name day None e good days closes h = plain_printable f.styles NothingToClose e cc
+closing_printable f name day (Some t) e good days closes h = entering_printable f name day t (nat_lt posting_limit (length t.postings)) e good days closes refl h
+
 reply_printable : (f : Federation) (c : Command) (e : Refusal) → IsGoodState f → Fits f.styles c → reply f c ≡ Err e → IsPrintableRefusal f.styles e
 unfolding reply
 reply_printable f (cmd.Branch name) e good fits h =
@@ -233,6 +248,10 @@ reply_printable f (cmd.Receive r) e good fits h = receive_printable f r e good f
 reply_printable f (cmd.Lock name day) e good fits h =
     replied_there f.styles (has_branch f name) _ _ e h (λ there h1. replied_repeat f.styles (is_lock (lock_of f name) day) _ e h1 (λ h2.
     replied_plain f.styles (goes_back (lock_of f name) day) _ _ e h2 (λ h3. absurd cc)))
+reply_printable f (cmd.Close name day) e good fits h =
+    replied_there f.styles (has_branch f name) _ _ e h (λ there h1. replied_repeat f.styles (is_held (records_of f name) (close_mark day)) _ e h1 (λ h2.
+    let refused = by_answer f.styles _ (close_refusal (lock_of f name) (records_of f name) day (closing_in f name day)) e h2 in
+    chosen f.styles (is_locked (lock_of f name) day) _ _ e refused (λ k. closing_printable f name day (closing_in f name day) e good fits refl k)))
 
 -- the refusal of a decided command can be printed
 pub decided_printable : (f : Federation) (c : Command) (e : Refusal) → IsGoodState f → Fits f.styles c → (e ≡ Plain OutOfMemory) ⊎ (reply f c ≡ Err e) → IsPrintableRefusal f.styles e

@@ -16,7 +16,7 @@ use Rattle.journal_format.specs.Pieces.{Reads}
 use Rattle.journal_format.specs.Fault.{IsFirstFault}
 use Rattle.treasury_core.specs.declared.command.Command.TheVariants as cmd
 use Rattle.treasury.specs.declared.request.Request.{Request}
-use Rattle.treasury.specs.declared.request.Request.TheVariants.{Branch, Commodity, Import, Dispatch, Receive, Lock, Balance, Register, Transit, Journal}
+use Rattle.treasury.specs.declared.request.Request.TheVariants.{Branch, Commodity, Import, Dispatch, Receive, Lock, Close, Balance, Register, Transit, Journal}
 use Rattle.treasury.specs.declared.asking.Asked.{Asked}
 use Rattle.treasury.specs.declared.asking.Asked.TheVariants.{Command, Report}
 use Rattle.treasury.specs.declared.report.Report.TheVariants as report
@@ -49,6 +49,7 @@ RequestAsks styles (Dispatch id from to day text account) asked =
 RequestAsks styles (Receive id name day account) asked =
     asked ≡ Ok (Command (cmd.Receive (record { id = id; branch = name; day = day; account = account })))
 RequestAsks styles (Lock name day) asked = asked ≡ Ok (Command (cmd.Lock name day))
+RequestAsks styles (Close name day) asked = asked ≡ Ok (Command (cmd.Close name day))
 RequestAsks styles (Balance name day) asked = asked ≡ Ok (Report (report.Balance name day))
 RequestAsks styles (Register name account tag) asked = asked ≡ Ok (Report (report.Register name account tag))
 RequestAsks styles (Transit day) asked = asked ≡ Ok (Report (report.Transit day))

@@ -10,7 +10,7 @@ use Rattle.money_core.specs.declared.day.Day.{Day}
 use Rattle.journal_lines.specs.Date.{IsDayNumber}
 use Rattle.journal_lines.specs.DateReading.{date_of}
 use Rattle.treasury.specs.declared.request.Request.{Request}
-use Rattle.treasury.specs.declared.request.Request.TheVariants.{Branch, Commodity, Import, Dispatch, Receive, Lock, Balance, Register, Transit, Journal}
+use Rattle.treasury.specs.declared.request.Request.TheVariants.{Branch, Commodity, Import, Dispatch, Receive, Lock, Close, Balance, Register, Transit, Journal}
 
 -- the text at a key of an object
 abbrev pub text_at : List ℕ → Data → Option (List ℕ)
@@ -84,6 +84,8 @@ form word d =
     else if is_form (codes "receive") 5 word d then receive_at d
     else if is_form (codes "lock") 3 word d
     then option_and_then (λ branch. option_map (Lock branch) (day_at (codes "day") d)) (text_at (codes "branch") d)
+    else if is_form (codes "close") 3 word d
+    then option_and_then (λ branch. option_map (Close branch) (day_at (codes "day") d)) (text_at (codes "branch") d)
     else report_form word d
 
 -- the request that an object is
@@ -102,6 +104,7 @@ HasDayNumbers (Import branch journal) = ⊤
 HasDayNumbers (Dispatch id from to day amount account) = IsDayNumber day
 HasDayNumbers (Receive id branch day account) = IsDayNumber day
 HasDayNumbers (Lock branch day) = IsDayNumber day
+HasDayNumbers (Close branch day) = IsDayNumber day
 HasDayNumbers (Balance branch day) = IsDayNumber day
 HasDayNumbers (Register branch account tag) = ⊤
 HasDayNumbers (Transit day) = IsDayNumber day

@@ -117,6 +117,7 @@ fn asked_by_request(alloc: Global, styles: &Styles, request: Request) -> Result<
             account,
         }))),
         Request::Lock { branch, day } => Ok(Asked::Command(Command::Lock(branch, day))),
+        Request::Close { branch, day } => Ok(Asked::Command(Command::Close(branch, day))),
         Request::Balance { branch, day } => Ok(Asked::Report(Report::Balance { branch, day })),
         Request::Register {
             branch,

@@ -47,6 +47,11 @@ pub enum Request {
         branch: Text,
         day: Day,
     },
+    /// The closing of the branch of that name at the day.
+    Close {
+        branch: Text,
+        day: Day,
+    },
     /// The balances of the branch of that name through the day.
     Balance {
         branch: Text,
@@ -139,6 +144,10 @@ impl Copied for Request {
             Request::Lock { branch, day } => {
                 let branch = branch.copy()?;
                 Ok(Request::Lock { branch, day: *day })
+            }
+            Request::Close { branch, day } => {
+                let branch = branch.copy()?;
+                Ok(Request::Close { branch, day: *day })
             }
             Request::Balance { branch, day } => {
                 let branch = branch.copy()?;

@@ -15,7 +15,8 @@ use std::alloc::{AllocError, Global};
 use std::io::{Read, Write};
 use std::mem::ManuallyDrop;
 use treasury_core::{
-    State, good_law, growing_law, late_entry_law, lock_law, records_law, sound_law,
+    State, accepted_closing_law, good_law, growing_law, late_entry_law, lock_law, records_law,
+    sound_law,
 };
 
 /// The ledger that keeps the book of a branch. It is named here alone.
@@ -45,6 +46,7 @@ const EXAMPLE_RUN: &str = r#"Requests:
   {"do":"receive","id":ID,"branch":NAME,"day":DAY,"account":ACCOUNT}
                                                  money that has come into the branch's account
   {"do":"lock","branch":NAME,"day":DAY}          no more entries through the day
+  {"do":"close","branch":NAME,"day":DAY}         revenues and expenses to zero through the day, and a lock
 
 Reports:
   {"do":"balance","branch":NAME,"day":DAY}       the branch's balances through the day
@@ -121,6 +123,7 @@ fn run<R: Read, W: Write>(alloc: Global, input: &mut R, output: &mut W) -> Resul
     records_law();
     growing_law();
     lock_law();
+    accepted_closing_law();
     late_entry_law();
     let done = run_lines(alloc, input, output, &mut state);
     // The process ends here, and its memory with it: to free each record would take a tenth of the run.

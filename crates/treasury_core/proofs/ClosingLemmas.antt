@@ -1,5 +1,5 @@
 -- what a closing moves: the accounts that are selected, and the one that gets what they held
-use Rattle.std.proofs.Common.{◌≡◌, ◌≤◌, ◌<◌, ◌+◌, ℕ, nat_eq, Bool, true, false, not, ◌&&◌, ◌||◌, List, [], ◌∷◌, ◌++◌, length, ℤ, pos, ◌+ℤ◌, ◌-ℤ◌, ◌≤ℤ◌, refl, ap, ◌∙◌, sym, subst, arith, Option, Some, None, ◌⊎◌, inl, inr, Ordering}
+use Rattle.std.proofs.Common.{◌≡◌, ◌≤◌, ◌<◌, ◌+◌, ℕ, nat_eq, Bool, true, false, not, ◌&&◌, ◌||◌, List, [], ◌∷◌, ◌++◌, length, ℤ, pos, ◌+ℤ◌, ◌-ℤ◌, ◌≤ℤ◌, refl, ap, ◌∙◌, sym, arith, Some, None, ◌⊎◌, inl, inr, Ordering}
 use Rattle.std.specs.Prelude.{if◌then◌else◌, unsigned_abs, filter, cond, int_le}
 use Rattle.std.specs.Ordering.{ordering_reverse}
 use Rattle.std.specs.Cmp.{unsigned_Decides}
@@ -9,20 +9,18 @@ use Rattle.std.specs.Str.{bytes_eq}
 use Rattle.std.specs.declared.cmp.Ordering.TheVariants.{Less, Equal, Greater}
 use Rattle.std.proofs.lemmas.Int.{ints}
 use Rattle.std.proofs.lemmas.Map.Lookups.{exact_bytes}
-use Rattle.std.proofs.lemmas.Slice.Eq.{bytes_eq-Decides}
 use Rattle.std.proofs.lemmas.Bool.{cases_lt}
 use Rattle.money_core.specs.declared.style.Style.{Style}
 use Rattle.money_core.specs.declared.unit.Unit.{Unit as Commodity}
 use Rattle.money_core.specs.declared.day.Day.{Day}
 use Rattle.money_core.specs.AmountText.{IsDeclared}
-use Rattle.book_core.specs.declared.account.Reach.{Reach}
 use Rattle.book_core.specs.declared.account.Reach.TheVariants.{Own}
 use Rattle.book_core.specs.declared.entry.Entry.{Entry}
 use Rattle.book_core.specs.declared.leg.Leg.{Leg}
 use Rattle.book_core.specs.declared.place.Until.{Until}
 use Rattle.book_core.specs.declared.place.Until.TheVariants.{Through}
 use Rattle.book_core.specs.Account.{name_cmp}
-use Rattle.book_core.specs.Book.{Posted, posted, posted_legs, posted_from, legs_of, accounts_of}
+use Rattle.book_core.specs.Book.{posted_legs, posted_from, legs_of, accounts_of}
 use Rattle.book_core.specs.Place.{is_until}
 use Rattle.book_core.specs.Balance.{counts, total, balance, sum_in, value, moved, turnover}
 use Rattle.book_core.proofs.AccountListLemmas.{names_total}
@@ -37,12 +35,12 @@ use Rattle.treasury_core.specs.declared.record.Record.{Record}
 use Rattle.treasury_core.specs.Federation.{Federation, entries, book_of, records_of}
 use Rattle.treasury_core.specs.Good.{IsGoodRecord, IsGoodState}
 use Rattle.treasury_core.specs.Accounts.{placed_name, with_name, ordered_names, book_accounts}
-use Rattle.treasury_core.specs.Closing.{through, zero_claim, posting_of, selected, closed_account, held_in, gaining_account, closing_postings, closing_txn, closing_of, closing}
+use Rattle.treasury_core.specs.Closing.{through, selected, closed_account, held_in, gaining_account, closing_postings, closing_txn, closing_of, closing}
 use Rattle.treasury_core.specs.Closed.{IsClosing, closed_book}
 use Rattle.treasury_core.proofs.AccountOrder.{book_accounts_are}
 use Rattle.treasury_core.proofs.BytesLemmas.{same_bytes, self_bytes, other_bytes, neither}
 use Rattle.treasury_core.proofs.OwnLemmas.{of_branch}
-use Rattle.treasury_core.proofs.ClosingSums.{picked, picked-append, picked-value, picked-sum, legs-append, spread, picked_known, picked_behind, picked_closed, picked_unknown, held_if, held_all, held_none, held_own, AreApart}
+use Rattle.treasury_core.proofs.ClosingSums.{picked, picked-append, picked-value, picked-sum, legs-append, picked_known, picked_behind, picked_closed, picked_unknown, held_if, held_all, held_none, held_own, AreApart}
 
 -- ---- the accounts of a book stand apart
 

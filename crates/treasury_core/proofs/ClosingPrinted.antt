@@ -1,12 +1,12 @@
 -- a closing can be printed, and does what its postings say
-use Rattle.std.proofs.Common.{◌≡◌, ◌≤◌, ◌<◌, ◌+◌, ◌*◌, ◌&&◌, ◌||◌, ◌==◌, ℕ, zero, suc, Bool, true, false, List, [], ◌∷◌, ◌++◌, length, ℤ, pos, neg_ℤ, ◌+ℤ◌, ◌-ℤ◌, refl, ap, ◌∙◌, sym, subst, arith, Option, Some, None, Ok, length-append, true≢false, Ordering}
-use Rattle.std.specs.Prelude.{codes, not, nat_lt, nat_le, unsigned_abs, if◌then◌else◌, filter, cond}
+use Rattle.std.proofs.Common.{◌≡◌, ◌≤◌, ◌<◌, ◌+◌, ◌*◌, ◌||◌, ◌==◌, ℕ, zero, suc, Bool, true, false, List, [], ◌∷◌, ◌++◌, length, ℤ, pos, neg_ℤ, ◌-ℤ◌, refl, ap, ◌∙◌, sym, subst, arith, Option, Some, None, Ok, length-append, true≢false, Ordering}
+use Rattle.std.specs.Prelude.{codes, nat_lt, nat_le, unsigned_abs, if◌then◌else◌, filter, cond}
 use Rattle.std.specs.Ordering.{int_eq}
 use Rattle.std.specs.Char.{is_ascii_digit}
-use Rattle.std.specs.List.{list_all, list_any, flat_map, AllByRecursion}
+use Rattle.std.specs.List.{list_all, flat_map, AllByRecursion}
 use Rattle.std.specs.Str.{is_utf8}
 use Rattle.std.specs.declared.cmp.Ordering.TheVariants.{Less, Equal, Greater}
-use Rattle.std.proofs.lemmas.Bool.{and_from, and_parts, cases_lt}
+use Rattle.std.proofs.lemmas.Bool.{and_from, and_parts}
 use Rattle.std.proofs.lemmas.Bool.Decides.{nat_tests}
 use Rattle.std.proofs.lemmas.Grind.{common_steps}
 use Rattle.std.proofs.lemmas.Int.{ints}
@@ -24,7 +24,7 @@ use Rattle.book_core.specs.declared.account.Reach.TheVariants.{Own}
 use Rattle.book_core.specs.declared.place.Until.TheVariants.{Through}
 use Rattle.book_core.specs.Account.{name_cmp}
 use Rattle.book_core.specs.Book.{legs_of as book_legs, accounts_of}
-use Rattle.book_core.specs.Balance.{value, moved}
+use Rattle.book_core.specs.Balance.{value}
 use Rattle.book_core.specs.GoodBook.{HasRoom}
 use Rattle.book_core.proofs.BalanceLemmas.{small_within}
 use Rattle.journal_lines.specs.AccountName.{is_account}
@@ -49,14 +49,14 @@ use Rattle.treasury_core.specs.Federation.{Federation, entries, book_of, records
 use Rattle.treasury_core.specs.Transfer.{is_account_text}
 use Rattle.treasury_core.specs.Good.{IsGoodRecord, IsGoodState}
 use Rattle.treasury_core.specs.Accounts.{placed_name, with_name, ordered_names, book_accounts}
-use Rattle.treasury_core.specs.Closing.{is_revenue_or_expense, retained_earnings, through, zero_claim, posting_of, selected, closed_account, held_in, gaining_account, closing_postings, close_mark, closing_txn, closing, closing_in}
+use Rattle.treasury_core.specs.Closing.{is_revenue_or_expense, retained_earnings, through, zero_claim, posting_of, selected, closed_account, held_in, gaining_account, closing_postings, close_mark, closing_txn, closing_in}
 use Rattle.treasury_core.specs.Closed.{IsClosing}
 use Rattle.treasury_core.proofs.ChangeLemmas.{all-append}
 use Rattle.treasury_core.proofs.OwnLemmas.{of_branch}
 use Rattle.treasury_core.proofs.OpenLemmas.{good_book}
 use Rattle.treasury_core.proofs.ProductLemmas.{line_small}
-use Rattle.treasury_core.proofs.ClosingSums.{picked-value, legs-append, spread, is_zero, picked_closed, held_all, AreApart, closed_small, abs_value, same_spread}
-use Rattle.treasury_core.proofs.ClosingLemmas.{IsKnown, book_known, selected_apart, closing_balanced, from_closing}
+use Rattle.treasury_core.proofs.ClosingSums.{picked-value, spread, picked_closed, held_all, AreApart, closed_small, abs_value, same_spread}
+use Rattle.treasury_core.proofs.ClosingLemmas.{book_known, selected_apart, closing_balanced, from_closing}
 
 -- ---- the postings of a closing, each by itself
 
@@ -80,7 +80,7 @@ each_spread P name g c m n (suc k) fits h =
     by_test true k = tt
     by_test false k = (k, tt)
 
-each_closed : (P : Posting → Type 0) (Q : List ℕ → Type 0) (b : List Entry) (day : Day) (m : ℕ) (names : List (List ℕ)) → AllByRecursion Q names
+pub each_closed : (P : Posting → Type 0) (Q : List ℕ → Type 0) (b : List Entry) (day : Day) (m : ℕ) (names : List (List ℕ)) → AllByRecursion Q names
     → ((name : List ℕ) (unit : Commodity) → Q name → unit.0 < m → P (record { status = None; account = name; amount = Some (unit, pos 0 -ℤ through b day name unit); price = None; claim = Some (zero_claim unit); comments = [] }))
     → AllByRecursion P (flat_map (closed_account b day (commodities 0 m)) names)
 each_closed P Q b day m [] q h = tt

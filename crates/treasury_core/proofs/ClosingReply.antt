@@ -1,6 +1,6 @@
 -- the answer of a closing, by the postings that it has
-use Rattle.std.proofs.Common.{◌≡◌, ◌≤◌, ◌⊎◌, inl, inr, ℕ, Bool, true, false, not, List, [], ◌∷◌, ◌++◌, length, refl, ap, ◌∙◌, sym, subst, arith, Option, Some, None, Ok, Err}
-use Rattle.std.specs.Prelude.{if◌then◌else◌, nat_lt, Result, IfOk, ⊤}
+use Rattle.std.proofs.Common.{◌≡◌, ◌≤◌, ◌⊎◌, inl, inr, ℕ, Bool, true, false, not, List, length, refl, ap, ◌∙◌, sym, subst, arith, Option, Some, None, Ok, Err}
+use Rattle.std.specs.Prelude.{if◌then◌else◌, nat_lt, Result, IfOk}
 use Rattle.std.proofs.lemmas.Bool.Decides.{nat_tests}
 use Rattle.money_core.specs.declared.style.Style.{Style}
 use Rattle.money_core.specs.declared.day.Day.{Day}
@@ -16,7 +16,7 @@ use Rattle.journal_format.specs.Printable.{IsPrintable}
 use Rattle.journal_balance.specs.Legs.{declared}
 use Rattle.treasury_core.specs.Federation.{Federation, has_branch, book_of}
 use Rattle.treasury_core.specs.Good.{IsGoodState}
-use Rattle.treasury_core.specs.Closing.{is_revenue_or_expense, retained_earnings, selected, closing_postings, closing_txn, closing_of, closing, closing_in, closing_answer, closing_reply}
+use Rattle.treasury_core.specs.Closing.{is_revenue_or_expense, retained_earnings, selected, closing_postings, closing_of, closing, closing_in, closing_answer, closing_reply}
 use Rattle.treasury_core.proofs.ClosingPrinted.{closing_printable}
 
 abbrev by_branch : Bool → Option Txn → Result Txn Refusal
@@ -42,7 +42,7 @@ answers f name day b styles ps r here book same all (inl e) =
     let is : ps ≡ postings_in f.styles (book_of f name) day = all ∙ (ap (λ (xs : List Style). postings_in xs b day) same ∙ ap (λ (xs : List Entry). postings_in f.styles xs day) book) in
     inl (e ∙ (ap (λ (xs : List Posting). closing_answer (closing_of day xs)) is ∙ sym (of_branch f name day here)))
 
-not_more : (n : ℕ) → nat_lt posting_limit n ≡ false → n ≤ posting_limit
+pub not_more : (n : ℕ) → nat_lt posting_limit n ≡ false → n ≤ posting_limit
 not_more n h = grind (arith, nat_tests)
 
 -- what is answered can be printed

@@ -9,7 +9,7 @@ use Rattle.treasury_core.specs.declared.record.Record.{Record}
 use Rattle.treasury_core.specs.declared.transfer.Transfer.{Transfer}
 use Rattle.treasury_core.specs.declared.transfer.Receipt.{Receipt}
 use Rattle.treasury_core.specs.Federation.{Branch, Federation, entries, book_of}
-use Rattle.treasury_core.specs.Mark.{held, is_of_transfer}
+use Rattle.treasury_core.specs.Mark.{held, is_of_transfer, is_closing}
 use Rattle.treasury_core.specs.Transfer.{has_id, asked, out_records, in_records, dispatch_record, receipt_record, out_mark}
 use Rattle.treasury_core.specs.Joined.{with_records, changed, inserted, received, with_receipt, with_entered, with_dispatched, with_received}
 use Rattle.treasury_core.specs.Good.{IsGoodRecord, IsGoodBranch, IsGoodTransfer, IsCarried, IsGoodState, IsLater}
@@ -34,11 +34,11 @@ all_whole styles ts [] h k = tt
 all_whole styles ts (b ∷ bs) h k = (record { good = h.0; carried = k.0 }, all_whole styles ts bs h.1 k.1)
 
 -- a transfer's record comes into its branch
-gets_record : (styles : List Style) (ts ts' : List Transfer) (b : Branch) (r : Record) → IsWhole styles ts b → IsGoodRecord styles r → is_of_transfer r ≡ true → verdict (entries b.records ++ r.entry ∷ []) ≡ None
+gets_record : (styles : List Style) (ts ts' : List Transfer) (b : Branch) (r : Record) → IsWhole styles ts b → IsGoodRecord styles r → is_of_transfer r ≡ true → is_closing r ≡ false → verdict (entries b.records ++ r.entry ∷ []) ≡ None
     → held (asked ts b.name) r.mark ≡ None → ((m : List ℕ) → held (asked ts' b.name) m ≡ cond (bytes_eq r.mark m) (Some r) (held (asked ts b.name) m)) → IsWhole styles ts' (with_records (r ∷ []) b)
-gets_record styles ts ts' b r h new own passes free after =
+gets_record styles ts ts' b r h new own other passes free after =
     let got = gets ts ts' b r (in_step styles ts b h.good h.carried) own free after in
-    record { good = branch_entered styles (r ∷ []) b h.good got.own_marks (new, tt) ((λ e. absurd (let k : true ≡ false = sym own ∙ e in cc)), tt) passes; carried = got.asked_for }
+    record { good = branch_entered styles (r ∷ []) b h.good got.own_marks (new, tt) ((λ e. absurd (let k : true ≡ false = sym own ∙ e in cc)), tt) ((λ e. absurd (let k : true ≡ false = sym e ∙ other in cc)), tt) passes; carried = got.asked_for }
 
 stays_whole : (styles : List Style) (ts ts' : List Transfer) (b : Branch) → asked ts' b.name ≡ asked ts b.name → IsWhole styles ts b → IsWhole styles ts' b
 stays_whole styles ts ts' b e h = let kept = keeps ts ts' b e (in_step styles ts b h.good h.carried) in record { good = h.good; carried = kept.asked_for }
@@ -50,7 +50,7 @@ good_dispatched f t good none fair new written passes =
     let g : Branch → Branch = with_records (dispatch_record t ∷ []) in
     let ts = f.transfers in
     let whole = all-changed (IsWhole f.styles ts) (IsWhole f.styles (inserted t ts)) g t.source f.branches good.names
-    (λ b n e h. gets_record f.styles ts (inserted t ts) b (dispatch_record t) h written refl (rw e passes) (no_out ts b.name t.id new)
+    (λ b n e l h. gets_record f.styles ts (inserted t ts) b (dispatch_record t) h written refl refl (rw e passes) (no_out ts b.name t.id new)
     (λ m. inserted_here t ts b.name m none (ap (λ (x : List ℕ). bytes_eq t.source x) n ∙ self_bytes t.source) new))
     (λ b n h. stays_whole f.styles ts (inserted t ts) b (inserted_elsewhere t ts b.name none (other_bytes b.name t.source n)) h)
     (all_whole f.styles ts f.branches good.branches good.carried) in
@@ -76,7 +76,7 @@ good_received f t r good here none fair later written passes =
     let ts = f.transfers in
     let ts' = received t.id r f.transfers in
     let whole = all-changed (IsWhole f.styles ts) (IsWhole f.styles ts') g t.target f.branches good.names
-    (λ b n e h. gets_record f.styles ts ts' b (receipt_record t r) h written refl (rw e passes) (no_receipt t ts b.name here none (own_ids ts good.ids))
+    (λ b n e l h. gets_record f.styles ts ts' b (receipt_record t r) h written refl refl (rw e passes) (no_receipt t ts b.name here none (own_ids ts good.ids))
     (λ m. received_here r t ts b.name m here none (ap (λ (x : List ℕ). bytes_eq t.target x) n ∙ self_bytes t.target)))
     (λ b n h. stays_whole f.styles ts ts' b (received_elsewhere r t ts b.name here (other_bytes b.name t.target n)) h)
     (all_whole f.styles ts f.branches good.branches good.carried) in

@@ -16,12 +16,12 @@ use Rattle.treasury_core.specs.declared.transfer.Receipt.{Receipt}
 use Rattle.treasury_core.specs.declared.transfer.Transfer.{Transfer}
 use Rattle.treasury_core.specs.declared.command.Command.TheVariants as cmd
 use Rattle.treasury_core.specs.Federation.{Branch, Federation, has_branch, records_in, records_of, lock_of}
-use Rattle.treasury_core.specs.Mark.{is_held, held, is_repeat, is_product_mark, is_of_transfer, is_transfer_mark}
+use Rattle.treasury_core.specs.Mark.{is_held, held, is_repeat, is_product_mark, is_of_transfer, is_transfer_mark, is_closing_mark, is_closing}
 use Rattle.treasury_core.specs.Transfer.{asked, out_records, in_records, out_mark, in_mark}
 use Rattle.treasury_core.specs.Step.{number_in, unbalanced, recorded_in, records_from, records_in_file, refusal_of, refused_in, reply}
-use Rattle.treasury_core.specs.Good.{IsGoodRecord, IsOfFile, IsGoodBranch, IsGoodState}
+use Rattle.treasury_core.specs.Good.{IsGoodRecord, IsGoodState}
 use Rattle.treasury_core.specs.History.{IsAmong, IsOwn, IsOwnJournal, IsNew}
-use Rattle.treasury_core.proofs.BytesLemmas.{same_bytes, self_bytes}
+use Rattle.treasury_core.proofs.BytesLemmas.{same_bytes, self_bytes, or_true}
 use Rattle.treasury_core.proofs.HeldLemmas.{repeat_held}
 use Rattle.treasury_core.proofs.AskedLemmas.{HaveOwnIds, no_out, no_in}
 use Rattle.treasury_core.proofs.WayLemmas.{never_both}
@@ -30,7 +30,7 @@ use Rattle.treasury_core.proofs.FairLemmas.{found}
 use Rattle.treasury_core.proofs.OrderLemmas.{own_ids}
 use Rattle.treasury_core.proofs.FileLemmas.{neither_refusal, not_refused}
 use Rattle.treasury_core.proofs.DispatchLemmas.{IsWhole, all_whole}
-use Rattle.treasury_core.proofs.OwnLemmas.{of_branch, among_all, among_any, recorded_own, balanced_own}
+use Rattle.treasury_core.proofs.OwnLemmas.{of_branch, among_any, recorded_own, balanced_own}
 
 -- ---- what transfers ask for in two branches has different marks
 
@@ -97,27 +97,18 @@ none_is_held : (rs : List Record) (m : List ℕ) → held rs m ≡ None → is_h
 none_is_held [] m e = refl
 none_is_held (r ∷ rs) m e = none_held_at r (held rs m) (bytes_eq r.mark m) (is_held rs m) e (none_is_held rs m)
 
--- a record of a good branch with a mark of the product is a transfer's
-of_transfer : (styles : List Style) (b : Branch) (r : Record) → IsGoodBranch styles b → IsAmong r b.records → is_product_mark r.mark ≡ true → is_of_transfer r ≡ true
-of_transfer styles b r good among product = by_test (is_of_transfer r) refl
-  where
-    by_test : (t : Bool) → is_of_transfer r ≡ t → t ≡ true
-    by_test true e = refl
-    by_test false e = absurd (let k : true ≡ false = sym product ∙ (among_all (λ (x : Record). is_of_transfer x ≡ false → IsOfFile x) b.records r among good.of_files e).own in cc)
-
 -- what a branch asks for of that mark, it holds
 asked_held : (styles : List Style) (ts : List Transfer) (b : Branch) (name m : List ℕ) → IsWhole styles ts b → b.name ≡ name → is_transfer_mark m ≡ true → held (asked ts name) m ≡ None → is_held b.records m ≡ false
 asked_held styles ts b name m whole named transfer none =
     none_is_held b.records m (sym (held-filter b.records m transfer) ∙ (whole.carried m ∙ (ap (λ (n : List ℕ). held (asked ts n) m) named ∙ none)))
 
-pub not_elsewhere : (f : Federation) (from to : List ℕ) (r : Record) → IsGoodState f → has_branch f from ≡ true → has_branch f to ≡ true → bytes_eq from to ≡ false → IsAmong r (records_of f from) → is_product_mark r.mark ≡ true
+pub not_elsewhere : (f : Federation) (from to : List ℕ) (r : Record) → IsGoodState f → has_branch f from ≡ true → has_branch f to ≡ true → bytes_eq from to ≡ false → IsAmong r (records_of f from) → is_of_transfer r ≡ true
     → is_held (records_of f to) r.mark ≡ false
-not_elsewhere f from to r good here there apart among product =
+not_elsewhere f from to r good here there apart among transfer =
     let whole = all_whole f.styles f.transfers f.branches good.branches good.carried in
     let a = found (IsWhole f.styles f.transfers) f.branches from whole here in
     let b = found (IsWhole f.styles f.transfers) f.branches to whole there in
     let own : IsAmong r a.branch.records = subst (IsAmong r) a.same among in
-    let transfer = of_transfer f.styles a.branch r a.holds.good own product in
     let holds : is_held a.branch.records r.mark ≡ true = among_any (λ (x : Record). bytes_eq x.mark r.mark) a.branch.records r (self_bytes r.mark) own in
     by_case (in_one f.transfers from to r.mark (own_ids f.transfers good.ids) apart) a.branch b.branch a.holds b.holds a.named b.named b.same transfer holds
   where
@@ -187,10 +178,11 @@ last_own : (rs : List Record) (before : List Located) (x : Located) (rest : List
 last_own rs [] x rest h = h.0
 last_own rs (y ∷ ys) x rest h = last_own rs ys x rest h.1
 
-pub reserved_elsewhere : (f : Federation) (from to : List ℕ) (before : List Located) (x : Located) (rest : List Located) → IsGoodState f → has_branch f from ≡ true → has_branch f to ≡ true → bytes_eq from to ≡ false
-    → IsOwnJournal (records_of f from) (before ++ x ∷ rest) → refused_in f.styles (lock_of f to) (records_of f to) (records_in_file f.styles before) ≡ None → (own : IsOwn (records_of f from) x) → is_product_mark own.holder.mark ≡ true
+-- a record with a mark of the product that the branch does not hold
+pub reserved_there : (f : Federation) (from to : List ℕ) (before : List Located) (x : Located) (rest : List Located) → IsGoodState f → has_branch f to ≡ true → IsOwnJournal (records_of f from) (before ++ x ∷ rest)
+    → refused_in f.styles (lock_of f to) (records_of f to) (records_in_file f.styles before) ≡ None → (own : IsOwn (records_of f from) x) → is_product_mark own.holder.mark ≡ true → is_held (records_of f to) own.holder.mark ≡ false
     → reply f (cmd.Enter to (before ++ x ∷ rest)) ≡ Err (Plain ReservedMark)
-reserved_elsewhere f from to before x rest good here there apart all passes own product =
+reserved_there f from to before x rest good there all passes own product absent =
     let rs = records_of f from in
     let parts = records_parts f.styles [] before (x ∷ rest) in
     let one = recorded_own f.styles rs x (number_in f.styles parts.0 x.txn) (own_of f from good) own in
@@ -198,4 +190,19 @@ reserved_elsewhere f from to before x rest good here there apart all passes own 
     parts.1 ∙ ap (λ (ys : List Record). records_in_file f.styles before ++ (ys ++ records_from f.styles (parts.0 ++ x.txn ∷ []) rest)) one in
     refused_by f to (before ++ x ∷ rest) (Plain ReservedMark) there (balanced_own f.styles rs (before ++ x ∷ rest) (own_of f from good) all)
     (ap (refused_in f.styles (lock_of f to) (records_of f to)) split
-    ∙ reserved_in f.styles (lock_of f to) (records_of f to) (records_in_file f.styles before) own.holder (records_from f.styles (parts.0 ++ x.txn ∷ []) rest) passes (not_elsewhere f from to own.holder good here there apart own.among product) product)
+    ∙ reserved_in f.styles (lock_of f to) (records_of f to) (records_in_file f.styles before) own.holder (records_from f.styles (parts.0 ++ x.txn ∷ []) rest) passes absent product)
+
+transfers_product : (m : List ℕ) → is_transfer_mark m ≡ true → is_product_mark m ≡ true
+transfers_product m h = ap (λ (t : Bool). t || is_closing_mark m) h
+
+pub transfers_elsewhere : (f : Federation) (from to : List ℕ) (before : List Located) (x : Located) (rest : List Located) → IsGoodState f → has_branch f from ≡ true → has_branch f to ≡ true → bytes_eq from to ≡ false
+    → IsOwnJournal (records_of f from) (before ++ x ∷ rest) → refused_in f.styles (lock_of f to) (records_of f to) (records_in_file f.styles before) ≡ None → (own : IsOwn (records_of f from) x) → is_of_transfer own.holder ≡ true
+    → reply f (cmd.Enter to (before ++ x ∷ rest)) ≡ Err (Plain ReservedMark)
+transfers_elsewhere f from to before x rest good here there apart all passes own transfer =
+    reserved_there f from to before x rest good there all passes own (transfers_product own.holder.mark transfer) (not_elsewhere f from to own.holder good here there apart own.among transfer)
+
+pub closings_elsewhere : (f : Federation) (from to : List ℕ) (before : List Located) (x : Located) (rest : List Located) → IsGoodState f → has_branch f to ≡ true → IsOwnJournal (records_of f from) (before ++ x ∷ rest)
+    → refused_in f.styles (lock_of f to) (records_of f to) (records_in_file f.styles before) ≡ None → (own : IsOwn (records_of f from) x) → is_closing own.holder ≡ true → is_held (records_of f to) own.holder.mark ≡ false
+    → reply f (cmd.Enter to (before ++ x ∷ rest)) ≡ Err (Plain ReservedMark)
+closings_elsewhere f from to before x rest good there all passes own closing absent =
+    reserved_there f from to before x rest good there all passes own (ap (λ (t : Bool). is_transfer_mark own.holder.mark || t) closing ∙ or_true (is_transfer_mark own.holder.mark)) absent

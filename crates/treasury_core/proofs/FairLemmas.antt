@@ -9,7 +9,6 @@ use Rattle.std.proofs.lemmas.Bool.{and_parts}
 use Rattle.std.proofs.lemmas.Bool.Decides.{nat_tests}
 use Rattle.money_core.specs.declared.unit.Unit.{Unit as Commodity}
 use Rattle.money_core.specs.declared.day.Day.{Day}
-use Rattle.treasury_core.specs.declared.record.Record.{Record}
 use Rattle.treasury_core.specs.declared.transfer.Transfer.{Transfer}
 use Rattle.treasury_core.specs.Federation.{Branch, Federation, is_name_byte, is_branch_name, has_name, has_branch, records_in, entries}
 use Rattle.treasury_core.specs.Transfer.{open_amount, transit_account}
@@ -21,9 +20,7 @@ use Rattle.treasury_core.specs.History.{AddsUp}
 use Rattle.treasury_core.specs.Fair.{HasNoColon, IsFair}
 use Rattle.treasury_core.proofs.BytesLemmas.{same_bytes}
 use Rattle.treasury_core.proofs.OrderLemmas.{own_ids}
-use Rattle.treasury_core.specs.Mark.{is_of_transfer}
-use Rattle.treasury_core.specs.Good.{IsOfFile}
-use Rattle.treasury_core.proofs.WayLemmas.{IsClear, IsInStep, AddUp, adds_up, open_sum_low}
+use Rattle.treasury_core.proofs.WayLemmas.{IsInStep, AddUp, adds_up, open_sum_low}
 
 -- no byte of a name is a colon
 no_colon_byte : (c : ℕ) → is_name_byte c ≡ true → nat_eq c 58 ≡ false
@@ -73,12 +70,8 @@ all_fair bs (t ∷ ts) names h = (fair_of bs t names h.0, all_fair bs ts names h
 pub names_good : (f : Federation) → IsGoodState f → AllByRecursion (λ (b : Branch). HasNoColon b.name) f.branches
 names_good f h = names_of HasNoColon f.branches (λ b is. no_colon b.name is.named) h.branches
 
-clear_of : (rs : List Record) → AllByRecursion (λ (r : Record). is_of_transfer r ≡ false → IsOfFile r) rs → AllByRecursion IsClear rs
-clear_of [] h = tt
-clear_of (r ∷ rs) h = (λ e. (h.0 e).clear, clear_of rs h.1)
-
 pub in_step : (styles : List Style) (ts : List Transfer) (b : Branch) → IsGoodBranch styles b → IsCarried ts b → IsInStep ts b
-in_step styles ts b good carried = record { own_marks = good.marks; asked_for = carried; clear = clear_of b.records good.of_files; named = no_colon b.name good.named }
+in_step styles ts b good carried = record { own_marks = good.marks; asked_for = carried; clear = good.off_transit; named = no_colon b.name good.named }
 
 pub all_in_step : (styles : List Style) (ts : List Transfer) (bs : List Branch) → AllByRecursion (IsGoodBranch styles) bs → AllByRecursion (IsCarried ts) bs → AllByRecursion (IsInStep ts) bs
 all_in_step styles ts [] good carried = tt

@@ -19,7 +19,7 @@ use Rattle.treasury_core.specs.declared.record.Record.{Record}
 use Rattle.treasury_core.specs.Mark.{is_held, HaveOwnMarks, is_repeat, is_product_mark, mark_of}
 use Rattle.treasury_core.specs.Transfer.{is_transit}
 use Rattle.treasury_core.specs.Step.{is_locked, number_in, recorded, records_from, refusal_of, refused_in, new_in}
-use Rattle.treasury_core.specs.Good.{IsGoodRecord, IsOfFile}
+use Rattle.treasury_core.specs.Good.{IsGoodRecord}
 use Rattle.treasury_core.specs.History.{IsNew}
 use Rattle.treasury_core.proofs.HashLemmas.{printable_marked}
 use Rattle.treasury_core.proofs.HeldLemmas.{own_push, not_held, fewer_held, repeat_held}
@@ -112,9 +112,6 @@ all_fresh styles lock before [] h = tt
 all_fresh styles lock before (r ∷ rs) h =
     fresh_at lock before (new_in before rs) (new_in (before ++ r ∷ []) rs) (refused_in styles lock before rs) (refused_in styles lock (before ++ r ∷ []) rs) r
     (is_repeat styles before r) (is_held before r.mark) refl (repeat_held styles before r) h (all_fresh styles lock before rs) (all_fresh styles lock (before ++ r ∷ []) rs)
-
-pub of_file : (lock : Option Day) (before rs : List Record) → AllByRecursion (IsNew lock before) rs → AllByRecursion IsOfFile rs
-of_file lock before rs h = all_weaker (IsNew lock before) IsOfFile rs (λ r k. record { own = k.own; clear = k.clear }) h
 
 -- there are no more new ones than there are transactions
 fewer_at : (r : Record) (xs ys : List Record) (n : ℕ) (t : Bool) → length xs ≤ n → length ys ≤ n → length (if t then xs else r ∷ ys) ≤ suc n

@@ -10,7 +10,8 @@ use Rattle.treasury_core.specs.declared.command.Command.TheVariants as cmd
 use Rattle.treasury_core.specs.Federation.{Branch, Federation, records_of}
 use Rattle.treasury_core.specs.Joined.{new_branch, with_records, with_lock, changed}
 use Rattle.treasury_core.specs.Transfer.{dispatch_record}
-use Rattle.treasury_core.specs.Step.{done, after, delta, new_records, transfer_of, transfer_at, receipt_records}
+use Rattle.treasury_core.specs.Closing.{closing_in}
+use Rattle.treasury_core.specs.Step.{done, after, delta, new_records, transfer_of, transfer_at, receipt_records, closing_records}
 use Rattle.treasury_core.specs.History.{Turn, after_turn, IsRun, state_after, records_among, names_of, Grows, HasGrown}
 use Rattle.treasury_core.proofs.ChangeLemmas.{KeepsName}
 use Rattle.treasury_core.proofs.HistoryLemmas.{after_records}
@@ -45,6 +46,9 @@ done_names f (cmd.Enter name file) = unchanged (names_of f.branches) _ (same_nam
 done_names f (cmd.Dispatch d) = unchanged (names_of f.branches) _ (same_names (with_records (dispatch_record (transfer_of d) ∷ [])) d.source f.branches (λ b. refl))
 done_names f (cmd.Receive r) = unchanged (names_of f.branches) _ (same_names (with_records (receipt_records r (transfer_at f r.id))) r.branch f.branches (λ b. refl))
 done_names f (cmd.Lock name day) = unchanged (names_of f.branches) _ (same_names (with_lock day) name f.branches (λ b. refl))
+done_names f (cmd.Close name day) =
+    let rs = closing_records day (closing_in f name day) in
+    unchanged (names_of f.branches) _ (same_names (with_lock day) name (changed (with_records rs) name f.branches) (λ b. refl) ∙ same_names (with_records rs) name f.branches (λ b. refl))
 
 done_styles : (f : Federation) (c : Command) → Grows f.styles (done f c).styles
 unfolding done
@@ -54,6 +58,7 @@ done_styles f (cmd.Enter name file) = stays f.styles
 done_styles f (cmd.Dispatch d) = stays f.styles
 done_styles f (cmd.Receive r) = stays f.styles
 done_styles f (cmd.Lock name day) = stays f.styles
+done_styles f (cmd.Close name day) = stays f.styles
 
 after_styles : (f : Federation) (c : Command) (r : Result Answer Refusal) → Grows f.styles (after f c r).styles
 after_styles f c (Ok Done) = done_styles f c

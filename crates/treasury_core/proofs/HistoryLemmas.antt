@@ -24,7 +24,8 @@ use Rattle.treasury_core.specs.declared.command.Receive.{Receive}
 use Rattle.treasury_core.specs.Transfer.{dispatch_record}
 use Rattle.treasury_core.specs.Federation.{Branch, Federation, has_name, has_branch, records_in, records_of, entries, book_of}
 use Rattle.treasury_core.specs.Joined.{new_branch, with_records, with_lock, changed}
-use Rattle.treasury_core.specs.Step.{reply, done, added, after, delta, new_records, transfer_of, receipt_records, transfer_at}
+use Rattle.treasury_core.specs.Closing.{closing_in}
+use Rattle.treasury_core.specs.Step.{reply, done, added, after, delta, new_records, transfer_of, receipt_records, transfer_at, closing_records}
 use Rattle.treasury_core.specs.History.{Turn, Replies, IsRun, state_after, history, record_if, records_among}
 use Rattle.treasury_core.proofs.BytesLemmas.{same_bytes, third_bytes}
 
@@ -47,7 +48,7 @@ lock_at : (day : Day) (b : Branch) (bs xs : List Branch) (name : List ℕ) (t : 
 lock_at day b bs xs name true e = refl
 lock_at day b bs xs name false e = branch_at b name (bytes_eq b.name name) _ _ e
 
-records-locked : (bs : List Branch) (day : Day) (other name : List ℕ) → records_in (changed (with_lock day) other bs) name ≡ records_in bs name
+pub records-locked : (bs : List Branch) (day : Day) (other name : List ℕ) → records_in (changed (with_lock day) other bs) name ≡ records_in bs name
 records-locked [] day other name = refl
 records-locked (b ∷ bs) day other name = lock_at day b bs _ name (bytes_eq b.name other) (records-locked bs day other name)
 
@@ -101,6 +102,7 @@ HasTarget f (cmd.Enter name file) = has_branch f name ≡ true
 HasTarget f (cmd.Dispatch d) = has_branch f d.source ≡ true
 HasTarget f (cmd.Receive r) = has_branch f r.branch ≡ true
 HasTarget f (cmd.Lock name day) = ⊤
+HasTarget f (cmd.Close name day) = has_branch f name ≡ true
 
 there_if : (t : Bool) (e : Refusal) (x : Result Answer Refusal) (a : Answer) → (if not t then Err e else x) ≡ Ok a → t ≡ true
 there_if true e x a h = refl
@@ -114,6 +116,7 @@ has_target f (cmd.Enter name file) a h = there_if (has_branch f name) _ _ a h
 has_target f (cmd.Dispatch d) a h = there_if (has_branch f d.source) _ _ a h
 has_target f (cmd.Receive r) a h = there_if (has_branch f r.branch) _ _ a h
 has_target f (cmd.Lock name day) a h = tt
+has_target f (cmd.Close name day) a h = there_if (has_branch f name) _ _ a h
 
 -- what a receipt adds
 pub among-received : (r : Receive) (rs : List Record) (name : List ℕ) → records_among name (map (λ (x : Record). add.Record r.branch x) rs ++ add.Received r.id r.day r.account ∷ []) ≡ own_or (bytes_eq r.branch name) rs
@@ -126,6 +129,11 @@ received_records f r rs name e =
     records-entered rs f.branches r.branch name e
     ∙ ap (λ (xs : List Record). records_of f name ++ xs) (sym (among-received r rs name))
 
+-- what a closing adds
+pub among-closed : (other : List ℕ) (day : Day) (rs : List Record) (name : List ℕ) → records_among name (map (λ (x : Record). add.Record other x) rs ++ add.Locked other day ∷ []) ≡ own_or (bytes_eq other name) rs
+among-closed other day rs name =
+    among-append name (map (λ (x : Record). add.Record other x) rs) (add.Locked other day ∷ []) ∙ append-nil _ ∙ among-records other name rs
+
 done_records : (f : Federation) (c : Command) (name : List ℕ) → HasTarget f c → records_of (done f c) name ≡ records_of f name ++ records_among name (added f c)
 unfolding done added
 done_records f (cmd.Branch other) name e = records-branch f.branches other name ∙ sym (append-nil (records_of f name))
@@ -137,6 +145,10 @@ done_records f (cmd.Dispatch d) name e =
     ∙ ap (λ (xs : List Record). records_of f name ++ xs) (sym (append-nil _))
 done_records f (cmd.Receive r) name e = received_records f r (receipt_records r (transfer_at f r.id)) name e
 done_records f (cmd.Lock other day) name e = records-locked f.branches day other name ∙ sym (append-nil (records_of f name))
+done_records f (cmd.Close other day) name e =
+    let rs = closing_records day (closing_in f other day) in
+    records-locked (changed (with_records rs) other f.branches) day other name
+    ∙ (records-entered rs f.branches other name e ∙ ap (λ (xs : List Record). records_of f name ++ xs) (sym (among-closed other day rs name)))
 
 abbrev no_memory : Result Answer Refusal
 no_memory = Err (Plain OutOfMemory)

@@ -2,7 +2,9 @@
 use Rattle.std.proofs.Common.{◌≡◌, ℕ, Bool, true, false, List, [], ◌∷◌, ◌++◌, map, refl, ap, ◌∙◌, sym, append_assoc, append-nil, Option, Some, None, Ok, Err}
 use Rattle.std.specs.Prelude.{if◌then◌else◌, Result}
 use Rattle.std.specs.Str.{bytes_eq}
+use Rattle.money_core.specs.declared.day.Day.{Day}
 use Rattle.book_core.specs.declared.refusal.Refusal.{Refusal}
+use Rattle.journal_format.specs.declared.txn.Txn.{Txn}
 use Rattle.treasury_core.specs.declared.record.Record.{Record}
 use Rattle.treasury_core.specs.declared.command.Answer.{Answer}
 use Rattle.treasury_core.specs.declared.command.Answer.TheVariants.{Done, Entered, Repeated}
@@ -13,8 +15,9 @@ use Rattle.treasury_core.specs.declared.command.Receive.{Receive}
 use Rattle.treasury_core.specs.declared.command.Command.{Command}
 use Rattle.treasury_core.specs.declared.command.Command.TheVariants as cmd
 use Rattle.treasury_core.specs.Federation.{Branch, Federation}
-use Rattle.treasury_core.specs.Joined.{with_records, changed, with_entered, with_received, joined, joined_one}
-use Rattle.treasury_core.specs.Step.{done, added, after, delta, new_records, receipt_of, receipt_records, transfer_at}
+use Rattle.treasury_core.specs.Closing.{closing_in}
+use Rattle.treasury_core.specs.Joined.{with_records, changed, with_entered, with_locked, with_received, joined, joined_one}
+use Rattle.treasury_core.specs.Step.{done, added, after, delta, new_records, receipt_of, receipt_records, transfer_at, closing_records}
 use Rattle.treasury_core.specs.History.{Turn, state_after, history}
 
 -- one list of records is another
@@ -55,6 +58,11 @@ received_joined : (f : Federation) (r : Receive) (o : Option Transfer) → with_
 received_joined f r None = ap (λ (g : Federation). with_received g r.id (receipt_of r)) (with_none f r.branch)
 received_joined f r (Some t) = refl
 
+closed_joined : (f : Federation) (name : List ℕ) (day : Day) (o : Option Txn) → with_locked (with_entered f name (closing_records day o)) name day
+    ≡ joined f (map (λ (x : Record). add.Record name x) (closing_records day o) ++ add.Locked name day ∷ [])
+closed_joined f name day None = ap (λ (g : Federation). with_locked g name day) (with_none f name)
+closed_joined f name day (Some t) = refl
+
 done_joined : (f : Federation) (c : Command) → done f c ≡ joined f (added f c)
 unfolding done added
 done_joined f (cmd.Branch name) = refl
@@ -63,6 +71,7 @@ done_joined f (cmd.Enter name file) = sym (joined_records name (new_records f na
 done_joined f (cmd.Dispatch d) = refl
 done_joined f (cmd.Receive r) = received_joined f r (transfer_at f r.id)
 done_joined f (cmd.Lock name day) = refl
+done_joined f (cmd.Close name day) = closed_joined f name day (closing_in f name day)
 
 pub after_joined : (f : Federation) (c : Command) (r : Result Answer Refusal) → after f c r ≡ joined f (delta f c r)
 after_joined f c (Ok Done) = done_joined f c

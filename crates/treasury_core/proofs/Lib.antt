@@ -24,6 +24,7 @@ pub mod FairLemmas
 pub mod KeepLemmas
 pub mod DispatchLemmas
 pub mod ProductLemmas
+pub mod ClosingRecord
 pub mod ReplyLemmas
 pub mod OwnLemmas
 pub mod OpenLemmas
@@ -57,3 +58,5 @@ pub mod ClosingLoops
 pub mod ClosingLemmas
 pub mod ClosingPrinted
 pub mod ClosingReply
+pub mod CloseLemmas
+pub mod AcceptedClosing

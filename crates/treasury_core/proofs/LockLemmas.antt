@@ -12,6 +12,7 @@ use Rattle.book_core.specs.declared.place.Until.TheVariants.{Through}
 use Rattle.book_core.specs.declared.refusal.Refusal.{Refusal}
 use Rattle.book_core.specs.Balance.{balance, sum_in}
 use Rattle.book_core.proofs.BalanceLemmas.{balance-append, balance-entry, balance-nil}
+use Rattle.journal_format.specs.declared.txn.Txn.{Txn}
 use Rattle.treasury_core.specs.declared.record.Record.{Record}
 use Rattle.treasury_core.specs.declared.transfer.Transfer.{Transfer}
 use Rattle.treasury_core.specs.declared.command.Answer.{Answer}
@@ -21,11 +22,14 @@ use Rattle.treasury_core.specs.declared.command.Command.TheVariants as cmd
 use Rattle.treasury_core.specs.Federation.{Branch, Federation, records_of, lock_in, lock_of, entries, book_of}
 use Rattle.treasury_core.specs.Joined.{new_branch, with_records, with_lock, changed}
 use Rattle.treasury_core.specs.Transfer.{dispatch_record}
-use Rattle.treasury_core.specs.Step.{is_locked, goes_back, reply, done, added, after, delta, new_records, transfer_of, transfer_at, receipt_records}
+use Rattle.treasury_core.specs.Closing.{closing_in}
+use Rattle.treasury_core.specs.Step.{is_locked, goes_back, reply, done, added, after, delta, new_records, transfer_of, transfer_at, receipt_records, closing_records}
 use Rattle.treasury_core.specs.History.{Turn, Replies, after_turn, IsRun, state_after, records_among, IsNew}
 use Rattle.treasury_core.proofs.BytesLemmas.{same_bytes}
-use Rattle.treasury_core.proofs.HistoryLemmas.{own_or, after_records, among-records, among-received, entries-append}
-use Rattle.treasury_core.proofs.ReplyLemmas.{IsDone, replied, lock_forward, accepted_new, sent, taken}
+use Rattle.treasury_core.proofs.HistoryLemmas.{own_or, after_records, among-records, among-received, among-closed, entries-append}
+use Rattle.treasury_core.proofs.ClosingRecord.{made_on}
+use Rattle.treasury_core.proofs.KeepLemmas.{later_lock}
+use Rattle.treasury_core.proofs.ReplyLemmas.{IsDone, replied, lock_forward, accepted_new, sent, taken, unlocked_forward, shut}
 use Rattle.treasury_core.proofs.ChangeLemmas.{all_weaker}
 
 -- a new branch has no lock
@@ -47,14 +51,9 @@ entered_at : (rs : List Record) (b : Branch) (bs xs : List Branch) (name : List 
 entered_at rs b bs xs name true e = refl
 entered_at rs b bs xs name false e = lock_at b (bytes_eq b.name name) _ _ e
 
-lock-entered : (rs : List Record) (bs : List Branch) (other name : List ℕ) → lock_in (changed (with_records rs) other bs) name ≡ lock_in bs name
+pub lock-entered : (rs : List Record) (bs : List Branch) (other name : List ℕ) → lock_in (changed (with_records rs) other bs) name ≡ lock_in bs name
 lock-entered rs [] other name = refl
 lock-entered rs (b ∷ bs) other name = entered_at rs b bs _ name (bytes_eq b.name other) (lock-entered rs bs other name)
-
--- a later lock day keeps what is locked
-later_lock : (lock : Option Day) (day d : Day) → goes_back lock day ≡ false → is_locked lock d ≡ true → is_locked (Some day) d ≡ true
-later_lock None day d g h = absurd cc
-later_lock (Some lock) day d g h = grind (arith, ints)
 
 own_lock : (b : Branch) (day d : Day) (o p : Option Day) (u : Bool) → goes_back b.locked day ≡ false → o ≡ p → is_locked (if u then b.locked else o) d ≡ true → is_locked (if u then Some day else p) d ≡ true
 own_lock b day d o p true g e h = later_lock b.locked day d g h
@@ -82,6 +81,11 @@ done_locked f (cmd.Enter other file) a name d is e h = ap (λ (o : Option Day). 
 done_locked f (cmd.Dispatch x) a name d is e h = ap (λ (o : Option Day). is_locked o d) (lock-entered (dispatch_record (transfer_of x) ∷ []) f.branches x.source name) ∙ h
 done_locked f (cmd.Receive x) a name d is e h = ap (λ (o : Option Day). is_locked o d) (lock-entered (receipt_records x (transfer_at f x.id)) f.branches x.branch name) ∙ h
 done_locked f (cmd.Lock other day) a name d is e h = locked_stays f.branches day d other name (lock_forward f other day a is e) h
+done_locked f (cmd.Close other day) a name d is e h =
+    let rs = closing_records day (closing_in f other day) in
+    locked_stays (changed (with_records rs) other f.branches) day d other name
+    (ap (λ (o : Option Day). goes_back o day) (lock-entered rs f.branches other other) ∙ unlocked_forward (lock_of f other) day (shut f other day a is e).unlocked)
+    (ap (λ (o : Option Day). is_locked o d) (lock-entered rs f.branches other name) ∙ h)
 
 after_locked : (f : Federation) (c : Command) (r : Result Answer Refusal) (name : List ℕ) (d : Day) → Replies f c r → is_locked (lock_of f name) d ≡ true → is_locked (lock_of (after f c r) name) d ≡ true
 after_locked f c (Ok Done) name d r h = done_locked f c Done name d tt (replied f c Done r) h
@@ -147,6 +151,12 @@ added_nothing f (cmd.Receive r) a name day reach account unit is e h =
     ∙ own_nothing f r.branch name (receipt_records r (transfer_at f r.id)) day reach account unit h
     (subst (λ (o : Option Transfer). AllByRecursion (IsBehind (lock_of f r.branch)) (receipt_records r o)) (sym got.found) (got.unlocked, tt))
 added_nothing f (cmd.Lock other on) a name day reach account unit is e h = balance-nil reach account unit (Through day)
+added_nothing f (cmd.Close other on) a name day reach account unit is e h =
+    let got = shut f other on a is e in
+    ap (moved name day reach account unit) (among-closed other on (closing_records on (closing_in f other on)) name)
+    ∙ own_nothing f other name (closing_records on (closing_in f other on)) day reach account unit h
+    (subst (λ (o : Option Txn). AllByRecursion (IsBehind (lock_of f other)) (closing_records on o)) (sym got.closes)
+    (ap (λ (d : Day). is_locked (lock_of f other) d) (made_on f other on got.txn got.closes) ∙ got.unlocked, tt))
 
 delta_nothing : (f : Federation) (c : Command) (r : Result Answer Refusal) (name : List ℕ) (day : Day) (reach : Reach) (account : List ℕ) (unit : Commodity) → Replies f c r → is_locked (lock_of f name) day ≡ true
     → balance reach (entries (records_among name (delta f c r))) account unit (Through day) ≡ pos 0

@@ -1,5 +1,5 @@
 -- what an accepted command was, and that it leaves a good state good
-use Rattle.std.proofs.Common.{◌≡◌, ℕ, Bool, true, false, ◌||◌, cond, List, [], ◌∷◌, ◌++◌, length, ℤ, pos, ◌<ℤ◌, refl, ap, ◌∙◌, sym, subst, arith, inl, inr, Option, Some, None, Ok, Err, nat_le, nat_lt}
+use Rattle.std.proofs.Common.{◌≡◌, ◌≤◌, ℕ, Bool, true, false, ◌||◌, cond, List, [], ◌∷◌, ◌++◌, length, ℤ, pos, ◌<ℤ◌, refl, ap, ◌∙◌, sym, subst, arith, inl, inr, Option, Some, None, Ok, Err, nat_le, nat_lt}
 use Rattle.std.specs.Prelude.{if◌then◌else◌, Result, not, ⊤, find, is_some, int_le, int_lt, unsigned_abs}
 use Rattle.std.specs.List.{list_any, AllByRecursion}
 use Rattle.std.specs.Str.{bytes_eq}
@@ -12,7 +12,7 @@ use Rattle.money_core.specs.declared.unit.Unit.{Unit as Commodity}
 use Rattle.money_core.specs.declared.unit.Declared.{Declared}
 use Rattle.money_core.specs.declared.unit.Declared.TheVariants.{New, Same}
 use Rattle.money_core.specs.declared.cause.Cause.{Cause}
-use Rattle.money_core.specs.declared.cause.Cause.TheVariants.{OutOfMemory}
+use Rattle.money_core.specs.declared.cause.Cause.TheVariants.{OutOfMemory, Limit}
 use Rattle.money_core.specs.Style.{declared, is_style}
 use Rattle.money_core.specs.Amount.{limit}
 use Rattle.money_core.specs.AmountText.{IsDeclared}
@@ -22,8 +22,11 @@ use Rattle.book_core.specs.GoodBook.{verdict}
 use Rattle.journal_lines.specs.AccountName.{is_account}
 use Rattle.std.specs.Str.{is_utf8}
 use Rattle.std.proofs.lemmas.Bool.{and_parts}
+use Rattle.journal_format.specs.declared.txn.Txn.{Txn}
 use Rattle.journal_format.specs.declared.txn.Located.{Located}
+use Rattle.journal_format.specs.Pieces.{posting_limit}
 use Rattle.journal_format.specs.Printable.{is_amount}
+use Rattle.treasury_core.specs.declared.record.Record.{Record}
 use Rattle.treasury_core.specs.declared.transfer.Receipt.{Receipt}
 use Rattle.treasury_core.specs.declared.transfer.Transfer.{Transfer}
 use Rattle.treasury_core.specs.declared.command.Answer.{Answer}
@@ -33,16 +36,20 @@ use Rattle.treasury_core.specs.declared.command.Receive.{Receive}
 use Rattle.treasury_core.specs.declared.command.Command.{Command}
 use Rattle.treasury_core.specs.declared.command.Command.TheVariants as cmd
 use Rattle.treasury_core.specs.Federation.{Branch, Federation, is_branch_name, has_branch, records_in, records_of, lock_of, entries, book_of}
-use Rattle.treasury_core.specs.Mark.{HaveOwnMarks}
+use Rattle.treasury_core.specs.Mark.{is_held, HaveOwnMarks}
 use Rattle.treasury_core.specs.Transfer.{is_id, is_account_text, is_reserved, has_id, dispatch_record, receipt_record}
-use Rattle.treasury_core.specs.Joined.{with_entered, with_received}
-use Rattle.treasury_core.specs.Step.{unless, reply, done, after, new_records, records_in_file, unbalanced, refused_in, is_lock, goes_back, is_locked, commodity_reply, transfer_at, transfer_of, is_dispatched_so, receipt_of, is_received_so, receipt_reply, receipt_records}
+use Rattle.treasury_core.specs.Closing.{close_mark, closing_record, closing_answer, closing_in}
+use Rattle.treasury_core.specs.Joined.{with_entered, with_locked, with_received}
+use Rattle.treasury_core.specs.Step.{unless, reply, done, after, new_records, records_in_file, unbalanced, refused_in, is_lock, goes_back, is_locked, commodity_reply, transfer_at, transfer_of, is_dispatched_so, receipt_of, is_received_so, receipt_reply, receipt_records, entering_refusal, closing_records}
 use Rattle.treasury_core.specs.Good.{Fits, IsGoodBranch, IsGoodRecord, IsGoodTransfer, IsGoodState}
 use Rattle.treasury_core.specs.History.{Turn, Replies, after_turn, IsRun, state_after, IsNew}
-use Rattle.treasury_core.proofs.FileLemmas.{records_good, all-new, own-new, all_fresh, of_file, neither_refusal}
+use Rattle.treasury_core.proofs.FileLemmas.{records_good, all-new, own-new, all_fresh, neither_refusal}
 use Rattle.treasury_core.proofs.BytesLemmas.{same_bytes}
 use Rattle.treasury_core.proofs.FairLemmas.{known, names_of}
-use Rattle.treasury_core.proofs.KeepLemmas.{good_branch, good_style, good_entered, good_locked}
+use Rattle.treasury_core.proofs.KeepLemmas.{good_branch, good_style, own_entries, good_entered, good_locked, good_closed}
+use Rattle.treasury_core.proofs.HeldLemmas.{own_push, not_held}
+use Rattle.treasury_core.proofs.ClosingReply.{not_more}
+use Rattle.treasury_core.proofs.ClosingRecord.{closing_record_good, closing_record_own}
 use Rattle.treasury_core.proofs.DispatchLemmas.{good_dispatched, good_received, dispatch_written}
 use Rattle.treasury_core.proofs.ProductLemmas.{IsWritable, dispatch_good, receipt_good}
 
@@ -92,10 +99,6 @@ done_commodity : (f : Federation) (style : Style) (a : Answer) → IsDone a → 
 unfolding reply
 done_commodity f style a d good is h = declared_new f style a (declared f.styles style) d refl h good is
 
-done_lock : (f : Federation) (name : List ℕ) (day : Day) → IsGoodState f → IsGoodState (done f (cmd.Lock name day))
-unfolding done
-done_lock f name day good = good_locked f name day good
-
 -- a lock day that is accepted is not before the held one
 pub lock_forward : (f : Federation) (name : List ℕ) (day : Day) (a : Answer) → IsDone a → reply f (cmd.Lock name day) ≡ Ok a → goes_back (lock_of f name) day ≡ false
 unfolding reply
@@ -103,6 +106,10 @@ lock_forward f name day a d h =
     let there = holds (has_branch f name) _ _ a h in
     let other = not_repeated (is_lock (lock_of f name) day) _ a d there.1 in
     (passes (goes_back (lock_of f name) day) _ _ a other.1).0
+
+done_lock : (f : Federation) (name : List ℕ) (day : Day) (a : Answer) → IsDone a → IsGoodState f → reply f (cmd.Lock name day) ≡ Ok a → IsGoodState (done f (cmd.Lock name day))
+unfolding done
+done_lock f name day a is good h = good_locked f name day good (lock_forward f name day a is h)
 
 -- the branch of a name has no mark twice
 pub own_marks_of : (f : Federation) (name : List ℕ) → IsGoodState f → HaveOwnMarks (records_of f name)
@@ -145,7 +152,7 @@ done_enter f name file a good fits h =
     good_entered f name (new_records f name file) good
     (own-new (records_of f name) (records_in_file f.styles file) (own_marks_of f name good))
     (new_good f name file fits)
-    (of_file (lock_of f name) (records_of f name) (new_records f name file) (accepted_new f name file a h))
+    (own_entries (lock_of f name) (records_of f name) (new_records f name file) (accepted_new f name file a h))
     (accepted f name file a h).passes
 
 -- a refusal that does not come
@@ -328,6 +335,50 @@ done_receive f r a is good fits h =
     let got = taken f r a is h in
     subst (λ (o : Option Transfer). IsGoodState (with_received (with_entered f r.branch (receipt_records r o)) r.id (receipt_of r))) (sym got.found) (received_good f r a good fits got)
 
+-- a closing that was accepted
+pub record IsShut (f : Federation) (name : List ℕ) (day : Day) : Type 0 where
+  pub txn : Txn
+  pub there : has_branch f name ≡ true
+  pub fresh : is_held (records_of f name) (close_mark day) ≡ false
+  pub unlocked : is_locked (lock_of f name) day ≡ false
+  pub closes : closing_in f name day ≡ Some txn
+  pub few : length txn.postings ≤ posting_limit
+  pub passes : verdict (book_of f name ++ entries (closing_record day txn ∷ [])) ≡ None
+
+limited : (held : List Record) (day : Day) (t : Txn) (b : Bool) → entering_refusal held day (if b then Err (Plain Limit) else Ok t) ≡ None → (b ≡ false) × (verdict (entries held ++ entries (closing_record day t ∷ [])) ≡ None)
+limited held day t true h = absurd cc
+limited held day t false h = (refl, h)
+
+shut_at : (f : Federation) (name : List ℕ) (day : Day) (o : Option Txn) → has_branch f name ≡ true → is_held (records_of f name) (close_mark day) ≡ false → is_locked (lock_of f name) day ≡ false → closing_in f name day ≡ o
+    → entering_refusal (records_of f name) day (closing_answer o) ≡ None → IsShut f name day
+shut_at f name day None there fresh unlocked e h = absurd cc
+shut_at f name day (Some t) there fresh unlocked e h =
+    let parts = limited (records_of f name) day t (nat_lt posting_limit (length t.postings)) h in
+    record { txn = t; there = there; fresh = fresh; unlocked = unlocked; closes = e; few = not_more (length t.postings) parts.0; passes = parts.1 }
+
+pub shut : (f : Federation) (name : List ℕ) (day : Day) (a : Answer) → IsDone a → reply f (cmd.Close name day) ≡ Ok a → IsShut f name day
+unfolding reply
+shut f name day a is h =
+    let there = holds (has_branch f name) _ _ a h in
+    let fresh = not_repeated (is_held (records_of f name) (close_mark day)) _ a is there.1 in
+    let none = no_refusal Done a _ fresh.1 in
+    let unlocked = misses (is_locked (lock_of f name) day) _ _ none in
+    shut_at f name day (closing_in f name day) there.0 fresh.0 unlocked.0 refl unlocked.1
+
+-- a day that is not locked is behind the lock day
+pub unlocked_forward : (lock : Option Day) (day : Day) → is_locked lock day ≡ false → goes_back lock day ≡ false
+unlocked_forward None day h = refl
+unlocked_forward (Some lock) day h = grind (arith, ints)
+
+done_close : (f : Federation) (name : List ℕ) (day : Day) (a : Answer) → IsDone a → IsGoodState f → Fits f.styles (cmd.Close name day) → reply f (cmd.Close name day) ≡ Ok a → IsGoodState (done f (cmd.Close name day))
+unfolding done
+done_close f name day a is good fits h =
+    let s = shut f name day a is h in
+    let r = closing_record day s.txn in
+    let marks = own_push (records_of f name) r (own_marks_of f name good) (not_held (records_of f name) (close_mark day) s.fresh) in
+    subst (λ (o : Option Txn). IsGoodState (with_locked (with_entered f name (closing_records day o)) name day)) (sym s.closes)
+    (good_closed f name day (r ∷ []) good (unlocked_forward (lock_of f name) day s.unlocked) marks (closing_record_good f name day s.txn good fits s.closes s.few, tt) (closing_record_own f name day s.txn s.closes, tt) s.passes)
+
 -- all commands
 done_good : (f : Federation) (c : Command) (a : Answer) → IsDone a → IsGoodState f → Fits f.styles c → reply f c ≡ Ok a → IsGoodState (done f c)
 done_good f (cmd.Branch name) a is good fits h = done_branch f name a is good h
@@ -335,7 +386,8 @@ done_good f (cmd.Commodity style) a is good fits h = done_commodity f style a is
 done_good f (cmd.Enter name file) a is good fits h = done_enter f name file a good fits h
 done_good f (cmd.Dispatch d) a is good fits h = done_dispatch f d a is good fits h
 done_good f (cmd.Receive r) a is good fits h = done_receive f r a is good fits h
-done_good f (cmd.Lock name day) a is good fits h = done_lock f name day good
+done_good f (cmd.Lock name day) a is good fits h = done_lock f name day a is good h
+done_good f (cmd.Close name day) a is good fits h = done_close f name day a is good fits h
 
 abbrev no_memory : Result Answer Refusal
 no_memory = Err (Plain OutOfMemory)

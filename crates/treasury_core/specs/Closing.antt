@@ -1,6 +1,6 @@
 -- Closing a period: the balances of some accounts through a day are moved to one account (hledger manual, "close", "close --retain"; header, mark,
 -- order and the assertions of zero are own rules).
-use Rattle.std.specs.Prelude.{◌≡◌, ℕ, ◌==◌, nat_lt, Bool, not, if◌then◌else◌, List, [], ◌∷◌, ◌++◌, codes, length, filter, ℤ, pos, ◌+ℤ◌, ◌-ℤ◌, Option, Some, None, Result, Ok, Err}
+use Rattle.std.specs.Prelude.{ℕ, ◌==◌, nat_lt, Bool, not, if◌then◌else◌, List, [], ◌∷◌, ◌++◌, codes, length, filter, ℤ, pos, ◌+ℤ◌, ◌-ℤ◌, Option, Some, None, Result, Ok, Err}
 use Rattle.std.specs.Ordering.{int_eq}
 use Rattle.std.specs.List.{list_any, flat_map, before_first}
 use Rattle.std.specs.Str.{bytes_eq, str_to_ascii_lowercase}
@@ -22,6 +22,8 @@ use Rattle.journal_format.specs.declared.posting.Posting.{Posting}
 use Rattle.journal_format.specs.declared.txn.Txn.{Txn}
 use Rattle.journal_format.specs.Pieces.{posting_limit}
 use Rattle.journal_balance.specs.Legs.{declared}
+use Rattle.journal_balance.specs.Plain.{written_entry}
+use Rattle.treasury_core.specs.declared.record.Record.{Record}
 use Rattle.treasury_core.specs.Federation.{Federation, has_branch, book_of}
 use Rattle.treasury_core.specs.Accounts.{book_accounts}
 
@@ -98,6 +100,10 @@ closing_of day (p ∷ ps) = Some (closing_txn day (p ∷ ps))
 -- the closing of a book at a day: of the accounts that are selected, into that one
 unfoldable pub closing : (List ℕ → Bool) → List ℕ → List Style → List Entry → Day → Option Txn
 closing select into styles b day = closing_of day (closing_postings b day into (selected select b) (declared styles))
+
+-- the record of a closing, with its postings as they are written
+abbrev pub closing_record : Day → Txn → Record
+closing_record day t = record { mark = close_mark day; txn = t; entry = written_entry t }
 
 -- ---- the answer
 

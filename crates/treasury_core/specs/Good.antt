@@ -4,6 +4,7 @@ use Rattle.std.specs.List.{list_any, AllByRecursion}
 use Rattle.std.specs.Str.{bytes_eq}
 use Rattle.std.specs.declared.cmp.Ordering.TheVariants.{Less}
 use Rattle.money_core.specs.declared.style.Style.{Style}
+use Rattle.money_core.specs.declared.day.Day.{Day}
 use Rattle.money_core.specs.Style.{is_style, AreStyles}
 use Rattle.money_core.specs.AmountText.{IsDeclared}
 use Rattle.book_core.specs.Account.{name_cmp}
@@ -20,8 +21,10 @@ use Rattle.treasury_core.specs.declared.command.Receive.{Receive}
 use Rattle.treasury_core.specs.declared.command.Command.{Command}
 use Rattle.treasury_core.specs.declared.command.Command.TheVariants as cmd
 use Rattle.treasury_core.specs.Federation.{Branch, Federation, is_branch_name, most_branches, has_name, entries}
-use Rattle.treasury_core.specs.Mark.{held, HaveOwnMarks, is_product_mark, is_of_transfer}
+use Rattle.treasury_core.specs.Mark.{held, HaveOwnMarks, is_of_transfer, is_closing}
 use Rattle.treasury_core.specs.Transfer.{is_id, is_reserved, is_transit, asked}
+use Rattle.treasury_core.specs.Closing.{close_mark}
+use Rattle.treasury_core.specs.Step.{is_locked}
 
 -- a record whose transaction has its mark and can be printed, and whose entry is what that transaction does
 pub record IsGoodRecord (styles : List Style) (r : Record) : Type 0 where
@@ -29,17 +32,27 @@ pub record IsGoodRecord (styles : List Style) (r : Record) : Type 0 where
   pub printable : IsPrintable styles r.txn
   pub legs : legs_of styles r.txn ≡ Ok r.entry
 
--- a record of a file: its mark is not the product's, and it has no leg on `assets:transit` or below it
-pub record IsOfFile (r : Record) : Type 0 where
-  pub own : is_product_mark r.mark ≡ false
-  pub clear : list_any is_transit r.entry.legs ≡ false
+-- unless it is of a transfer, a record has no leg on `assets:transit` or below it
+abbrev pub IsOffTransit : Record → Type 0
+IsOffTransit r = is_of_transfer r ≡ false → list_any is_transit r.entry.legs ≡ false
 
--- a branch: its name is well formed, no mark stands twice, each record is good, and of a file where its mark is not a transfer's, and its book is good
+-- a closing: its mark is `close:DAY` of its own day, and the branch is locked through that day or later
+pub record IsLockedClosing (lock : Option Day) (r : Record) : Type 0 where
+  pub own_day : r.mark ≡ close_mark r.entry.day
+  pub locked : is_locked lock r.entry.day ≡ true
+
+-- a record with the mark of a closing is one
+abbrev pub IsWithinLock : Option Day → Record → Type 0
+IsWithinLock lock r = is_closing r ≡ true → IsLockedClosing lock r
+
+-- a branch: its name is well formed, no mark stands twice, each record is good, only those of transfers are on transit accounts, a record with the mark
+-- of a closing is one, and its book is good
 pub record IsGoodBranch (styles : List Style) (b : Branch) : Type 0 where
   pub named : is_branch_name b.name ≡ true
   pub marks : HaveOwnMarks b.records
   pub records : AllByRecursion (IsGoodRecord styles) b.records
-  pub of_files : AllByRecursion (λ (r : Record). is_of_transfer r ≡ false → IsOfFile r) b.records
+  pub off_transit : AllByRecursion IsOffTransit b.records
+  pub closings : AllByRecursion (IsWithinLock b.locked) b.records
   pub book : IsGoodBook (entries b.records)
 
 -- no two branches have the same name
@@ -106,3 +119,4 @@ Fits styles (cmd.Enter name file) = IsFile styles file
 Fits styles (cmd.Dispatch d) = IsDispatch styles d
 Fits styles (cmd.Receive r) = IsReceive r
 Fits styles (cmd.Lock name day) = IsDayNumber day
+Fits styles (cmd.Close name day) = IsDayNumber day

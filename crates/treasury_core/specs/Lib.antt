@@ -2,13 +2,13 @@
 pub mod Federation
 pub mod Mark
 pub mod Transfer
+pub mod Accounts
+pub mod Closing
 pub mod Joined
 pub mod Step
 pub mod Good
 pub mod Rows
 pub mod Sound
-pub mod Accounts
-pub mod Closing
 pub mod Closed
 pub mod History
 -- What mirrors code, for private clauses: nobody has to believe it

@@ -47,10 +47,18 @@ is_repeat styles rs r = list_any (λ (h : Record). bytes_eq h.mark r.mark && byt
 abbrev pub is_transfer_mark : List ℕ → Bool
 is_transfer_mark m = starts_with nat_eq m (codes "out:") || starts_with nat_eq m (codes "in:")
 
+-- marks of closings
+abbrev pub is_closing_mark : List ℕ → Bool
+is_closing_mark m = starts_with nat_eq m (codes "close:")
+
 -- marks that belong to the product: of dispatches, receipts and closings
 abbrev pub is_product_mark : List ℕ → Bool
-is_product_mark m = is_transfer_mark m || starts_with nat_eq m (codes "close:")
+is_product_mark m = is_transfer_mark m || is_closing_mark m
 
 -- the record has the mark of a dispatch or a receipt
 abbrev pub is_of_transfer : Record → Bool
 is_of_transfer r = is_transfer_mark r.mark
+
+-- the record has the mark of a closing
+abbrev pub is_closing : Record → Bool
+is_closing r = is_closing_mark r.mark

@@ -33,6 +33,7 @@ use Rattle.treasury_core.specs.declared.command.Command.TheVariants as cmd
 use Rattle.treasury_core.specs.Federation.{Federation, is_branch_name, most_branches, has_branch, records_of, lock_of, entries}
 use Rattle.treasury_core.specs.Mark.{is_held, is_repeat, is_product_mark, mark_of, alike}
 use Rattle.treasury_core.specs.Transfer.{is_id, is_account_text, is_reserved, is_transit, has_id, dispatch_record, receipt_record}
+use Rattle.treasury_core.specs.Closing.{close_mark, closing_record, closing_answer, closing_in}
 use Rattle.treasury_core.specs.Joined.{with_style, with_branch, with_entered, with_locked, with_dispatched, with_received}
 
 -- the answer, unless there is a refusal
@@ -232,6 +233,30 @@ abbrev pub receipt_records : Receive → Option Transfer → List Record
 receipt_records r None = []
 receipt_records r (Some t) = receipt_record t (receipt_of r) ∷ []
 
+-- ---- Close
+
+-- why a closing does not come in behind records, if it does not
+abbrev pub entering_refusal : List Record → Day → Result Txn Refusal → Option Refusal
+entering_refusal held day (Ok t) = verdict (entries held ++ entries (closing_record day t ∷ []))
+entering_refusal held day (Err refusal) = Some refusal
+
+-- why a branch is not closed at a day at which it was not closed yet, by what it holds, if it is not
+abbrev pub close_refusal : Option Day → List Record → Day → Option Txn → Option Refusal
+close_refusal lock held day txn =
+    if is_locked lock day then Some (Plain Locked)
+    else entering_refusal held day (closing_answer txn)
+
+abbrev pub close_reply : Federation → List ℕ → Day → Result Answer Refusal
+close_reply f name day =
+    if not (has_branch f name) then Err (Plain UnknownBranch)
+    else if is_held (records_of f name) (close_mark day) then Ok Repeated
+    else unless Done (close_refusal (lock_of f name) (records_of f name) day (closing_in f name day))
+
+-- the record that a closing adds
+abbrev pub closing_records : Day → Option Txn → List Record
+closing_records day None = []
+closing_records day (Some t) = closing_record day t ∷ []
+
 -- ---- all commands
 
 -- the reply to a command
@@ -242,6 +267,7 @@ reply f (cmd.Enter name file) = enter_reply f name file
 reply f (cmd.Dispatch d) = dispatch_reply f d
 reply f (cmd.Receive r) = receive_reply f r
 reply f (cmd.Lock name day) = lock_reply f name day
+reply f (cmd.Close name day) = close_reply f name day
 
 -- the state that a command leaves which is done
 unfoldable pub done : Federation → Command → Federation
@@ -251,6 +277,7 @@ done f (cmd.Enter name file) = with_entered f name (new_records f name file)
 done f (cmd.Dispatch d) = with_dispatched (with_entered f d.source (dispatch_record (transfer_of d) ∷ [])) (transfer_of d)
 done f (cmd.Receive r) = with_received (with_entered f r.branch (receipt_records r (transfer_at f r.id))) r.id (receipt_of r)
 done f (cmd.Lock name day) = with_locked f name day
+done f (cmd.Close name day) = with_locked (with_entered f name (closing_records day (closing_in f name day))) name day
 
 -- the state after a reply: a refusal or a repeat leaves it
 abbrev pub after : Federation → Command → Result Answer Refusal → Federation
@@ -275,6 +302,7 @@ added f (cmd.Enter name file) = map (λ (r : Record). add.Record name r) (new_re
 added f (cmd.Dispatch d) = add.Record d.source (dispatch_record (transfer_of d)) ∷ add.Dispatched (transfer_of d) ∷ []
 added f (cmd.Receive r) = map (λ (x : Record). add.Record r.branch x) (receipt_records r (transfer_at f r.id)) ++ add.Received r.id r.day r.account ∷ []
 added f (cmd.Lock name day) = add.Locked name day ∷ []
+added f (cmd.Close name day) = map (λ (x : Record). add.Record name x) (closing_records day (closing_in f name day)) ++ add.Locked name day ∷ []
 
 -- what it adds by its reply
 abbrev pub delta : Federation → Command → Result Answer Refusal → List Addition

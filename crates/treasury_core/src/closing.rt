@@ -223,7 +223,7 @@ fn closing_postings<L: Ledger>(
 }
 
 /// The mark of a closing: `close:DAY`.
-fn close_mark(alloc: Global, day: Day) -> Result<Text, Cause>
+pub(crate) fn close_mark(alloc: Global, day: Day) -> Result<Text, Cause>
     requires { IsDayNumber day }
     ensures value { IfOk result (λ mark. mark ≡ close_mark day) }
     ensures memory { IsOkUnless result Cause.OutOfMemory }

@@ -54,6 +54,8 @@ pub enum Command {
     Receive(Receive),
     /// A lock of the branch of that name through that day.
     Lock(Text, Day),
+    /// The closing of the branch of that name at that day, through which it is locked.
+    Close(Text, Day),
 }
 
 /// What a command is answered that is not refused.
@@ -112,6 +114,7 @@ impl Command {
             Command::Dispatch(dispatch) => dispatch.fits(styles),
             Command::Receive(receive) => receive.fits(),
             Command::Lock(_, day) => is_day_number(*day),
+            Command::Close(_, day) => is_day_number(*day),
         }
     }
 }
@@ -175,6 +178,10 @@ impl Copied for Command {
             Command::Lock(name, day) => {
                 let name = name.copy()?;
                 Ok(Command::Lock(name, *day))
+            }
+            Command::Close(name, day) => {
+                let name = name.copy()?;
+                Ok(Command::Close(name, *day))
             }
         }
     }

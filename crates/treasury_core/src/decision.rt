@@ -11,6 +11,7 @@ ghost use Rattle.treasury_core.specs.Step.{is_lock, goes_back, records_in_file, 
 ghost use Rattle.treasury_core.specs.Good.{Fits, IsFile, IsGoodBranch, IsGoodState};
 ghost use Rattle.treasury_core.specs.Kept.{branch_of, IsKept};
 
+use crate::close::decide_close;
 use crate::command::{Answer, Command};
 use crate::delta::{Addition, Delta};
 use crate::dispatch::decide_dispatch;
@@ -371,6 +372,7 @@ fn decided<L: Ledger>(alloc: Global, state: &State<L>, command: &Command) -> Dec
         Command::Dispatch(dispatch) => decide_dispatch(alloc, state, dispatch),
         Command::Receive(receive) => decide_receive(alloc, state, receive),
         Command::Lock(name, day) => decide_lock(alloc, state, name, *day),
+        Command::Close(name, day) => decide_close(alloc, state, name, *day),
     }
 }
 

@@ -1,28 +1,29 @@
 //! Whether a draft is a good state.
 
-ghost use Rattle.std.specs.Prelude.{◌≡◌, ◌↔◌, ◌≤◌, IsTrue, IfOk, false, unsigned_abs};
+ghost use Rattle.std.specs.Prelude.{◌≡◌, ◌↔◌, ◌≤◌, IsTrue, IfOk, unsigned_abs};
 ghost use Rattle.std.specs.List.{list_any, AllByRecursion};
 ghost use Rattle.std.specs.Result.{IsOkUnless};
 ghost use Rattle.money_core.specs.Amount.{limit};
 ghost use Rattle.book_core.specs.GoodBook.{IsFit, IsGoodBook};
-ghost use Rattle.treasury_core.specs.declared.record.Record.{Record as Row};
 ghost use Rattle.treasury_core.specs.declared.transfer.Transfer.{Transfer as Moved};
 ghost use Rattle.treasury_core.specs.Federation.{Branch, has_name, entries};
 ghost use Rattle.treasury_core.specs.Mark.{is_of_transfer};
-ghost use Rattle.treasury_core.specs.Good.{AreAscending, HaveOwnNames, IsCarried, IsGoodBranch, IsGoodRecord, IsGoodState, IsOfFile};
+ghost use Rattle.treasury_core.specs.Good.{AreAscending, HaveOwnNames, IsCarried, IsGoodBranch, IsGoodRecord, IsGoodState, IsOffTransit};
 
 mod carried;
+mod closings;
 mod marks;
 mod same;
 mod transfers;
 
 use crate::decision::{MAX_BRANCHES, check, is_branch_name};
 use crate::draft::{Draft, DraftBranch};
-use crate::enter::{has_transit, is_product_mark};
+use crate::enter::has_transit;
 use crate::record::Record;
 use crate::transfer::Transfer;
 use book_core::{Ledger, Refusal};
 use carried::is_carried;
+use closings::are_closings;
 use marks::own_index;
 use money_core::{Cause, Styles};
 use std::alloc::Global;
@@ -55,19 +56,12 @@ fn is_of_transfer(row: &Record) -> bool
     mark.starts_with("out:") || mark.starts_with("in:")
 }
 
-/// Whether the record may be one of a file.
-fn is_of_file(row: &Record) -> bool
-    ensures { IsTrue result ↔ IsOfFile row.now }
-{
-    !is_product_mark(row.mark.as_str()) && !has_transit(row.entry.legs.items())
-}
-
-/// Whether each record is of a transfer or may be one of a file.
-fn are_of_files(rows: &[Record]) -> bool
-    ensures { IsTrue result ↔ AllByRecursion (λ (r : Row). is_of_transfer r ≡ false → IsOfFile r) rows.now }
+/// Whether only records of transfers are on transit accounts.
+fn are_off_transit(rows: &[Record]) -> bool
+    ensures { IsTrue result ↔ AllByRecursion IsOffTransit rows.now }
 {
     for row in rows {
-        if !is_of_transfer(row) && !is_of_file(row) {
+        if !is_of_transfer(row) && has_transit(row.entry.legs.items()) {
             return false;
         }
     }
@@ -111,7 +105,10 @@ fn is_good_branch<L: Ledger>(
     ensures memory { IsOkUnless result Cause.OutOfMemory }
 {
     let rows = branch.records.items();
-    if !is_branch_name(branch.name.as_str().as_bytes()) || !are_of_files(rows) {
+    if !is_branch_name(branch.name.as_str().as_bytes()) || !are_off_transit(rows) {
+        return Ok(false);
+    }
+    if !are_closings(alloc, branch.locked, rows)? {
         return Ok(false);
     }
     let Some(index) = own_index(alloc, rows)? else {

@@ -25,17 +25,17 @@ ghost use Rattle.journal_balance.specs.Legs.{legs_of};
 ghost use Rattle.journal_balance.specs.Plain.{written_entry};
 ghost use Rattle.treasury_core.specs.declared.record.Record.{Record};
 ghost use Rattle.treasury_core.specs.declared.command.Command.{Command};
-ghost use Rattle.treasury_core.specs.declared.command.Command.TheVariants.{Enter};
+ghost use Rattle.treasury_core.specs.declared.command.Command.TheVariants.{Enter, Close};
 ghost use Rattle.treasury_core.specs.declared.command.Answer.{Answer};
-ghost use Rattle.treasury_core.specs.declared.command.Answer.TheVariants.{Entered};
+ghost use Rattle.treasury_core.specs.declared.command.Answer.TheVariants.{Done, Entered};
 ghost use Rattle.treasury_core.specs.Federation.{Federation, has_branch, records_of, lock_of, entries, book_of};
-ghost use Rattle.treasury_core.specs.Mark.{is_product_mark};
+ghost use Rattle.treasury_core.specs.Mark.{is_held, is_of_transfer, is_closing};
 ghost use Rattle.treasury_core.specs.Transfer.{open_amount};
 ghost use Rattle.treasury_core.specs.Joined.{joined};
 ghost use Rattle.treasury_core.specs.Step.{reply, after, delta, step, new_records, is_locked, unbalanced, refused_in, records_in_file};
 ghost use Rattle.treasury_core.specs.Good.{Fits, IsGoodState};
 ghost use Rattle.treasury_core.specs.Sound.{EachBalances, EachAssertionHolds, BreaksAssertion};
-ghost use Rattle.treasury_core.specs.Closing.{selected, held_in, closing_in};
+ghost use Rattle.treasury_core.specs.Closing.{is_revenue_or_expense, retained_earnings, selected, held_in, closing_in, closing_record};
 ghost use Rattle.treasury_core.specs.Closed.{IsClosing, closed_book};
 ghost use Rattle.treasury_core.specs.History.{Turn, Replies, IsRun, state_after, history, records_among, IsRefusedOrRepeated, IsNew, IsOwn, IsOwnJournal, AreAmong, txns_in, HasGrown, AddsUp};
 ghost use Rattle.treasury_core.specs.Rows.{rows};
@@ -116,13 +116,18 @@ pub fn printed_journal_law()
         → (reply f (Enter name file) ≡ Ok (Entered 0 (length rs))) × ((step f (Enter name file)).next ≡ f) }
 {}
 
-/// A law of a branch's journal in another branch: a transaction with a mark of the product is refused there with 25, once
-/// those before it were not refused. Costs nothing.
+/// A law of a branch's journal in another branch: a transaction of a transfer is refused there with 25, once those before
+/// it were not refused; and so is a closing, where the other branch does not hold its mark. Costs nothing.
 pub fn other_journal_law()
-    ensures { (f : Federation) (from to : List ℕ) (before : List Located) (x : Located) (rest : List Located)
+    ensures transfers { (f : Federation) (from to : List ℕ) (before : List Located) (x : Located) (rest : List Located)
         → IsGoodState f → has_branch f from ≡ true → has_branch f to ≡ true → bytes_eq from to ≡ false → IsOwnJournal (records_of f from) (before ++ x ∷ rest)
         → refused_in f.styles (lock_of f to) (records_of f to) (records_in_file f.styles before) ≡ None
-        → (own : IsOwn (records_of f from) x) → is_product_mark own.holder.mark ≡ true
+        → (own : IsOwn (records_of f from) x) → is_of_transfer own.holder ≡ true
+        → reply f (Enter to (before ++ x ∷ rest)) ≡ Err (Plain ReservedMark) }
+    ensures closings { (f : Federation) (from to : List ℕ) (before : List Located) (x : Located) (rest : List Located)
+        → IsGoodState f → has_branch f to ≡ true → IsOwnJournal (records_of f from) (before ++ x ∷ rest)
+        → refused_in f.styles (lock_of f to) (records_of f to) (records_in_file f.styles before) ≡ None
+        → (own : IsOwn (records_of f from) x) → is_closing own.holder ≡ true → is_held (records_of f to) own.holder.mark ≡ false
         → reply f (Enter to (before ++ x ∷ rest)) ≡ Err (Plain ReservedMark) }
 {}
 
@@ -191,4 +196,26 @@ pub fn closed_law()
     ensures before { (select : List ℕ → Bool) (into : List ℕ) (f : Federation) (name : List ℕ) (day : Day) (t : Txn) (account : List ℕ) (unit : Commodity) (earlier : Day)
         → IsClosing select into f name day t → int_le day.0 earlier.0 ≡ false
         → balance Own (closed_book f name t) account unit (Through earlier) ≡ balance Own (book_of f name) account unit (Through earlier) }
+{}
+
+/// A law of accepted closings: the book gets the closing of its branch and nothing else, and is locked through the day.
+/// Through that day each revenue and expense account is at zero in every commodity, and stays so whatever comes later. No
+/// balance moves but theirs and that of `equity:retained earnings`, and nothing in another branch. Costs nothing.
+pub fn accepted_closing_law()
+    ensures adds { (f : Federation) (name : List ℕ) (day : Day) → reply f (Close name day) ≡ Ok Done
+        → (t : Txn) × ((closing_in f name day ≡ Some t)
+        × (records_of (step f (Close name day)).next name ≡ records_of f name ++ closing_record day t ∷ [])) }
+    ensures locked { (f : Federation) (name : List ℕ) (day : Day) → reply f (Close name day) ≡ Ok Done
+        → lock_of (step f (Close name day)).next name ≡ Some day }
+    ensures zero { (f : Federation) (name : List ℕ) (day : Day) (account : List ℕ) (unit : Commodity) → IsGoodState f
+        → reply f (Close name day) ≡ Ok Done → is_revenue_or_expense account ≡ true
+        → balance Own (book_of (step f (Close name day)).next name) account unit (Through day) ≡ pos 0 }
+    ensures stays { (f : Federation) (name : List ℕ) (day : Day) (turns : List Turn) (account : List ℕ) (unit : Commodity) → IsGoodState f
+        → reply f (Close name day) ≡ Ok Done → IsRun (step f (Close name day)).next turns → is_revenue_or_expense account ≡ true
+        → balance Own (book_of (state_after (step f (Close name day)).next turns) name) account unit (Through day) ≡ pos 0 }
+    ensures untouched { (f : Federation) (name : List ℕ) (day : Day) (account : List ℕ) (unit : Commodity) (on : Day) → IsGoodState f
+        → reply f (Close name day) ≡ Ok Done → is_revenue_or_expense account ≡ false → bytes_eq retained_earnings account ≡ false
+        → balance Own (book_of (step f (Close name day)).next name) account unit (Through on) ≡ balance Own (book_of f name) account unit (Through on) }
+    ensures elsewhere { (f : Federation) (name other : List ℕ) (day : Day) → reply f (Close name day) ≡ Ok Done → bytes_eq name other ≡ false
+        → (records_of (step f (Close name day)).next other ≡ records_of f other) × (lock_of (step f (Close name day)).next other ≡ lock_of f other) }
 {}

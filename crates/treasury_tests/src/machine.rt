@@ -41,6 +41,7 @@ enum Given {
     Branch(&'static str),
     Commodity(&'static str),
     Lock(&'static str, i32),
+    Close(&'static str, i32),
 }
 
 /// What a command is answered, and the state after it.
@@ -89,6 +90,10 @@ fn command<'a>(rt: &impl Abort, alloc: Global, given: &'a Given) -> (&'a str, Co
         Given::Lock(name, day) => {
             let lock = Command::Lock(text(rt, alloc, *name), Day(*day));
             (*name, lock)
+        }
+        Given::Close(name, day) => {
+            let close = Command::Close(text(rt, alloc, *name), Day(*day));
+            (*name, close)
         }
     }
 }

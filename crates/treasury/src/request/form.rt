@@ -41,6 +41,10 @@ pub enum Form<'a> {
         branch: &'a str,
         day: Day,
     },
+    Close {
+        branch: &'a str,
+        day: Day,
+    },
     Balance {
         branch: &'a str,
         day: Day,
@@ -193,6 +197,10 @@ pub fn form_of<'a>(value: &'a Value) -> Option<Form<'a>>
         let branch = text_at(value, "branch")?;
         let day = day_at(value, "day")?;
         Some(Form::Lock { branch, day })
+    } else if word == "close" && keys == 3 {
+        let branch = text_at(value, "branch")?;
+        let day = day_at(value, "day")?;
+        Some(Form::Close { branch, day })
     } else {
         report_of(word, keys, value)
     }

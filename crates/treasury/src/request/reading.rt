@@ -87,6 +87,10 @@ fn owned(alloc: Global, form: Form) -> Result<Request, Cause>
             let branch = Text::of(alloc, branch)?;
             Ok(Request::Lock { branch, day })
         }
+        Form::Close { branch, day } => {
+            let branch = Text::of(alloc, branch)?;
+            Ok(Request::Close { branch, day })
+        }
         Form::Balance { branch, day } => {
             let branch = Text::of(alloc, branch)?;
             Ok(Request::Balance { branch, day })

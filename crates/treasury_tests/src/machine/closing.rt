@@ -1,13 +1,15 @@
 //! Closing entries of north, as they are printed.
 
-use super::{NEW, enter_all, file, perform, start};
+use super::{
+    Given, NEW, REPEATED, Reply, enter_all, file, lock_day, perform, perform_all, sizes, start,
+};
 use book_core::{Ledger, PlainLedger, Refusal};
 use journal_format::{is_printable, print_txn};
 use journal_lines::is_day_number;
 use money_core::{Cause, Day};
 use std::alloc::Global;
 use std::process::Abort;
-use treasury_core::{State, closing_entry};
+use treasury_core::{Answer, State, closing_entry};
 
 /// 2024-12-31.
 const DECEMBER_31: i32 = 20_088;
@@ -217,4 +219,54 @@ fn a_closing_has_a_thousand_postings_at_most(rt: HostRuntime) {
         (1_000, Err(Refusal::Plain(Cause::Limit))),
     ];
     assert_sizes(&rt, rt.alloc(), ROWS);
+}
+
+/// A year's closing, and that of the other branch; a locked day, and a later closing behind a later lock.
+const CLOSINGS: &[(Given, Reply)] = &[
+    (
+        Given::Close("west", DECEMBER_31),
+        Err(Refusal::Plain(Cause::UnknownBranch)),
+    ),
+    (Given::Close("north", DECEMBER_31), Ok(Answer::Done)),
+    (Given::Close("north", DECEMBER_31), Ok(Answer::Repeated)),
+    (
+        Given::Close("north", DECEMBER_31 - 1),
+        Err(Refusal::Plain(Cause::Locked)),
+    ),
+    (
+        Given::Close("north", DECEMBER_31 + 1),
+        Err(Refusal::Plain(Cause::NothingToClose)),
+    ),
+    (
+        Given::Close("south", DECEMBER_31),
+        Err(Refusal::Plain(Cause::NothingToClose)),
+    ),
+    (Given::Lock("north", DECEMBER_31 + 31), Ok(Answer::Done)),
+    (Given::Close("north", DECEMBER_31), Ok(Answer::Repeated)),
+];
+
+// The command has its entry, its mark and its lock; a refusal leaves neither.
+#[test]
+fn a_closing_has_its_entry_and_its_lock(rt: HostRuntime) {
+    const FILES: &[(&str, Reply)] = &[
+        (
+            "2024-12-31 x\n    a:x  1.00 EUR\n    a:y\n",
+            Err(Refusal::Plain(Cause::Locked)),
+        ),
+        (
+            "2024-12-31 close\n    ; bookid:close:2024-12-31\n    Expenses:Trip  $-7.00 = $0.00\n    expenses:food  -30.00 EUR = 0.00 EUR\n    income:dues  100.00 EUR = 0.00 EUR\n    equity:retained earnings  -70.00 EUR\n    equity:retained earnings  $7.00\n",
+            REPEATED,
+        ),
+    ];
+    let alloc = rt.alloc();
+    let state: State<PlainLedger> = start(&rt, alloc);
+    let command = file(&rt, alloc, "north", YEAR, state.styles());
+    let (state, reply) = perform(&rt, alloc, state, &command);
+    assert!(rt; reply.is_ok());
+    let state = perform_all(&rt, alloc, state, CLOSINGS);
+    assert_eq!(rt; sizes(&state, 0), (4, 4));
+    assert_eq!(rt; lock_day(&state, 0), Some(Day(DECEMBER_31 + 31)));
+    assert_eq!(rt; lock_day(&state, 1), None);
+    let state = enter_all(&rt, alloc, state, FILES);
+    assert_eq!(rt; sizes(&state, 0), (4, 4));
 }

@@ -1,5 +1,4 @@
-use Rattle.std.proofs.Common.{◌≡◌, ◌≤◌, ◌++◌, ◌-ℤ◌, pos, List, None, length, ◌∙◌, ap, sym, subst}
-use Rattle.std.specs.List.{flat_map}
+use Rattle.std.proofs.Common.{◌≤◌, ◌++◌, ◌-ℤ◌, pos, List, None, length, ◌∙◌, ap, sym, subst}
 use Rattle.money_core.specs.declared.unit.Unit.{Unit as Commodity}
 use Rattle.book_core.specs.Balance.{value, moved}
 use Rattle.book_core.specs.GoodBook.{most_turnover}

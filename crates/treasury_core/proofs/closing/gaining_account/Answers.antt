@@ -1,4 +1,4 @@
-use Rattle.std.proofs.Common.{◌≡◌, ◌≤◌, ◌<◌, ◌++◌, ◌-ℤ◌, pos, ℤ, List, None, length, ◌∙◌, ap, arith, rules, FitsSigned, w64, to_z, of_z}
+use Rattle.std.proofs.Common.{◌≡◌, ◌≤◌, ◌<◌, ◌++◌, ◌-ℤ◌, pos, ℤ, None, length, ◌∙◌, ap, arith, rules, FitsSigned, w64, to_z, of_z}
 use Rattle.std.proofs.lemmas.Int.{ints, to_z-of_z}
 use Rattle.money_core.specs.declared.unit.Unit.{Unit as Commodity}
 use Rattle.book_core.specs.Balance.{value}
