@@ -24,4 +24,6 @@ pub mod OrderedLemmas
 pub mod ListLemmas
 pub mod StoreLemmas
 pub mod StateLoadLemmas
+pub mod OwnRefusalLemmas
+pub mod TreasuryLemmas
 pub mod PushLemmas

@@ -6,5 +6,6 @@ pub mod Opening
 pub mod Order
 pub mod Numbers
 pub mod Store
+pub mod Treasury
 -- What mirrors code, for private clauses: nobody has to believe it
 pub mod Changes

@@ -8,6 +8,7 @@ mod load;
 mod numbers;
 mod open;
 mod store;
+mod treasury;
 mod write;
 
 pub use change::Change;
@@ -15,4 +16,5 @@ pub use create::create_tables;
 pub use load::load_parts;
 pub use open::are_tables_there;
 pub use store::{Refused, Store};
+pub use treasury::{Treasury, Unstarted};
 pub use write::write_all;

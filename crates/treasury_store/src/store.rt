@@ -137,6 +137,13 @@ impl<S: Alter> Store<S> {
         conn
     }
 
+    /// Whether a call of the database failed: every later call answers 42.
+    pub fn is_closed(&self) -> bool
+        ensures { result ≡ self.now.failed }
+    {
+        self.failed
+    }
+
     /// The state whose rows the tables are, read from them and nothing else. The store is of it then.
     ///
     /// Where the tables are no state's rows, it answers 43, and after that and 40 the store is as it was. After 41 every

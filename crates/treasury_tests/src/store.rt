@@ -11,6 +11,7 @@ use treasury_store::{Change, are_tables_there, create_tables, load_parts, write_
 
 mod commits;
 mod loads;
+mod treasuries;
 
 fn text(rt: &impl Abort, alloc: Global, of: &str) -> Text {
     Text::of(alloc, of).expect(rt, "memory")

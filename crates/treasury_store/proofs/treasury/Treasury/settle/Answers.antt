@@ -1,0 +1,11 @@
+use Rattle.std.proofs.Common.{rules}
+use Rattle.treasury_store.proofs.OwnRefusalLemmas.{refused_unfailed}
+use Rattle.treasury_store.proofs.TreasuryLemmas.{performs_decided}
+use Rattle.treasury_store.proofs.treasury.Treasury.settle.Goals as goal
+
+pub returns-in-Ok-write-clause-performs : goal.returns-in-Ok-write-clause-performs
+returns-in-Ok-write-clause-performs g c of short unfailed =
+    performs_decided g.S.Store _ c.args.now c.args.command.now _ _ (search rules) c.in-Ok.ensures.joined c.requires.fits short (c.in-Ok-write.ensures.ok of) c.in-Ok-write.ensures.ok_held
+
+pub returns-in-Err-clause-fails : goal.returns-in-Err-clause-fails
+returns-in-Err-clause-fails g c unfailed = refused_unfailed c.args.now c.args.command.now c.in-Err.refusal _ (search rules) c.in-Err.ensures.decides

@@ -1,0 +1,38 @@
+-- What a treasury is of, and what a command makes of it.
+use Rattle.std.specs.Prelude.{◌≡◌, ◌⊎◌, ◌↔◌, Bool, [], Option, Result, Err, IfSome, IsTrue}
+use Rattle.money_core.specs.declared.cause.Cause.TheVariants.{Store as Failed}
+use Rattle.book_core.specs.declared.refusal.Refusal.{Refusal}
+use Rattle.book_core.specs.declared.refusal.Refusal.TheVariants.{Plain}
+use Rattle.sqlite.specs.Store.{Ghosts}
+use Rattle.treasury_core.specs.declared.command.Answer.{Answer}
+use Rattle.treasury_core.specs.declared.command.Command.{Command}
+use Rattle.treasury_core.specs.Federation.{Federation}
+use Rattle.treasury_core.specs.Drafted.{HasShortLocks}
+use Rattle.treasury_core.specs.Step.{reply, after, delta}
+use Rattle.treasury_core.specs.History.{Replies}
+use Rattle.treasury_store.specs.declared.store.Store.{Store}
+use Rattle.treasury_store.specs.Store.{IsOf}
+
+-- a treasury: its store, and the state in memory while it is held
+pub record Treasury (S : Type 0) : Type 0 where
+  pub store : Store S
+  pub held : Option Federation
+
+-- The treasury is of a good state: its store is, no lock day is past what a table takes, and the state in memory, while it is held, is that one.
+pub record IsTreasuryOf {S : Type 0} (g : Ghosts S) (t : Treasury S) (f : Federation) : Type 0 where
+  pub store : IsOf g t.store f
+  pub short : HasShortLocks f
+  pub held : IfSome t.held (λ s. s ≡ f)
+
+-- A turn of a run: the reply is the step's, or 40 or 41, and the treasury is of the state after it.
+pub record Performs {S : Type 0} (g : Ghosts S) (new : Treasury S) (f : Federation) (c : Command) (r : Result Answer Refusal) : Type 0 where
+  pub replies : Replies f c r ⊎ (r ≡ Err (Plain Failed))
+  pub next : IsTreasuryOf g new (after f c r)
+
+-- a command that adds nothing: it is refused, or everything that it asks for is there
+abbrev pub AddsNothing : Federation → Command → Type 0
+AddsNothing f c = delta f c (reply f c) ≡ []
+
+-- a command on a treasury on which no call has failed: it fails just where it is answered 41
+abbrev pub FailsBy : Result Answer Refusal → Bool → Type 0
+FailsBy r failed = IsTrue failed ↔ (r ≡ Err (Plain Failed))

@@ -1,0 +1,204 @@
+//! A treasury: a store, with its state in memory.
+
+ghost use Rattle.std.specs.Prelude.{◌≡◌, ◌⊎◌, [], false, Some, None, Err, Ok, OnOk, OnErr, IfOk, IfErr, IfSome, IsSome, IsOk, IsTrue, MatchOption};
+ghost use Rattle.sqlite.specs.State.{HasCleanDisk, Survives};
+ghost use Rattle.sqlite.specs.Held.{state};
+ghost use Rattle.sqlite.specs.Effect.{Database};
+ghost use Rattle.treasury_core.specs.Federation.{Federation};
+ghost use Rattle.treasury_core.specs.Good.{IsGoodState, Fits};
+ghost use Rattle.treasury_core.specs.Drafted.{HasShortLocks};
+ghost use Rattle.treasury_core.specs.Joined.{joined};
+ghost use Rattle.treasury_core.specs.Rows.{rows};
+ghost use Rattle.treasury_core.specs.Step.{step};
+ghost use Rattle.treasury_core.specs.History.{Replies};
+ghost use Rattle.treasury_store.specs.Rows.{Holds};
+ghost use Rattle.treasury_store.specs.Store.{TablesAre, Knows, IsOf, Answers, AnswersState};
+ghost use Rattle.treasury_store.specs.Treasury.{IsTreasuryOf, Performs, AddsNothing, FailsBy};
+
+use crate::store::Store;
+use book_core::{DayLedger, Refusal};
+use money_core::Cause;
+use sqlite::Alter;
+use std::alloc::Global;
+use std::marker::Model;
+use treasury_core::{Answer, Command, Delta, State, apply, decide};
+
+/// A store, with the state that it is of in memory.
+#[derive(Drop)]
+pub struct Treasury<S: Alter> {
+    alloc: Global,
+    store: Store<S>,
+    /// The state, while memory holds it.
+    held: Option<State<DayLedger>>,
+}
+
+/// A store on which no treasury was started, and why.
+#[derive(Drop)]
+pub struct Unstarted<S: Alter> {
+    pub store: Store<S>,
+    pub cause: Cause,
+}
+
+impl<S: Alter> Model for Treasury<S> {
+    ghost use Rattle.std.specs.Prelude.{IfSome};
+    ghost use Rattle.std.specs.Coded.{codes};
+    ghost use Rattle.sqlite.specs.Held.{held_code};
+    ghost use Rattle.treasury_core.specs.Federation.{Federation};
+    ghost use Rattle.treasury_store.specs.Store.{Knows};
+    ghost use Rattle.treasury_store.specs.Treasury.{Treasury as Known};
+
+    ghost Value = { Known S };
+
+    ghost coded = { Prim.hlevel (codes, held_code S.code) };
+
+    ghost view = { λ t. record { store = t.store; held = t.held } };
+
+    ghost invariant = { λ t. IfSome t.held (λ (s : Federation). Knows t.store s) };
+}
+
+impl<S: Alter> Treasury<S> {
+    /// A treasury of the state whose rows the tables of the store are. It holds that state in memory.
+    ///
+    /// Where the tables are no state's rows, it answers 43, and 40 to 42 as `Store::load`; the store is handed back.
+    pub fn start(alloc: Global, mut store: Store<S>) -> Result<Self, Unstarted<S>>
+        ensures of { IfOk result (λ t. HasCleanDisk (state S.Store t.store.conn) → (f : Federation) → IsGoodState f → HasShortLocks f → TablesAre S.Store store.conn (rows f) → IsTreasuryOf S.Store t f) }
+        ensures held { IfOk result (λ t. IsSome t.held) }
+        ensures open { IfOk result (λ t. t.store.failed ≡ false) }
+        ensures damaged { IfErr result (λ r. r.cause ≡ Cause.Damaged → HasCleanDisk (state S.Store r.store.conn) → (f : Federation) → IsGoodState f → HasShortLocks f → TablesAre S.Store store.conn (rows f) → ⊥) }
+        ensures back { IfErr result (λ r. (f : Federation) → IsOf S.Store store f → IsOf S.Store r.store f) }
+        ensures closed { IsTrue store.failed → result ≡ Err (record { store = store; cause = Cause.Closed }) }
+    {
+        match store.load() {
+            Ok(now) => Ok(Treasury {
+                alloc,
+                store,
+                held: Some(now),
+            }),
+            Err(cause) => Err(Unstarted { store, cause }),
+        }
+    }
+
+    /// The store, with its tables as they stand.
+    pub fn into_store(self) -> Store<S>
+        ensures { result ≡ self.store }
+    {
+        let Treasury {
+            alloc: _,
+            store,
+            held: _,
+        } = self;
+        store
+    }
+
+    /// The state, while memory holds it.
+    pub fn state(&self) -> Option<&State<DayLedger>>
+        ensures { MatchOption result (self.now.held ≡ None) (λ s. self.now.held ≡ Some s.now) }
+    {
+        self.held.as_ref()
+    }
+
+    /// Loads the state, where memory does not hold it.
+    ///
+    /// Where the tables are no state's rows, it answers 43, and 40 to 42 as `Store::load`.
+    pub fn hold(&mut self) -> Result<(), Cause>
+        ensures held { OnOk result (IsSome self.new.held) }
+        ensures of { HasCleanDisk (state S.Store self.new.store.conn) → (f : Federation) → IsTreasuryOf S.Store self.old f → IsTreasuryOf S.Store self.new f }
+        ensures same { IsSome self.old.held → (self.new ≡ self.old) × (self.old.store.failed ≡ false → IsOk result) }
+        ensures damaged { result ≡ Err Cause.Damaged → HasCleanDisk (state S.Store self.new.store.conn) → (f : Federation) → IsTreasuryOf S.Store self.old f → ⊥ }
+        ensures answers { self.old.store.failed ≡ false → AnswersState result self.new.store.failed }
+        ensures closed { IsTrue self.old.store.failed → (result ≡ Err Cause.Closed) × (self.new ≡ self.old) }
+    {
+        if self.store.is_closed() {
+            return Err(Cause::Closed);
+        }
+        if self.held.is_some() {
+            return Ok(());
+        }
+        match self.store.load() {
+            Ok(now) => {
+                self.held = Some(now);
+                Ok(())
+            }
+            Err(cause) => Err(cause),
+        }
+    }
+
+    /// Writes what a command adds to the state, and holds the state with it.
+    fn write(&mut self, now: State<DayLedger>, delta: Delta) -> Result<(), Cause>
+        requires good { IsGoodState (joined now delta) }
+        requires known { Knows self.old.store now }
+        ensures ok { OnOk result (IsOf S.Store self.old.store now → IsOf S.Store self.new.store (joined now delta)) }
+        ensures ok_held { OnOk result (IfSome self.new.held (λ s. s ≡ joined now delta)) }
+        ensures err { OnErr result (IsOf S.Store self.old.store now → IsOf S.Store self.new.store now) }
+        ensures err_held { OnErr result (self.new.held ≡ Some now) }
+        ensures nothing { delta ≡ [] → IsOk result × (self.new ≡ record { store = self.old.store; held = Some now }) }
+        ensures answers { self.old.store.failed ≡ false → Answers result self.new.store.failed }
+        ensures clean { HasCleanDisk (state S.Store self.new.store.conn) → HasCleanDisk (state S.Store self.old.store.conn) }
+    {
+        if delta.additions().is_empty() {
+            self.held = Some(now);
+            return Ok(());
+        }
+        match self.store.commit(&delta) {
+            Ok(()) => {
+                self.held = apply(self.alloc, now, delta).ok();
+                Ok(())
+            }
+            Err(cause) => {
+                self.held = Some(now);
+                Err(cause)
+            }
+        }
+    }
+
+    /// Decides a command on the state, and writes what it adds.
+    fn settle(&mut self, now: State<DayLedger>, command: &Command) -> Result<Answer, Refusal>
+        requires fits { Fits now.styles command.now }
+        requires known { Knows self.old.store now }
+        ensures performs { IsOf S.Store self.old.store now → HasShortLocks now → self.old.store.failed ≡ false → Performs S.Store self.new now command.now result }
+        ensures fails { self.old.store.failed ≡ false → FailsBy result self.new.store.failed }
+        ensures nothing { AddsNothing now command.now → Replies now command.now result × (self.new ≡ record { store = self.old.store; held = Some now }) }
+        ensures clean { HasCleanDisk (state S.Store self.new.store.conn) → HasCleanDisk (state S.Store self.old.store.conn) }
+    {
+        match decide(self.alloc, &now, command) {
+            Ok((answer, delta)) => match self.write(now, delta) {
+                Ok(()) => Ok(answer),
+                Err(cause) => Err(Refusal::Plain(cause)),
+            },
+            Err(refusal) => {
+                self.held = Some(now);
+                Err(refusal)
+            }
+        }
+    }
+
+    /// Performs a command: it decides it, writes what it adds in one transaction, and holds the state behind it.
+    ///
+    /// It asks that the command fits the state in memory; where the state has to be loaded first, a command that does
+    /// not fit it is answered 43. A command that is refused, or that adds nothing, writes nothing. After 40 and 41 the
+    /// tables are as before; after 41 every later call answers 42. Where memory cannot hold the next state it is given
+    /// up, and the next call loads it.
+    pub fn perform(&mut self, command: Command) -> Result<Answer, Refusal>
+        requires { IfSome self.old.held (λ s. Fits s.styles command) }
+        // Of whichever state the treasury is: a turn of a run.
+        ensures performs { HasCleanDisk (state S.Store self.new.store.conn) → self.old.store.failed ≡ false → (f : Federation) → IsTreasuryOf S.Store self.old f → Fits f.styles command → Performs S.Store self.new f command result }
+        // A command that adds nothing to the state in memory is answered as the step says, or 40, and nothing changes.
+        ensures nothing { self.old.store.failed ≡ false → IfSome self.old.held (λ s. AddsNothing s command → Replies s command result × (self.new ≡ self.old)) }
+        ensures fails { self.old.store.failed ≡ false → FailsBy result self.new.store.failed }
+        ensures closed { IsTrue self.old.store.failed → (result ≡ Err (Refusal.Plain Cause.Closed)) × (self.new ≡ self.old) }
+    {
+        let was_held = self.held.is_some();
+        match self.hold() {
+            Ok(()) => {}
+            Err(cause) => return Err(Refusal::Plain(cause)),
+        }
+        let Some(now) = self.held.take() else {
+            unreachable!()
+        };
+        if !was_held && !command.fits(now.styles()) {
+            self.held = Some(now);
+            return Err(Refusal::Plain(Cause::Damaged));
+        }
+        self.settle(now, &command)
+    }
+}
