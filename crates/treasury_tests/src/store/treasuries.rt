@@ -210,6 +210,7 @@ fn a_treasury_that_is_started_again_has_the_same_state(rt: HostRuntime) {
         open_amount(state, "north", "south", Unit(0), Day(19_784)),
         5000
     );
+    assert_eq!(rt; state.branches().len(), 2);
     assert_eq!(rt; state.branches()[0].locked, Some(Day(19_753)));
     assert_eq!(rt; state.branches()[0].records.items().len(), 2);
     assert_eq!(rt; perform(&rt, &mut treasury, dispatch(&rt, alloc)), REPEATED);
@@ -219,6 +220,7 @@ fn a_treasury_that_is_started_again_has_the_same_state(rt: HostRuntime) {
         open_amount(state, "north", "south", Unit(0), Day(19_785)),
         0
     );
+    assert_eq!(rt; state.branches().len(), 2);
     assert_eq!(rt; state.branches()[1].records.items().len(), 1);
 }
 
