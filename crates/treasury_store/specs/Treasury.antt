@@ -24,9 +24,13 @@ pub record IsTreasuryOf {S : Type 0} (g : Ghosts S) (t : Treasury S) (f : Federa
   pub short : HasShortLocks f
   pub held : IfSome t.held (λ s. s ≡ f)
 
+-- the reply is the step's, or 40 or 41
+abbrev pub MayReply : Federation → Command → Result Answer Refusal → Type 0
+MayReply f c r = Replies f c r ⊎ (r ≡ Err (Plain Failed))
+
 -- A turn of a run: the reply is the step's, or 40 or 41, and the treasury is of the state after it.
 pub record Performs {S : Type 0} (g : Ghosts S) (new : Treasury S) (f : Federation) (c : Command) (r : Result Answer Refusal) : Type 0 where
-  pub replies : Replies f c r ⊎ (r ≡ Err (Plain Failed))
+  pub replies : MayReply f c r
   pub next : IsTreasuryOf g new (after f c r)
 
 -- a command that adds nothing: it is refused, or everything that it asks for is there

@@ -13,7 +13,7 @@ ghost use Rattle.treasury_core.specs.Step.{step};
 ghost use Rattle.treasury_core.specs.History.{Replies};
 ghost use Rattle.treasury_store.specs.Rows.{Holds};
 ghost use Rattle.treasury_store.specs.Store.{TablesAre, Knows, IsOf, Answers, AnswersState};
-ghost use Rattle.treasury_store.specs.Treasury.{IsTreasuryOf, Performs, AddsNothing, FailsBy};
+ghost use Rattle.treasury_store.specs.Treasury.{IsTreasuryOf, MayReply, Performs, AddsNothing, FailsBy};
 
 use crate::store::Store;
 use book_core::{DayLedger, Refusal};
@@ -107,6 +107,7 @@ impl<S: Alter> Treasury<S> {
         ensures damaged { result ≡ Err Cause.Damaged → HasCleanDisk (state S.Store self.new.store.conn) → (f : Federation) → IsTreasuryOf S.Store self.old f → ⊥ }
         ensures answers { self.old.store.failed ≡ false → AnswersState result self.new.store.failed }
         ensures closed { IsTrue self.old.store.failed → (result ≡ Err Cause.Closed) × (self.new ≡ self.old) }
+        ensures clean { HasCleanDisk (state S.Store self.new.store.conn) → HasCleanDisk (state S.Store self.old.store.conn) }
     {
         if self.store.is_closed() {
             return Err(Cause::Closed);
@@ -157,6 +158,7 @@ impl<S: Alter> Treasury<S> {
         requires known { Knows self.old.store now }
         ensures performs { IsOf S.Store self.old.store now → HasShortLocks now → self.old.store.failed ≡ false → Performs S.Store self.new now command.now result }
         ensures fails { self.old.store.failed ≡ false → FailsBy result self.new.store.failed }
+        ensures replies { self.old.store.failed ≡ false → MayReply now command.now result }
         ensures nothing { AddsNothing now command.now → Replies now command.now result × (self.new ≡ record { store = self.old.store; held = Some now }) }
         ensures clean { HasCleanDisk (state S.Store self.new.store.conn) → HasCleanDisk (state S.Store self.old.store.conn) }
     {
@@ -186,6 +188,9 @@ impl<S: Alter> Treasury<S> {
         ensures nothing { self.old.store.failed ≡ false → IfSome self.old.held (λ s. AddsNothing s command → Replies s command result × (self.new ≡ self.old)) }
         ensures fails { self.old.store.failed ≡ false → FailsBy result self.new.store.failed }
         ensures closed { IsTrue self.old.store.failed → (result ≡ Err (Refusal.Plain Cause.Closed)) × (self.new ≡ self.old) }
+        // Whatever the disk returned, a command is answered by the state in memory.
+        ensures replies { self.old.store.failed ≡ false → IfSome self.old.held (λ s. MayReply s command result) }
+        ensures clean { HasCleanDisk (state S.Store self.new.store.conn) → HasCleanDisk (state S.Store self.old.store.conn) }
     {
         let was_held = self.held.is_some();
         match self.hold() {
