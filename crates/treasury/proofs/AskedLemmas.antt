@@ -172,6 +172,7 @@ request_fits styles (ForRegister name account tag) c days h = absurd cc
 request_fits styles (ForTransit day) c days h = absurd cc
 request_fits styles (ForJournal name) c days h = absurd cc
 
-pub asked_fits : (styles : List Style) (line : List ℕ) (c : AnyCommand) → Asks styles line (Ok (Command c)) → Fits styles c
-asked_fits styles line c (inl asks) = request_fits styles asks.0 c (spelled_days line asks.0 asks.1.0) asks.1.1
-asked_fits styles line c (inr none) = absurd (let e = none.1 in cc)
+pub asked_fits : (failed : Bool) (styles : List Style) (line : List ℕ) (c : AnyCommand) → Asks failed styles line (Ok (Command c)) → Fits styles c
+asked_fits true styles line c (inl asks) = absurd (let e = asks.1.1 in cc)
+asked_fits false styles line c (inl asks) = request_fits styles asks.0 c (spelled_days line asks.0 asks.1.0) asks.1.1
+asked_fits failed styles line c (inr none) = absurd (let e = none.1 in cc)

@@ -74,33 +74,30 @@ whole_further Step w0 w1 w2 s m t seen line new line' so_far next = record {
 -- ---- where the answers stop
 
 -- memory was refused between two requests
-pub gave_up_here : {S : Type 0} (Step : Stepping S) (Loses : S → List ℕ → Type 0) (AtEnd : Type 0) (w0 w1 : Option (List ℕ)) (s t : S) (seen line rest all : List ℕ) → AnswersWhole Step w0 w1 s seen line t → all ≡ seen ++ rest → GaveUp Step Loses AtEnd w0 w1 s all t
-gave_up_here Step Loses AtEnd w0 w1 s t seen line rest all so_far split = record {
+pub gave_up_here : {S : Type 0} (Step : Stepping S) (w0 w1 : Option (List ℕ)) (s t : S) (seen line rest all : List ℕ) → AnswersWhole Step w0 w1 s seen line t → all ≡ seen ++ rest → GaveUp Step w0 w1 s all t
+gave_up_here Step w0 w1 s t seen line rest all so_far split = record {
   whole = so_far.whole;
   further = line ++ rest;
   written = so_far.written;
-  mid = t;
   split = split ∙ ap (λ x. x ++ rest) so_far.split ∙ append_assoc so_far.whole line rest;
   complete = so_far.complete;
   transcript = so_far.transcript;
   appended = so_far.appended;
-  left = inl refl;
 }
 
-gave_up : {S : Type 0} (Step : Stepping S) (Loses : S → List ℕ → Type 0) (AtEnd : Type 0) (w0 w1 w2 : Option (List ℕ)) (s m t : S) (seen line further all : List ℕ) (requests : List (List ℕ)) → AnswersWhole Step w0 w1 s seen line m → Unserved Loses w1 w2 m requests t → ((request : List ℕ) → requests ≡ request ∷ [] → GoesOn AtEnd further request) → ((whole : List ℕ) → seen ≡ whole ++ line → all ≡ whole ++ further) → GaveUp Step Loses AtEnd w0 w2 s all t
-gave_up Step Loses AtEnd w0 w1 w2 s m t seen line further all requests so_far failed next split = record {
+gave_up : {S : Type 0} (Step : Stepping S) (w0 w1 w2 : Option (List ℕ)) (s m t : S) (seen line further all : List ℕ) → AnswersWhole Step w0 w1 s seen line m → Unserved w1 w2 m t → ((whole : List ℕ) → seen ≡ whole ++ line → all ≡ whole ++ further) → GaveUp Step w0 w2 s all t
+gave_up {S = S} Step w0 w1 w2 s m t seen line further all so_far failed split = record {
   whole = so_far.whole;
   further = further;
   written = so_far.written ++ [];
-  mid = m;
   split = split so_far.whole so_far.split;
   complete = so_far.complete;
-  transcript = (let P : List ℕ → Type 0 = λ o. IsTranscript Step s so_far.whole o m in subst P (sym (append-nil so_far.written)) so_far.transcript);
+  transcript = (
+      let P : List ℕ → Type 0 = λ o. IsTranscript Step s so_far.whole o t in
+      let Q : S → Type 0 = λ end. IsTranscript Step s so_far.whole so_far.written end in
+      subst P (sym (append-nil so_far.written)) (subst Q (sym failed.same) so_far.transcript)
+      );
   appended = Appends-trans w0 w1 w2 so_far.written [] so_far.appended failed.appended;
-  left = (elim failed.left [
-    | inl same ↦ inl same
-    | inr loses ↦ inr (failed.request, (next failed.request failed.one, loses))
-  ]);
 }
 
 torn : {S : Type 0} (Step : Stepping S) (AtEnd : Type 0) (w0 w1 w2 : Option (List ℕ)) (s m t : S) (seen line further all : List ℕ) (requests : List (List ℕ)) → AnswersWhole Step w0 w1 s seen line m → HalfServed Step w1 w2 m requests t → ((request : List ℕ) → requests ≡ request ∷ [] → GoesOn AtEnd further request) → ((whole : List ℕ) → seen ≡ whole ++ line → all ≡ whole ++ further) → Torn Step AtEnd w0 w2 s all t
@@ -120,10 +117,10 @@ torn Step AtEnd w0 w1 w2 s m t seen line further all requests so_far failed next
   appended = Appends-trans w0 w1 w2 so_far.written (take failed.taken failed.answer) so_far.appended failed.appended;
 }
 
-stops : {S : Type 0} (cause : Cause) (Step : Stepping S) (Loses : S → List ℕ → Type 0) (AtEnd : Type 0) (w0 w1 w2 : Option (List ℕ)) (s m t : S) (seen line further all : List ℕ) (requests : List (List ℕ)) → AnswersWhole Step w0 w1 s seen line m → FailsBy cause Step Loses w1 w2 m requests t → ((request : List ℕ) → requests ≡ request ∷ [] → GoesOn AtEnd further request) → ((whole : List ℕ) → seen ≡ whole ++ line → all ≡ whole ++ further) → StopsBy cause Step Loses AtEnd w0 w2 s all t
-stops OutOfMemory Step Loses AtEnd w0 w1 w2 s m t seen line further all requests so_far failed next split = gave_up Step Loses AtEnd w0 w1 w2 s m t seen line further all requests so_far failed next split
-stops WriteFault Step Loses AtEnd w0 w1 w2 s m t seen line further all requests so_far failed next split = torn Step AtEnd w0 w1 w2 s m t seen line further all requests so_far failed next split
-stops _ Step Loses AtEnd w0 w1 w2 s m t seen line further all requests so_far failed next split = absurd failed
+stops : {S : Type 0} (cause : Cause) (Step : Stepping S) (AtEnd : Type 0) (w0 w1 w2 : Option (List ℕ)) (s m t : S) (seen line further all : List ℕ) (requests : List (List ℕ)) → AnswersWhole Step w0 w1 s seen line m → FailsBy cause Step w1 w2 m requests t → ((request : List ℕ) → requests ≡ request ∷ [] → GoesOn AtEnd further request) → ((whole : List ℕ) → seen ≡ whole ++ line → all ≡ whole ++ further) → StopsBy cause Step AtEnd w0 w2 s all t
+stops OutOfMemory Step AtEnd w0 w1 w2 s m t seen line further all requests so_far failed next split = gave_up Step w0 w1 w2 s m t seen line further all so_far failed split
+stops WriteFault Step AtEnd w0 w1 w2 s m t seen line further all requests so_far failed next split = torn Step AtEnd w0 w1 w2 s m t seen line further all requests so_far failed next split
+stops _ Step AtEnd w0 w1 w2 s m t seen line further all requests so_far failed next split = absurd failed
 
 goes_on_line : (AtEnd : Type 0) (line rest : List ℕ) → HasNoLineFeed line → (request : List ℕ) → requests_among (strip_carriage_return line ∷ []) ≡ request ∷ [] → GoesOn AtEnd (line ++ (10 ∷ rest)) request
 goes_on_line AtEnd line rest part request one = record {
@@ -144,16 +141,16 @@ goes_on_last AtEnd line part last request one = record {
 }
 
 -- the answers stop at a line that a line feed ends
-pub stops_at_line : {S : Type 0} (cause : Cause) (Step : Stepping S) (Loses : S → List ℕ → Type 0) (AtEnd : Type 0) (w0 w1 w2 : Option (List ℕ)) (s m t : S) (seen line rest all : List ℕ) (b : ℕ) → AnswersWhole Step w0 w1 s seen line m → FailsBy cause Step Loses w1 w2 m (requests_among (strip_carriage_return line ∷ [])) t → b ≡ 10 → all ≡ seen ++ (b ∷ rest) → StopsBy cause Step Loses AtEnd w0 w2 s all t
-stops_at_line cause Step Loses AtEnd w0 w1 w2 s m t seen line rest all b so_far failed feed split =
-    stops cause Step Loses AtEnd w0 w1 w2 s m t seen line (line ++ (10 ∷ rest)) all _ so_far failed
+pub stops_at_line : {S : Type 0} (cause : Cause) (Step : Stepping S) (AtEnd : Type 0) (w0 w1 w2 : Option (List ℕ)) (s m t : S) (seen line rest all : List ℕ) (b : ℕ) → AnswersWhole Step w0 w1 s seen line m → FailsBy cause Step w1 w2 m (requests_among (strip_carriage_return line ∷ [])) t → b ≡ 10 → all ≡ seen ++ (b ∷ rest) → StopsBy cause Step AtEnd w0 w2 s all t
+stops_at_line cause Step AtEnd w0 w1 w2 s m t seen line rest all b so_far failed feed split =
+    stops cause Step AtEnd w0 w1 w2 s m t seen line (line ++ (10 ∷ rest)) all _ so_far failed
     (goes_on_line AtEnd line rest so_far.part)
     (λ whole e. split ∙ ap (λ x. seen ++ (x ∷ rest)) feed ∙ ap (λ x. x ++ (10 ∷ rest)) e ∙ append_assoc whole line (10 ∷ rest))
 
 -- the answers stop at the last line, which has no end
-pub stops_at_last : {S : Type 0} (cause : Cause) (Step : Stepping S) (Loses : S → List ℕ → Type 0) (AtEnd : Type 0) (w0 w1 w2 : Option (List ℕ)) (s m t : S) (seen line : List ℕ) → AnswersWhole Step w0 w1 s seen line m → FailsBy cause Step Loses w1 w2 m (requests_among (line ∷ [])) t → AtEnd → StopsBy cause Step Loses AtEnd w0 w2 s seen t
-stops_at_last cause Step Loses AtEnd w0 w1 w2 s m t seen line so_far failed last =
-    stops cause Step Loses AtEnd w0 w1 w2 s m t seen line line seen _ so_far failed (goes_on_last AtEnd line so_far.part last) (λ whole e. e)
+pub stops_at_last : {S : Type 0} (cause : Cause) (Step : Stepping S) (AtEnd : Type 0) (w0 w1 w2 : Option (List ℕ)) (s m t : S) (seen line : List ℕ) → AnswersWhole Step w0 w1 s seen line m → FailsBy cause Step w1 w2 m (requests_among (line ∷ [])) t → AtEnd → StopsBy cause Step AtEnd w0 w2 s seen t
+stops_at_last cause Step AtEnd w0 w1 w2 s m t seen line so_far failed last =
+    stops cause Step AtEnd w0 w1 w2 s m t seen line line seen _ so_far failed (goes_on_last AtEnd line so_far.part last) (λ whole e. e)
 
 goes_on : (AtEnd : Type 0) (text request : List ℕ) → GoesOn ⊥ text request → GoesOn AtEnd text request
 goes_on AtEnd text request next = record {
@@ -168,20 +165,15 @@ later : {S : Type 0} (Step : Stepping S) (w0 w1 : Option (List ℕ)) (s m : S) (
 later Step w0 w1 s m seen line new whole further so_far split =
     ap (λ x. x ++ new) so_far.split ∙ append_assoc so_far.whole line new ∙ ap (λ x. so_far.whole ++ x) split ∙ sym (append_assoc so_far.whole whole further)
 
-gave_up_later : {S : Type 0} (Step : Stepping S) (Loses : S → List ℕ → Type 0) (AtEnd : Type 0) (w0 w1 w2 : Option (List ℕ)) (s m t : S) (seen line new : List ℕ) → AnswersWhole Step w0 w1 s seen line m → GaveUp Step Loses ⊥ w1 w2 m (line ++ new) t → GaveUp Step Loses AtEnd w0 w2 s (seen ++ new) t
-gave_up_later Step Loses AtEnd w0 w1 w2 s m t seen line new so_far next = record {
+gave_up_later : {S : Type 0} (Step : Stepping S) (w0 w1 w2 : Option (List ℕ)) (s m t : S) (seen line new : List ℕ) → AnswersWhole Step w0 w1 s seen line m → GaveUp Step w1 w2 m (line ++ new) t → GaveUp Step w0 w2 s (seen ++ new) t
+gave_up_later Step w0 w1 w2 s m t seen line new so_far next = record {
   whole = so_far.whole ++ next.whole;
   further = next.further;
   written = so_far.written ++ next.written;
-  mid = next.mid;
   split = later Step w0 w1 s m seen line new next.whole next.further so_far next.split;
   complete = whole-append so_far.whole next.whole so_far.complete next.complete;
-  transcript = transcript-append Step s m next.mid so_far.whole next.whole so_far.written next.written so_far.complete so_far.transcript next.transcript;
+  transcript = transcript-append Step s m t so_far.whole next.whole so_far.written next.written so_far.complete so_far.transcript next.transcript;
   appended = Appends-trans w0 w1 w2 so_far.written next.written so_far.appended next.appended;
-  left = (elim next.left [
-    | inl same ↦ inl same
-    | inr (request, (at, loses)) ↦ inr (request, (goes_on AtEnd next.further request at, loses))
-  ]);
 }
 
 torn_later : {S : Type 0} (Step : Stepping S) (AtEnd : Type 0) (w0 w1 w2 : Option (List ℕ)) (s m t : S) (seen line new : List ℕ) → AnswersWhole Step w0 w1 s seen line m → Torn Step ⊥ w1 w2 m (line ++ new) t → Torn Step AtEnd w0 w2 s (seen ++ new) t
@@ -206,10 +198,10 @@ torn_later Step AtEnd w0 w1 w2 s m t seen line new so_far next = record {
 }
 
 -- the answers stop within further bytes
-pub stops_later : {S : Type 0} (cause : Cause) (Step : Stepping S) (Loses : S → List ℕ → Type 0) (AtEnd : Type 0) (w0 w1 w2 : Option (List ℕ)) (s m t : S) (seen line new : List ℕ) → AnswersWhole Step w0 w1 s seen line m → StopsBy cause Step Loses ⊥ w1 w2 m (line ++ new) t → StopsBy cause Step Loses AtEnd w0 w2 s (seen ++ new) t
-stops_later OutOfMemory Step Loses AtEnd w0 w1 w2 s m t seen line new so_far next = gave_up_later Step Loses AtEnd w0 w1 w2 s m t seen line new so_far next
-stops_later WriteFault Step Loses AtEnd w0 w1 w2 s m t seen line new so_far next = torn_later Step AtEnd w0 w1 w2 s m t seen line new so_far next
-stops_later _ Step Loses AtEnd w0 w1 w2 s m t seen line new so_far next = absurd next
+pub stops_later : {S : Type 0} (cause : Cause) (Step : Stepping S) (AtEnd : Type 0) (w0 w1 w2 : Option (List ℕ)) (s m t : S) (seen line new : List ℕ) → AnswersWhole Step w0 w1 s seen line m → StopsBy cause Step ⊥ w1 w2 m (line ++ new) t → StopsBy cause Step AtEnd w0 w2 s (seen ++ new) t
+stops_later OutOfMemory Step AtEnd w0 w1 w2 s m t seen line new so_far next = gave_up_later Step w0 w1 w2 s m t seen line new so_far next
+stops_later WriteFault Step AtEnd w0 w1 w2 s m t seen line new so_far next = torn_later Step AtEnd w0 w1 w2 s m t seen line new so_far next
+stops_later _ Step AtEnd w0 w1 w2 s m t seen line new so_far next = absurd next
 
 -- ---- the lines of further bytes, one after another
 
@@ -228,13 +220,13 @@ fed_further {S = S} Step w0 w1 w2 s m t seen line front next rest all line' so_f
     )
 
 -- the answers stop at a line that a feed ends
-pub fed_stops : {S : Type 0} (cause : Cause) (Step : Stepping S) (Loses : S → List ℕ → Type 0) (w0 w1 w2 : Option (List ℕ)) (s m t : S) (seen line front next rest all : List ℕ) → AnswersWhole Step w0 w1 s seen line m
-    → ((more : List ℕ) → StopsBy cause Step Loses ⊥ w1 w2 m ((line ++ front) ++ 10 ∷ more) t) → rest ≡ front ++ (10 ∷ next) → all ≡ seen ++ rest → StopsBy cause Step Loses ⊥ w0 w2 s all t
-fed_stops cause Step Loses w0 w1 w2 s m t seen line front next rest all so_far failed cut split =
-    let P : List ℕ → Type 0 = λ x. StopsBy cause Step Loses ⊥ w1 w2 m x t in
-    let Q : List ℕ → Type 0 = λ x. StopsBy cause Step Loses ⊥ w0 w2 s x t in
+pub fed_stops : {S : Type 0} (cause : Cause) (Step : Stepping S) (w0 w1 w2 : Option (List ℕ)) (s m t : S) (seen line front next rest all : List ℕ) → AnswersWhole Step w0 w1 s seen line m
+    → ((more : List ℕ) → StopsBy cause Step ⊥ w1 w2 m ((line ++ front) ++ 10 ∷ more) t) → rest ≡ front ++ (10 ∷ next) → all ≡ seen ++ rest → StopsBy cause Step ⊥ w0 w2 s all t
+fed_stops cause Step w0 w1 w2 s m t seen line front next rest all so_far failed cut split =
+    let P : List ℕ → Type 0 = λ x. StopsBy cause Step ⊥ w1 w2 m x t in
+    let Q : List ℕ → Type 0 = λ x. StopsBy cause Step ⊥ w0 w2 s x t in
     subst Q (sym (split ∙ ap (λ x. seen ++ x) cut))
-    (stops_later cause Step Loses ⊥ w0 w1 w2 s m t seen line (front ++ (10 ∷ next)) so_far (subst P (append_assoc line front (10 ∷ next)) (failed next)))
+    (stops_later cause Step ⊥ w0 w1 w2 s m t seen line (front ++ (10 ∷ next)) so_far (subst P (append_assoc line front (10 ∷ next)) (failed next)))
 
 -- ---- one read after another
 
@@ -301,23 +293,23 @@ broken Step r0 r1 r2 w0 w1 s t line over left most passed read past = record {
 pub kept : (a b : Option (List ℕ)) → Keeps a b → Consumes a b []
 kept a b same = Consumes-kept a a b [] (Consumes-nil a) same
 
-ends_by : {S : Type 0} (cause : Cause) (Step : Stepping S) (Loses : S → List ℕ → Type 0) (most : ℕ) (r0 r1 w0 w1 : Option (List ℕ)) (s t : S) (seen : List ℕ) → Consumes r0 r1 seen → length seen ≤ most → StopsBy cause Step Loses (IsAtEnd r1) w0 w1 s seen t → EndsBy cause Step Loses most r0 r1 w0 w1 s t
-ends_by OutOfMemory Step Loses most r0 r1 w0 w1 s t seen read within stopped = record { seen = seen; read = read; within = within; stops = stopped }
-ends_by WriteFault Step Loses most r0 r1 w0 w1 s t seen read within stopped = record { seen = seen; read = read; within = within; stops = stopped }
-ends_by ReadFault Step Loses most r0 r1 w0 w1 s t seen read within stopped = absurd stopped
-ends_by _ Step Loses most r0 r1 w0 w1 s t seen read within stopped = absurd stopped
+ends_by : {S : Type 0} (cause : Cause) (Step : Stepping S) (most : ℕ) (r0 r1 w0 w1 : Option (List ℕ)) (s t : S) (seen : List ℕ) → Consumes r0 r1 seen → length seen ≤ most → StopsBy cause Step (IsAtEnd r1) w0 w1 s seen t → EndsBy cause Step most r0 r1 w0 w1 s t
+ends_by OutOfMemory Step most r0 r1 w0 w1 s t seen read within stopped = record { seen = seen; read = read; within = within; stops = stopped }
+ends_by WriteFault Step most r0 r1 w0 w1 s t seen read within stopped = record { seen = seen; read = read; within = within; stops = stopped }
+ends_by ReadFault Step most r0 r1 w0 w1 s t seen read within stopped = absurd stopped
+ends_by _ Step most r0 r1 w0 w1 s t seen read within stopped = absurd stopped
 
 -- the run stops within the bytes of one read
-pub stopped_later : {S : Type 0} (cause : Cause) (Step : Stepping S) (Loses : S → List ℕ → Type 0) (r0 r1 r2 w0 w1 w2 : Option (List ℕ)) (s m t : S) (line new : List ℕ) (left count most : ℕ) → Passed Step r0 r1 w0 w1 s m line left most → Consumes r1 r2 new → length new ≡ count → count ≤ left → StopsBy cause Step Loses ⊥ w1 w2 m (line ++ new) t → EndsBy cause Step Loses most r0 r2 w0 w2 s t
-stopped_later cause Step Loses r0 r1 r2 w0 w1 w2 s m t line new left count most passed read counted within next =
-    ends_by cause Step Loses most r0 r2 w0 w2 s t (passed.seen ++ new) (Consumes-trans r0 r1 r2 passed.seen new passed.read read)
+pub stopped_later : {S : Type 0} (cause : Cause) (Step : Stepping S) (r0 r1 r2 w0 w1 w2 : Option (List ℕ)) (s m t : S) (line new : List ℕ) (left count most : ℕ) → Passed Step r0 r1 w0 w1 s m line left most → Consumes r1 r2 new → length new ≡ count → count ≤ left → StopsBy cause Step ⊥ w1 w2 m (line ++ new) t → EndsBy cause Step most r0 r2 w0 w2 s t
+stopped_later cause Step r0 r1 r2 w0 w1 w2 s m t line new left count most passed read counted within next =
+    ends_by cause Step most r0 r2 w0 w2 s t (passed.seen ++ new) (Consumes-trans r0 r1 r2 passed.seen new passed.read read)
     (let h = length-append passed.seen new in let k = passed.count in omega arith)
-    (stops_later cause Step Loses (IsAtEnd r2) w0 w1 w2 s m t passed.seen line new passed.answered next)
+    (stops_later cause Step (IsAtEnd r2) w0 w1 w2 s m t passed.seen line new passed.answered next)
 
 -- the run stops at the last line, which has no end
-pub stopped_last : {S : Type 0} (cause : Cause) (Step : Stepping S) (Loses : S → List ℕ → Type 0) (r0 r1 r2 w0 w1 w2 : Option (List ℕ)) (s m t : S) (line : List ℕ) (left most : ℕ) → Passed Step r0 r1 w0 w1 s m line left most → Consumes r1 r2 [] → IsAtEnd r2 → FailsBy cause Step Loses w1 w2 m (requests_among (line ∷ [])) t → EndsBy cause Step Loses most r0 r2 w0 w2 s t
-stopped_last cause Step Loses r0 r1 r2 w0 w1 w2 s m t line left most passed read last failed =
+pub stopped_last : {S : Type 0} (cause : Cause) (Step : Stepping S) (r0 r1 r2 w0 w1 w2 : Option (List ℕ)) (s m t : S) (line : List ℕ) (left most : ℕ) → Passed Step r0 r1 w0 w1 s m line left most → Consumes r1 r2 [] → IsAtEnd r2 → FailsBy cause Step w1 w2 m (requests_among (line ∷ [])) t → EndsBy cause Step most r0 r2 w0 w2 s t
+stopped_last cause Step r0 r1 r2 w0 w1 w2 s m t line left most passed read last failed =
     let P : List ℕ → Type 0 = λ x. Consumes r0 r2 x in
-    ends_by cause Step Loses most r0 r2 w0 w2 s t passed.seen (subst P (append-nil passed.seen) (Consumes-trans r0 r1 r2 passed.seen [] passed.read read))
+    ends_by cause Step most r0 r2 w0 w2 s t passed.seen (subst P (append-nil passed.seen) (Consumes-trans r0 r1 r2 passed.seen [] passed.read read))
     (within_most passed.seen left most passed.count)
-    (stops_at_last cause Step Loses (IsAtEnd r2) w0 w1 w2 s m t passed.seen line passed.answered failed last)
+    (stops_at_last cause Step (IsAtEnd r2) w0 w1 w2 s m t passed.seen line passed.answered failed last)

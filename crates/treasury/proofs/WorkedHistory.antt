@@ -1,8 +1,8 @@
 -- Values worked out by hand, so that a wrong definition of a reply or of a history does not check.
-use Rattle.std.proofs.Common.{◌≡◌, refl, inl, inr, ℕ, List, [], ◌∷◌, Result, Ok, Err}
+use Rattle.std.proofs.Common.{◌≡◌, refl, inl, inr, ℕ, true, List, [], ◌∷◌, Result, Ok, Err}
 use Rattle.std.specs.Prelude.{codes}
 use Rattle.money_core.specs.declared.day.Day.{Day}
-use Rattle.money_core.specs.declared.cause.Cause.TheVariants.{UnknownBranch, Amount}
+use Rattle.money_core.specs.declared.cause.Cause.TheVariants.{UnknownBranch, Amount, Closed, Store as Failed}
 use Rattle.book_core.specs.declared.refusal.Refusal.{Refusal}
 use Rattle.book_core.specs.declared.refusal.Refusal.TheVariants.{Plain, Text, ClaimFailed}
 use Rattle.treasury_core.specs.declared.command.Answer.TheVariants.{Done, Repeated}
@@ -16,20 +16,26 @@ use Rattle.treasury.specs.declared.report.Report.TheVariants as report
 use Rattle.treasury.specs.Answer.{answer_text}
 use Rattle.treasury.specs.Step.{reply, reply_text}
 use Rattle.treasury.specs.History.{Turn, end_of, commands_of, IsRefusalOrRepeat}
-use Rattle.treasury.specs.Words.{nothing}
+use Rattle.treasury.specs.Words.{nothing, at_first}
 
--- of four turns the first makes a branch, and the others leave the state; two of them are commands
-abbrev turns : Day → Refusal → List Turn
-turns day refusal =
+-- Of six turns the first makes a branch, and the others leave the state. Three of them are commands, of which the last is
+-- answered 41: it is left out, and the run is failed, so that what comes behind it is answered 42.
+abbrev turns : Day → List Turn
+turns day =
     record { line = codes "a"; asked = Ok (Command (cmd.Branch (codes "north"))); reply = Ok Done }
     ∷ record { line = codes "b"; asked = Err (Plain Amount); reply = Err (Plain Amount) }
     ∷ record { line = codes "c"; asked = Ok (Report (report.Balance (codes "north") day)); reply = Ok Done }
-    ∷ record { line = codes "d"; asked = Ok (Command (cmd.Lock (codes "north") day)); reply = Err refusal } ∷ []
+    ∷ record { line = codes "d"; asked = Ok (Command (cmd.Lock (codes "south") day)); reply = Err (Plain UnknownBranch) }
+    ∷ record { line = codes "e"; asked = Ok (Command (cmd.Lock (codes "north") day)); reply = Err (Plain Failed) }
+    ∷ record { line = codes "f"; asked = Err (Plain Closed); reply = Err (Plain Closed) } ∷ []
 
-pub run : (day : Day) (refusal : Refusal) → (end_of nothing (turns day refusal) ≡ record { styles = []; branches = new_branch (codes "north") ∷ []; transfers = [] })
-    × (commands_of (turns day refusal) ≡ record { command = cmd.Branch (codes "north"); reply = Ok Done } ∷ record { command = cmd.Lock (codes "north") day; reply = Err refusal } ∷ [])
+pub run : (day : Day)
+    → (end_of at_first (turns day) ≡ record { now = record { styles = []; branches = new_branch (codes "north") ∷ []; transfers = [] }; failed = true })
+    × (commands_of (turns day)
+    ≡ record { command = cmd.Branch (codes "north"); reply = Ok Done }
+    ∷ record { command = cmd.Lock (codes "south") day; reply = Err (Plain UnknownBranch) } ∷ [])
 unfolding done
-run day refusal = (refl, refl)
+run day = (refl, refl)
 
 -- a report on a branch that is not there
 pub nowhere : (day : Day) → reply nothing (Ok (Report (report.Balance (codes "north") day))) ≡ Err (Plain UnknownBranch)

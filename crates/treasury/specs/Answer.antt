@@ -67,3 +67,14 @@ IsPrintableRefusal styles (ClaimFailed failure) = IsPrintableFailure styles fail
 abbrev pub IsPrintableAnswer : List Style → Result Answer Refusal → Type 0
 IsPrintableAnswer styles (Ok answer) = ⊤
 IsPrintableAnswer styles (Err refusal) = IsPrintableRefusal styles refusal
+
+-- the line of an answer that is no text fault and no failed assertion has at most that many bytes
+abbrev pub most_plain : ℕ
+most_plain = 64
+
+-- the answer is no text fault and no failed assertion
+abbrev pub IsPlainAnswer : Result Answer Refusal → Type 0
+IsPlainAnswer (Ok answer) = ⊤
+IsPlainAnswer (Err (Plain cause)) = ⊤
+IsPlainAnswer (Err (Text fault)) = ⊥
+IsPlainAnswer (Err (ClaimFailed failure)) = ⊥

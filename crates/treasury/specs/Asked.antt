@@ -1,12 +1,12 @@
 -- What a line asks, once its texts are read (own rule; docs/FORMATS.md, "Requests"): a journal by the grammar's
 -- relation, or by its first fault.
-use Rattle.std.specs.Prelude.{◌≡◌, ℕ, ℤ, List, ◌⊎◌, Option, Some, None, Result, Ok, Err}
+use Rattle.std.specs.Prelude.{◌≡◌, ℕ, ℤ, Bool, true, false, List, ◌⊎◌, Option, Some, None, Result, Ok, Err}
 use Rattle.money_core.specs.declared.style.Style.{Style}
 use Rattle.money_core.specs.declared.unit.Unit.{Unit}
 use Rattle.money_core.specs.declared.day.Day.{Day}
 use Rattle.money_core.specs.declared.cause.Cause.{Cause}
 use Rattle.money_core.specs.declared.cause.Fault.{Fault}
-use Rattle.money_core.specs.declared.cause.Cause.TheVariants.{Amount, Request as NoRequest}
+use Rattle.money_core.specs.declared.cause.Cause.TheVariants.{Amount, Closed, Request as NoRequest}
 use Rattle.money_core.specs.Sampling.{style_of}
 use Rattle.money_core.specs.Reading.{amount}
 use Rattle.book_core.specs.declared.refusal.Refusal.{Refusal}
@@ -55,8 +55,13 @@ RequestAsks styles (Register name account tag) asked = asked ≡ Ok (Report (rep
 RequestAsks styles (Transit day) asked = asked ≡ Ok (Report (report.Transit day))
 RequestAsks styles (Journal name) asked = asked ≡ Ok (Report (report.Journal name))
 
+-- what a request asks of a treasury: what its texts say, or nothing, by 42, where a call of its database has failed
+abbrev pub AsksOf : Bool → List Style → Request → Result Asked Refusal → Type 0
+AsksOf false styles request asked = RequestAsks styles request asked
+AsksOf true styles request asked = asked ≡ Err (Plain Closed)
+
 -- what a line asks: what its request does, or nothing where it spells none
-abbrev pub Asks : List Style → List ℕ → Result Asked Refusal → Type 0
-Asks styles line asked =
-    ((request : Request) × ((spelled line ≡ Some request) × RequestAsks styles request asked))
+abbrev pub Asks : Bool → List Style → List ℕ → Result Asked Refusal → Type 0
+Asks failed styles line asked =
+    ((request : Request) × ((spelled line ≡ Some request) × AsksOf failed styles request asked))
     ⊎ ((spelled line ≡ None) × (asked ≡ Err (Plain NoRequest)))

@@ -1,6 +1,6 @@
 -- The requests (own rule; docs/FORMATS.md, "Requests"). A request is one JSON object, and each of its values is a text.
 -- What JSON is, `serde_json` says: arrays and objects nest 127 deep, and of a key that is written twice the last one stays.
-use Rattle.std.specs.Prelude.{ℕ, ◌+◌, Bool, ◌==◌, ◌&&◌, if◌then◌else◌, List, codes, ⊤}
+use Rattle.std.specs.Prelude.{ℕ, ◌+◌, Bool, ◌==◌, ◌&&◌, if◌then◌else◌, List, codes, ⊤, true, false}
 use Rattle.std.specs.Prelude.{Option, Some, None, option_map, option_and_then}
 use Rattle.std.specs.Str.{bytes_eq, is_utf8}
 use Rattle.serde_json.specs.Data.{Data, null, boolean, number, string, array, object, Members, no_members, member}
@@ -109,3 +109,17 @@ HasDayNumbers (Balance branch day) = IsDayNumber day
 HasDayNumbers (Register branch account tag) = ⊤
 HasDayNumbers (Transit day) = IsDayNumber day
 HasDayNumbers (Journal branch) = ⊤
+
+-- a report is asked for, not a command
+abbrev pub is_report : Request → Bool
+is_report (Branch name) = false
+is_report (Commodity sample) = false
+is_report (Import branch journal) = false
+is_report (Dispatch id from to day amount account) = false
+is_report (Receive id branch day account) = false
+is_report (Lock branch day) = false
+is_report (Close branch day) = false
+is_report (Balance branch day) = true
+is_report (Register branch account tag) = true
+is_report (Transit day) = true
+is_report (Journal branch) = true

@@ -40,23 +40,16 @@ pub record GoesOn (AtEnd : Type 0) (text request : List ℕ) : Type 0 where
   pub one : requests_in line ≡ request ∷ []
   pub ended : IsWholeLines line ⊎ ((rest ≡ []) × AtEnd)
 
--- the state may be lost at the request that stands behind the lines that are answered
-abbrev pub MayLoseNext : {S : Type 0} → (S → List ℕ → Type 0) → Type 0 → S → List ℕ → Type 0
-MayLoseNext Loses AtEnd mid further = (request : List ℕ) × (GoesOn AtEnd further request × Loses mid request)
-
--- 40: the lines `whole` are answered by what was written; the state at the end is `mid`, the one after them, or it is
--- lost at the request that stands behind them
-pub record GaveUp {S : Type 0} (Step : S → List ℕ → List ℕ → S → Type 0) (Loses : S → List ℕ → Type 0)
-    (AtEnd : Type 0) (w0 w1 : Option (List ℕ)) (start : S) (seen : List ℕ) (end : S) : Type 0 where
+-- 40: the lines `whole` are answered by what was written, and the state at the end is the one after them
+pub record GaveUp {S : Type 0} (Step : S → List ℕ → List ℕ → S → Type 0)
+    (w0 w1 : Option (List ℕ)) (start : S) (seen : List ℕ) (end : S) : Type 0 where
   pub whole : List ℕ
   pub further : List ℕ
   pub written : List ℕ
-  pub mid : S
   pub split : seen ≡ whole ++ further
   pub complete : IsWholeLines whole
-  pub transcript : IsTranscript Step start whole written mid
+  pub transcript : IsTranscript Step start whole written end
   pub appended : Appends w0 w1 written
-  pub left : (end ≡ mid) ⊎ MayLoseNext Loses AtEnd mid further
 
 -- 46: the lines `whole` are answered, and of the answer to the request behind them the first `taken` bytes were written; the
 -- state at the end is the one after that request
@@ -77,11 +70,11 @@ pub record Torn {S : Type 0} (Step : S → List ℕ → List ℕ → S → Type 
   pub appended : Appends w0 w1 (written ++ take taken answer)
 
 -- the answers to what was seen stop for this cause
-abbrev pub StopsBy : {S : Type 0} → Cause → (S → List ℕ → List ℕ → S → Type 0) → (S → List ℕ → Type 0) → Type 0
+abbrev pub StopsBy : {S : Type 0} → Cause → (S → List ℕ → List ℕ → S → Type 0) → Type 0
     → Option (List ℕ) → Option (List ℕ) → S → List ℕ → S → Type 0
-StopsBy OutOfMemory Step Loses AtEnd w0 w1 start seen end = GaveUp Step Loses AtEnd w0 w1 start seen end
-StopsBy WriteFault Step Loses AtEnd w0 w1 start seen end = Torn Step AtEnd w0 w1 start seen end
-StopsBy _ Step Loses AtEnd w0 w1 start seen end = ⊥
+StopsBy OutOfMemory Step AtEnd w0 w1 start seen end = GaveUp Step w0 w1 start seen end
+StopsBy WriteFault Step AtEnd w0 w1 start seen end = Torn Step AtEnd w0 w1 start seen end
+StopsBy _ Step AtEnd w0 w1 start seen end = ⊥
 
 -- `Ok`: all input was read, no more than `most` bytes, and what was written is its transcript
 pub record Finished {S : Type 0} (Step : S → List ℕ → List ℕ → S → Type 0)
@@ -107,32 +100,24 @@ pub record Broken {S : Type 0} (Step : S → List ℕ → List ℕ → S → Typ
 
 -- 40 or 46: the answers stop within what was read
 pub record Stopped {S : Type 0} (cause : Cause) (Step : S → List ℕ → List ℕ → S → Type 0)
-    (Loses : S → List ℕ → Type 0) (most : ℕ) (r0 r1 w0 w1 : Option (List ℕ)) (start end : S) : Type 0 where
+    (most : ℕ) (r0 r1 w0 w1 : Option (List ℕ)) (start end : S) : Type 0 where
   pub seen : List ℕ
   pub read : Consumes r0 r1 seen
   pub within : length seen ≤ most
-  pub stops : StopsBy cause Step Loses (IsAtEnd r1) w0 w1 start seen end
+  pub stops : StopsBy cause Step (IsAtEnd r1) w0 w1 start seen end
 
 -- how a run ends that is refused with this cause
-abbrev pub EndsBy : {S : Type 0} → Cause → (S → List ℕ → List ℕ → S → Type 0) → (S → List ℕ → Type 0) → ℕ
+abbrev pub EndsBy : {S : Type 0} → Cause → (S → List ℕ → List ℕ → S → Type 0) → ℕ
     → Option (List ℕ) → Option (List ℕ) → Option (List ℕ) → Option (List ℕ) → S → S → Type 0
-EndsBy OutOfMemory Step Loses most r0 r1 w0 w1 start end = Stopped OutOfMemory Step Loses most r0 r1 w0 w1 start end
-EndsBy ReadFault Step Loses most r0 r1 w0 w1 start end = Broken Step most r0 r1 w0 w1 start end
-EndsBy WriteFault Step Loses most r0 r1 w0 w1 start end = Stopped WriteFault Step Loses most r0 r1 w0 w1 start end
-EndsBy _ Step Loses most r0 r1 w0 w1 start end = ⊥
+EndsBy OutOfMemory Step most r0 r1 w0 w1 start end = Stopped OutOfMemory Step most r0 r1 w0 w1 start end
+EndsBy ReadFault Step most r0 r1 w0 w1 start end = Broken Step most r0 r1 w0 w1 start end
+EndsBy WriteFault Step most r0 r1 w0 w1 start end = Stopped WriteFault Step most r0 r1 w0 w1 start end
+EndsBy _ Step most r0 r1 w0 w1 start end = ⊥
 
 -- how a run ends, by its result; `remaining` and `contents` are what a reader has left and what a writer holds, where
 -- they are known
-abbrev pub Ends : {T S R W : Type 0} → Result T Cause → (S → List ℕ → List ℕ → S → Type 0) → (S → List ℕ → Type 0) → ℕ
+abbrev pub Ends : {T S R W : Type 0} → Result T Cause → (S → List ℕ → List ℕ → S → Type 0) → ℕ
     → (R → Option (List ℕ)) → R → R → (W → Option (List ℕ)) → W → W → S → S → Type 0
-Ends result Step Loses most remaining r0 r1 contents w0 w1 start end = MatchResult result
+Ends result Step most remaining r0 r1 contents w0 w1 start end = MatchResult result
     (λ _. Finished Step most (remaining r0) (remaining r1) (contents w0) (contents w1) start end)
-    (λ cause. EndsBy cause Step Loses most (remaining r0) (remaining r1) (contents w0) (contents w1) start end)
-
--- the state is lost where a run ends: memory was refused at a request that may lose it
-abbrev pub IsLost : {S : Type 0} (cause : Cause) (Step : S → List ℕ → List ℕ → S → Type 0)
-    → (Loses : S → List ℕ → Type 0) (most : ℕ) (r0 r1 w0 w1 : Option (List ℕ)) (start end : S)
-    → EndsBy cause Step Loses most r0 r1 w0 w1 start end → Type 0
-IsLost OutOfMemory Step Loses most r0 r1 w0 w1 start end ends =
-    MayLoseNext Loses (IsAtEnd r1) ends.stops.mid ends.stops.further
-IsLost _ Step Loses most r0 r1 w0 w1 start end ends = ⊥
+    (λ cause. EndsBy cause Step most (remaining r0) (remaining r1) (contents w0) (contents w1) start end)

@@ -1,5 +1,5 @@
 -- Mirrors code: one line that is served, and further bytes of an input.
-use Rattle.std.specs.Prelude.{◌≡◌, ℕ, ◌==◌, List, [], ◌∷◌, ◌++◌, ◌⊎◌, Option, take, position, Result, MatchResult}
+use Rattle.std.specs.Prelude.{◌≡◌, ℕ, ◌==◌, List, [], ◌∷◌, ◌++◌, Option, take, position, Result, MatchResult}
 use Rattle.std.specs.Io.KnownBytes.{Appends}
 use Rattle.money_core.specs.declared.cause.Cause.{Cause}
 use Rattle.money_core.specs.declared.cause.Cause.TheVariants.{OutOfMemory, WriteFault}
@@ -13,13 +13,10 @@ pub record Served {S : Type 0} (Step : S → List ℕ → List ℕ → S → Typ
   pub answers : AnswersInTurn Step start requests written end
   pub appended : Appends w0 w1 written
 
--- memory was refused for the one request: nothing was written, and the state is as before or lost
-pub record Unserved {S : Type 0} (Loses : S → List ℕ → Type 0)
-    (w0 w1 : Option (List ℕ)) (start : S) (requests : List (List ℕ)) (end : S) : Type 0 where
-  pub request : List ℕ
-  pub one : requests ≡ request ∷ []
+-- memory was refused: nothing was written, and the state is as before
+pub record Unserved {S : Type 0} (w0 w1 : Option (List ℕ)) (start end : S) : Type 0 where
   pub appended : Appends w0 w1 []
-  pub left : (end ≡ start) ⊎ Loses start request
+  pub same : end ≡ start
 
 -- a write failed: of the one request's answer a first part was written
 pub record HalfServed {S : Type 0} (Step : S → List ℕ → List ℕ → S → Type 0)
@@ -32,33 +29,33 @@ pub record HalfServed {S : Type 0} (Step : S → List ℕ → List ℕ → S →
   pub appended : Appends w0 w1 (take taken answer)
 
 -- the requests are not served, for this cause
-abbrev pub FailsBy : {S : Type 0} → Cause → (S → List ℕ → List ℕ → S → Type 0) → (S → List ℕ → Type 0)
+abbrev pub FailsBy : {S : Type 0} → Cause → (S → List ℕ → List ℕ → S → Type 0)
     → Option (List ℕ) → Option (List ℕ) → S → List (List ℕ) → S → Type 0
-FailsBy OutOfMemory Step Loses w0 w1 start requests end = Unserved Loses w0 w1 start requests end
-FailsBy WriteFault Step Loses w0 w1 start requests end = HalfServed Step w0 w1 start requests end
-FailsBy _ Step Loses w0 w1 start requests end = ⊥
+FailsBy OutOfMemory Step w0 w1 start requests end = Unserved w0 w1 start end
+FailsBy WriteFault Step w0 w1 start requests end = HalfServed Step w0 w1 start requests end
+FailsBy _ Step w0 w1 start requests end = ⊥
 
 -- the requests are served, or not, by the result
-abbrev pub Serves : {T S : Type 0} → Result T Cause → (S → List ℕ → List ℕ → S → Type 0) → (S → List ℕ → Type 0)
+abbrev pub Serves : {T S : Type 0} → Result T Cause → (S → List ℕ → List ℕ → S → Type 0)
     → Option (List ℕ) → Option (List ℕ) → S → List (List ℕ) → S → Type 0
-Serves result Step Loses w0 w1 start requests end = MatchResult result
+Serves result Step w0 w1 start requests end = MatchResult result
     (λ _. Served Step w0 w1 start requests end)
-    (λ cause. FailsBy cause Step Loses w0 w1 start requests end)
+    (λ cause. FailsBy cause Step w0 w1 start requests end)
 
 -- the complete lines of what was seen are answered, or the answers stop, by the result
-abbrev pub Feeds : {T S : Type 0} → Result T Cause → (S → List ℕ → List ℕ → S → Type 0) → (S → List ℕ → Type 0)
+abbrev pub Feeds : {T S : Type 0} → Result T Cause → (S → List ℕ → List ℕ → S → Type 0)
     → Option (List ℕ) → Option (List ℕ) → S → List ℕ → List ℕ → S → Type 0
-Feeds result Step Loses w0 w1 start seen begun end = MatchResult result
+Feeds result Step w0 w1 start seen begun end = MatchResult result
     (λ _. AnswersWhole Step w0 w1 start seen begun end)
-    (λ cause. StopsBy cause Step Loses ⊥ w0 w1 start seen end)
+    (λ cause. StopsBy cause Step ⊥ w0 w1 start seen end)
 
 -- where the first line feed of a text stands
 abbrev pub feed_place : List ℕ → Option ℕ
 feed_place text = position (λ b. b == 10) text
 
 -- the line, which a line feed ends, is answered, or the answers stop there, whatever stands behind it
-abbrev pub EndsLine : {T S : Type 0} → Result T Cause → (S → List ℕ → List ℕ → S → Type 0) → (S → List ℕ → Type 0)
+abbrev pub EndsLine : {T S : Type 0} → Result T Cause → (S → List ℕ → List ℕ → S → Type 0)
     → Option (List ℕ) → Option (List ℕ) → S → List ℕ → List ℕ → S → Type 0
-EndsLine result Step Loses w0 w1 start line begun end = MatchResult result
+EndsLine result Step w0 w1 start line begun end = MatchResult result
     (λ _. AnswersWhole Step w0 w1 start (line ++ 10 ∷ []) begun end)
-    (λ cause. (rest : List ℕ) → StopsBy cause Step Loses ⊥ w0 w1 start (line ++ 10 ∷ rest) end)
+    (λ cause. (rest : List ℕ) → StopsBy cause Step ⊥ w0 w1 start (line ++ 10 ∷ rest) end)

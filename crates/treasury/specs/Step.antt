@@ -1,16 +1,17 @@
--- What is answered to a line, and the state after it (own rules; docs/RULES.md, "Orders"): a command's step is that of
+-- What is answered to a line, and where a run stands after it (own rules; docs/RULES.md, "Orders"): a command's step is that of
 -- the machine of commands.
-use Rattle.std.specs.Prelude.{◌≡◌, ◌⊎◌, ⊤, ℕ, not, if◌then◌else◌, List, [], ◌++◌, Result, Ok, Err}
-use Rattle.money_core.specs.declared.cause.Cause.TheVariants.{UnknownBranch, OutOfMemory}
+use Rattle.std.specs.Prelude.{◌≡◌, ◌⊎◌, ℕ, Bool, true, false, not, ◌||◌, if◌then◌else◌, List, [], ◌++◌, IsSome, Result, Ok, Err}
+use Rattle.money_core.specs.declared.cause.Cause.TheVariants.{UnknownBranch, OutOfMemory, Store as Failed}
 use Rattle.book_core.specs.declared.refusal.Refusal.{Refusal}
 use Rattle.book_core.specs.declared.refusal.Refusal.TheVariants.{Plain}
 use Rattle.treasury_core.specs.declared.command.Answer.{Answer}
-use Rattle.treasury_core.specs.declared.command.Answer.TheVariants.{Done, Entered, Repeated}
+use Rattle.treasury_core.specs.declared.command.Answer.TheVariants.{Done}
 use Rattle.treasury_core.specs.declared.command.Command.{Command as AnyCommand}
 use Rattle.treasury_core.specs.Federation.{Federation}
 use Rattle.treasury_core.specs.Step.{reply as command_reply, after as after_command}
 use Rattle.treasury.specs.declared.asking.Asked.{Asked}
 use Rattle.treasury.specs.declared.asking.Asked.TheVariants.{Command, Report}
+use Rattle.treasury.specs.Request.{spelled}
 use Rattle.treasury.specs.Asked.{Asks}
 use Rattle.treasury.specs.Answer.{answer_text}
 use Rattle.treasury.specs.declared.report.Report.{Report as AnyReport}
@@ -43,28 +44,34 @@ abbrev pub reply_text : Federation → Result Asked Refusal → Result Answer Re
 reply_text f asked (Ok answer) = report_lines f asked ++ answer_text f.styles (Ok answer)
 reply_text f asked (Err refusal) = answer_text f.styles (Err refusal)
 
--- what may be replied: what the step says, or 40
-abbrev pub Replies : Federation → Result Asked Refusal → Result Answer Refusal → Type 0
-Replies f asked r = (r ≡ reply f asked) ⊎ (r ≡ Err (Plain OutOfMemory))
+-- where a run stands: the state that the tables hold, and whether a call of the database has failed
+pub record Standing : Type 0 where
+  pub now : Federation
+  pub failed : Bool
 
--- a line is answered with a text, and leads to a state: by what it asks, what is replied to that, and the state after that
-pub record Answers (f : Federation) (line answer : List ℕ) (g : Federation) : Type 0 where
+-- 41: a call of the database has failed, and the tables are as before
+abbrev pub is_failure : Result Answer Refusal → Bool
+is_failure (Err (Plain Failed)) = true
+is_failure _ = false
+
+-- where a run stands after the reply: 41 closes the database for good
+abbrev pub next : Standing → Result Asked Refusal → Result Answer Refusal → Standing
+next s asked r = record { now = after s.now asked r; failed = s.failed || is_failure r }
+
+-- what may be replied: what the step says, 40, or 41 while no call of the database has failed
+abbrev pub MayReply : Standing → Result Asked Refusal → Result Answer Refusal → Type 0
+MayReply s asked r =
+    (r ≡ reply s.now asked) ⊎ ((r ≡ Err (Plain OutOfMemory)) ⊎ ((s.failed ≡ false) × (r ≡ Err (Plain Failed))))
+
+-- the same of a line: only a request is replied to by 41
+abbrev pub Replies : Standing → List ℕ → Result Asked Refusal → Result Answer Refusal → Type 0
+Replies s line asked r = MayReply s asked r × (r ≡ Err (Plain Failed) → IsSome (spelled line))
+
+-- a line is answered with a text, and leads on: by what it asks, what is replied to that, and what the reply leaves
+pub record Answers (s : Standing) (line answer : List ℕ) (t : Standing) : Type 0 where
   pub asked : Result Asked Refusal
   pub reply : Result Answer Refusal
-  pub asks : Asks f.styles line asked
-  pub replies : Replies f asked reply
-  pub text : answer ≡ reply_text f asked reply
-  pub state : g ≡ after f asked reply
-
--- a command that is done adds to the state
-abbrev pub IsDone : Result Answer Refusal → Type 0
-IsDone (Ok Done) = ⊤
-IsDone (Ok (Entered new repeated)) = ⊤
-IsDone (Ok Repeated) = ⊥
-IsDone (Err refusal) = ⊥
-
--- a line at which the state may be lost: it asks for a command that is done, and memory was refused while it was
-pub record Loses (f : Federation) (line : List ℕ) : Type 0 where
-  pub command : AnyCommand
-  pub asks : Asks f.styles line (Ok (Command command))
-  pub accepted : IsDone (command_reply f command)
+  pub asks : Asks s.failed s.now.styles line asked
+  pub replies : Replies s line asked reply
+  pub text : answer ≡ reply_text s.now asked reply
+  pub left : t ≡ next s asked reply

@@ -1,155 +1,91 @@
-//! Answers to what is asked of a federation's state.
+//! Answers to requests, on a treasury.
 
-ghost use Rattle.std.specs.Prelude.{◌≡◌, ◌≢◌, ◌++◌, Ok, Err, OnOk, OnErr, IsErrOf};
-ghost use Rattle.std.specs.Result.{IsOkUnless};
-ghost use Rattle.treasury_core.specs.Good.{Fits, IsGoodState};
-ghost use Rattle.treasury_core.specs.Joined.{joined};
-ghost use Rattle.treasury_core.specs.Step.{reply as command_reply};
-ghost use Rattle.treasury.specs.Answer.{answer_text, IsPrintableRefusal};
-ghost use Rattle.treasury.specs.Step.{IsDone};
-ghost use Rattle.treasury.specs.Replied.{IsReplied, MayLose, IsReady};
+ghost use Rattle.std.specs.Prelude.{◌≡◌, false, Ok, IfErr, OnErr, Result};
+ghost use Rattle.sqlite.specs.State.{HasCleanDisk};
+ghost use Rattle.sqlite.specs.Held.{state};
+ghost use Rattle.book_core.specs.declared.refusal.Refusal.{Refusal as Refused};
+ghost use Rattle.treasury_core.specs.Federation.{Federation};
+ghost use Rattle.treasury_store.specs.Treasury.{IsTreasuryOf};
+ghost use Rattle.treasury.specs.declared.asking.Asked.{Asked as Meant};
+ghost use Rattle.treasury.specs.Asked.{AsksOf};
+ghost use Rattle.treasury.specs.Request.{HasDayNumbers};
+ghost use Rattle.treasury.specs.Replied.{IsReplied, IsHeldFor, IsPrintableIn};
 
-use crate::answers::answer_line;
-use crate::asking::Asked;
-use crate::lines::Shortage;
-use crate::report::{Report, push_report};
-use book_core::{Ledger, Refusal};
-use money_core::Cause;
+use crate::answers::{MOST_PLAIN, answer_line};
+use crate::asking::{Asked, asked_by};
+use crate::report::push_report;
+use crate::request::Request;
+use book_core::Refusal;
+use journal_format::reading_law;
+use money_core::{Cause, Styles};
+use sqlite::Alter;
 use std::alloc::Global;
-use std::mem;
-use treasury_core::{Answer, Command, Delta, State, apply, decide};
+use treasury_core::Command;
+use treasury_store::Treasury;
 
-/// Appends the line of a refusal. Where memory is refused, or want of memory is the refusal, nothing has changed.
-fn answer_refusal<L: Ledger>(
+/// Performs a command, and appends the line of its answer, for which the room is made before.
+fn answer_command<S: Alter>(
     alloc: Global,
-    state: &State<L>,
-    refusal: Refusal,
+    treasury: &mut Treasury<S>,
+    command: Command,
     out: &mut Vec<u8>,
-) -> Result<(), Shortage>
-    requires { IsPrintableRefusal state.now.styles refusal }
-    ensures ok { OnOk result (out.new.items ≡ out.old.items ++ answer_text state.now.styles (Err refusal)) }
-    ensures other { OnOk result (refusal ≢ Refusal.Plain Cause.OutOfMemory) }
+) -> Result<(), Refusal>
+    requires held { IsHeldFor treasury.old command }
+    requires unfailed { treasury.old.store.failed ≡ false }
+    ensures replies { HasCleanDisk (state S.Store treasury.new.store.conn) → (f : Federation) → IsTreasuryOf S.Store treasury.old f
+        → IsReplied S.Store false treasury.new f (Ok (Asked.Command command)) result out.old.items out.new.items }
     ensures err { OnErr result (out.new.items ≡ out.old.items) }
-    ensures kept { OnErr result (result ≡ Err Shortage.Kept) }
+    ensures printable { IfErr result (IsPrintableIn treasury.new) }
+    ensures clean { HasCleanDisk (state S.Store treasury.new.store.conn) → HasCleanDisk (state S.Store treasury.old.store.conn) }
 {
-    if refusal == Refusal::Plain(Cause::OutOfMemory) {
-        return Err(Shortage::Kept);
+    match out.reserve(MOST_PLAIN) {
+        Ok(()) => {}
+        Err(_) => return Err(Refusal::Plain(Cause::OutOfMemory)),
     }
-    match answer_line(alloc, &Err(refusal), state.styles(), out) {
-        Ok(()) => Ok(()),
-        Err(_) => Err(Shortage::Kept),
-    }
-}
-
-/// Adds what was decided. Where memory is refused, the state is lost: it is empty then.
-fn add<L: Ledger>(alloc: Global, state: &mut State<L>, delta: Delta) -> Result<(), Shortage>
-    requires { IsGoodState (joined state.old delta) }
-    ensures ok { OnOk result (state.new ≡ joined state.old delta) }
-    ensures lost { OnErr result (result ≡ Err Shortage.Lost) }
-{
-    let before = mem::replace(state, State::empty(alloc));
-    match apply(alloc, before, delta) {
-        Ok(next) => {
-            *state = next;
-            Ok(())
-        }
-        Err(_) => Err(Shortage::Lost),
-    }
-}
-
-/// Performs a command, and appends its answer: the answer's room is made before anything is added.
-fn answer_command<L: Ledger>(
-    alloc: Global,
-    state: &mut State<L>,
-    command: &Command,
-    out: &mut Vec<u8>,
-) -> Result<(), Shortage>
-    requires { Fits state.old.styles command.now }
-    ensures ok { OnOk result (IsReplied state.old (Ok (Asked.Command command.now)) out.old.items out.new.items state.new) }
-    ensures kept { IsErrOf result Shortage.Kept → (state.new ≡ state.old) × (out.new.items ≡ out.old.items) }
-    ensures lost { IsErrOf result Shortage.Lost → IsDone (command_reply state.old command.now) }
-{
-    state.is_good();
-    let (answer, delta) = match decide(alloc, state, command) {
-        Ok(decided) => decided,
-        Err(refusal) => return answer_refusal(alloc, state, refusal, out),
+    let answer = match treasury.perform(command) {
+        Ok(answer) => answer,
+        Err(refusal) => return Err(refusal),
     };
-    match answer_line(alloc, &Ok(answer), state.styles(), out) {
-        Ok(()) => {}
-        Err(_) => return Err(Shortage::Kept),
-    }
-    match answer {
-        Answer::Repeated => Ok(()),
-        _ => add(alloc, state, delta),
+    match answer_line(alloc, &Ok(answer), &Styles::empty(alloc), out) {
+        Ok(()) => Ok(()),
+        Err(_) => unreachable!(),
     }
 }
 
-/// Appends the answer to a report: its lines and `ok`, or that its branch is not there.
-fn answer_report<L: Ledger>(
+/// Does what a request asks of the treasury, and appends its answer: the line of a command that is accepted or repeated, or
+/// the lines of a report, without the `ok` behind them.
+///
+/// It refuses as the texts of the request, the command or the report are refused, and 40 to 42 as the treasury; the vector is
+/// then as it was. The room for the line of a command is made before it is performed.
+pub fn answer<S: Alter>(
     alloc: Global,
-    state: &State<L>,
-    report: &Report,
+    request: &Request,
+    treasury: &mut Treasury<S>,
     out: &mut Vec<u8>,
-) -> Result<(), Cause>
-    ensures ok { OnOk result (IsReplied state.now (Ok (Asked.Report report.now)) out.old.items out.new.items state.now) }
+) -> Result<(), Refusal>
+    requires { HasDayNumbers request.now }
+    ensures replies { HasCleanDisk (state S.Store treasury.new.store.conn) → (f : Federation) → IsTreasuryOf S.Store treasury.old f
+        → (asked : Result Meant Refused) × (AsksOf treasury.old.store.failed f.styles request.now asked
+        × IsReplied S.Store treasury.old.store.failed treasury.new f asked result out.old.items out.new.items) }
     ensures err { OnErr result (out.new.items ≡ out.old.items) }
-    ensures memory { IsOkUnless result Cause.OutOfMemory }
+    ensures printable { IfErr result (IsPrintableIn treasury.new) }
+    ensures clean { HasCleanDisk (state S.Store treasury.new.store.conn) → HasCleanDisk (state S.Store treasury.old.store.conn) }
 {
-    let before = out.len();
-    match push_report(alloc, state, report, out) {
+    reading_law();
+    match treasury.hold() {
         Ok(()) => {}
-        Err(Cause::UnknownBranch) => {
-            let refusal = Err(Refusal::Plain(Cause::UnknownBranch));
-            return answer_line(alloc, &refusal, state.styles(), out);
-        }
-        Err(cause) => return Err(cause),
+        Err(cause) => return Err(Refusal::Plain(cause)),
     }
-    match answer_line(alloc, &Ok(Answer::Done), state.styles(), out) {
-        Ok(()) => Ok(()),
-        Err(cause) => {
-            out.truncate(before);
-            Err(cause)
-        }
-    }
-}
-
-/// Appends the answer to what is asked. Where memory is refused, it says whether nothing has changed, or the state is
-/// lost, as it is only while a command that was decided is being done.
-pub fn answer_asked<L: Ledger>(
-    alloc: Global,
-    state: &mut State<L>,
-    asked: Result<Asked, Refusal>,
-    out: &mut Vec<u8>,
-) -> Result<(), Shortage>
-    requires { IsReady state.old.styles asked }
-    ensures ok { OnOk result (IsReplied state.old asked out.old.items out.new.items state.new) }
-    ensures other { OnOk result (asked ≢ Err (Refusal.Plain Cause.OutOfMemory)) }
-    ensures kept { IsErrOf result Shortage.Kept → (state.new ≡ state.old) × (out.new.items ≡ out.old.items) }
-    ensures lost { IsErrOf result Shortage.Lost → MayLose state.old asked }
-{
-    match asked {
-        Ok(Asked::Command(command)) => answer_command(alloc, state, &command, out),
-        Ok(Asked::Report(report)) => match answer_report(alloc, state, &report, out) {
+    let Some(state) = treasury.state() else {
+        unreachable!()
+    };
+    state.is_good();
+    match asked_by(alloc, state.styles(), request) {
+        Ok(Asked::Command(command)) => answer_command(alloc, treasury, command, out),
+        Ok(Asked::Report(report)) => match push_report(alloc, state, &report, out) {
             Ok(()) => Ok(()),
-            Err(_) => Err(Shortage::Kept),
+            Err(cause) => Err(Refusal::Plain(cause)),
         },
-        Err(refusal) => answer_refusal(alloc, state, refusal, out),
-    }
-}
-
-/// Appends the line of want of memory. Where memory is refused for it too, nothing has changed.
-pub fn answer_memory<L: Ledger>(
-    alloc: Global,
-    state: &State<L>,
-    out: &mut Vec<u8>,
-) -> Result<(), Shortage>
-    ensures ok { OnOk result (out.new.items
-        ≡ out.old.items ++ answer_text state.now.styles (Err (Refusal.Plain Cause.OutOfMemory))) }
-    ensures err { OnErr result (result ≡ Err Shortage.Kept) }
-{
-    let refusal = Err(Refusal::Plain(Cause::OutOfMemory));
-    match answer_line(alloc, &refusal, state.styles(), out) {
-        Ok(()) => Ok(()),
-        Err(_) => Err(Shortage::Kept),
+        Err(refusal) => Err(refusal),
     }
 }

@@ -1,81 +1,95 @@
 //! The line of an answer.
 
-ghost use Rattle.std.specs.Prelude.{◌≡◌, ◌↔◌, ◌++◌, IsTrue, OnOk, OnErr, IfOk};
+ghost use Rattle.std.specs.Prelude.{◌≡◌, ◌++◌, codes, OnOk, OnErr};
+ghost use Rattle.std.specs.Prelude.{◌+◌, ◌≤◌, length, IsOk, vec_capacity};
+ghost use Rattle.std.specs.List.{flat_map};
 ghost use Rattle.std.specs.Result.{IsOkUnless};
 ghost use Rattle.money_core.specs.AmountText.{IsDeclared};
 ghost use Rattle.journal_lines.specs.Date.{IsDayNumber};
 ghost use Rattle.treasury.specs.Answer.{refused_text, line_text, place_text, difference_text, refusal_text};
-ghost use Rattle.treasury.specs.Answer.{done_text, answer_text, IsPrintableFailure, IsPrintableRefusal, IsPrintableAnswer};
+ghost use Rattle.treasury.specs.Answer.{done_text, answer_text, IsPrintableRefusal, IsPrintableAnswer, IsPlainAnswer};
 
 use book_core::{Failure, Place, Refusal};
-use journal_lines::{is_day_number, print_date};
-use money_core::{Cause, Styles, is_declared, print_amount};
+use itoa::Buffer;
+use journal_lines::print_date;
+use money_core::{Cause, Styles, print_amount};
 use std::alloc::{AllocError, Global};
 use treasury_core::Answer;
 
-/// Whether the date and the amounts of a failed assertion can be printed.
-fn is_printable_failure(styles: &Styles, failure: &Failure) -> bool
-    ensures { IsTrue result ↔ IsPrintableFailure styles.now failure.now }
-{
-    is_day_number(failure.place.day)
-        && is_declared(failure.unit, failure.asserted, styles)
-        && is_declared(failure.unit, failure.found, styles)
-}
+/// The line of an answer that is no text fault and no failed assertion has at most that many bytes.
+pub const MOST_PLAIN: usize = 64;
 
-/// Whether the refusal can be printed.
-fn is_printable_refusal(styles: &Styles, refusal: &Refusal) -> bool
-    ensures { IsTrue result ↔ IsPrintableRefusal styles.now refusal.now }
+/// Appends the pieces. Where memory is refused, the line is as it was; where there is room, it is not.
+fn push_pieces(pieces: &[&[u8]], line: &mut Vec<u8>) -> Result<(), AllocError>
+    ensures ok { OnOk result (line.new.items ≡ line.old.items ++ flat_map (λ piece. piece.now) pieces.now) }
+    ensures err { OnErr result (line.new.items ≡ line.old.items) }
+    ensures room { length line.old.items + length (flat_map (λ piece. piece.now) pieces.now) ≤ vec_capacity line.old → IsOk result }
+    ensures capacity { vec_capacity line.old ≤ vec_capacity line.new }
 {
-    match refusal {
-        Refusal::Plain(_) => true,
-        Refusal::Text(_) => true,
-        Refusal::ClaimFailed(failure) => is_printable_failure(styles, failure),
+    let before = line.len();
+    for piece in pieces {
+        if let Err(error) = line.extend_from_slice(piece) {
+            line.truncate(before);
+            return Err(error);
+        }
     }
+    Ok(())
 }
 
-/// Whether the answer can be printed, as each can but one that has a failed assertion with another date or amount than
-/// can be printed.
-pub fn is_printable(answer: &Result<Answer, Refusal>, styles: &Styles) -> bool
-    ensures { IsTrue result ↔ IsPrintableAnswer styles.now answer.now }
+/// Appends the line that tells how many transactions are entered, and how many were there before.
+fn push_entered(new: usize, repeated: usize, line: &mut Vec<u8>) -> Result<(), AllocError>
+    ensures ok { OnOk result (line.new.items ≡ line.old.items ++ done_text (Answer.Entered new repeated) ++ codes "\n") }
+    ensures err { OnErr result (line.new.items ≡ line.old.items) }
+    ensures room { length line.old.items + MOST_PLAIN ≤ vec_capacity line.old → IsOk result }
+    ensures capacity { vec_capacity line.old ≤ vec_capacity line.new }
+{
+    let mut first = Buffer::new();
+    let mut second = Buffer::new();
+    let entered = first.format(new).as_bytes();
+    let there = second.format(repeated).as_bytes();
+    push_pieces(&[b"ok ", entered, b" new, ", there, b" repeated\n"], line)
+}
+
+/// Appends the line of an answer that is no refusal.
+fn push_done(answer: &Answer, line: &mut Vec<u8>) -> Result<(), AllocError>
+    ensures ok { OnOk result (line.new.items ≡ line.old.items ++ done_text answer.now ++ codes "\n") }
+    ensures err { OnErr result (line.new.items ≡ line.old.items) }
+    ensures room { length line.old.items + MOST_PLAIN ≤ vec_capacity line.old → IsOk result }
+    ensures capacity { vec_capacity line.old ≤ vec_capacity line.new }
 {
     match answer {
-        Ok(_) => true,
-        Err(refusal) => is_printable_refusal(styles, refusal),
+        Answer::Done => push_pieces(&[b"ok\n"], line),
+        Answer::Entered { new, repeated } => push_entered(*new, *repeated, line),
+        Answer::Repeated => push_pieces(&[b"repeated\n"], line),
     }
 }
 
-/// Appends how many transactions are entered, and how many were there before.
-fn push_entered(
-    alloc: Global,
-    new: usize,
-    repeated: usize,
+/// Appends the line of a refusal, of the texts of its number, its name and the detail.
+fn push_named<'a>(
+    nr: &'a [u8],
+    name: &'a [u8],
+    detail: &'a [u8],
     line: &mut Vec<u8>,
 ) -> Result<(), AllocError>
-    ensures { OnOk result (line.new.items ≡ line.old.items ++ done_text (Answer.Entered new repeated)) }
+    ensures ok { OnOk result (line.new.items ≡ line.old.items ++ codes "refused " ++ nr.now ++ codes " " ++ name.now ++ detail.now ++ codes "\n") }
+    ensures err { OnErr result (line.new.items ≡ line.old.items) }
+    ensures room { length line.old.items + length nr.now + length name.now + length detail.now + 10 ≤ vec_capacity line.old → IsOk result }
+    ensures capacity { vec_capacity line.old ≤ vec_capacity line.new }
 {
-    let text = format!(in alloc; "ok {new} new, {repeated} repeated")?;
-    line.extend_from_slice(text.as_bytes())
+    push_pieces(&[b"refused ", nr, b" ", name, detail, b"\n"], line)
 }
 
-/// Appends what an answer that is no refusal says.
-fn push_done(alloc: Global, answer: &Answer, line: &mut Vec<u8>) -> Result<(), AllocError>
-    ensures { OnOk result (line.new.items ≡ line.old.items ++ done_text answer.now) }
+/// Appends the line of a refusal: its number, its name and the detail.
+fn push_refused(cause: Cause, detail: &[u8], line: &mut Vec<u8>) -> Result<(), AllocError>
+    ensures ok { OnOk result (line.new.items ≡ line.old.items ++ refused_text cause ++ detail.now ++ codes "\n") }
+    ensures err { OnErr result (line.new.items ≡ line.old.items) }
+    ensures room { length line.old.items + length detail.now + MOST_PLAIN ≤ vec_capacity line.old → IsOk result }
+    ensures capacity { vec_capacity line.old ≤ vec_capacity line.new }
 {
-    match answer {
-        Answer::Done => line.extend_from_slice(b"ok"),
-        Answer::Entered { new, repeated } => push_entered(alloc, *new, *repeated, line),
-        Answer::Repeated => line.extend_from_slice(b"repeated"),
-    }
-}
-
-/// Appends the number and the name of a refusal.
-fn push_refused(alloc: Global, cause: Cause, line: &mut Vec<u8>) -> Result<(), AllocError>
-    ensures { OnOk result (line.new.items ≡ line.old.items ++ refused_text cause) }
-{
-    let nr = cause.nr();
-    let name = cause.name();
-    let text = format!(in alloc; "refused {nr} {name}")?;
-    line.extend_from_slice(text.as_bytes())
+    let mut buffer = Buffer::new();
+    let nr = buffer.format(cause.nr()).as_bytes();
+    let name = cause.name().as_bytes();
+    push_named(nr, name, detail, line)
 }
 
 /// Appends the line of the journal that has the fault; want of memory is no fault of a line.
@@ -125,7 +139,7 @@ fn push_difference(
     Ok(())
 }
 
-/// Appends what a refusal says.
+/// Appends the line of a refusal.
 fn push_refusal(
     alloc: Global,
     styles: &Styles,
@@ -133,45 +147,32 @@ fn push_refusal(
     line: &mut Vec<u8>,
 ) -> Result<(), Cause>
     requires { IsPrintableRefusal styles.now refusal.now }
-    ensures ok { OnOk result (line.new.items ≡ line.old.items ++ refusal_text styles.now refusal.now) }
+    ensures ok { OnOk result (line.new.items ≡ line.old.items ++ refusal_text styles.now refusal.now ++ codes "\n") }
+    ensures err { OnErr result (line.new.items ≡ line.old.items) }
     ensures memory { IsOkUnless result Cause.OutOfMemory }
+    ensures room { IsPlainAnswer (Err refusal.now) → length line.old.items + MOST_PLAIN ≤ vec_capacity line.old → IsOk result }
+    ensures capacity { vec_capacity line.old ≤ vec_capacity line.new }
 {
     match refusal {
-        Refusal::Plain(cause) => push_refused(alloc, *cause, line)?,
+        Refusal::Plain(cause) => push_refused(*cause, b"", line)?,
         Refusal::Text(fault) => {
-            push_refused(alloc, fault.cause, line)?;
-            push_line(alloc, fault.cause, fault.line, line)?;
+            let mut detail = Vec::new(alloc);
+            push_line(alloc, fault.cause, fault.line, &mut detail)?;
+            push_refused(fault.cause, &detail, line)?;
         }
         Refusal::ClaimFailed(failure) => {
-            push_refused(alloc, Cause::ClaimFailed, line)?;
-            push_place(alloc, &failure.place, line)?;
-            push_difference(alloc, styles, failure, line)?;
+            let mut detail = Vec::new(alloc);
+            push_place(alloc, &failure.place, &mut detail)?;
+            push_difference(alloc, styles, failure, &mut detail)?;
+            push_refused(Cause::ClaimFailed, &detail, line)?;
         }
     }
     Ok(())
 }
 
-/// The line of an answer.
-fn line_of(
-    alloc: Global,
-    answer: &Result<Answer, Refusal>,
-    styles: &Styles,
-) -> Result<Vec<u8>, Cause>
-    requires { IsPrintableAnswer styles.now answer.now }
-    ensures ok { IfOk result (λ line. line.items ≡ answer_text styles.now answer.now) }
-    ensures memory { IsOkUnless result Cause.OutOfMemory }
-{
-    let mut line = Vec::new(alloc);
-    match answer {
-        Ok(done) => push_done(alloc, done, &mut line)?,
-        Err(refusal) => push_refusal(alloc, styles, refusal, &mut line)?,
-    }
-    line.push(b'\n')?;
-    Ok(line)
-}
-
 /// Appends the line of an answer, which a line feed ends. Where memory is refused, it answers 40, and the vector is as it
-/// was.
+/// was. Where the answer is no text fault and no failed assertion, and there is room for `MOST_PLAIN` bytes, it takes no
+/// memory.
 ///
 /// A text fault names its line, but for want of memory, and a failed assertion its place, and the amounts that it states
 /// and finds.
@@ -185,13 +186,12 @@ pub fn answer_line(
     ensures ok { OnOk result (out.new.items ≡ out.old.items ++ answer_text styles.now answer.now) }
     ensures err { OnErr result (out.new.items ≡ out.old.items) }
     ensures memory { IsOkUnless result Cause.OutOfMemory }
+    ensures room { IsPlainAnswer answer.now → length out.old.items + MOST_PLAIN ≤ vec_capacity out.old → IsOk result }
+    ensures capacity { vec_capacity out.old ≤ vec_capacity out.new }
 {
-    let line = match line_of(alloc, answer, styles) {
-        Ok(line) => line,
-        Err(cause) => return Err(cause),
-    };
-    match out.extend_from_slice(&line) {
-        Ok(()) => Ok(()),
-        Err(error) => Err(Cause::from(error)),
+    match answer {
+        Ok(done) => push_done(done, out)?,
+        Err(refusal) => push_refusal(alloc, styles, refusal, out)?,
     }
+    Ok(())
 }

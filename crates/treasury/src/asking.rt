@@ -4,15 +4,15 @@ ghost use Rattle.std.specs.Prelude.{◌≡◌};
 ghost use Rattle.money_core.specs.Sampling.{style_of};
 ghost use Rattle.money_core.specs.Reading.{amount};
 ghost use Rattle.journal_lines.specs.Date.{IsDayNumber};
-ghost use Rattle.treasury.specs.Asked.{asked_by_sample, asked_by_amount, JournalAsks, RequestAsks, Asks};
+ghost use Rattle.treasury.specs.Asked.{asked_by_sample, asked_by_amount, JournalAsks, RequestAsks};
 ghost use Rattle.treasury.specs.Request.{HasDayNumbers};
 ghost use Rattle.treasury.specs.Replied.{IsReady, OrMemory};
 
 use crate::report::Report;
-use crate::request::{Request, read_line};
+use crate::request::Request;
 use book_core::Refusal;
 use journal_format::read_journal;
-use money_core::{Cause, Day, Items, Styles, Text, read_amount, read_style};
+use money_core::{Cause, Copied, Day, Items, Styles, Text, read_amount, read_style};
 use std::alloc::Global;
 use treasury_core::{Command, Dispatch, Receive};
 
@@ -133,14 +133,15 @@ fn asked_by_request(alloc: Global, styles: &Styles, request: Request) -> Result<
     }
 }
 
-/// What the line asks: a command that fits the commodities, or a report. 44 where it spells no request, then the first fault
-/// of its texts; 40 for want of memory. Each of these refusals can be printed.
-pub fn asked_by_line(alloc: Global, styles: &Styles, line: &[u8]) -> Result<Asked, Refusal>
-    ensures asks { OrMemory (Asks styles.now line.now) result }
+/// What the request asks: a command that fits the commodities, or a report. Or the first fault of its texts; 40 for want of
+/// memory. Each of these refusals can be printed.
+pub fn asked_by(alloc: Global, styles: &Styles, request: &Request) -> Result<Asked, Refusal>
+    requires { HasDayNumbers request.now }
+    ensures asks { OrMemory (RequestAsks styles.now request.now) result }
     ensures ready { IsReady styles.now result }
 {
-    match read_line(alloc, line) {
+    match request.copy() {
         Ok(request) => asked_by_request(alloc, styles, request),
-        Err(cause) => Err(Refusal::Plain(cause)),
+        Err(_) => Err(NO_MEMORY),
     }
 }

@@ -4,5 +4,5 @@ mod machine;
 mod run;
 mod write;
 
-pub use machine::{Machine, Shortage};
+pub use machine::Machine;
 pub use run::{MAX_INPUT, is_blank_text, run_machine};

@@ -5,6 +5,7 @@ mod reading;
 
 ghost use Rattle.std.specs.Prelude.{◌≡◌, IfOk};
 ghost use Rattle.std.specs.Result.{IsOkUnless};
+ghost use Rattle.treasury.specs.Request.{is_report};
 
 use crate::bytes::Bytes;
 use money_core::{Cause, Copied, Day, Text};
@@ -71,6 +72,21 @@ pub enum Request {
     Journal {
         branch: Text,
     },
+}
+
+impl Request {
+    /// Whether a report is asked for, not a command.
+    pub fn is_report(&self) -> bool
+        ensures { result ≡ is_report self.now }
+    {
+        match self {
+            Request::Balance { .. } => true,
+            Request::Register { .. } => true,
+            Request::Transit { .. } => true,
+            Request::Journal { .. } => true,
+            _ => false,
+        }
+    }
 }
 
 /// An equal text, if there is one.

@@ -1,30 +1,100 @@
-//! The run of a federation's state over the lines of a reader.
+//! The run of a treasury over the lines of a reader.
 
+ghost use Rattle.std.specs.Prelude.{◌≡◌, ◌≤◌, ◌++◌, [], vec_capacity, IsTrue, OnOk, OnErr};
+ghost use Rattle.sqlite.specs.State.{HasCleanDisk};
+ghost use Rattle.sqlite.specs.Held.{state};
+ghost use Rattle.treasury_core.specs.Federation.{Federation};
+ghost use Rattle.treasury_store.specs.Treasury.{IsTreasuryOf};
+ghost use Rattle.treasury.specs.Request.{is_report};
+ghost use Rattle.treasury.specs.Answer.{IsPrintableRefusal};
+ghost use Rattle.treasury.specs.Step.{Answers};
 ghost use Rattle.treasury.specs.RunEnd.{most_input, Ends};
-ghost use Rattle.treasury.specs.Step.{Answers, Loses};
+ghost use Rattle.treasury.specs.Replied.{Serves, IsPrintableIn, IsLineIn, IsLineOf, end_of_report, standing};
 
-use crate::answering::{answer_asked, answer_memory};
-use crate::asking::asked_by_line;
-use crate::lines::{Machine, Shortage, run_machine};
-use book_core::Ledger;
+use crate::answering::answer;
+use crate::answers::{MOST_PLAIN, answer_line};
+use crate::lines::{Machine, run_machine};
+use crate::request::{Request, read_line};
+use book_core::Refusal;
 use journal_format::reading_law;
-use money_core::Cause;
-use std::alloc::Global;
+use money_core::{Cause, Styles};
+use sqlite::Alter;
+use std::alloc::{AllocError, Global};
 use std::io::{Read, Write};
-use treasury_core::State;
+use treasury_core::Answer;
+use treasury_store::Treasury;
 
-impl<L: Ledger> Machine for State<L> {
-    ghost step = { Answers };
+/// Appends the line `ok` that ends a report. Other answers have their line.
+fn end_report(alloc: Global, request: &Request, text: &mut Vec<u8>) -> Result<(), Cause>
+    ensures ok { OnOk result (text.new.items ≡ text.old.items ++ end_of_report request.now) }
+    ensures err { OnErr result (IsTrue (is_report request.now)) }
+{
+    if request.is_report() {
+        answer_line(alloc, &Ok(Answer::Done), &Styles::empty(alloc), text)
+    } else {
+        Ok(())
+    }
+}
 
-    ghost loses = { Loses };
+/// The line of a refusal, on an empty vector that has room for a plain one. Where memory is refused for another, it is the
+/// line of 40.
+fn refuse_in(alloc: Global, styles: &Styles, refusal: Refusal, room: Vec<u8>) -> Vec<u8>
+    requires printable { IsPrintableRefusal styles.now refusal }
+    requires empty { room.items ≡ [] }
+    requires room { MOST_PLAIN ≤ vec_capacity room }
+    ensures { IsLineIn styles.now refusal result.items }
+{
+    let mut line = room;
+    match answer_line(alloc, &Err(refusal), styles, &mut line) {
+        Ok(()) => line,
+        Err(_) => {
+            let no_memory = Err(Refusal::Plain(Cause::OutOfMemory));
+            match answer_line(alloc, &no_memory, styles, &mut line) {
+                Ok(()) => line,
+                Err(_) => unreachable!(),
+            }
+        }
+    }
+}
 
-    fn answer(&mut self, alloc: Global, request: &[u8], out: &mut Vec<u8>) -> Result<(), Shortage> {
+/// The line of a refusal by the treasury, as `refuse_in` makes it.
+fn refuse<S: Alter>(
+    alloc: Global,
+    treasury: &Treasury<S>,
+    refusal: Refusal,
+    room: Vec<u8>,
+) -> Vec<u8>
+    requires printable { IsPrintableIn treasury.now refusal }
+    requires empty { room.items ≡ [] }
+    requires room { MOST_PLAIN ≤ vec_capacity room }
+    ensures { IsLineOf treasury.now refusal result.items }
+{
+    match treasury.state() {
+        Some(state) => refuse_in(alloc, state.styles(), refusal, room),
+        None => refuse_in(alloc, &Styles::empty(alloc), refusal, room),
+    }
+}
+
+impl<S: Alter> Machine for Treasury<S> {
+    ghost step = { Serves S.Store };
+
+    fn answer(&mut self, alloc: Global, line: &[u8]) -> Result<Vec<u8>, AllocError> {
         reading_law();
-        let asked = asked_by_line(alloc, self.styles(), request);
-        match answer_asked(alloc, self, asked, out) {
-            Ok(()) => Ok(()),
-            Err(Shortage::Kept) => answer_memory(alloc, self, out),
-            Err(Shortage::Lost) => Err(Shortage::Lost),
+        let room = match Vec::with_capacity(alloc, MOST_PLAIN) {
+            Ok(room) => room,
+            Err(error) => return Err(error),
+        };
+        let request = match read_line(alloc, line) {
+            Ok(request) => request,
+            Err(cause) => return Ok(refuse(alloc, self, Refusal::Plain(cause), room)),
+        };
+        let mut text = Vec::new(alloc);
+        match answer(alloc, &request, self, &mut text) {
+            Ok(()) => match end_report(alloc, &request, &mut text) {
+                Ok(()) => Ok(text),
+                Err(_) => Ok(refuse(alloc, self, Refusal::Plain(Cause::OutOfMemory), room)),
+            },
+            Err(refusal) => Ok(refuse(alloc, self, refusal, room)),
         }
     }
 }
@@ -33,16 +103,19 @@ impl<L: Ledger> Machine for State<L> {
 ///
 /// On `Ok` all input was read, and what was written is its transcript. 45 comes where a read fails, whatever its error,
 /// or where the input goes on past 64 MiB: the complete lines before that are answered. 46 comes where a write fails or
-/// takes nothing: the last answer may be cut off. 40 comes where there is no memory for an answer, or where it is refused
-/// while a command that was decided is being done: only then nothing is said of the state.
-pub fn run_lines<R: Read, W: Write, L: Ledger>(
+/// takes nothing: the last answer may be cut off, and its command stands. 40 comes where there is no memory for an answer:
+/// its request has changed nothing.
+pub fn run_lines<R: Read, W: Write, S: Alter>(
     alloc: Global,
     reader: &mut R,
     writer: &mut W,
-    state: &mut State<L>,
+    treasury: &mut Treasury<S>,
 ) -> Result<(), Cause>
-    ensures { Ends result Answers Loses most_input
-        R.remaining reader.old reader.new W.contents writer.old writer.new state.old state.new }
+    // Of whichever state the treasury is, while the disk returned what was written.
+    ensures { HasCleanDisk (state S.Store treasury.new.store.conn) → (f : Federation) → IsTreasuryOf S.Store treasury.old f
+        → (end : Federation) × (IsTreasuryOf S.Store treasury.new end
+        × Ends result Answers most_input R.remaining reader.old reader.new W.contents writer.old writer.new
+            (standing treasury.old f) (standing treasury.new end)) }
 {
-    run_machine(alloc, reader, writer, state)
+    run_machine(alloc, reader, writer, treasury)
 }

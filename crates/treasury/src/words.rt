@@ -1,13 +1,14 @@
 //! The words of the command line, and what they do.
 
-ghost use Rattle.std.specs.Prelude.{◌≡◌, ◌⊎◌, ◌≢◌, map, IfOk, OnOk, IfErr, MatchResult};
+ghost use Rattle.std.specs.Prelude.{◌≡◌, ◌⊎◌, ◌≢◌, map, false, IfOk, OnOk, OnErr, MatchResult};
+ghost use Rattle.sqlite.specs.Files.{over_files};
+ghost use Rattle.treasury_store.specs.Treasury.{IsTreasuryOf};
 ghost use Rattle.std.specs.String.{string_bytes};
 ghost use Rattle.clap.specs.Simple.{app_of};
-ghost use Rattle.treasury.specs.Words.{known, AskForRun, MayAskForHelp, AnswersAll, IsCutOffBy, IsCutOff};
+ghost use Rattle.treasury.specs.Words.{known, nothing, AskForRun, MayAskForHelp, AnswersAll, IsCutOff};
 
 use crate::laws::{commands_law, refusal_law, run_law};
 use crate::running::run_lines;
-use book_core::DayLedger;
 use clap::error::ErrorKind;
 use clap::{Command, Error};
 use money_core::Cause;
@@ -15,12 +16,10 @@ use std::alloc::{AllocError, Global};
 use std::io::{Read, Write};
 use std::mem::ManuallyDrop;
 use treasury_core::{
-    State, accepted_closing_law, good_law, growing_law, late_entry_law, lock_law, records_law,
-    sound_law,
+    accepted_closing_law, good_law, growing_law, late_entry_law, lock_law, records_law, sound_law,
 };
-
-/// The ledger that keeps the book of a branch. It is named here alone.
-type Book = DayLedger;
+use treasury_memory::{MemoryStore, open_memory};
+use treasury_store::{Store, Treasury};
 
 /// The version that `--version` shows.
 const VERSION: &str = "0.2.0";
@@ -108,13 +107,27 @@ fn status<H: Eprint>(rt: &H, done: Result<(), Cause>) -> u8
     }
 }
 
+/// A treasury in memory, of a federation that has nothing yet. Nothing but want of memory refuses it.
+fn treasury_in_memory(alloc: Global) -> Result<Treasury<MemoryStore>, Cause>
+    ensures of { IfOk result (λ t. IsTreasuryOf over_files t nothing) }
+    ensures open { IfOk result (λ t. t.store.failed ≡ false) }
+{
+    let conn = open_memory(alloc)?;
+    let store = match Store::create(alloc, conn) {
+        Ok(store) => store,
+        Err(_) => return Err(Cause::OutOfMemory),
+    };
+    match Treasury::start(alloc, store) {
+        Ok(treasury) => Ok(treasury),
+        Err(_) => Err(Cause::OutOfMemory),
+    }
+}
+
 /// Runs from the input to the output, over a federation that has nothing yet.
 fn run<R: Read, W: Write>(alloc: Global, input: &mut R, output: &mut W) -> Result<(), Cause>
     ensures done { OnOk result (AnswersAll R.remaining input.old input.new W.contents output.old output.new) }
-    ensures cut_off { IfErr result (λ cause.
-        IsCutOffBy cause R.remaining input.old input.new W.contents output.old output.new) }
+    ensures cut_off { OnErr result (IsCutOff R.remaining input.old input.new W.contents output.old output.new) }
 {
-    let mut state: State<Book> = State::empty(alloc);
     run_law();
     commands_law();
     refusal_law();
@@ -125,9 +138,13 @@ fn run<R: Read, W: Write>(alloc: Global, input: &mut R, output: &mut W) -> Resul
     lock_law();
     accepted_closing_law();
     late_entry_law();
-    let done = run_lines(alloc, input, output, &mut state);
+    let mut treasury = match treasury_in_memory(alloc) {
+        Ok(treasury) => treasury,
+        Err(cause) => return Err(cause),
+    };
+    let done = run_lines(alloc, input, output, &mut treasury);
     // The process ends here, and its memory with it: to free each record would take a tenth of the run.
-    let _left = ManuallyDrop::new(state);
+    let _left = ManuallyDrop::new(treasury);
     done
 }
 

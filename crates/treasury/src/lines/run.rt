@@ -44,17 +44,16 @@ fn serve_line<W: Write, M: Machine>(
     writer: &mut W,
     machine: &mut M,
 ) -> Result<(), Cause>
-    ensures { Serves result M.step M.loses (W.contents writer.old) (W.contents writer.new)
+    ensures { Serves result M.step (W.contents writer.old) (W.contents writer.new)
         machine.old (requests_among (line.now ∷ [])) machine.new }
 {
     if is_blank_text(line) {
         return Ok(());
     }
-    let mut text = Vec::new(alloc);
-    match machine.answer(alloc, line, &mut text) {
-        Ok(()) => {}
+    let text = match machine.answer(alloc, line) {
+        Ok(text) => text,
         Err(_) => return Err(Cause::OutOfMemory),
-    }
+    };
     match write_whole(writer, text.as_slice()) {
         Ok(()) => Ok(()),
         Err(_) => Err(Cause::WriteFault),
@@ -78,7 +77,7 @@ fn end_line<W: Write, M: Machine>(
 ) -> Result<(), Cause>
     requires begun { HasNoLineFeed line.old.items }
     requires more { HasNoLineFeed bytes.now }
-    ensures { EndsLine result M.step M.loses (W.contents writer.old) (W.contents writer.new)
+    ensures { EndsLine result M.step (W.contents writer.old) (W.contents writer.new)
         machine.old (line.old.items ++ bytes.now) line.new.items machine.new }
 {
     match line.extend_from_slice(bytes) {
@@ -108,7 +107,7 @@ fn feed<W: Write, M: Machine>(
     machine: &mut M,
 ) -> Result<(), Cause>
     requires { HasNoLineFeed line.old.items }
-    ensures { Feeds result M.step M.loses (W.contents writer.old) (W.contents writer.new)
+    ensures { Feeds result M.step (W.contents writer.old) (W.contents writer.new)
         machine.old (line.old.items ++ bytes.now) line.new.items machine.new }
 {
     let mut rest = bytes;
@@ -133,15 +132,15 @@ fn feed<W: Write, M: Machine>(
 /// Answers each request that the reader gives, of at most `MAX_INPUT` bytes in all.
 ///
 /// Each answer is one text that is written at once. 45 comes where a read fails, whatever its error, or where the input
-/// goes on past the bound; 46 where a write fails or takes nothing. 40 comes where memory is refused, and only then the
-/// machine's state may be lost, at a request that says so.
+/// goes on past the bound; 46 where a write fails or takes nothing. 40 comes where memory is refused: the lines before
+/// that are answered, and nothing else has changed.
 pub fn run_machine<R: Read, W: Write, M: Machine>(
     alloc: Global,
     reader: &mut R,
     writer: &mut W,
     machine: &mut M,
 ) -> Result<(), Cause>
-    ensures { Ends result M.step M.loses MAX_INPUT
+    ensures { Ends result M.step MAX_INPUT
         R.remaining reader.old reader.new W.contents writer.old writer.new machine.old machine.new }
 {
     let mut chunk = [0u8; CHUNK];

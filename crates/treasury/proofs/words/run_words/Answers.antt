@@ -1,12 +1,11 @@
-use Rattle.std.proofs.Common.{refl, ◌∙◌, inl, inr}
+use Rattle.std.proofs.Common.{refl, ◌∙◌, inl}
 use Rattle.treasury.proofs.WordLemmas.{taken, fails_by, run_fails, help_shown, run_shows_none, cut_off_status}
 use Rattle.treasury.proofs.words.run_words.Goals as goal
 
 pub returns-in-Ok-try_get_matches_from-clause-cut_off :
     goal.returns-in-Ok-try_get_matches_from-clause-cut_off
 returns-in-Ok-try_get_matches_from-clause-cut_off g c =
-    λ _ other. let cut = cut_off_status c.run.result _ _ c.status-in-Ok-try_get_matches_from.ensures c.run.ensures.cut_off other in
-    (cut.0, inr cut.1)
+    λ _ other. cut_off_status c.run.result _ _ c.status-in-Ok-try_get_matches_from.ensures c.run.ensures.cut_off other
 
 pub returns-in-Ok-try_get_matches_from-clause-other :
     goal.returns-in-Ok-try_get_matches_from-clause-other

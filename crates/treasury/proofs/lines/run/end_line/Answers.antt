@@ -13,7 +13,7 @@ begun Step w s line bytes longer part more same =
 
 pub returns-in-Err : goal.returns-in-Err
 returns-in-Err g c = λ rest.
-    gave_up_here g.M.Machine.step g.M.Machine.loses ⊥ _ _ _ _ c.args.line.now.items c.args.line.now.items (c.args.bytes.now ++ 10 ∷ rest) _
+    gave_up_here g.M.Machine.step _ _ _ _ c.args.line.now.items c.args.line.now.items (c.args.bytes.now ++ 10 ∷ rest) _
     (whole_none g.M.Machine.step (g.W.Write.contents c.args.writer.now) c.args.machine.now c.args.line.now.items c.args.line.now.items refl c.requires.begun)
     (append_assoc c.args.line.now.items c.args.bytes.now (10 ∷ rest))
 
@@ -25,6 +25,6 @@ returns-in-Ok-serve_line g c =
 
 pub returns-in-Err-serve_line : goal.returns-in-Err-serve_line
 returns-in-Err-serve_line g c = λ rest.
-    stops_at_line c.in-Err-serve_line.cause g.M.Machine.step g.M.Machine.loses ⊥ _ _ _ _ _ _ _ _ _ _ _
+    stops_at_line c.in-Err-serve_line.cause g.M.Machine.step ⊥ _ _ _ _ _ _ _ _ _ _ _
     (begun g.M.Machine.step (g.W.Write.contents c.args.writer.now) c.args.machine.now c.args.line.now.items c.args.bytes.now c.extend_from_slice.new.self.items c.requires.begun c.requires.more c.in-Ok.ensures.items)
     (rw (c.without_carriage_return.ensures, c.as_slice.ensures.value) at c.in-Err-serve_line.ensures) refl refl

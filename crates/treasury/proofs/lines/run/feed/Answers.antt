@@ -24,7 +24,7 @@ returns-in-Err g c =
     let so_far = c.feeding.invariant in
     let rest = c.feeding.rest.now in
     let at : IsFeedPlace (Some c.in-Some.place) rest = first_feed rest (Some c.in-Some.place) (sym c.in-Some.ensures) in
-    fed_stops c.in-Err.cause g.M.Machine.step g.M.Machine.loses _ _ _ _ _ _ so_far.0 c.feeding.line.items (take c.in-Some.place rest) (drop (c.in-Some.place + 1) rest) rest _ so_far.1.0
+    fed_stops c.in-Err.cause g.M.Machine.step _ _ _ _ _ _ so_far.0 c.feeding.line.items (take c.in-Some.place rest) (drop (c.in-Some.place + 1) rest) rest _ so_far.1.0
     (rw c.split_at.ensures.front at c.in-Err.ensures) (cut_at_feed rest c.in-Some.place at.0 at.2) so_far.1.1
 
 pub returns-in-Ok-extend_from_slice : goal.returns-in-Ok-extend_from_slice

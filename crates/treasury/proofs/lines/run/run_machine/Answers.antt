@@ -13,7 +13,7 @@ reading-preserved g c =
 pub returns-in-Err-feed : goal.returns-in-Err-feed
 returns-in-Err-feed g c =
     let read = take-append-le c.in-Ok.count c.read.new.buf (drop c.max-most.result c.reading.chunk) c.in-Ok.ensures.bound.0 in
-    stopped_later c.in-Err-feed.cause g.M.Machine.step g.M.Machine.loses _ _ _ _ _ _ _ _ _ _ _ _ c.in-Ok.count _ c.reading.invariant c.in-Ok.ensures.bytes.0
+    stopped_later c.in-Err-feed.cause g.M.Machine.step _ _ _ _ _ _ _ _ _ _ _ _ c.in-Ok.count _ c.reading.invariant c.in-Ok.ensures.bytes.0
     (grind (arith, common_steps)) (grind (arith, common_steps)) (rw read at c.in-Err-feed.ensures)
 
 pub returns-in-Ok-serve_line : goal.returns-in-Ok-serve_line
@@ -25,5 +25,5 @@ returns-in-Ok-serve_line g c =
 pub returns : goal.returns
 returns g c =
     let read = rw c.in-Ok-eq0.field-0-test at c.in-Ok-eq0.ensures.bytes in
-    stopped_last c.in-Err-serve_line.cause g.M.Machine.step g.M.Machine.loses _ _ _ _ _ _ _ _ _ _ _ _ c.reading.invariant read.0
+    stopped_last c.in-Err-serve_line.cause g.M.Machine.step _ _ _ _ _ _ _ _ _ _ _ _ c.reading.invariant read.0
     (read.1 refl (grind (arith, common_steps))) (rw c.as_slice.ensures.value at c.in-Err-serve_line.ensures)
