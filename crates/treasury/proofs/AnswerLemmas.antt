@@ -33,7 +33,8 @@ use Rattle.treasury.specs.Answer.{answer_text}
 use Rattle.treasury.specs.declared.report.Report.{Report as AnyReport}
 use Rattle.treasury.specs.Report.{report_text, has_its_branch}
 use Rattle.treasury.specs.Step.{reply, MayReply, is_failure}
-use Rattle.treasury.specs.Replied.{IsReplied, IsReady, OrMemory}
+use Rattle.treasury.specs.Replied.{IsReplied}
+use Rattle.treasury.specs.Serving.{IsReady, OrMemory}
 use Rattle.money_core.proofs.ReadingLemmas.{one_of_causes}
 use Rattle.money_core.specs.declared.unit.Unit.{Unit as Commodity}
 use Rattle.treasury.proofs.ReplyLemmas.{refused}

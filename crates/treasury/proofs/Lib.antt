@@ -5,7 +5,6 @@ pub mod RunLemmas
 pub mod LiftLemmas
 pub mod WorkedValues
 pub mod AppendLemmas
-pub mod RoomLemmas
 pub mod VerdictLemmas
 pub mod PrintableLemmas
 pub mod AskedLemmas

@@ -21,7 +21,8 @@ use Rattle.treasury.specs.Answer.{answer_text, IsPrintableRefusal}
 use Rattle.treasury.specs.declared.report.Report.{Report as AnyReport}
 use Rattle.treasury.specs.Report.{report_text, has_its_branch}
 use Rattle.treasury.specs.Step.{MayReply, after, is_failure, reply}
-use Rattle.treasury.specs.Replied.{IsReplied, IsPrintableIn, IsHeldFor, body_of}
+use Rattle.treasury.specs.Replied.{IsReplied, IsPrintableIn, body_of}
+use Rattle.treasury.specs.Serving.{IsHeldFor}
 use Rattle.treasury.proofs.PrintableLemmas.{decided_printable}
 
 -- ---- whether a call of the database has failed

@@ -27,7 +27,8 @@ use Rattle.treasury.specs.Asked.{RequestAsks, AsksOf, Asks, asked_by_sample, ask
 use Rattle.treasury.specs.Report.{report_text, has_its_branch}
 use Rattle.treasury.specs.Answer.{answer_text, IsPlainAnswer}
 use Rattle.treasury.specs.Step.{Standing, Answers, MayReply, Replies, after, next, reply, reply_text, is_failure}
-use Rattle.treasury.specs.Replied.{IsReplied, IsLineOf, IsLineIn, Serves, standing, body_of, end_of_report}
+use Rattle.treasury.specs.Replied.{IsReplied, standing, body_of}
+use Rattle.treasury.specs.Serving.{IsLineOf, IsLineIn, Serves, end_of_report}
 use Rattle.treasury.specs.RunEnd.{Ends}
 use Rattle.treasury.proofs.LiftLemmas.{ends_lifted}
 use Rattle.treasury.proofs.AnswerLemmas.{ReadsAll, IsAnswered, request_asks}

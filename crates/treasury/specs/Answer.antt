@@ -68,10 +68,6 @@ abbrev pub IsPrintableAnswer : List Style → Result Answer Refusal → Type 0
 IsPrintableAnswer styles (Ok answer) = ⊤
 IsPrintableAnswer styles (Err refusal) = IsPrintableRefusal styles refusal
 
--- the line of an answer that is no text fault and no failed assertion has at most that many bytes
-abbrev pub most_plain : ℕ
-most_plain = 64
-
 -- the answer is no text fault and no failed assertion
 abbrev pub IsPlainAnswer : Result Answer Refusal → Type 0
 IsPlainAnswer (Ok answer) = ⊤

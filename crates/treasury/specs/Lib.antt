@@ -6,9 +6,10 @@ pub mod Asked
 pub mod Report
 pub mod Step
 pub mod Answer
+pub mod Replied
 pub mod History
 pub mod Words
 -- What mirrors code, for private clauses: nobody has to believe it
-pub mod Replied
+pub mod Serving
 pub mod Form
 pub mod Served

@@ -9,7 +9,8 @@ ghost use Rattle.treasury_store.specs.Treasury.{IsTreasuryOf};
 ghost use Rattle.treasury.specs.declared.asking.Asked.{Asked as Meant};
 ghost use Rattle.treasury.specs.Asked.{AsksOf};
 ghost use Rattle.treasury.specs.Request.{HasDayNumbers};
-ghost use Rattle.treasury.specs.Replied.{IsReplied, IsHeldFor, IsPrintableIn};
+ghost use Rattle.treasury.specs.Replied.{IsReplied, IsPrintableIn};
+ghost use Rattle.treasury.specs.Serving.{IsHeldFor};
 
 use crate::answers::{MOST_PLAIN, answer_line};
 use crate::asking::{Asked, asked_by};

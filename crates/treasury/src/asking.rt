@@ -6,7 +6,7 @@ ghost use Rattle.money_core.specs.Reading.{amount};
 ghost use Rattle.journal_lines.specs.Date.{IsDayNumber};
 ghost use Rattle.treasury.specs.Asked.{asked_by_sample, asked_by_amount, JournalAsks, RequestAsks};
 ghost use Rattle.treasury.specs.Request.{HasDayNumbers};
-ghost use Rattle.treasury.specs.Replied.{IsReady, OrMemory};
+ghost use Rattle.treasury.specs.Serving.{IsReady, OrMemory};
 
 use crate::report::Report;
 use crate::request::Request;

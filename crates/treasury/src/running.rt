@@ -9,7 +9,8 @@ ghost use Rattle.treasury.specs.Request.{is_report};
 ghost use Rattle.treasury.specs.Answer.{IsPrintableRefusal};
 ghost use Rattle.treasury.specs.Step.{Answers};
 ghost use Rattle.treasury.specs.RunEnd.{most_input, Ends};
-ghost use Rattle.treasury.specs.Replied.{Serves, IsPrintableIn, IsLineIn, IsLineOf, end_of_report, standing};
+ghost use Rattle.treasury.specs.Replied.{IsPrintableIn, standing};
+ghost use Rattle.treasury.specs.Serving.{Serves, IsLineIn, IsLineOf, end_of_report};
 
 use crate::answering::answer;
 use crate::answers::{MOST_PLAIN, answer_line};

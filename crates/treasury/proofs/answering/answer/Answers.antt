@@ -7,7 +7,7 @@ use Rattle.treasury_store.specs.Treasury.{Treasury}
 use Rattle.treasury_store.proofs.TreasuryLemmas.{ok_unfailed}
 use Rattle.treasury.specs.Asked.{RequestAsks}
 use Rattle.treasury.specs.Report.{report_text, has_its_branch}
-use Rattle.treasury.specs.Replied.{OrMemory}
+use Rattle.treasury.specs.Serving.{OrMemory}
 use Rattle.treasury.specs.declared.asking.Asked.TheVariants.{Command, Report}
 use Rattle.treasury.proofs.ReplyLemmas.{state_is}
 use Rattle.treasury.proofs.AnswerLemmas.{unheld, held_unfailed, answered, meant, command_fits, refused_texts, reported, unreported, is_there}
