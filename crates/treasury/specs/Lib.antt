@@ -8,6 +8,7 @@ pub mod Step
 pub mod Answer
 pub mod Replied
 pub mod History
+pub mod Kept
 pub mod Words
 -- What mirrors code, for private clauses: nobody has to believe it
 pub mod Serving

@@ -7,8 +7,7 @@ ghost use Rattle.treasury_core.specs.Federation.{Federation};
 ghost use Rattle.treasury_store.specs.Treasury.{IsTreasuryOf};
 ghost use Rattle.treasury.specs.Request.{is_report};
 ghost use Rattle.treasury.specs.Answer.{IsPrintableRefusal};
-ghost use Rattle.treasury.specs.Step.{Answers};
-ghost use Rattle.treasury.specs.RunEnd.{most_input, Ends};
+ghost use Rattle.treasury.specs.Kept.{Runs};
 ghost use Rattle.treasury.specs.Replied.{IsPrintableIn, standing};
 ghost use Rattle.treasury.specs.Serving.{Serves, IsLineIn, IsLineOf, end_of_report};
 
@@ -112,10 +111,10 @@ pub fn run_lines<R: Read, W: Write, S: Alter>(
     writer: &mut W,
     treasury: &mut Treasury<S>,
 ) -> Result<(), Cause>
-    // Of whichever state the treasury is, while the disk returned what was written.
+    // Of whichever state the treasury is, while the disk returned what was written: a run, and the headline holds of it.
     ensures { HasCleanDisk (state S.Store treasury.new.store.conn) → (f : Federation) → IsTreasuryOf S.Store treasury.old f
         → (end : Federation) × (IsTreasuryOf S.Store treasury.new end
-        × Ends result Answers most_input R.remaining reader.old reader.new W.contents writer.old writer.new
+        × Runs result R.remaining reader.old reader.new W.contents writer.old writer.new
             (standing treasury.old f) (standing treasury.new end)) }
 {
     run_machine(alloc, reader, writer, treasury)

@@ -5,7 +5,9 @@ ghost use Rattle.sqlite.specs.Files.{over_files};
 ghost use Rattle.treasury_store.specs.Treasury.{IsTreasuryOf};
 ghost use Rattle.std.specs.String.{string_bytes};
 ghost use Rattle.clap.specs.Simple.{app_of};
-ghost use Rattle.treasury.specs.Words.{known, nothing, AskForRun, MayAskForHelp, AnswersAll, IsCutOff};
+ghost use Rattle.treasury.specs.Step.{Standing};
+ghost use Rattle.treasury.specs.Kept.{AnswersAll};
+ghost use Rattle.treasury.specs.Words.{known, nothing, at_first, AskForRun, MayAskForHelp, IsCutOff};
 
 use crate::laws::{commands_law, refusal_law, run_law};
 use crate::running::run_lines;
@@ -16,7 +18,8 @@ use std::alloc::{AllocError, Global};
 use std::io::{Read, Write};
 use std::mem::ManuallyDrop;
 use treasury_core::{
-    accepted_closing_law, good_law, growing_law, late_entry_law, lock_law, records_law, sound_law,
+    accepted_closing_law, good_law, growing_law, headline_law, late_entry_law, lock_law, records_law,
+    sound_law,
 };
 use treasury_memory::{MemoryStore, open_memory};
 use treasury_store::{Store, Treasury};
@@ -125,12 +128,13 @@ fn treasury_in_memory(alloc: Global) -> Result<Treasury<MemoryStore>, Cause>
 
 /// Runs from the input to the output, over a federation that has nothing yet.
 fn run<R: Read, W: Write>(alloc: Global, input: &mut R, output: &mut W) -> Result<(), Cause>
-    ensures done { OnOk result (AnswersAll R.remaining input.old input.new W.contents output.old output.new) }
+    ensures done { OnOk result ((end : Standing) × AnswersAll R.remaining input.old input.new W.contents output.old output.new at_first end) }
     ensures cut_off { OnErr result (IsCutOff R.remaining input.old input.new W.contents output.old output.new) }
 {
     run_law();
     commands_law();
     refusal_law();
+    headline_law();
     good_law();
     sound_law();
     records_law();
@@ -169,7 +173,7 @@ where
     W: Write,
     // Words that ask for a run have one, unless there is no memory to read them.
     ensures done { AskForRun (map string_bytes words.now) → result ≡ 0
-        → AnswersAll R.remaining input.old input.new W.contents output.old output.new }
+        → (end : Standing) × AnswersAll R.remaining input.old input.new W.contents output.old output.new at_first end }
     ensures cut_off { AskForRun (map string_bytes words.now) → result ≢ 0
         → (result ≡ 1) × IsCutOff R.remaining input.old input.new W.contents output.old output.new }
 
