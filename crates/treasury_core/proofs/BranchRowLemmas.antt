@@ -13,8 +13,8 @@ use Rattle.treasury_core.specs.declared.rows.BranchRow.{BranchRow}
 use Rattle.treasury_core.specs.declared.rows.EntryRow.{EntryRow}
 use Rattle.treasury_core.specs.Federation.{Branch}
 use Rattle.treasury_core.specs.Good.{IsGoodRecord}
-use Rattle.treasury_core.specs.Rows.{branch_row, branch_rows_from, entry_rows_from, entry_rows_in}
-use Rattle.treasury_core.specs.Drafted.{IsFault, HasShortLock}
+use Rattle.treasury_core.specs.Rows.{branch_row, branch_rows_from, entry_rows_from, entry_rows_in, HasShortLock}
+use Rattle.treasury_core.specs.Drafted.{IsFault}
 use Rattle.treasury_core.proofs.ChangeLemmas.{all-append}
 use Rattle.treasury_core.proofs.DraftLemmas.{fault_of, heads, tails, less, all_middle}
 

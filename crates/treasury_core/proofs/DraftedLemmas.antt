@@ -13,8 +13,8 @@ use Rattle.treasury_core.specs.declared.rows.Parts.{Parts}
 use Rattle.treasury_core.specs.declared.transfer.Transfer.{Transfer}
 use Rattle.treasury_core.specs.Federation.{Branch, Federation}
 use Rattle.treasury_core.specs.Good.{IsGoodRecord, IsGoodBranch, IsGoodState}
-use Rattle.treasury_core.specs.Rows.{unit_rows, transfer_row, rows}
-use Rattle.treasury_core.specs.Drafted.{IsFault, IsNamed, HasShortLock, HasShortLocks}
+use Rattle.treasury_core.specs.Rows.{unit_rows, transfer_row, rows, HasShortLock, HasShortLocks}
+use Rattle.treasury_core.specs.Drafted.{IsFault, IsNamed}
 use Rattle.treasury_core.proofs.ChangeLemmas.{all_weaker}
 use Rattle.treasury_core.proofs.BranchRowLemmas.{AreGood, HaveRows}
 use Rattle.treasury_core.proofs.TransferRowLemmas.{all_named}

@@ -15,11 +15,10 @@ use Rattle.std.specs.declared.string.String.{String}
 use Rattle.std.specs.declared.alloc.Global.{Global}
 use Rattle.std.specs.declared.hash.FoldHasher.{FoldHasher}
 use Rattle.std.specs.declared.hash.BuildHasherDefault.{BuildHasherDefault}
-use Rattle.treasury_core.specs.Federation.{Branch, has_name}
+use Rattle.treasury_core.specs.Federation.{Branch, has_name, name_place}
 use Rattle.treasury_core.specs.Joined.{changed}
 use Rattle.treasury_core.specs.Mark.{has_mark, held}
 use Rattle.treasury_core.specs.Kept.{mark_place, branch_place, branch_at, ArePlacesOf}
-use Rattle.treasury_core.specs.Room.{name_place}
 
 abbrev pub Index : Type 0
 Index = HashMap (String Global) ℕ (BuildHasherDefault FoldHasher)

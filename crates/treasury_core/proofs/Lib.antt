@@ -60,3 +60,4 @@ pub mod ClosingPrinted
 pub mod ClosingReply
 pub mod CloseLemmas
 pub mod AcceptedClosing
+pub mod HeadlineLemmas

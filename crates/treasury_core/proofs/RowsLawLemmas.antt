@@ -26,9 +26,8 @@ use Rattle.treasury_core.specs.declared.rows.TransferRow.{TransferRow}
 use Rattle.treasury_core.specs.declared.rows.Parts.{Parts}
 use Rattle.treasury_core.specs.declared.transfer.Receipt.{Receipt}
 use Rattle.treasury_core.specs.declared.transfer.Transfer.{Transfer}
-use Rattle.treasury_core.specs.Federation.{Branch, Federation, has_name}
+use Rattle.treasury_core.specs.Federation.{Branch, Federation, has_name, name_place}
 use Rattle.treasury_core.specs.Good.{IsGoodRecord, IsGoodTransfer, IsGoodState}
-use Rattle.treasury_core.specs.Room.{name_place}
 use Rattle.treasury_core.specs.Rows.{truth, unit_row, branch_row, branch_rows_from, entry_row, entry_rows_from, entry_rows_in, transfer_row, rows}
 use Rattle.treasury_core.proofs.ChangeLemmas.{all_weaker}
 use Rattle.treasury_core.proofs.DraftLemmas.{numbered, heads, tails}

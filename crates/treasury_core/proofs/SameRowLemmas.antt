@@ -6,7 +6,7 @@ use Rattle.std.specs.List.{slice_get}
 use Rattle.std.proofs.lemmas.List.{drop_all, take-append-drop}
 use Rattle.treasury_core.specs.declared.record.Record.{Record}
 use Rattle.treasury_core.specs.declared.transfer.Transfer.{Transfer}
-use Rattle.treasury_core.specs.Federation.{Branch, Federation}
+use Rattle.treasury_core.specs.Federation.{Branch, Federation, name_place}
 use Rattle.money_core.specs.declared.style.Style.{Style}
 use Rattle.treasury_core.specs.declared.rows.UnitRow.{UnitRow}
 use Rattle.treasury_core.specs.declared.rows.BranchRow.{BranchRow}
@@ -17,7 +17,6 @@ use Rattle.treasury_core.specs.declared.rows.TransferRow.{TransferRow}
 use Rattle.treasury_core.specs.declared.rows.Parts.{Parts}
 use Rattle.treasury_core.specs.Rows.{unit_rows, branch_rows_from, entry_row, entry_rows_from, entry_rows_in, leg_rows_in, claim_rows_in, transfer_row, rows}
 use Rattle.treasury_core.proofs.BranchRowLemmas.{AreGood}
-use Rattle.treasury_core.specs.Room.{name_place}
 use Rattle.treasury_core.proofs.BytesLemmas.{same_bytes, self_bytes}
 use Rattle.treasury_core.specs.Drafted.{record_rows_from, record_rows_in}
 use Rattle.treasury_core.proofs.DraftLemmas.{numbered, heads, tails, less}

@@ -19,12 +19,12 @@ use Rattle.journal_balance.specs.Legs.{leg}
 use Rattle.treasury_core.specs.declared.record.Record.{Record}
 use Rattle.treasury_core.specs.declared.transfer.Receipt.{Receipt}
 use Rattle.treasury_core.specs.declared.transfer.Transfer.{Transfer}
-use Rattle.treasury_core.specs.Federation.{Branch, Federation, has_name}
+use Rattle.treasury_core.specs.Federation.{Branch, Federation, has_name, name_place}
 use Rattle.treasury_core.specs.Mark.{held, is_of_transfer}
 use Rattle.treasury_core.specs.Transfer.{asked, out_records, in_records, in_mark, has_id, receipt_record, posting, transit_account}
 use Rattle.treasury_core.specs.Good.{IsGoodRecord, IsGoodTransfer, IsGoodState}
-use Rattle.treasury_core.specs.Room.{name_place}
-use Rattle.treasury_core.specs.Drafted.{IsFault, IsReading, IsShort, HasShortReceipt, IsNamed}
+use Rattle.treasury_core.specs.Drafted.{IsFault, IsReading, HasShortReceipt, IsNamed}
+use Rattle.treasury_core.specs.Rows.{IsShort}
 use Rattle.treasury_core.proofs.AskedLemmas.{HaveOwnIds}
 use Rattle.treasury_core.proofs.BytesLemmas.{same_bytes, self_bytes, other_bytes, neither}
 use Rattle.treasury_core.proofs.DispatchLemmas.{IsWhole, all_whole, dispatch_written, held_holds}

@@ -9,6 +9,8 @@ use Rattle.book_core.specs.declared.claim.Claim.{Claim}
 use Rattle.book_core.specs.declared.claim.ClaimKind.TheVariants.{Exact}
 use Rattle.book_core.specs.declared.refusal.Refusal.{Refusal}
 use Rattle.book_core.specs.declared.refusal.Refusal.TheVariants.{Plain, Text, ClaimFailed}
+use Rattle.book_core.specs.declared.account.Reach.TheVariants.{Own}
+use Rattle.book_core.specs.declared.place.Until.TheVariants.{Through}
 use Rattle.book_core.specs.Balance.{balance}
 use Rattle.book_core.specs.Claim.{fault, stray, failure}
 use Rattle.book_core.specs.GoodBook.{verdict}
@@ -19,11 +21,12 @@ use Rattle.journal_balance.specs.Legs.{leg, balancing_fault, legs_of}
 use Rattle.treasury_core.specs.declared.record.Record.{Record}
 use Rattle.treasury_core.specs.declared.command.Answer.TheVariants.{Done, Entered, Repeated}
 use Rattle.treasury_core.specs.declared.command.Command.{Command}
-use Rattle.treasury_core.specs.declared.command.Command.TheVariants.{Branch as NewBranch, Enter, Lock}
+use Rattle.treasury_core.specs.declared.command.Command.TheVariants.{Branch as NewBranch, Enter, Lock, Close}
 use Rattle.treasury_core.specs.declared.delta.Addition.TheVariants as add
 use Rattle.treasury_core.specs.Federation.{Federation, records_of, book_of}
 use Rattle.treasury_core.specs.Step.{reply, done, added}
-use Rattle.treasury_core.specs.History.{Turn, state_after, history, records_among}
+use Rattle.treasury_core.specs.History.{Turn, after_turn, state_after, history, records_among}
+use Rattle.treasury_core.specs.Headline.{KeepsBooks}
 
 abbrev day : ℤ → Day
 day n = record { 0 = n }
@@ -125,3 +128,23 @@ pub run : (refusal : Refusal) → (state_after (federation None []) (turns refus
     × (history (federation None []) (turns refusal) ≡ add.Record (codes "north") stated ∷ [])
 unfolding done added balancing_fault legs_of
 run refusal = (refl, refl)
+
+-- what an account has in north's book through the 31st, in euros
+abbrev in_north : Federation → List ℕ → ℤ
+in_north f account = balance Own (book_of f (codes "north")) account euros (Through (day (pos 31)))
+
+-- the statement, a closing through the 31st, and a branch that is there
+abbrev month : List Turn
+month =
+    record { command = into (codes "north") statement; reply = Ok (Entered 1 0) }
+    ∷ record { command = Close (codes "north") (day (pos 31)); reply = Ok Done }
+    ∷ record { command = NewBranch (codes "south"); reply = Ok Repeated } ∷ []
+
+-- What the headline says of them: at the end income is at zero. The closing left the bank as it was, and the last turn everything.
+pub headline : (f : Federation) → KeepsBooks f month →
+    let entered = state_after f (record { command = into (codes "north") statement; reply = Ok (Entered 1 0) } ∷ []) in
+    let closed = after_turn entered (record { command = Close (codes "north") (day (pos 31)); reply = Ok Done }) in
+    (in_north (state_after f month) (codes "income") ≡ pos 0) × (in_north closed (codes "bank") ≡ in_north entered (codes "bank")) × (state_after f month ≡ closed)
+headline f kept =
+    let closing = kept.closings.1.0 (codes "north") (day (pos 31)) refl refl in
+    (closing.stays (codes "income") euros refl, closing.untouched (codes "bank") euros (day (pos 31)) refl refl, kept.refusals.1.1.0 tt)

@@ -1,14 +1,13 @@
 -- Mirrors code: what is read from rows, and what an error says of them.
-use Rattle.std.specs.Prelude.{◌≡◌, ◌<◌, ◌^◌, ◌⊎◌, ℕ, true, List, FitsSigned, Option, Result, MatchResult, IfSome}
-use Rattle.std.specs.Int.{w32}
-use Rattle.std.specs.List.{list_any, enumerate_from, flat_map, AllByRecursion}
-use Rattle.money_core.specs.declared.day.Day.{Day}
+use Rattle.std.specs.Prelude.{◌≡◌, ◌<◌, ◌^◌, ◌⊎◌, ℕ, true, List, Option, Result, MatchResult, IfSome}
+use Rattle.std.specs.List.{list_any, enumerate_from, flat_map}
 use Rattle.money_core.specs.declared.cause.Cause.{Cause}
 use Rattle.money_core.specs.declared.cause.Cause.TheVariants.{OutOfMemory, Damaged}
 use Rattle.treasury_core.specs.declared.record.Record.{Record}
 use Rattle.treasury_core.specs.declared.transfer.Receipt.{Receipt}
 use Rattle.treasury_core.specs.declared.transfer.Transfer.{Transfer}
-use Rattle.treasury_core.specs.Federation.{Branch, Federation, has_name}
+use Rattle.treasury_core.specs.Federation.{Branch, has_name}
+use Rattle.treasury_core.specs.Rows.{IsShort}
 
 -- want of memory; or damage, and nothing has the property
 abbrev pub IsFault : {X : Type 0} → (X → Type 0) → Cause → Type 0
@@ -21,18 +20,6 @@ IsReading {X = X} P r = MatchResult r (λ y. (x : X) → P x → x ≡ y) (IsFau
 -- the same, and it is damaged only where none has it that can be kept
 abbrev pub IsKeptReading : {X : Type 0} → (X → Type 0) → (X → Type 0) → Result X Cause → Type 0
 IsKeptReading {X = X} K P r = MatchResult r (λ y. (x : X) → P x → x ≡ y) (IsFault (λ x. K x × P x))
-
--- a day that can be kept: in 32 bits
-abbrev pub IsShort : Day → Type 0
-IsShort d = FitsSigned w32 d.0
-
--- the lock day of a branch can be kept
-abbrev pub HasShortLock : Branch → Type 0
-HasShortLock b = IfSome b.locked IsShort
-
--- and that of each
-abbrev pub HasShortLocks : Federation → Type 0
-HasShortLocks f = AllByRecursion HasShortLock f.branches
 
 -- the day of a receipt can be kept
 abbrev pub HasShortReceipt : Option Receipt → Type 0

@@ -1,5 +1,5 @@
 -- The state of a federation, as plain records (own rules; docs/RULES.md, "Branches", "Commodities", "Books").
-use Rattle.std.specs.Prelude.{ℕ, ◌==◌, nat_le, Bool, ◌&&◌, ◌||◌, if◌then◌else◌, List, [], ◌∷◌, map, length, slice_index, Option, None}
+use Rattle.std.specs.Prelude.{ℕ, suc, ◌==◌, nat_le, Bool, ◌&&◌, ◌||◌, if◌then◌else◌, List, [], ◌∷◌, map, length, slice_index, Option, None}
 use Rattle.std.specs.Char.{is_ascii_lowercase, is_ascii_digit}
 use Rattle.std.specs.List.{list_all, list_any}
 use Rattle.std.specs.Str.{bytes_eq}
@@ -44,6 +44,11 @@ has_name name b = bytes_eq b.name name
 -- there is a branch of that name
 abbrev pub has_branch : Federation → List ℕ → Bool
 has_branch f name = list_any (has_name name) f.branches
+
+-- where the branch of that name stands, from 0; how many there are where none has it
+abbrev pub name_place : List Branch → List ℕ → ℕ
+name_place [] name = 0
+name_place (b ∷ bs) name = if bytes_eq b.name name then 0 else suc (name_place bs name)
 
 -- the records of the branch of that name; none where there is none
 abbrev pub records_in : List Branch → List ℕ → List Record

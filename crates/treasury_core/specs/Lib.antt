@@ -11,6 +11,7 @@ pub mod Rows
 pub mod Sound
 pub mod Closed
 pub mod History
+pub mod Headline
 -- What mirrors code, for private clauses: nobody has to believe it
 pub mod Kept
 pub mod Counted

@@ -1,8 +1,7 @@
 -- Mirrors code: what a state must have while additions come to it, one after another.
-use Rattle.std.specs.Prelude.{ℕ, suc, Bool, if◌then◌else◌, List, [], ◌∷◌}
+use Rattle.std.specs.Prelude.{ℕ, Bool, List}
 use Rattle.std.specs.List.{AllByRecursion}
 use Rattle.std.specs.Ordering.{is_lt}
-use Rattle.std.specs.Str.{bytes_eq}
 use Rattle.money_core.specs.Style.{AreStyles}
 use Rattle.book_core.specs.Account.{name_cmp}
 use Rattle.book_core.specs.GoodBook.{IsFit, IsWithin}
@@ -13,11 +12,6 @@ use Rattle.treasury_core.specs.Good.{AreAscending}
 -- the transfer's ID is before that one
 abbrev pub is_before : List ℕ → Transfer → Bool
 is_before id t = is_lt (name_cmp t.id id)
-
--- where the branch of that name stands, from 0; how many there are where none has it
-abbrev pub name_place : List Branch → List ℕ → ℕ
-name_place [] name = 0
-name_place (b ∷ bs) name = if bytes_eq b.name name then 0 else suc (name_place bs name)
 
 -- a branch whose ledger takes its records: their entries are fit, and within the limits
 pub record HasRoom (b : Branch) : Type 0 where

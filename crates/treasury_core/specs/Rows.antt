@@ -1,7 +1,9 @@
 -- The rows of a state (docs/FORMATS.md, "Tables").
-use Rattle.std.specs.Prelude.{ℕ, ℤ, pos, Bool, true, false, List, [], ◌∷◌, map}
-use Rattle.std.specs.List.{enumerate_from, flat_map}
+use Rattle.std.specs.Prelude.{ℕ, ℤ, pos, Bool, true, false, List, [], ◌∷◌, map, FitsSigned, IfSome}
+use Rattle.std.specs.Int.{w32}
+use Rattle.std.specs.List.{enumerate_from, flat_map, AllByRecursion}
 use Rattle.std.specs.Option.{option_map}
+use Rattle.money_core.specs.declared.day.Day.{Day}
 use Rattle.money_core.specs.declared.style.Style.{Style}
 use Rattle.money_core.specs.Mark.{decimal_byte}
 use Rattle.book_core.specs.declared.claim.ClaimKind.{ClaimKind}
@@ -18,8 +20,7 @@ use Rattle.treasury_core.specs.declared.rows.LegRow.{LegRow}
 use Rattle.treasury_core.specs.declared.rows.ClaimRow.{ClaimRow}
 use Rattle.treasury_core.specs.declared.rows.TransferRow.{TransferRow}
 use Rattle.treasury_core.specs.declared.rows.Parts.{Parts}
-use Rattle.treasury_core.specs.Federation.{Branch, Federation}
-use Rattle.treasury_core.specs.Room.{name_place}
+use Rattle.treasury_core.specs.Federation.{Branch, Federation, name_place}
 
 -- truth values are 0 and 1
 abbrev pub truth : Bool → ℤ
@@ -116,3 +117,15 @@ rows f = record {
   claims = claim_rows_in 0 f.branches;
   transfers = map (transfer_row f.branches) f.transfers;
 }
+
+-- a day that the state in memory can have: in 32 bits
+abbrev pub IsShort : Day → Type 0
+IsShort d = FitsSigned w32 d.0
+
+-- the lock day of a branch is one
+abbrev pub HasShortLock : Branch → Type 0
+HasShortLock b = IfSome b.locked IsShort
+
+-- and so is that of each
+abbrev pub HasShortLocks : Federation → Type 0
+HasShortLocks f = AllByRecursion HasShortLock f.branches

@@ -5,11 +5,11 @@ ghost use Rattle.std.specs.List.{AllByRecursion};
 ghost use Rattle.std.specs.Result.{IsOkUnless};
 ghost use Rattle.book_core.specs.GoodBook.{IsFit, IsWithin};
 ghost use Rattle.money_core.specs.Style.{AreStyles};
-ghost use Rattle.treasury_core.specs.Federation.{entries};
+ghost use Rattle.treasury_core.specs.Federation.{entries, name_place};
 ghost use Rattle.treasury_core.specs.Joined.{new_branch, with_records, with_lock, changed, joined_one, joined};
 ghost use Rattle.treasury_core.specs.Good.{AreAscending, IsGoodState};
 ghost use Rattle.treasury_core.specs.Kept.{branch_of, branches_of, federation_of, ArePlacesOf, IsKept};
-ghost use Rattle.treasury_core.specs.Room.{name_place, HasRoom, IsRoomy};
+ghost use Rattle.treasury_core.specs.Room.{HasRoom, IsRoomy};
 
 use crate::delta::{Addition, Delta};
 use crate::index::{push_marked, put_place};

@@ -3,8 +3,7 @@
 ghost use Rattle.std.specs.Prelude.{◌≡◌, ◌⊎◌, IfOk, IfErr};
 ghost use Rattle.treasury_core.specs.Federation.{Federation};
 ghost use Rattle.treasury_core.specs.Good.{IsGoodState};
-ghost use Rattle.treasury_core.specs.Rows.{rows};
-ghost use Rattle.treasury_core.specs.Drafted.{HasShortLocks};
+ghost use Rattle.treasury_core.specs.Rows.{rows, HasShortLocks};
 
 use crate::drafting::drafted;
 use crate::judging::is_good;

@@ -4,8 +4,7 @@ ghost use Rattle.std.specs.Prelude.{◌≡◌, ◌⊎◌, IfOk, IfErr};
 ghost use Rattle.std.specs.List.{AllByRecursion};
 ghost use Rattle.treasury_core.specs.Federation.{Branch as FederationBranch, Federation};
 ghost use Rattle.treasury_core.specs.Good.{IsGoodRecord, IsGoodState};
-ghost use Rattle.treasury_core.specs.Rows.{rows};
-ghost use Rattle.treasury_core.specs.Drafted.{HasShortLocks};
+ghost use Rattle.treasury_core.specs.Rows.{rows, HasShortLocks};
 
 use crate::draft::Draft;
 use crate::rows::Parts;

@@ -38,6 +38,7 @@ ghost use Rattle.treasury_core.specs.Sound.{EachBalances, EachAssertionHolds, Br
 ghost use Rattle.treasury_core.specs.Closing.{is_revenue_or_expense, retained_earnings, selected, held_in, closing_in, closing_record};
 ghost use Rattle.treasury_core.specs.Closed.{IsClosing, closed_book};
 ghost use Rattle.treasury_core.specs.History.{Turn, Replies, IsRun, state_after, history, records_among, IsRefusedOrRepeated, IsNew, IsOwn, IsOwnJournal, AreAmong, txns_in, HasGrown, AddsUp};
+ghost use Rattle.treasury_core.specs.Headline.{KeepsBooks};
 ghost use Rattle.treasury_core.specs.Rows.{rows};
 
 /// A law of steps and runs: the empty state is good, and each leaves a good state good. Costs nothing.
@@ -160,6 +161,14 @@ pub fn lock_law()
 pub fn transit_law()
     ensures adds_up { (f : Federation) (from to : List ℕ) → IsGoodState f → has_branch f from ≡ true → has_branch f to ≡ true → bytes_eq from to ≡ false → AddsUp f from to }
     ensures low { (f : Federation) (from to : List ℕ) (unit : Commodity) (day : Day) → IsGoodState f → pos 0 ≤ℤ open_amount f.transfers from to unit day }
+{}
+
+/// The headline, a law of runs: from a good state on, every list of commands keeps the books. The state has what the
+/// accepted ones added and nothing else; every commodity sums to zero; each balance has moved by exactly the accepted
+/// records; transit accounts add up; stored assertions hold; closings moved only the accounts that they name; and what
+/// was refused or repeated changed nothing. Costs nothing.
+pub fn headline_law()
+    ensures { (f : Federation) (turns : List Turn) → IsGoodState f → IsRun f turns → KeepsBooks f turns }
 {}
 
 /// A law of rows: two good states with the same rows are equal. Costs nothing.

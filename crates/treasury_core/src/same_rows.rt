@@ -8,9 +8,8 @@ ghost use Rattle.money_core.specs.declared.day.Day.{Day as DayNumber};
 ghost use Rattle.money_core.specs.declared.style.Style.{Style as UnitStyle};
 ghost use Rattle.treasury_core.specs.declared.record.Record.{Record as BranchRecord};
 ghost use Rattle.treasury_core.specs.declared.transfer.Receipt.{Receipt as TransferReceipt};
-ghost use Rattle.treasury_core.specs.Federation.{Branch as FederationBranch};
+ghost use Rattle.treasury_core.specs.Federation.{Branch as FederationBranch, name_place};
 ghost use Rattle.treasury_core.specs.Good.{IsGoodRecord};
-ghost use Rattle.treasury_core.specs.Room.{name_place};
 ghost use Rattle.treasury_core.specs.Rows.{truth, kind_number, unit_row, unit_rows, branch_row, branch_rows_from, entry_row, leg_row, claim_row, leg_rows, claim_rows, transfer_row, rows};
 ghost use Rattle.treasury_core.specs.Drafted.{record_rows_from, record_rows_in};
 

@@ -20,11 +20,11 @@ use Rattle.treasury_core.specs.declared.rows.EntryRow.{EntryRow}
 use Rattle.treasury_core.specs.declared.rows.LegRow.{LegRow}
 use Rattle.treasury_core.specs.declared.rows.ClaimRow.{ClaimRow}
 use Rattle.treasury_core.specs.declared.rows.TransferRow.{TransferRow}
-use Rattle.treasury_core.specs.Federation.{Branch, Federation, has_name}
+use Rattle.treasury_core.specs.Federation.{Branch, Federation, has_name, name_place}
 use Rattle.treasury_core.specs.Good.{IsGoodRecord, IsGoodBranch, IsGoodTransfer, IsGoodState}
 use Rattle.treasury_core.specs.History.{names_of, Grows}
 use Rattle.treasury_core.specs.Joined.{new_branch, with_records, with_lock, changed, inserted, with_receipt, received, with_entered, joined_one, joined}
-use Rattle.treasury_core.specs.Room.{name_place, IsRoomy}
+use Rattle.treasury_core.specs.Room.{IsRoomy}
 use Rattle.treasury_core.specs.Rows.{unit_row, branch_row, entry_row, entry_rows_from, leg_rows, claim_rows, transfer_row, rows}
 use Rattle.treasury_core.specs.Transfer.{has_id}
 use Rattle.treasury_core.proofs.AskedLemmas.{HaveOwnIds}

@@ -12,8 +12,7 @@ use Rattle.money_core.specs.declared.cause.Cause.TheVariants.{OutOfMemory, Damag
 use Rattle.treasury_core.specs.declared.rows.Parts.{Parts}
 use Rattle.treasury_core.specs.Federation.{Federation}
 use Rattle.treasury_core.specs.Good.{IsGoodState}
-use Rattle.treasury_core.specs.Drafted.{HasShortLocks}
-use Rattle.treasury_core.specs.Rows.{rows}
+use Rattle.treasury_core.specs.Rows.{rows, HasShortLocks}
 use Rattle.treasury_core.proofs.RowsLawLemmas.{same_state}
 use Rattle.treasury_store.specs.declared.store.Store.{Store}
 use Rattle.treasury_store.specs.Rows.{Tables, Holds}

@@ -20,7 +20,7 @@ use Rattle.treasury_core.specs.Joined.{changed, new_branch, with_records, with_l
 use Rattle.treasury_core.specs.Step.{reply, after, done, step, new_records, transfer_of, transfer_at, receipt_records, closing_records}
 use Rattle.treasury_core.specs.Closing.{closing_in}
 use Rattle.treasury_core.specs.Transfer.{dispatch_record}
-use Rattle.treasury_core.specs.Drafted.{HasShortLock, HasShortLocks}
+use Rattle.treasury_core.specs.Rows.{HasShortLock, HasShortLocks}
 use Rattle.treasury_core.proofs.ChangeLemmas.{all-append}
 use Rattle.treasury_store.specs.Store.{IsOf, AnswersState}
 use Rattle.treasury_store.specs.Treasury.{Treasury, IsTreasuryOf, Performs}

@@ -9,11 +9,11 @@ use Rattle.book_core.specs.declared.claim.Placed.{Placed}
 use Rattle.treasury_core.specs.declared.record.Record.{Record}
 use Rattle.treasury_core.specs.declared.delta.Addition.{Addition}
 use Rattle.treasury_core.specs.declared.delta.Addition.TheVariants as add
-use Rattle.treasury_core.specs.Federation.{Branch, Federation, entries}
+use Rattle.treasury_core.specs.Federation.{Branch, Federation, entries, name_place}
 use Rattle.treasury_core.specs.Good.{IsGoodRecord, IsGoodBranch, IsGoodState}
 use Rattle.treasury_core.specs.History.{names_of}
 use Rattle.treasury_core.specs.Joined.{new_branch, with_records, with_lock, changed, joined_one, joined}
-use Rattle.treasury_core.specs.Room.{name_place, HasRoom, IsRoomy}
+use Rattle.treasury_core.specs.Room.{HasRoom, IsRoomy}
 use Rattle.treasury_core.proofs.BackLemmas.{room_fit, room_within, room_back, good_room}
 use Rattle.treasury_core.proofs.ChangeLemmas.{all_weaker}
 use Rattle.treasury_store.specs.Numbers.{Numbering, records_each, numbers_of}

@@ -7,9 +7,8 @@ use Rattle.journal_format.specs.Printable.{IsPrintable}
 use Rattle.treasury_core.specs.declared.record.Record.{Record}
 use Rattle.treasury_core.specs.declared.delta.Addition.{Addition}
 use Rattle.treasury_core.specs.declared.delta.Addition.TheVariants as add
-use Rattle.treasury_core.specs.Federation.{Branch}
+use Rattle.treasury_core.specs.Federation.{Branch, name_place}
 use Rattle.treasury_core.specs.Joined.{new_branch}
-use Rattle.treasury_core.specs.Room.{name_place}
 use Rattle.treasury_core.specs.Rows.{unit_row, branch_row, entry_row, leg_rows, claim_rows, transfer_row}
 use Rattle.treasury_store.specs.declared.change.Change.{Change}
 use Rattle.treasury_store.specs.declared.change.Change.TheVariants as change

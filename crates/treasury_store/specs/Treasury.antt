@@ -7,7 +7,7 @@ use Rattle.sqlite.specs.Store.{Ghosts}
 use Rattle.treasury_core.specs.declared.command.Answer.{Answer}
 use Rattle.treasury_core.specs.declared.command.Command.{Command}
 use Rattle.treasury_core.specs.Federation.{Federation}
-use Rattle.treasury_core.specs.Drafted.{HasShortLocks}
+use Rattle.treasury_core.specs.Rows.{HasShortLocks}
 use Rattle.treasury_core.specs.Step.{reply, after, delta}
 use Rattle.treasury_core.specs.History.{Replies}
 use Rattle.treasury_store.specs.declared.store.Store.{Store}

@@ -7,8 +7,8 @@ ghost use Rattle.money_core.specs.declared.day.Day.{Day as DayNumber};
 ghost use Rattle.treasury_core.specs.declared.rows.EntryRow.{EntryRow as Row};
 ghost use Rattle.treasury_core.specs.Federation.{Branch as FederationBranch};
 ghost use Rattle.treasury_core.specs.Good.{IsGoodRecord};
-ghost use Rattle.treasury_core.specs.Rows.{branch_row, branch_rows_from, entry_rows_from, entry_rows_in};
-ghost use Rattle.treasury_core.specs.Drafted.{IsKeptReading, IsShort, HasShortLock};
+ghost use Rattle.treasury_core.specs.Rows.{branch_row, branch_rows_from, entry_rows_from, entry_rows_in, IsShort, HasShortLock};
+ghost use Rattle.treasury_core.specs.Drafted.{IsKeptReading};
 
 use super::entry_rows::read_records;
 use super::number::{is_number, read_day, rows_before, rows_from};

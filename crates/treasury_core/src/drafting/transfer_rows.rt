@@ -5,8 +5,7 @@ ghost use Rattle.std.specs.List.{list_any, AllByRecursion};
 ghost use Rattle.std.specs.Option.{option_map};
 ghost use Rattle.treasury_core.specs.declared.transfer.Receipt.{Receipt as TransferReceipt};
 ghost use Rattle.treasury_core.specs.declared.transfer.Transfer.{Transfer as FederationTransfer};
-ghost use Rattle.treasury_core.specs.Federation.{has_name};
-ghost use Rattle.treasury_core.specs.Room.{name_place};
+ghost use Rattle.treasury_core.specs.Federation.{has_name, name_place};
 ghost use Rattle.treasury_core.specs.Rows.{transfer_row};
 ghost use Rattle.treasury_core.specs.Drafted.{IsReading, HasShortReceipt, IsNamed};
 

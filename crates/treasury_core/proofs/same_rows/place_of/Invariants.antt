@@ -1,5 +1,5 @@
 use Rattle.std.proofs.Common.{◌≡◌, ◌+◌, drop}
-use Rattle.treasury_core.specs.Room.{name_place}
+use Rattle.treasury_core.specs.Federation.{name_place}
 use Rattle.treasury_core.proofs.same_rows.place_of.Given as goal
 
 -- the name is not among the branches so far

@@ -4,8 +4,7 @@ use Rattle.treasury_core.specs.declared.record.Record.{Record}
 use Rattle.treasury_core.specs.declared.rows.BranchRow.{BranchRow}
 use Rattle.treasury_core.specs.Federation.{Branch}
 use Rattle.treasury_core.specs.Good.{IsGoodRecord}
-use Rattle.treasury_core.specs.Rows.{entry_rows_from}
-use Rattle.treasury_core.specs.Drafted.{HasShortLock}
+use Rattle.treasury_core.specs.Rows.{entry_rows_from, HasShortLock}
 use Rattle.treasury_core.proofs.DraftLemmas.{exit, fault_of}
 use Rattle.treasury_core.proofs.BranchRowLemmas.{HasRow, branch_only}
 use Rattle.treasury_core.proofs.drafting.branch_rows.read_branch.Goals as goal

@@ -4,7 +4,8 @@ use Rattle.std.specs.List.{AllByRecursion}
 use Rattle.treasury_core.specs.declared.rows.EntryRow.{EntryRow}
 use Rattle.treasury_core.specs.Federation.{Branch}
 use Rattle.treasury_core.specs.Good.{IsGoodRecord}
-use Rattle.treasury_core.specs.Drafted.{IsFault, HasShortLock}
+use Rattle.treasury_core.specs.Drafted.{IsFault}
+use Rattle.treasury_core.specs.Rows.{HasShortLock}
 use Rattle.treasury_core.proofs.ChangeLemmas.{all-append}
 use Rattle.treasury_core.proofs.DraftLemmas.{exit, pushed_length}
 use Rattle.treasury_core.proofs.BranchRowLemmas.{AreGood, HasRow, IsBranchFront, branch_start, branch_next, branch_fault, branch_end, rest_damaged}
