@@ -1,8 +1,9 @@
 // Stands between the built program and the C library, and makes one call fail: of CALL (memory, read or write) the one
-// whose number is NUMBER. Where the program ends before that call, a line on standard error says so.
+// whose number is NUMBER. Where the program ends before that call, a line on standard error says so, and how often it was made.
 #define _GNU_SOURCE
 #include <dlfcn.h>
 #include <errno.h>
+#include <stdio.h>
 #include <stdlib.h>
 #include <string.h>
 #include <unistd.h>
@@ -51,5 +52,7 @@ ssize_t write(int file, const void *bytes, size_t count) {
 
 __attribute__((destructor)) static void report(void) {
     ssize_t (*next)(int, const void *, size_t) = dlsym(RTLD_NEXT, "write");
-    if (getenv("NUMBER") != 0 && !failed) next(2, "no failure\n", 11);
+    char said[64];
+    int length = snprintf(said, sizeof said, "no failure in %ld calls\n", seen);
+    if (getenv("NUMBER") != 0 && !failed) next(2, said, length);
 }
