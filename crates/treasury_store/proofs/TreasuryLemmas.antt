@@ -1,29 +1,43 @@
 -- what a command makes of a treasury
-use Rattle.std.proofs.Common.{◌≡◌, ◌⊎◌, ℕ, Bool, true, false, cond, List, [], ◌∷◌, ◌++◌, refl, ap, ◌∙◌, sym, subst, arith, inl, inr, Some, None, Ok, Err, ℤ, pos, neg_ℤ, ◌≤ℤ◌, FitsSigned, w32}
+use Rattle.std.proofs.Common.{◌≡◌, ◌⊎◌, ℕ, IsTrue, Bool, true, false, cond, List, [], ◌∷◌, ◌++◌, refl, ap, ◌∙◌, sym, subst, arith, inl, inr, Some, None, Ok, Err, ℤ, pos, neg_ℤ, ◌≤ℤ◌, FitsSigned, w32}
 use Rattle.std.proofs.lemmas.Int.{ints}
 use Rattle.std.specs.Prelude.{if◌then◌else◌, Result, Option, IfSome}
 use Rattle.std.specs.List.{AllByRecursion}
 use Rattle.std.specs.Str.{bytes_eq}
 use Rattle.money_core.specs.declared.day.Day.{Day}
+use Rattle.money_core.specs.declared.cause.Cause.{Cause}
+use Rattle.money_core.specs.declared.cause.Cause.TheVariants.{Damaged}
 use Rattle.book_core.specs.declared.refusal.Refusal.{Refusal}
+use Rattle.book_core.specs.declared.refusal.Refusal.TheVariants.{Plain}
 use Rattle.journal_lines.specs.Date.{IsDayNumber}
 use Rattle.journal_lines.proofs.DateLemmas.{day_number_bounds}
 use Rattle.sqlite.specs.Store.{Ghosts}
+use Rattle.sqlite.specs.Effect.{Database}
+use Rattle.sqlite.specs.State.{HasCleanDisk, Survives}
+use Rattle.sqlite.specs.Held.{Held, state}
+use Rattle.sqlite.proofs.StateLemmas.{survives_weaker, survives_then}
 use Rattle.treasury_core.specs.declared.record.Record.{Record}
 use Rattle.treasury_core.specs.declared.command.Answer.{Answer}
 use Rattle.treasury_core.specs.declared.command.Answer.TheVariants.{Done, Entered, Repeated}
 use Rattle.treasury_core.specs.declared.command.Command.{Command}
 use Rattle.treasury_core.specs.declared.command.Command.TheVariants as cmd
 use Rattle.treasury_core.specs.Federation.{Branch, Federation}
-use Rattle.treasury_core.specs.Good.{Fits}
-use Rattle.treasury_core.specs.Joined.{changed, new_branch, with_records, with_lock}
+use Rattle.treasury_core.specs.declared.delta.Addition.{Addition}
+use Rattle.treasury_core.specs.Good.{Fits, IsGoodState}
+use Rattle.treasury_core.specs.Joined.{changed, new_branch, with_records, with_lock, joined}
 use Rattle.treasury_core.specs.Step.{reply, after, done, step, new_records, transfer_of, transfer_at, receipt_records, closing_records}
 use Rattle.treasury_core.specs.Closing.{closing_in}
 use Rattle.treasury_core.specs.Transfer.{dispatch_record}
-use Rattle.treasury_core.specs.Rows.{HasShortLock, HasShortLocks}
+use Rattle.treasury_core.specs.Rows.{HasShortLock, HasShortLocks, rows}
+use Rattle.treasury_core.specs.History.{IsRun, state_after}
+use Rattle.treasury_core.specs.Headline.{KeepsBooks}
+use Rattle.treasury_core.proofs.HeadlineLemmas.{keeps_books}
 use Rattle.treasury_core.proofs.ChangeLemmas.{all-append}
+use Rattle.treasury_store.specs.declared.store.Store.{Store}
+use Rattle.treasury_store.specs.Rows.{Holds, AreTreesOf}
+use Rattle.treasury_store.specs.Kept.{KeepsTables}
 use Rattle.treasury_store.specs.Store.{IsOf, AnswersState}
-use Rattle.treasury_store.specs.Treasury.{Treasury, IsTreasuryOf, Performs}
+use Rattle.treasury_store.specs.Treasury.{Treasury, IsTreasuryOf, MayReply, Performs, is_failure, turn_if, SurvivesCommand}
 
 -- ---- lock days that a table takes
 
@@ -103,3 +117,75 @@ performs_held g old new s f c r is of performs =
 pub ok_unfailed : {T : Type 0} (x : T) (failed : Bool) → AnswersState (Ok x) failed → failed ≡ false
 ok_unfailed x failed (inl unfailed) = unfailed
 ok_unfailed x failed (inr damaged) = damaged.1
+
+-- ---- the headline
+
+-- a reply of the step, or 40, is a turn of a run; 41 is none
+pub turn_runs : (f : Federation) (c : Command) (r : Result Answer Refusal) → Fits f.styles c → MayReply f c r → IsRun f (turn_if c r)
+turn_runs f c r fits replies = by_test (is_failure r) refl replies
+  where
+    by_test : (t : Bool) → is_failure r ≡ t → MayReply f c r → IsRun f (if t then [] else record { command = c; reply = r } ∷ [])
+    by_test true e h = tt
+    by_test false e (inl h) = (fits, h, tt)
+    by_test false e (inr failed) = absurd (let h : false ≡ true = sym e ∙ ap is_failure failed in cc)
+
+-- and it leads to the state after the reply
+pub turn_leads : (f : Federation) (c : Command) (r : Result Answer Refusal) → state_after f (turn_if c r) ≡ after f c r
+turn_leads f c (Ok answer) = refl
+turn_leads f c (Err refusal) = either_way (is_failure (Err refusal))
+  where
+    either_way : (t : Bool) → state_after f (if t then [] else record { command = c; reply = Err refusal } ∷ []) ≡ f
+    either_way true = refl
+    either_way false = refl
+
+-- where the state cannot be loaded, the command is answered 40 or 41
+pub performs_unheld : {S T : Type 0} (g : Ghosts S) (new : Treasury S) (f : Federation) (c : Command) (cause : Cause) (failed : Bool) → AnswersState {T = T} (Err cause) failed
+    → (◌≡◌ {A = Result T Cause} (Err cause) (Err Damaged) → ⊥) → IsTreasuryOf g new f → Performs g new f c (Err (Plain cause))
+performs_unheld g new f c cause failed (inl (inl memory)) sound of = record { replies = inl (inr (ap (λ (x : Cause). Err (Plain x)) memory.0)); next = of }
+performs_unheld g new f c cause failed (inl (inr failure)) sound of = record { replies = inr (ap (λ (x : Cause). Err (Plain x)) failure.0); next = of }
+performs_unheld g new f c cause failed (inr damaged) sound of = absurd (sound damaged.0)
+
+-- what is performed keeps the books
+pub headline_of : {S : Type 0} (g : Ghosts S) (new : Treasury S) (f : Federation) (c : Command) (r : Result Answer Refusal) → IsGoodState f → Fits f.styles c → Performs g new f c r
+    → KeepsBooks f (turn_if c r) × IsTreasuryOf g new (state_after f (turn_if c r))
+headline_of g new f c r good fits performs = (
+  keeps_books f (turn_if c r) good (turn_runs f c r fits performs.replies),
+  subst (λ (s : Federation). IsTreasuryOf g new s) (sym (turn_leads f c r)) performs.next,
+)
+
+-- ---- crashes
+
+-- what a crash leaves of a store of a state while its rows become those of another
+abbrev pub SurvivesChange : {S : Type 0} → Ghosts S → Store S → Held S → Federation → Federation → Type 0
+SurvivesChange g old new f next = Survives (state g old.conn) (state g new) (λ trees. IsOf g old f → Holds (state g old.conn).now (rows f) → AreTreesOf trees (rows next))
+
+-- what is written, whichever way the store is left
+pub survives_write : {S : Type 0} (g : Ghosts S) (old : Store S) (new : Held S) (now : Federation) (xs : List Addition) → IsGoodState (joined now xs)
+    → Survives (state g old.conn) (state g new) (λ trees. (db : Database) × (trees ≡ db.trees) × ((f : Federation) → IsOf g old f → IsGoodState (joined f xs) → Holds (state g old.conn).now (rows f) → Holds db (rows (joined f xs))))
+    → SurvivesChange g old new now (joined now xs)
+survives_write g old new now xs good left = survives_weaker (state g old.conn) (state g new) _ _ (λ clean trees p of h. (p.0, p.1, p.2 now of good h)) left
+
+-- the tables of a state that was loaded
+pub rows_loaded : {S : Type 0} (g : Ghosts S) (new : Store S) (s f : Federation) → IsOf g new s → s ≡ f → HasCleanDisk (state g new.conn) → IsTrue (state g new.conn).is_open → Holds (state g new.conn).now (rows f)
+rows_loaded g new s f of same clean is_open = subst (λ (x : Federation). Holds (state g new.conn).now (rows x)) same (of.tables clean is_open).0
+
+module _ {S : Type 0} (g : Ghosts S) (old new : Treasury S) (c : Command) where
+  -- a state that is loaded at most
+  pub survives_load : KeepsTables g old.store.conn new.store.conn → SurvivesCommand g old new c
+  survives_load left = survives_weaker (state g old.store.conn) (state g new.store.conn) _ _ (λ clean trees none f of fits h. absurd (none (rows f) h)) left
+
+  -- a command that is settled on the state in memory, behind that
+  pub survives_settle : (mid : Treasury S) (s : Federation) → (HasCleanDisk (state g new.store.conn) → HasCleanDisk (state g mid.store.conn)) → KeepsTables g old.store.conn mid.store.conn
+      → (HasCleanDisk (state g mid.store.conn) → (f : Federation) → IsTreasuryOf g old f → IsTreasuryOf g mid f)
+      → (HasCleanDisk (state g mid.store.conn) → (f : Federation) → IsTreasuryOf g old f → Holds (state g old.store.conn).now (rows f) → Holds (state g mid.store.conn).now (rows f))
+      → mid.held ≡ Some s
+      → SurvivesChange g mid.store new.store.conn s (step s c).next → SurvivesCommand g old new c
+  survives_settle mid s cleaner held of_mid rows_mid is settled =
+      survives_then (state g old.store.conn) (state g mid.store.conn) (state g new.store.conn) _ _ _
+      (λ clean trees none f of fits h. absurd (none (rows f) h))
+      (λ clean trees made f of fits h.
+      let there = of_mid (cleaner clean) f of in
+      let same : s ≡ f = subst (λ (o : Option Federation). IfSome o (λ x. x ≡ f)) is there.held in
+      let moved = subst (λ (x : Federation). IsOf g mid.store x → Holds (state g mid.store.conn).now (rows x) → AreTreesOf trees (rows (step x c).next)) same made in
+      moved there.store (rows_mid (cleaner clean) f of h))
+      held settled

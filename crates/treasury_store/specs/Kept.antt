@@ -13,11 +13,15 @@ pub record Writes {S : Type 0} (g : Ghosts S) (old new : Held S) (r : Result ℕ
   pub kept : HasCleanDisk (state g new) → KeepsCommit (state g old) (state g new)
   pub survives : Survives (state g old) (state g new) (λ _. ⊥)
 
+-- a crash leaves of our tables what it could leave before
+abbrev pub KeepsTables : {S : Type 0} → Ghosts S → Held S → Held S → Type 0
+KeepsTables g old new = Survives (state g old) (state g new) (λ _. (t : Tables) → Holds (state g old).now t → ⊥)
+
 -- Queries of our tables: those that succeed are of a connection that is open, and one that is open was so; where the tables are committed, they stay
--- as they are also where a query fails; and a crash leaves what it would have left before.
+-- as they are also where a query fails; and a crash leaves what it could leave before.
 pub record Queries {S X : Type 0} (g : Ghosts S) (old new : Held S) (r : Result X Error) : Type 0 where
   pub opened : HasCleanDisk (state g new) → OnOk r (IsTrue (state g old).is_open × IsTrue (state g new).is_open)
   pub was_open : HasCleanDisk (state g new) → IsTrue (state g new).is_open → IsTrue (state g old).is_open
   pub undone : HasCleanDisk (state g new) → IsTrue (state g new).is_open
       → OnErr r ((t : Tables) → Holds (state g old).now t → (state g old).committed ≡ (state g old).now → ((state g new).now ≡ (state g old).now) × ((state g new).committed ≡ (state g old).committed))
-  pub survives : Survives (state g old) (state g new) (λ _. (t : Tables) → Holds (state g old).now t → ⊥)
+  pub survives : KeepsTables g old new

@@ -7,6 +7,7 @@ use Rattle.sqlite.specs.declared.types.Value.{Value}
 use Rattle.sqlite.specs.Order.{Row, column}
 use Rattle.sqlite.specs.Values.{or_null}
 use Rattle.sqlite.specs.Effect.{Database}
+use Rattle.sqlite.specs.Tree.{Trees}
 use Rattle.sqlite_trees.specs.View.{IsShaped}
 use Rattle.sqlite_trees.specs.declared.store.Shape.TheVariants as shape
 use Rattle.treasury_store.specs.Tables.{store_schema}
@@ -73,6 +74,10 @@ pub record Holds (db : Database) (t : Tables) : Type 0 where
   pub claims : IsPermutation (map claim_row t.claims) (map (drop 1) (db.trees 10))
   pub transfers : IsPermutation (map transfer_row t.transfers) (map (drop 1) (db.trees 12))
   pub keyed : IsShaped shape.Table (db.trees 12)
+
+-- the trees of a database that holds these rows
+abbrev pub AreTreesOf : Trees → Tables → Type 0
+AreTreesOf trees t = (db : Database) × (trees ≡ db.trees) × Holds db t
 
 -- ---- changes
 abbrev pub with_unit : UnitRow → Tables → Tables

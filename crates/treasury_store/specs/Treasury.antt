@@ -1,16 +1,20 @@
 -- What a treasury is of, and what a command makes of it.
-use Rattle.std.specs.Prelude.{◌≡◌, ◌⊎◌, ◌↔◌, Bool, [], Option, Result, Err, IfSome, IsTrue}
+use Rattle.std.specs.Prelude.{◌≡◌, ◌⊎◌, ◌↔◌, Bool, true, false, if◌then◌else◌, List, [], ◌∷◌, Option, Result, Err, IfSome, IsTrue}
 use Rattle.money_core.specs.declared.cause.Cause.TheVariants.{Store as Failed}
 use Rattle.book_core.specs.declared.refusal.Refusal.{Refusal}
 use Rattle.book_core.specs.declared.refusal.Refusal.TheVariants.{Plain}
 use Rattle.sqlite.specs.Store.{Ghosts}
+use Rattle.sqlite.specs.State.{Survives}
+use Rattle.sqlite.specs.Held.{state}
 use Rattle.treasury_core.specs.declared.command.Answer.{Answer}
 use Rattle.treasury_core.specs.declared.command.Command.{Command}
 use Rattle.treasury_core.specs.Federation.{Federation}
-use Rattle.treasury_core.specs.Rows.{HasShortLocks}
-use Rattle.treasury_core.specs.Step.{reply, after, delta}
-use Rattle.treasury_core.specs.History.{Replies}
+use Rattle.treasury_core.specs.Rows.{HasShortLocks, rows}
+use Rattle.treasury_core.specs.Step.{reply, after, delta, step}
+use Rattle.treasury_core.specs.Good.{Fits}
+use Rattle.treasury_core.specs.History.{Turn, Replies}
 use Rattle.treasury_store.specs.declared.store.Store.{Store}
+use Rattle.treasury_store.specs.Rows.{Holds, AreTreesOf}
 use Rattle.treasury_store.specs.Store.{IsOf}
 
 -- a treasury: its store, and the state in memory while it is held
@@ -32,6 +36,22 @@ MayReply f c r = Replies f c r ⊎ (r ≡ Err (Plain Failed))
 pub record Performs {S : Type 0} (g : Ghosts S) (new : Treasury S) (f : Federation) (c : Command) (r : Result Answer Refusal) : Type 0 where
   pub replies : MayReply f c r
   pub next : IsTreasuryOf g new (after f c r)
+
+-- 41: a call of the database has failed, and the tables are as before
+abbrev pub is_failure : Result Answer Refusal → Bool
+is_failure (Err (Plain Failed)) = true
+is_failure _ = false
+
+-- a command with its reply; none where it is answered 41
+abbrev pub turn_if : Command → Result Answer Refusal → List Turn
+turn_if c r = if is_failure r then [] else record { command = c; reply = r } ∷ []
+
+-- Whichever state the treasury was of, whose rows the tables were, and which the command fits: a crash leaves what it could leave before, or the rows of
+-- the state after the command.
+abbrev pub SurvivesCommand : {S : Type 0} → Ghosts S → Treasury S → Treasury S → Command → Type 0
+SurvivesCommand g old new c =
+    Survives (state g old.store.conn) (state g new.store.conn)
+    (λ trees. (f : Federation) → IsTreasuryOf g old f → Fits f.styles c → Holds (state g old.store.conn).now (rows f) → AreTreesOf trees (rows (step f c).next))
 
 -- a command that adds nothing: it is refused, or everything that it asks for is there
 abbrev pub AddsNothing : Federation → Command → Type 0

@@ -9,6 +9,7 @@ ghost use Rattle.treasury_core.specs.Good.{IsGoodState};
 ghost use Rattle.treasury_core.specs.Joined.{joined};
 ghost use Rattle.treasury_core.specs.Rows.{rows, HasShortLocks};
 ghost use Rattle.treasury_store.specs.Rows.{Tables, Holds};
+ghost use Rattle.treasury_store.specs.Kept.{KeepsTables};
 ghost use Rattle.treasury_store.specs.Tables.{no_schema};
 ghost use Rattle.treasury_store.specs.Creating.{has_one, has_all, has_counter, Beside};
 ghost use Rattle.treasury_store.specs.Opening.{MadeHere, IsTreasury};
@@ -159,7 +160,7 @@ impl<S: Alter> Store<S> {
         ensures unknown { OnErr result (self.new.numbers ≡ self.old.numbers) }
         ensures answers { self.old.failed ≡ false → AnswersState result self.new.failed }
         ensures closed { IsTrue self.old.failed → (result ≡ Err Cause.Closed) × (self.new ≡ self.old) }
-        ensures crash { Survives (state S.Store self.old.conn) (state S.Store self.new.conn) (λ _. (t : Tables) → Holds (state S.Store self.old.conn).now t → ⊥) }
+        ensures crash { KeepsTables S.Store self.old.conn self.new.conn }
     {
         if self.failed {
             return Err(Cause::Closed);

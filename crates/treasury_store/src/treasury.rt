@@ -1,6 +1,6 @@
 //! A treasury: a store, with its state in memory.
 
-ghost use Rattle.std.specs.Prelude.{◌≡◌, ◌⊎◌, [], false, Some, None, Err, Ok, OnOk, OnErr, IfOk, IfErr, IfSome, IsSome, IsOk, IsTrue, MatchOption};
+ghost use Rattle.std.specs.Prelude.{◌≡◌, ◌⊎◌, [], false, Some, None, Err, Ok, OnOk, OnErr, IfOk, IfErr, IfSome, IsSome, IsOk, IsTrue, MatchOption, MatchResult};
 ghost use Rattle.sqlite.specs.State.{HasCleanDisk, Survives};
 ghost use Rattle.sqlite.specs.Held.{state};
 ghost use Rattle.sqlite.specs.Effect.{Database};
@@ -9,10 +9,12 @@ ghost use Rattle.treasury_core.specs.Good.{IsGoodState, Fits};
 ghost use Rattle.treasury_core.specs.Joined.{joined};
 ghost use Rattle.treasury_core.specs.Rows.{rows, HasShortLocks};
 ghost use Rattle.treasury_core.specs.Step.{step};
-ghost use Rattle.treasury_core.specs.History.{Replies};
-ghost use Rattle.treasury_store.specs.Rows.{Holds};
+ghost use Rattle.treasury_core.specs.History.{Replies, state_after};
+ghost use Rattle.treasury_core.specs.Headline.{KeepsBooks};
+ghost use Rattle.treasury_store.specs.Rows.{Holds, AreTreesOf};
+ghost use Rattle.treasury_store.specs.Kept.{KeepsTables};
 ghost use Rattle.treasury_store.specs.Store.{TablesAre, Knows, IsOf, Answers, AnswersState};
-ghost use Rattle.treasury_store.specs.Treasury.{IsTreasuryOf, MayReply, Performs, AddsNothing, FailsBy};
+ghost use Rattle.treasury_store.specs.Treasury.{IsTreasuryOf, MayReply, Performs, turn_if, SurvivesCommand, AddsNothing, FailsBy};
 
 use crate::store::Store;
 use book_core::{DayLedger, Refusal};
@@ -66,6 +68,7 @@ impl<S: Alter> Treasury<S> {
         ensures damaged { IfErr result (λ r. r.cause ≡ Cause.Damaged → HasCleanDisk (state S.Store r.store.conn) → (f : Federation) → IsGoodState f → HasShortLocks f → TablesAre S.Store store.conn (rows f) → ⊥) }
         ensures back { IfErr result (λ r. (f : Federation) → IsOf S.Store store f → IsOf S.Store r.store f) }
         ensures closed { IsTrue store.failed → result ≡ Err (record { store = store; cause = Cause.Closed }) }
+        ensures crash { MatchResult result (λ t. KeepsTables S.Store store.conn t.store.conn) (λ r. KeepsTables S.Store store.conn r.store.conn) }
     {
         match store.load() {
             Ok(now) => Ok(Treasury {
@@ -107,6 +110,8 @@ impl<S: Alter> Treasury<S> {
         ensures answers { self.old.store.failed ≡ false → AnswersState result self.new.store.failed }
         ensures closed { IsTrue self.old.store.failed → (result ≡ Err Cause.Closed) × (self.new ≡ self.old) }
         ensures clean { HasCleanDisk (state S.Store self.new.store.conn) → HasCleanDisk (state S.Store self.old.store.conn) }
+        ensures rows { OnOk result (HasCleanDisk (state S.Store self.new.store.conn) → (f : Federation) → IsTreasuryOf S.Store self.old f → Holds (state S.Store self.old.store.conn).now (rows f) → Holds (state S.Store self.new.store.conn).now (rows f)) }
+        ensures crash { KeepsTables S.Store self.old.store.conn self.new.store.conn }
     {
         if self.store.is_closed() {
             return Err(Cause::Closed);
@@ -134,6 +139,7 @@ impl<S: Alter> Treasury<S> {
         ensures nothing { delta ≡ [] → IsOk result × (self.new ≡ record { store = self.old.store; held = Some now }) }
         ensures answers { self.old.store.failed ≡ false → Answers result self.new.store.failed }
         ensures clean { HasCleanDisk (state S.Store self.new.store.conn) → HasCleanDisk (state S.Store self.old.store.conn) }
+        ensures crash { Survives (state S.Store self.old.store.conn) (state S.Store self.new.store.conn) (λ trees. IsOf S.Store self.old.store now → Holds (state S.Store self.old.store.conn).now (rows now) → AreTreesOf trees (rows (joined now delta))) }
     {
         if delta.additions().is_empty() {
             self.held = Some(now);
@@ -160,6 +166,7 @@ impl<S: Alter> Treasury<S> {
         ensures replies { self.old.store.failed ≡ false → MayReply now command.now result }
         ensures nothing { AddsNothing now command.now → Replies now command.now result × (self.new ≡ record { store = self.old.store; held = Some now }) }
         ensures clean { HasCleanDisk (state S.Store self.new.store.conn) → HasCleanDisk (state S.Store self.old.store.conn) }
+        ensures crash { Survives (state S.Store self.old.store.conn) (state S.Store self.new.store.conn) (λ trees. IsOf S.Store self.old.store now → Holds (state S.Store self.old.store.conn).now (rows now) → AreTreesOf trees (rows (step now command.now).next)) }
     {
         match decide(self.alloc, &now, command) {
             Ok((answer, delta)) => match self.write(now, delta) {
@@ -183,6 +190,9 @@ impl<S: Alter> Treasury<S> {
         requires { IfSome self.old.held (λ s. Fits s.styles command) }
         // Of whichever state the treasury is: a turn of a run.
         ensures performs { HasCleanDisk (state S.Store self.new.store.conn) → self.old.store.failed ≡ false → (f : Federation) → IsTreasuryOf S.Store self.old f → Fits f.styles command → Performs S.Store self.new f command result }
+        // The headline, of this one command; one that is answered 41 is none.
+        ensures headline { HasCleanDisk (state S.Store self.new.store.conn) → self.old.store.failed ≡ false → (f : Federation) → IsTreasuryOf S.Store self.old f → Fits f.styles command
+            → KeepsBooks f (turn_if command result) × IsTreasuryOf S.Store self.new (state_after f (turn_if command result)) }
         // A command that adds nothing to the state in memory is answered as the step says, or 40, and nothing changes.
         ensures nothing { self.old.store.failed ≡ false → IfSome self.old.held (λ s. AddsNothing s command → Replies s command result × (self.new ≡ self.old)) }
         ensures fails { self.old.store.failed ≡ false → FailsBy result self.new.store.failed }
@@ -190,6 +200,7 @@ impl<S: Alter> Treasury<S> {
         // Whatever the disk returned, a command is answered by the state in memory.
         ensures replies { self.old.store.failed ≡ false → IfSome self.old.held (λ s. MayReply s command result) }
         ensures clean { HasCleanDisk (state S.Store self.new.store.conn) → HasCleanDisk (state S.Store self.old.store.conn) }
+        ensures crash { SurvivesCommand S.Store self.old self.new command }
     {
         let was_held = self.held.is_some();
         match self.hold() {

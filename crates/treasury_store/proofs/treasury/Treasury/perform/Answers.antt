@@ -1,12 +1,18 @@
-use Rattle.std.proofs.Common.{◌≡◌, false, List, Some, IsSome, rules, ap, ◌∙◌, sym, subst}
+use Rattle.std.proofs.Common.{◌≡◌, false, List, Some, Err, IsSome, rules, ap, ◌∙◌, sym, subst}
 use Rattle.sqlite.specs.State.{HasCleanDisk}
 use Rattle.sqlite.specs.Held.{state}
 use Rattle.money_core.specs.declared.style.Style.{Style}
+use Rattle.book_core.specs.declared.refusal.Refusal.TheVariants.{Plain}
+use Rattle.treasury_core.specs.Federation.{Federation}
 use Rattle.treasury_core.specs.Good.{Fits}
+use Rattle.treasury_core.specs.Rows.{rows}
+use Rattle.treasury_core.specs.Step.{step}
 use Rattle.treasury_store.specs.declared.store.Store.{Store}
+use Rattle.treasury_store.specs.Rows.{Holds}
+use Rattle.treasury_store.specs.Kept.{KeepsTables}
 use Rattle.treasury_store.specs.Store.{IsOf}
 use Rattle.treasury_store.specs.Treasury.{Treasury, IsTreasuryOf}
-use Rattle.treasury_store.proofs.TreasuryLemmas.{fits_held, performs_held, ok_unfailed}
+use Rattle.treasury_store.proofs.TreasuryLemmas.{fits_held, performs_held, ok_unfailed, performs_unheld, headline_of, SurvivesChange, survives_load, survives_settle}
 use Rattle.treasury_store.proofs.treasury.Treasury.perform.Goals.{else-not-was_held-via-then-not-was_held+else-not-fits, else-not-was_held-via-else-not-was_held}
 use Rattle.treasury_store.proofs.treasury.Treasury.perform.Goals as goal
 
@@ -33,3 +39,30 @@ returns-clause-performs g c clean unfailed f was fits =
     let still = subst (λ (t : Treasury _). t.store.failed ≡ false) back (ok_unfailed c.in-Ok.field-0 _ (c.in-Ok.ensures.answers unfailed)) in
     performs_held g.S.Store (record { store = c.self-2.inside.store; held = c.self-2.inside.held }) c.settle.new.self c.in-Some.now f c.args.command c.settle.result (search rules) of
     (λ store short. c.settle.ensures.performs (subst (λ (s : Store _). IsOf g.S.Store s c.in-Some.now) (sym here) store) short (ap (λ (s : Store _). s.failed) here ∙ still))
+
+pub returns-clause-headline : goal.returns-clause-headline
+returns-clause-headline g c clean unfailed f was fits =
+    headline_of g.S.Store c.settle.new.self f c.args.command c.settle.result was.store.good fits (returns-clause-performs g c clean unfailed f was fits)
+
+pub returns-in-Err-clause-headline : goal.returns-in-Err-clause-headline
+returns-in-Err-clause-headline g c clean unfailed f was fits =
+    headline_of g.S.Store c.hold.new.self f c.args.command (Err (Plain c.in-Err.cause)) was.store.good fits
+    (performs_unheld g.S.Store c.hold.new.self f c.args.command c.in-Err.cause _ (c.in-Err.ensures.answers unfailed) (λ damaged. c.in-Err.ensures.damaged damaged clean f was) (c.in-Err.ensures.of clean f was))
+
+pub returns-in-Err-clause-crash : goal.returns-in-Err-clause-crash
+returns-in-Err-clause-crash g c = survives_load g.S.Store c.args.self.now c.hold.new.self c.args.command c.hold.ensures.crash
+
+pub returns-clause-crash : goal.returns-clause-crash
+returns-clause-crash g c =
+    let here : c.else-not-was_held.self.store ≡ c.self-2.inside.store = elim c.else-not-was_held.branch [
+      | else-not-was_held-via-then-not-was_held+else-not-fits w ↦ ap (λ (t : Treasury _). t.store) w.self-is
+      | else-not-was_held-via-else-not-was_held w ↦ ap (λ (t : Treasury _). t.store) w.self-is
+    ] in
+    let back = sym c.self-2.view_is in
+    survives_settle g.S.Store c.args.self.now c.settle.new.self c.args.command (record { store = c.self-2.inside.store; held = c.self-2.inside.held }) c.in-Some.now
+    (λ clean. subst (λ (s : Store _). HasCleanDisk (state g.S.Store s.conn)) here (c.settle.ensures.clean clean))
+    (subst (λ (t : Treasury _). KeepsTables g.S.Store c.args.self.now.store.conn t.store.conn) back c.hold.ensures.crash)
+    (subst (λ (t : Treasury _). HasCleanDisk (state g.S.Store t.store.conn) → (f : Federation) → IsTreasuryOf g.S.Store c.args.self.now f → IsTreasuryOf g.S.Store t f) back c.in-Ok.ensures.of)
+    (subst (λ (t : Treasury _). HasCleanDisk (state g.S.Store t.store.conn) → (f : Federation) → IsTreasuryOf g.S.Store c.args.self.now f → Holds (state g.S.Store c.args.self.now.store.conn).now (rows f) → Holds (state g.S.Store t.store.conn).now (rows f)) back c.in-Ok.ensures.rows)
+    (search rules)
+    (subst (λ (s : Store _). SurvivesChange g.S.Store s c.settle.new.self.store.conn c.in-Some.now (step c.in-Some.now c.args.command).next) here c.settle.ensures.crash)

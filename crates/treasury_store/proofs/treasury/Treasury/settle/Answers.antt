@@ -1,6 +1,7 @@
-use Rattle.std.proofs.Common.{rules}
+use Rattle.std.proofs.Common.{rules, subst}
+use Rattle.treasury_core.specs.Federation.{Federation}
 use Rattle.treasury_store.proofs.OwnRefusalLemmas.{refused_unfailed}
-use Rattle.treasury_store.proofs.TreasuryLemmas.{performs_decided}
+use Rattle.treasury_store.proofs.TreasuryLemmas.{performs_decided, SurvivesChange}
 use Rattle.treasury_store.proofs.treasury.Treasury.settle.Goals as goal
 
 pub returns-in-Ok-write-clause-performs : goal.returns-in-Ok-write-clause-performs
@@ -9,3 +10,11 @@ returns-in-Ok-write-clause-performs g c of short unfailed =
 
 pub returns-in-Err-clause-fails : goal.returns-in-Err-clause-fails
 returns-in-Err-clause-fails g c unfailed = refused_unfailed c.args.now c.args.command.now c.in-Err.refusal _ (search rules) c.in-Err.ensures.decides
+
+pub returns-in-Ok-write-clause-crash : goal.returns-in-Ok-write-clause-crash
+returns-in-Ok-write-clause-crash g c =
+    subst (λ (s : Federation). SurvivesChange g.S.Store c.args.self.now.store c.write.new.self.store.conn c.args.now s) c.in-Ok.ensures.joined c.write.ensures.crash
+
+pub returns-in-Err-write-clause-crash : goal.returns-in-Err-write-clause-crash
+returns-in-Err-write-clause-crash g c =
+    subst (λ (s : Federation). SurvivesChange g.S.Store c.args.self.now.store c.write.new.self.store.conn c.args.now s) c.in-Ok.ensures.joined c.write.ensures.crash
