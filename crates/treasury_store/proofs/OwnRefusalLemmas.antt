@@ -1,6 +1,6 @@
 -- no step is refused with 41
-use Rattle.std.proofs.Common.{◌≡◌, ◌⊎◌, ◌∙◌, inl, inr, ℕ, Bool, true, false, not, cond, List, [], ◌∷◌, ◌++◌, refl, Some, None, Ok, Err, nat_le, nat_lt, length, slice_get, subst}
-use Rattle.std.specs.Prelude.{if◌then◌else◌, Result, Option, IfSome, IfErr, is_some, int_le, int_lt, pos, ⊤}
+use Rattle.std.proofs.Common.{◌≡◌, ◌⊎◌, ◌∙◌, inl, inr, ℕ, Bool, true, false, not, List, [], ◌∷◌, ◌++◌, refl, Some, None, Ok, Err, nat_le, nat_lt, length, slice_get, subst}
+use Rattle.std.specs.Prelude.{if◌then◌else◌, Result, Option, IfSome, IfErr, is_some, int_le, int_lt, pos}
 use Rattle.std.specs.List.{list_any}
 use Rattle.std.specs.Str.{bytes_eq}
 use Rattle.std.specs.Option.{option_or, option_map}
@@ -8,19 +8,17 @@ use Rattle.money_core.specs.declared.cause.Cause.{Cause}
 use Rattle.money_core.specs.declared.cause.Cause.TheVariants.{Full, CommodityExists, UnknownBranch, BranchName, MarkClash, ReservedMark, ReservedAccount, Locked, SameBranch, WrongBranch, AlreadyReceived, TooEarly, LockBack, BadAccount, BadAmount, BadId, Limit, OutOfMemory, Store as Failed}
 use Rattle.money_core.specs.declared.style.Style.{Style}
 use Rattle.money_core.specs.declared.day.Day.{Day}
-use Rattle.money_core.specs.declared.unit.Declared.{Declared}
 use Rattle.money_core.specs.declared.unit.Declared.TheVariants.{New, Same}
 use Rattle.money_core.specs.Style.{declared, declared_at, declared_with, max_commodities, style_eq}
 use Rattle.book_core.specs.declared.entry.Entry.{Entry}
 use Rattle.book_core.specs.declared.refusal.Failure.{Failure}
 use Rattle.book_core.specs.declared.refusal.Refusal.{Refusal}
-use Rattle.book_core.specs.declared.refusal.Refusal.TheVariants.{Plain, ClaimFailed, Text}
+use Rattle.book_core.specs.declared.refusal.Refusal.TheVariants.{Plain, ClaimFailed}
 use Rattle.book_core.specs.GoodBook.{verdict, most_entries, is_over}
 use Rattle.book_core.specs.Claim.{failure}
 use Rattle.journal_format.specs.declared.txn.Txn.{Txn}
 use Rattle.journal_format.specs.declared.txn.Located.{Located}
 use Rattle.journal_format.specs.Pieces.{posting_limit}
-use Rattle.journal_balance.specs.Legs.{legs_of}
 use Rattle.treasury_core.specs.declared.record.Record.{Record}
 use Rattle.treasury_core.specs.declared.transfer.Transfer.{Transfer}
 use Rattle.treasury_core.specs.declared.command.Answer.{Answer}
@@ -33,7 +31,7 @@ use Rattle.treasury_core.specs.Federation.{Federation, is_branch_name, most_bran
 use Rattle.treasury_core.specs.Mark.{is_held, is_repeat, is_product_mark}
 use Rattle.treasury_core.specs.Transfer.{is_id, is_account_text, is_reserved, is_transit}
 use Rattle.treasury_core.specs.Closing.{close_mark, closing_record, closing_answer, closing_in}
-use Rattle.treasury_core.specs.Step.{unless, reply, commodity_reply, fault_on, unbalanced, barred, refusal_of, refused_in, file_refusal, dispatch_refusal, receipt_refusal, receipt_reply, transfer_at, is_dispatched_so, is_received_so, entering_refusal, close_refusal, is_lock, is_locked, goes_back}
+use Rattle.treasury_core.specs.Step.{unless, reply, commodity_reply, fault_on, unbalanced, barred, refused_in, file_refusal, dispatch_refusal, receipt_refusal, receipt_reply, transfer_at, is_dispatched_so, is_received_so, entering_refusal, close_refusal, is_lock, is_locked, goes_back}
 use Rattle.treasury_store.specs.Treasury.{FailsBy}
 
 -- the refusal is 41
