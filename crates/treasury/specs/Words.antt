@@ -40,4 +40,4 @@ at_first = record { now = nothing; failed = false }
 -- A run over such a federation was cut off, or there was no memory for its words or its tables, and it read and wrote nothing.
 abbrev pub IsCutOff : {R W : Type 0} → (R → Option (List ℕ)) → R → R → (W → Option (List ℕ)) → W → W → Type 0
 IsCutOff remaining r0 r1 contents w0 w1 = ((r1 ≡ r0) × (w1 ≡ w0))
-    ⊎ ((cause : Cause) (end : Standing) × IsCutOffBy cause remaining r0 r1 contents w0 w1 at_first end)
+    ⊎ ((cause : Cause) × (end : Standing) × IsCutOffBy cause remaining r0 r1 contents w0 w1 at_first end)
