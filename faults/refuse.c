@@ -1,5 +1,6 @@
-// Stands between the built program and the C library, and makes one call fail: of CALL (memory, read or write) the one
-// whose number is NUMBER. Where the program ends before that call, a line on standard error says so, and how often it was made.
+// Stands between the built program and the C library, and makes calls fail: of CALL (memory, read or write) the one whose
+// number is NUMBER, and those behind it until TIMES have failed, or that one alone. Where the program ends before that call, a
+// line on standard error says so, and how often it was made.
 #define _GNU_SOURCE
 #include <dlfcn.h>
 #include <errno.h>
@@ -11,13 +12,14 @@
 static long seen;
 static int failed;
 
-// Whether this call is the one that fails.
+// Whether this call is one that fails.
 static int is_refused(const char *call) {
     const char *wanted = getenv("CALL");
     const char *number = getenv("NUMBER");
     if (wanted == 0 || number == 0 || strcmp(wanted, call) != 0) return 0;
+    const char *times = getenv("TIMES");
     seen++;
-    if (seen != atol(number)) return 0;
+    if (seen < atol(number) || seen - atol(number) >= (times == 0 ? 1 : atol(times))) return 0;
     failed = 1;
     return 1;
 }
