@@ -1,5 +1,5 @@
 -- What the answer of `clap` says of the words.
-use Rattle.std.proofs.Common.{◌≡◌, ◌≢◌, ℕ, true, List, [], Result, Ok, Err, OnErr, MatchResult, ap, refl, sym, ◌∙◌, subst, inl, inr, ◌⊎◌}
+use Rattle.std.proofs.Common.{◌≡◌, ◌≢◌, ℕ, true, List, [], Result, Ok, Err, OnOk, OnErr, MatchResult, ap, refl, sym, ◌∙◌, subst, inl, inr, ◌⊎◌}
 use Rattle.money_core.specs.declared.cause.Cause.{Cause}
 use Rattle.clap.specs.Simple.{App}
 use Rattle.clap.specs.Kinds.{IsAmong}
@@ -52,3 +52,8 @@ run_shows_none words kind fails shown asks = shown_is_no_want kind shown (run_fa
 pub cut_off_status : {T : Type 0} (result : Result T Cause) (status : ℕ) (P : Type 0) → MatchResult result (λ _. status ≡ 0) (λ _. status ≡ 1) → OnErr result P → status ≢ 0 → (status ≡ 1) × P
 cut_off_status (Ok x) status P is cut other = absurd (other is)
 cut_off_status (Err cause) status P is cut other = (is, cut)
+
+-- the status of a run that is not
+pub done_status : {T : Type 0} (result : Result T Cause) (status : ℕ) (P : Type 0) → MatchResult result (λ _. status ≡ 0) (λ _. status ≡ 1) → OnOk result P → status ≡ 0 → P
+done_status (Ok x) status P is done zero = done
+done_status (Err cause) status P is done zero = let clash : 1 ≡ 0 = sym is ∙ zero in absurd cc

@@ -1,6 +1,11 @@
 use Rattle.std.proofs.Common.{refl, ◌∙◌, inl}
-use Rattle.treasury.proofs.WordLemmas.{taken, fails_by, run_fails, help_shown, run_shows_none, cut_off_status}
+use Rattle.treasury.proofs.WordLemmas.{taken, fails_by, run_fails, help_shown, run_shows_none, cut_off_status, done_status}
 use Rattle.treasury.proofs.words.run_words.Goals as goal
+
+pub returns-in-Ok-try_get_matches_from-clause-done :
+    goal.returns-in-Ok-try_get_matches_from-clause-done
+returns-in-Ok-try_get_matches_from-clause-done g c =
+    λ _ zero. done_status c.run.result _ _ c.status-in-Ok-try_get_matches_from.ensures c.run.ensures.done zero
 
 pub returns-in-Ok-try_get_matches_from-clause-cut_off :
     goal.returns-in-Ok-try_get_matches_from-clause-cut_off
