@@ -37,8 +37,7 @@ transcript_leads start input output end t =
 answer_leads : (start mid : Standing) (line text : List ℕ) (end : Standing) → Leads start mid → Answers mid line text end → Leads start end
 answer_leads start mid line text end (turns, (follow, last)) a =
     let turn : Turn = record { line = line; asked = a.asked; reply = a.reply } in
-    let then : AreTurns mid (turn ∷ []) = (a.asks, a.replies, tt) in
-    (
+    let then : AreTurns mid (turn ∷ []) = (a.asks, a.replies, tt) in (
       turns ++ turn ∷ [],
       (
         turns_then start turns (turn ∷ []) follow (subst (λ (s : Standing). AreTurns s (turn ∷ [])) last then),

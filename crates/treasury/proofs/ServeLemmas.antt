@@ -193,8 +193,7 @@ served g old new line written text request made x is ok clean answers ended = re
   where
     by_reply : (f : Federation) → IsAnswered g old.store.failed new f request made [] written → (end : Federation) × (IsTreasuryOf g new end × Answers (standing old f) line text (standing new end))
     by_reply f (asked, (asks, r)) =
-        let told = subst (λ (m : Result (Unit {0}) Refusal). MatchResult m (λ _. (answer : Answer) × ((r.reply ≡ Ok answer) × (written ≡ [] ++ body_of f asked answer))) (λ refusal. (r.reply ≡ Err refusal) × (written ≡ []))) ok r.text in
-        (
+        let told = subst (λ (m : Result (Unit {0}) Refusal). MatchResult m (λ _. (answer : Answer) × ((r.reply ≡ Ok answer) × (written ≡ [] ++ body_of f asked answer))) (λ refusal. (r.reply ≡ Err refusal) × (written ≡ []))) ok r.text in (
           after f asked r.reply,
           (
             r.of,
@@ -290,13 +289,12 @@ served_refusal g old new line written text request made refusal is refused clean
     by_reply : (f : Federation) → IsAnswered g old.store.failed new f request made [] written → (end : Federation) × (IsTreasuryOf g new end × Answers (standing old f) line text (standing new end))
     by_reply f (asked, (asks, r)) =
         let told = subst (λ (m : Result (Unit {0}) Refusal). MatchResult m (λ _. (answer : Answer) × ((r.reply ≡ Ok answer) × (written ≡ [] ++ body_of f asked answer))) (λ e. (r.reply ≡ Err e) × (written ≡ []))) refused r.text in
-        let of : IsTreasuryOf g new f = subst (IsTreasuryOf g new) (sym (after_plain f asked refusal)) (subst (λ (y : Result Answer Refusal). IsTreasuryOf g new (after f asked y)) told.0 r.of) in
-        (
+        let of : IsTreasuryOf g new f = subst (IsTreasuryOf g new) (sym (after_plain f asked refusal)) (subst (λ (y : Result Answer Refusal). IsTreasuryOf g new (after f asked y)) told.0 r.of) in (
           f,
           (
             of,
             by_line f asked asks (subst (λ (y : Result Answer Refusal). MayReply (record { now = f; failed = old.store.failed }) asked y) told.0 r.replies) of
-            (r.left ∙ ap (λ (y : Result Answer Refusal). old.store.failed || is_failure y) told.0) (data_line g new f refusal text of said),
+                (r.left ∙ ap (λ (y : Result Answer Refusal). old.store.failed || is_failure y) told.0) (data_line g new f refusal text of said),
           ),
         )
 

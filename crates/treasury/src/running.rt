@@ -115,7 +115,7 @@ pub fn run_lines<R: Read, W: Write, S: Alter>(
     ensures { HasCleanDisk (state S.Store treasury.new.store.conn) → (f : Federation) → IsTreasuryOf S.Store treasury.old f
         → (end : Federation) × (IsTreasuryOf S.Store treasury.new end
         × Runs result R.remaining reader.old reader.new W.contents writer.old writer.new
-            (standing treasury.old f) (standing treasury.new end)) }
+        (standing treasury.old f) (standing treasury.new end)) }
 {
     run_machine(alloc, reader, writer, treasury)
 }

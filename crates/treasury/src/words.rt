@@ -18,8 +18,8 @@ use std::alloc::{AllocError, Global};
 use std::io::{Read, Write};
 use std::mem::ManuallyDrop;
 use treasury_core::{
-    accepted_closing_law, good_law, growing_law, headline_law, late_entry_law, lock_law, records_law,
-    sound_law,
+    accepted_closing_law, good_law, growing_law, headline_law, late_entry_law, lock_law,
+    records_law, sound_law,
 };
 use treasury_memory::{MemoryStore, open_memory};
 use treasury_store::{Store, Treasury};
