@@ -1,9 +1,9 @@
 -- A request is answered by what it asks, or by 40 to 42, whatever it asks; and a line by its request, or by 44.
-use Rattle.std.proofs.Common.{◌≡◌, ◌++◌, ◌⊎◌, ◌||◌, ℕ, ℤ, List, Bool, IfErr, true, false, not, if◌then◌else◌, Option, Some, None, Result, Ok, Err, IsTrue, refl, ap, ◌∙◌, sym, subst, inl, inr}
+use Rattle.std.proofs.Common.{◌≡◌, ◌++◌, ◌⊎◌, ℕ, ℤ, List, Bool, IfErr, true, false, not, if◌then◌else◌, Option, Some, None, Result, Ok, Err, IsTrue, refl, ap, ◌∙◌, sym, subst, inl, inr}
 use Rattle.std.specs.Prelude.{◌↔◌}
 use Rattle.money_core.specs.declared.style.Style.{Style}
 use Rattle.money_core.specs.declared.cause.Cause.{Cause}
-use Rattle.money_core.specs.declared.cause.Cause.TheVariants.{OutOfMemory, UnknownBranch, Amount, UnknownCommodity, Decimals, Closed, Damaged, Store as Failed, Request as NoRequest}
+use Rattle.money_core.specs.declared.cause.Cause.TheVariants.{OutOfMemory, UnknownBranch, Amount, UnknownCommodity, Decimals, Closed, Damaged}
 use Rattle.money_core.specs.declared.cause.Fault.{Fault}
 use Rattle.money_core.specs.Sampling.{style_of}
 use Rattle.money_core.specs.Reading.{amount}
@@ -16,7 +16,6 @@ use Rattle.journal_format.specs.Fault.{IsFirstFault}
 use Rattle.treasury_core.specs.declared.command.Command.{Command as AnyCommand}
 use Rattle.treasury_core.specs.declared.command.Command.TheVariants as cmd
 use Rattle.treasury_core.specs.Good.{Fits}
-use Rattle.treasury_core.specs.declared.command.Answer.{Answer}
 use Rattle.treasury_core.specs.declared.command.Answer.TheVariants.{Done}
 use Rattle.treasury_core.specs.Federation.{Federation}
 use Rattle.treasury_store.specs.Store.{AnswersState}
@@ -27,12 +26,10 @@ use Rattle.treasury.specs.declared.request.Request.TheVariants.{Branch as ForBra
 use Rattle.treasury.specs.declared.asking.Asked.{Asked}
 use Rattle.treasury.specs.declared.asking.Asked.TheVariants.{Command, Report}
 use Rattle.treasury.specs.declared.report.Report.TheVariants as report
-use Rattle.treasury.specs.Request.{spelled}
-use Rattle.treasury.specs.Asked.{asked_by_sample, asked_by_amount, JournalAsks, RequestAsks, AsksOf, Asks}
-use Rattle.treasury.specs.Answer.{answer_text}
+use Rattle.treasury.specs.Asked.{asked_by_sample, asked_by_amount, JournalAsks, RequestAsks, AsksOf}
 use Rattle.treasury.specs.declared.report.Report.{Report as AnyReport}
 use Rattle.treasury.specs.Report.{report_text, has_its_branch}
-use Rattle.treasury.specs.Step.{reply, MayReply, is_failure}
+use Rattle.treasury.specs.Step.{is_failure}
 use Rattle.treasury.specs.Replied.{IsReplied}
 use Rattle.treasury.specs.Serving.{IsReady, OrMemory}
 use Rattle.money_core.proofs.ReadingLemmas.{one_of_causes}

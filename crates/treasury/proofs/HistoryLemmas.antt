@@ -9,12 +9,12 @@ use Rattle.treasury_core.specs.declared.command.Command.{Command as AnyCommand}
 use Rattle.treasury_core.specs.Federation.{Federation}
 use Rattle.treasury_core.specs.Good.{IsGoodState}
 use Rattle.treasury_core.proofs.ReplyLemmas.{run_good}
-use Rattle.treasury_core.specs.History.{Turn as CommandTurn, Replies as CommandReplies, IsRun as IsCommandRun, state_after, IsRefusedOrRepeated}
+use Rattle.treasury_core.specs.History.{Replies as CommandReplies, IsRun as IsCommandRun, state_after, IsRefusedOrRepeated}
 use Rattle.treasury.specs.declared.asking.Asked.{Asked}
 use Rattle.treasury.specs.declared.asking.Asked.TheVariants.{Command, Report}
 use Rattle.treasury.specs.Asked.{Asks}
 use Rattle.treasury.specs.Answer.{answer_text}
-use Rattle.treasury.specs.Step.{Standing, after, next, is_failure, reply_text, MayReply, Replies, Answers}
+use Rattle.treasury.specs.Step.{Standing, after, next, is_failure, reply_text, MayReply, Answers}
 use Rattle.treasury.specs.Transcript.{requests_in, AnswersInTurn, IsTranscript}
 use Rattle.treasury.specs.History.{Turn, after_turn, AreTurns, end_of, texts_of, IsRun, command_if, commands_of, RefusalsLeave, IsRefusalOrRepeat, RefusedLinesLeave}
 use Rattle.treasury.proofs.AskedLemmas.{asked_fits}

@@ -1,14 +1,12 @@
 -- What a treasury replies to what is asked.
-use Rattle.std.proofs.Common.{◌≡◌, ◌++◌, ◌⊎◌, ℕ, List, [], MatchResult, Bool, true, false, ◌||◌, not, Option, Some, Result, Ok, Err, refl, ap, ◌∙◌, sym, subst, inl, inr, if◌then◌else◌, IsTrue}
-use Rattle.std.specs.Prelude.{IfSome, ◌↔◌, ⊤}
+use Rattle.std.proofs.Common.{◌≡◌, ◌++◌, ℕ, List, [], MatchResult, Bool, true, false, ◌||◌, Option, Some, Result, Ok, Err, refl, ap, ◌∙◌, sym, subst, inl, inr, IsTrue}
+use Rattle.std.specs.Prelude.{IfSome}
 use Rattle.sqlite.specs.Store.{Ghosts}
 use Rattle.money_core.specs.declared.style.Style.{Style}
-use Rattle.money_core.specs.declared.cause.Cause.{Cause}
-use Rattle.money_core.specs.declared.cause.Cause.TheVariants.{OutOfMemory, UnknownBranch, Closed, Damaged, Store as Failed}
+use Rattle.money_core.specs.declared.cause.Cause.TheVariants.{OutOfMemory, Store as Failed}
 use Rattle.book_core.specs.declared.refusal.Refusal.{Refusal}
 use Rattle.book_core.specs.declared.refusal.Refusal.TheVariants.{Plain, Text, ClaimFailed}
 use Rattle.treasury_core.specs.declared.command.Answer.{Answer}
-use Rattle.treasury_core.specs.declared.command.Answer.TheVariants.{Done}
 use Rattle.treasury_core.specs.declared.command.Command.{Command as AnyCommand}
 use Rattle.treasury_core.specs.Federation.{Federation}
 use Rattle.treasury_core.specs.Good.{Fits, IsGoodState}
@@ -18,9 +16,7 @@ use Rattle.treasury_store.specs.Treasury.{Treasury, IsTreasuryOf, Performs, Fail
 use Rattle.treasury.specs.declared.asking.Asked.{Asked}
 use Rattle.treasury.specs.declared.asking.Asked.TheVariants.{Command, Report}
 use Rattle.treasury.specs.Answer.{answer_text, IsPrintableRefusal}
-use Rattle.treasury.specs.declared.report.Report.{Report as AnyReport}
-use Rattle.treasury.specs.Report.{report_text, has_its_branch}
-use Rattle.treasury.specs.Step.{MayReply, after, is_failure, reply}
+use Rattle.treasury.specs.Step.{MayReply, after, is_failure}
 use Rattle.treasury.specs.Replied.{IsReplied, IsPrintableIn, body_of}
 use Rattle.treasury.specs.Serving.{IsHeldFor}
 use Rattle.treasury.proofs.PrintableLemmas.{decided_printable}

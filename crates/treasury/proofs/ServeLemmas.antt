@@ -1,5 +1,5 @@
 -- A line is served on a treasury as a run answers it.
-use Rattle.std.proofs.Common.{◌≡◌, ◌++◌, ◌⊎◌, ◌||◌, ℕ, ℤ, List, [], Bool, true, false, not, if◌then◌else◌, Option, Some, None, Result, Ok, Err, IsSome, IsTrue, MatchResult, refl, ap, ◌∙◌, sym, subst, inl, inr, append-nil}
+use Rattle.std.proofs.Common.{◌≡◌, ◌++◌, ◌⊎◌, ◌||◌, ℕ, ℤ, List, [], Bool, true, false, not, if◌then◌else◌, Option, Some, None, Result, Ok, Err, IsSome, MatchResult, refl, ap, ◌∙◌, sym, subst, inl, inr, append-nil}
 use Rattle.sqlite.specs.Store.{Ghosts}
 use Rattle.sqlite.specs.State.{HasCleanDisk}
 use Rattle.sqlite.specs.Held.{state}
@@ -9,7 +9,7 @@ use Rattle.money_core.specs.declared.day.Day.{Day}
 use Rattle.money_core.specs.Sampling.{style_of}
 use Rattle.money_core.specs.Reading.{amount}
 use Rattle.money_core.specs.declared.cause.Cause.{Cause}
-use Rattle.money_core.specs.declared.cause.Cause.TheVariants.{OutOfMemory, UnknownBranch, Closed, Request as NoRequest, Store as Failed}
+use Rattle.money_core.specs.declared.cause.Cause.TheVariants.{OutOfMemory, UnknownBranch, Closed, Request as NoRequest}
 use Rattle.book_core.specs.declared.refusal.Refusal.{Refusal}
 use Rattle.book_core.specs.declared.refusal.Refusal.TheVariants.{Plain, Text, ClaimFailed}
 use Rattle.treasury_core.specs.declared.command.Answer.{Answer}
@@ -23,11 +23,11 @@ use Rattle.treasury.specs.declared.asking.Asked.{Asked}
 use Rattle.treasury.specs.declared.asking.Asked.TheVariants.{Command, Report}
 use Rattle.treasury.specs.declared.report.Report.{Report as AnyReport}
 use Rattle.treasury.specs.Request.{spelled, is_report}
-use Rattle.treasury.specs.Asked.{RequestAsks, AsksOf, Asks, asked_by_sample, asked_by_amount}
+use Rattle.treasury.specs.Asked.{AsksOf, Asks, asked_by_sample, asked_by_amount}
 use Rattle.treasury.specs.Report.{report_text, has_its_branch}
 use Rattle.treasury.specs.Answer.{answer_text, IsPlainAnswer}
-use Rattle.treasury.specs.Step.{Standing, Answers, MayReply, Replies, after, next, reply, reply_text, is_failure}
-use Rattle.treasury.specs.Replied.{IsReplied, standing, body_of}
+use Rattle.treasury.specs.Step.{Standing, Answers, MayReply, after, next, reply_text, is_failure}
+use Rattle.treasury.specs.Replied.{standing, body_of}
 use Rattle.treasury.specs.Serving.{IsLineOf, IsLineIn, Serves, end_of_report}
 use Rattle.treasury.specs.RunEnd.{Ends}
 use Rattle.treasury.proofs.LiftLemmas.{ends_lifted}

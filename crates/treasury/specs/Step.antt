@@ -6,7 +6,6 @@ use Rattle.book_core.specs.declared.refusal.Refusal.{Refusal}
 use Rattle.book_core.specs.declared.refusal.Refusal.TheVariants.{Plain}
 use Rattle.treasury_core.specs.declared.command.Answer.{Answer}
 use Rattle.treasury_core.specs.declared.command.Answer.TheVariants.{Done}
-use Rattle.treasury_core.specs.declared.command.Command.{Command as AnyCommand}
 use Rattle.treasury_core.specs.Federation.{Federation}
 use Rattle.treasury_core.specs.Step.{reply as command_reply, after as after_command}
 use Rattle.treasury.specs.declared.asking.Asked.{Asked}
