@@ -13,6 +13,7 @@ pub mod CreateLemmas
 pub mod BesideLemmas
 pub mod OpenLemmas
 pub mod QueriedLemmas
+pub mod ShownLemmas
 pub mod QueriesLemmas
 pub mod LoadLemmas
 pub mod SameLemmas

@@ -82,42 +82,45 @@ module _ {S : Type 0} (g : Ghosts S) where
   }
 
   -- what is made of the rows of a query that changed nothing
-  pub then_made : {X Y : Type 0} (old new : Held S) (x : X) → Queries g old new (Ok x) → (HasCleanDisk (state g new) → (t : Tables) → Holds (state g old).now t → IsUnchanged (state g old) (state g new))
+  pub then_made : {X Y : Type 0} (old new : Held S) (x : X) → Queries g old new (Ok x) → (HasCleanDisk (state g new) → (state g old).now.schema ≡ store_schema → IsUnchanged (state g old) (state g new))
       → (r : Result Y Error) → Queries g old new r
   then_made old new x q same (Ok y) = record { opened = q.opened; was_open = q.was_open; undone = λ clean is. tt; survives = q.survives }
   then_made old new x q same (Err e) = record {
     opened = λ clean. tt;
     was_open = q.was_open;
-    undone = λ clean is t holds all. let kept = same clean t holds in (kept.0.now_is, kept.0.committed_is);
+    undone = λ clean is t holds all. let kept = same clean holds.schema in (kept.0.now_is, kept.0.committed_is);
     survives = q.survives;
   }
 
 -- queries that changed nothing, one after another
 pub record Quiet {S : Type 0} (g : Ghosts S) (a b : Held S) : Type 0 where
   pub opened : HasCleanDisk (state g b) → IsTrue (state g a).is_open × IsTrue (state g b).is_open
-  pub same : HasCleanDisk (state g b) → (t : Tables) → Holds (state g a).now t → ((state g b).now ≡ (state g a).now) × ((state g b).committed ≡ (state g a).committed)
+  pub same : HasCleanDisk (state g b) → (state g a).now.schema ≡ store_schema → ((state g b).now ≡ (state g a).now) × ((state g b).committed ≡ (state g a).committed)
   pub survives : Survives (state g a) (state g b) (λ _. (t : Tables) → Holds (state g a).now t → ⊥)
 
-pub quiet : {S X : Type 0} {g : Ghosts S} {a b : Held S} {x : X} → Queries g a b (Ok x) → (HasCleanDisk (state g b) → (t : Tables) → Holds (state g a).now t → IsUnchanged (state g a) (state g b)) → Quiet g a b
-quiet q same = record { opened = q.opened; same = λ clean t holds. let kept = (same clean t holds).0 in (kept.now_is, kept.committed_is); survives = q.survives }
+pub quiet : {S X : Type 0} {g : Ghosts S} {a b : Held S} {x : X} → Queries g a b (Ok x) → (HasCleanDisk (state g b) → (state g a).now.schema ≡ store_schema → IsUnchanged (state g a) (state g b)) → Quiet g a b
+quiet q same = record { opened = q.opened; same = λ clean has. let kept = (same clean has).0 in (kept.now_is, kept.committed_is); survives = q.survives }
 
 module _ {S : Type 0} (g : Ghosts S) (a b c : Held S) (one : Quiet g a b) (two : Survives (state g b) (state g c) (λ _. (t : Tables) → Holds (state g b).now t → ⊥)) where
   cleaner : HasCleanDisk (state g c) → HasCleanDisk (state g b)
   cleaner clean = omega (arith, two.clean, clean)
 
   still : HasCleanDisk (state g c) → (t : Tables) → Holds (state g a).now t → Holds (state g b).now t
-  still clean t holds = subst (λ (d : Database). Holds d t) (sym (one.same (cleaner clean) t holds).0) holds
+  still clean t holds = subst (λ (d : Database). Holds d t) (sym (one.same (cleaner clean) holds.schema).0) holds
+
+  ours : HasCleanDisk (state g c) → (state g a).now.schema ≡ store_schema → (state g b).now.schema ≡ store_schema
+  ours clean has = ap (λ (d : Database). d.schema) (one.same (cleaner clean) has).0 ∙ has
 
   left : Survives (state g a) (state g c) (λ _. (t : Tables) → Holds (state g a).now t → ⊥)
   left = survives_then (state g a) (state g b) (state g c) _ _ _ (λ clean trees h. h) (λ clean trees h t holds. h t (still clean t holds)) one.survives two
 
 pub quiet_more : {S X : Type 0} {g : Ghosts S} {a b c : Held S} {x : X} → Quiet g a b → Queries g b c (Ok x)
-    → (HasCleanDisk (state g c) → (t : Tables) → Holds (state g b).now t → IsUnchanged (state g b) (state g c)) → Quiet g a c
+    → (HasCleanDisk (state g c) → (state g b).now.schema ≡ store_schema → IsUnchanged (state g b) (state g c)) → Quiet g a c
 quiet_more {g = g} {a = a} {b = b} {c = c} one two same = record {
   opened = λ clean. ((one.opened (cleaner g a b c one two.survives clean)).0, (two.opened clean).1);
-  same = λ clean t holds.
-      let first = one.same (cleaner g a b c one two.survives clean) t holds in
-      let second = (same clean t (still g a b c one two.survives clean t holds)).0 in
+  same = λ clean has.
+      let first = one.same (cleaner g a b c one two.survives clean) has in
+      let second = (same clean (ours g a b c one two.survives clean has)).0 in
       (second.now_is ∙ first.0, second.committed_is ∙ first.1);
   survives = left g a b c one two.survives;
 }
@@ -128,7 +131,7 @@ quiet_error {g = g} {a = a} {b = b} {c = c} e r is one two = of_error g a c e r 
   opened = λ clean. tt;
   was_open = λ clean is. (one.opened (cleaner g a b c one two.survives clean)).0;
   undone = λ clean is t holds all.
-      let first = one.same (cleaner g a b c one two.survives clean) t holds in
+      let first = one.same (cleaner g a b c one two.survives clean) holds.schema in
       let back = two.undone clean is t (still g a b c one two.survives clean t holds) (first.1 ∙ all ∙ sym first.0) in
       (back.0 ∙ first.0, back.1 ∙ first.1);
   survives = left g a b c one two.survives;
@@ -137,3 +140,9 @@ quiet_error {g = g} {a = a} {b = b} {c = c} e r is one two = of_error g a c e r 
 -- none that fails
 pub quiet_ok : {S Y : Type 0} {g : Ghosts S} {a b : Held S} {y : Y} → Quiet g a b → Queries g a b (Ok y)
 quiet_ok one = record { opened = one.opened; was_open = λ clean is. (one.opened clean).0; undone = λ clean is. tt; survives = one.survives }
+
+-- what a query answers of the tables, it answers of those before the queries ahead of it
+pub seen_before : {S : Type 0} {g : Ghosts S} {a b : Held S} (c : Held S) (P : Database → Type 0) → Quiet g a b → Survives (state g b) (state g c) (λ _. (t : Tables) → Holds (state g b).now t → ⊥)
+    → (HasCleanDisk (state g c) → (state g b).now.schema ≡ store_schema → P (state g b).now) → HasCleanDisk (state g c) → (state g a).now.schema ≡ store_schema → P (state g a).now
+seen_before {g = g} {a = a} {b = b} c P one two shown clean has =
+    subst P (one.same (cleaner g a b c one two clean) has).0 (shown clean (ours g a b c one two clean has))

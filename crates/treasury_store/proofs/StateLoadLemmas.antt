@@ -15,10 +15,13 @@ use Rattle.treasury_core.specs.Good.{IsGoodState}
 use Rattle.treasury_core.specs.Rows.{rows, HasShortLocks}
 use Rattle.treasury_core.proofs.RowsLawLemmas.{same_state}
 use Rattle.treasury_store.specs.declared.store.Store.{Store}
+use Rattle.treasury_store.specs.Tables.{store_schema}
 use Rattle.treasury_store.specs.Rows.{Tables, Holds}
+use Rattle.treasury_store.specs.Shown.{ShowsTables}
 use Rattle.treasury_store.specs.Kept.{Queries}
 use Rattle.treasury_store.specs.Order.{InOrder}
 use Rattle.treasury_store.specs.Store.{TablesAre, Knows, IsOf}
+use Rattle.treasury_store.proofs.ShownLemmas.{holds_shows}
 use Rattle.treasury_store.proofs.OrderedLemmas.{rows_in_order}
 
 module _ {S : Type 0} (g : Ghosts S) (old new : Held S) (cleaner : HasCleanDisk (state g new) → HasCleanDisk (state g old)) where
@@ -32,15 +35,15 @@ module _ {S : Type 0} (g : Ghosts S) (old new : Held S) (cleaner : HasCleanDisk 
       (subst (λ (db : Database). Holds db t) (sym kept.0) was.0, kept.1 ∙ (was.1 ∙ sym kept.0))
 
   module _ (opened : HasCleanDisk (state g new) → IsTrue (state g old).is_open × IsTrue (state g new).is_open)
-      (same : HasCleanDisk (state g new) → (t : Tables) → Holds (state g old).now t → IsUnchanged (state g old) (state g new)) where
+      (same : HasCleanDisk (state g new) → (state g old).now.schema ≡ store_schema → IsUnchanged (state g old) (state g new)) where
     pub read_tables_stay : (t : Tables) → TablesAre g old t → TablesAre g new t
     read_tables_stay t are =
-        tables_stay t (λ clean is_open. (opened clean).0) (λ clean is_open holds all. let kept = (same clean t holds).0 in (kept.now_is, kept.committed_is)) are
+        tables_stay t (λ clean is_open. (opened clean).0) (λ clean is_open holds all. let kept = (same clean holds.schema).0 in (kept.now_is, kept.committed_is)) are
 
-    module _ (parts : Parts) (read : HasCleanDisk (state g new) → (t : Tables) → InOrder t → Holds (state g old).now t → parts ≡ t) (f : Federation) (good : IsGoodState f) (are : TablesAre g old (rows f)) where
+    module _ (parts : Parts) (read : HasCleanDisk (state g new) → (t : Tables) → InOrder t → ShowsTables (state g old).now t → parts ≡ t) (f : Federation) (good : IsGoodState f) (are : TablesAre g old (rows f)) where
       -- the rows that were read are the state's
       pub parts_are : HasCleanDisk (state g new) → rows f ≡ parts
-      parts_are clean = sym (read clean (rows f) (rows_in_order f good) (are (cleaner clean) (opened clean).0).0)
+      parts_are clean = sym (read clean (rows f) (rows_in_order f good) (holds_shows (state g old).now (rows f) (are (cleaner clean) (opened clean).0).0))
 
       pub loaded_is : (s : Federation) → IsGoodState s → rows s ≡ parts → HasCleanDisk (state g new) → s ≡ f
       loaded_is s fine built clean = same_state s f fine good (built ∙ sym (parts_are clean))
@@ -68,7 +71,7 @@ module _ {S X : Type 0} (g : Ghosts S) (old new : Store S) (f : Federation) wher
     numbers = numbers ∙ of.numbers;
   }
 
-  module _ (x : X) (q : Queries g old.conn new.conn (Ok x)) (same : HasCleanDisk (state g new.conn) → (t : Tables) → Holds (state g old.conn).now t → IsUnchanged (state g old.conn) (state g new.conn)) where
+  module _ (x : X) (q : Queries g old.conn new.conn (Ok x)) (same : HasCleanDisk (state g new.conn) → (state g old.conn).now.schema ≡ store_schema → IsUnchanged (state g old.conn) (state g new.conn)) where
     cleaner : HasCleanDisk (state g new.conn) → HasCleanDisk (state g old.conn)
     cleaner clean = omega (arith, q.survives.clean, clean)
 
@@ -76,7 +79,7 @@ module _ {S X : Type 0} (g : Ghosts S) (old new : Store S) (f : Federation) wher
     pub read_of : new.numbers ≡ old.numbers → IsOf g old f → IsOf g new f
     read_of numbers of = record { good = of.good; tables = read_tables_stay g old.conn new.conn cleaner q.opened same (rows f) of.tables; numbers = numbers ∙ of.numbers }
 
-    module _ (parts : Parts) (read : HasCleanDisk (state g new.conn) → (t : Tables) → InOrder t → Holds (state g old.conn).now t → parts ≡ t) (good : IsGoodState f) (are : TablesAre g old.conn (rows f)) where
+    module _ (parts : Parts) (read : HasCleanDisk (state g new.conn) → (t : Tables) → InOrder t → ShowsTables (state g old.conn).now t → parts ≡ t) (good : IsGoodState f) (are : TablesAre g old.conn (rows f)) where
       -- where they are, it is of the state that they make, which is the one whose rows the tables are
       pub loaded_of : (s : Federation) → IsGoodState s → rows s ≡ parts → Knows new s → IsOf g new s × (HasCleanDisk (state g new.conn) → s ≡ f)
       loaded_of s fine built knows = (
@@ -92,3 +95,18 @@ module _ {S X : Type 0} (g : Ghosts S) (old new : Store S) (f : Federation) wher
         where
           cause_is : {Y : Type 0} (x : Cause) → ◌≡◌ {A = Result Y Cause} (Err x) (Err Damaged) → x ≡ Damaged
           cause_is x e = cc
+
+-- where the rows that were read are no good state's, the tables show none
+pub none_shown : {Y : Type 0} (db : Database) (parts : Parts) → ((t : Tables) → InOrder t → ShowsTables db t → parts ≡ t) → (r : Result Y Cause) (e : Cause) → IsErrAnd r (λ y. y ≡ e)
+    → (e ≡ OutOfMemory) ⊎ ((e ≡ Damaged) × ((x : Federation) → IsGoodState x → HasShortLocks x → rows x ≡ parts → ⊥)) → r ≡ Err Damaged → (f : Federation) → IsGoodState f → HasShortLocks f → ShowsTables db (rows f) → ⊥
+none_shown db parts read r e is why damaged f good short shows = why_not e (sym p.2 ∙ cause_is p.0 (sym p.1 ∙ damaged)) why
+  where
+    p : (x : Cause) × (r ≡ Err x) × (x ≡ e)
+    p = err_from_is_err_and r is
+
+    cause_is : {Y : Type 0} (x : Cause) → ◌≡◌ {A = Result Y Cause} (Err x) (Err Damaged) → x ≡ Damaged
+    cause_is x e = cc
+
+    why_not : (e : Cause) → e ≡ Damaged → (e ≡ OutOfMemory) ⊎ ((e ≡ Damaged) × ((x : Federation) → IsGoodState x → HasShortLocks x → rows x ≡ parts → ⊥)) → ⊥
+    why_not e is (inl memory) = absurd cc
+    why_not e is (inr none) = none.1 f good short (sym (read (rows f) (rows_in_order f good) shows))

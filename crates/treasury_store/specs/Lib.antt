@@ -1,5 +1,6 @@
 pub mod Tables
 pub mod Rows
+pub mod Shown
 pub mod Kept
 pub mod Creating
 pub mod Opening

@@ -1,6 +1,6 @@
 //! The rows of the tables, in order.
 
-ghost use Rattle.std.specs.Prelude.{◌≡◌, ℕ, List, [], map, Option, OnOk, IfOk};
+ghost use Rattle.std.specs.Prelude.{◌≡◌, ℕ, List, [], ◌∷◌, map, Option, OnOk, IfOk, IsPermutation};
 ghost use Rattle.sqlite.specs.declared.types.Value.{Value};
 ghost use Rattle.sqlite.specs.declared.types.Value.TheVariants.{Text as Words};
 ghost use Rattle.sqlite.specs.Order.{column};
@@ -10,7 +10,8 @@ ghost use Rattle.sqlite.specs.Given.{IsPlain};
 ghost use Rattle.sqlite.specs.Listing.{understood};
 ghost use Rattle.sqlite.specs.Held.{state};
 ghost use Rattle.treasury_store.specs.Tables.{store_schema};
-ghost use Rattle.treasury_store.specs.Rows.{Tables, Holds, unit_row, branch_row, entry_row, leg_row, claim_row, transfer_row};
+ghost use Rattle.treasury_store.specs.Rows.{Tables, unit_row, branch_row, entry_row, leg_row, claim_row, transfer_row};
+ghost use Rattle.treasury_store.specs.Shown.{ShowsTables, shown_unit, shown_branch, shown_entry, shown_leg, shown_claim, shown_transfer};
 ghost use Rattle.treasury_store.specs.Kept.{Queries};
 ghost use Rattle.treasury_store.specs.Order.{InOrder};
 
@@ -24,14 +25,18 @@ trait FromRow: Drop {
     /// The columns.
     ghost columns: { Self → List Value };
 
+    /// As many columns of any row.
+    ghost front: { List Value → List Value };
+
     /// The row that has these columns. An error is want of memory, or that no row has them.
     fn read(row: &Row) -> Result<Self, Error>
-        ensures { IfOk result (λ x. (y : Self) → row.now ≡ columns y → x ≡ y) };
+        ensures same { IfOk result (λ x. (y : Self) → row.now ≡ columns y → x ≡ y) }
+        ensures shown { IfOk result (λ x. columns x ≡ front row.now) };
 }
 
 /// The text in a column.
 fn text_at(row: &Row, at: usize) -> Result<Text, Error>
-    ensures { IfOk result (λ text. (words : List ℕ) → column row.now at ≡ Words words → text ≡ words) }
+    ensures { IfOk result (λ text. column row.now at ≡ Words text) }
 {
     let text: String = row.get(at)?;
     Ok(Text::from_string(text))
@@ -39,7 +44,7 @@ fn text_at(row: &Row, at: usize) -> Result<Text, Error>
 
 /// The text in a column, if there is one.
 fn maybe_text_at(row: &Row, at: usize) -> Result<Option<Text>, Error>
-    ensures { IfOk result (λ text. (words : Option (List ℕ)) → column row.now at ≡ or_null Words words → text ≡ words) }
+    ensures { IfOk result (λ text. column row.now at ≡ or_null Words text) }
 {
     let text: Option<String> = row.get(at)?;
     match text {
@@ -50,6 +55,8 @@ fn maybe_text_at(row: &Row, at: usize) -> Result<Option<Text>, Error>
 
 impl FromRow for UnitRow {
     ghost columns = { unit_row };
+
+    ghost front = { λ r. column r 0 ∷ column r 1 ∷ column r 2 ∷ column r 3 ∷ column r 4 ∷ column r 5 ∷ column r 6 ∷ [] };
 
     fn read(row: &Row) -> Result<Self, Error> {
         let nr = row.get(0)?;
@@ -74,6 +81,8 @@ impl FromRow for UnitRow {
 impl FromRow for BranchRow {
     ghost columns = { branch_row };
 
+    ghost front = { λ r. column r 0 ∷ column r 1 ∷ column r 2 ∷ [] };
+
     fn read(row: &Row) -> Result<Self, Error> {
         let nr = row.get(0)?;
         let name = text_at(row, 1)?;
@@ -84,6 +93,8 @@ impl FromRow for BranchRow {
 
 impl FromRow for EntryRow {
     ghost columns = { entry_row };
+
+    ghost front = { λ r. column r 0 ∷ column r 1 ∷ column r 2 ∷ column r 3 ∷ column r 4 ∷ [] };
 
     fn read(row: &Row) -> Result<Self, Error> {
         let branch = row.get(0)?;
@@ -103,6 +114,8 @@ impl FromRow for EntryRow {
 
 impl FromRow for LegRow {
     ghost columns = { leg_row };
+
+    ghost front = { λ r. column r 0 ∷ column r 1 ∷ column r 2 ∷ column r 3 ∷ column r 4 ∷ column r 5 ∷ [] };
 
     fn read(row: &Row) -> Result<Self, Error> {
         let branch = row.get(0)?;
@@ -125,6 +138,8 @@ impl FromRow for LegRow {
 impl FromRow for ClaimRow {
     ghost columns = { claim_row };
 
+    ghost front = { λ r. column r 0 ∷ column r 1 ∷ column r 2 ∷ column r 3 ∷ column r 4 ∷ column r 5 ∷ [] };
+
     fn read(row: &Row) -> Result<Self, Error> {
         let branch = row.get(0)?;
         let entry = row.get(1)?;
@@ -145,6 +160,8 @@ impl FromRow for ClaimRow {
 
 impl FromRow for TransferRow {
     ghost columns = { transfer_row };
+
+    ghost front = { λ r. column r 0 ∷ column r 1 ∷ column r 2 ∷ column r 3 ∷ column r 4 ∷ column r 5 ∷ column r 6 ∷ column r 7 ∷ column r 8 ∷ [] };
 
     fn read(row: &Row) -> Result<Self, Error> {
         let id = text_at(row, 0)?;
@@ -172,7 +189,8 @@ impl FromRow for TransferRow {
 
 /// The rows, in order.
 fn read_all<T: FromRow>(alloc: Global, rows: &[Row]) -> Result<Items<T>, Error>
-    ensures { IfOk result (λ xs. (ys : List T) → rows.now ≡ map T.columns ys → xs ≡ ys) }
+    ensures same { IfOk result (λ xs. (ys : List T) → rows.now ≡ map T.columns ys → xs ≡ ys) }
+    ensures shown { IfOk result (λ xs. map T.columns xs ≡ map T.front rows.now) }
 {
     let mut list = Vec::new(alloc);
     'row: for row in rows {
@@ -192,8 +210,9 @@ fn queried<S: Alter>(conn: &mut Connection<S>, sql: &str) -> Result<Vec<Row>, Er
 }
 
 fn load_units<S: Alter>(alloc: Global, conn: &mut Connection<S>) -> Result<Items<UnitRow>, Error>
-    ensures rows { HasCleanDisk (state S.Store conn.new) → IfOk result (λ rows. (t : Tables) → InOrder t → Holds (state S.Store conn.old).now t → rows ≡ t.units) }
-    ensures same { HasCleanDisk (state S.Store conn.new) → OnOk result ((t : Tables) → Holds (state S.Store conn.old).now t → IsUnchanged (state S.Store conn.old) (state S.Store conn.new)) }
+    ensures rows { HasCleanDisk (state S.Store conn.new) → IfOk result (λ rows. (t : Tables) → InOrder t → ShowsTables (state S.Store conn.old).now t → rows ≡ t.units) }
+    ensures shown { HasCleanDisk (state S.Store conn.new) → IfOk result (λ rows. (state S.Store conn.old).now.schema ≡ store_schema → IsPermutation (map unit_row rows) (map shown_unit ((state S.Store conn.old).now.trees 1))) }
+    ensures same { HasCleanDisk (state S.Store conn.new) → OnOk result ((state S.Store conn.old).now.schema ≡ store_schema → IsUnchanged (state S.Store conn.old) (state S.Store conn.new)) }
     ensures queries { Queries S.Store conn.old conn.new result }
 {
     let rows = queried(
@@ -207,8 +226,9 @@ fn load_branches<S: Alter>(
     alloc: Global,
     conn: &mut Connection<S>,
 ) -> Result<Items<BranchRow>, Error>
-    ensures rows { HasCleanDisk (state S.Store conn.new) → IfOk result (λ rows. (t : Tables) → InOrder t → Holds (state S.Store conn.old).now t → rows ≡ t.branches) }
-    ensures same { HasCleanDisk (state S.Store conn.new) → OnOk result ((t : Tables) → Holds (state S.Store conn.old).now t → IsUnchanged (state S.Store conn.old) (state S.Store conn.new)) }
+    ensures rows { HasCleanDisk (state S.Store conn.new) → IfOk result (λ rows. (t : Tables) → InOrder t → ShowsTables (state S.Store conn.old).now t → rows ≡ t.branches) }
+    ensures shown { HasCleanDisk (state S.Store conn.new) → IfOk result (λ rows. (state S.Store conn.old).now.schema ≡ store_schema → IsPermutation (map branch_row rows) (map shown_branch ((state S.Store conn.old).now.trees 3))) }
+    ensures same { HasCleanDisk (state S.Store conn.new) → OnOk result ((state S.Store conn.old).now.schema ≡ store_schema → IsUnchanged (state S.Store conn.old) (state S.Store conn.new)) }
     ensures queries { Queries S.Store conn.old conn.new result }
 {
     let rows = queried(conn, "SELECT nr, name, locked FROM branch ORDER BY nr")?;
@@ -216,8 +236,9 @@ fn load_branches<S: Alter>(
 }
 
 fn load_entries<S: Alter>(alloc: Global, conn: &mut Connection<S>) -> Result<Items<EntryRow>, Error>
-    ensures rows { HasCleanDisk (state S.Store conn.new) → IfOk result (λ rows. (t : Tables) → InOrder t → Holds (state S.Store conn.old).now t → rows ≡ t.entries) }
-    ensures same { HasCleanDisk (state S.Store conn.new) → OnOk result ((t : Tables) → Holds (state S.Store conn.old).now t → IsUnchanged (state S.Store conn.old) (state S.Store conn.new)) }
+    ensures rows { HasCleanDisk (state S.Store conn.new) → IfOk result (λ rows. (t : Tables) → InOrder t → ShowsTables (state S.Store conn.old).now t → rows ≡ t.entries) }
+    ensures shown { HasCleanDisk (state S.Store conn.new) → IfOk result (λ rows. (state S.Store conn.old).now.schema ≡ store_schema → IsPermutation (map entry_row rows) (map shown_entry ((state S.Store conn.old).now.trees 5))) }
+    ensures same { HasCleanDisk (state S.Store conn.new) → OnOk result ((state S.Store conn.old).now.schema ≡ store_schema → IsUnchanged (state S.Store conn.old) (state S.Store conn.new)) }
     ensures queries { Queries S.Store conn.old conn.new result }
 {
     let rows = queried(
@@ -228,8 +249,9 @@ fn load_entries<S: Alter>(alloc: Global, conn: &mut Connection<S>) -> Result<Ite
 }
 
 fn load_legs<S: Alter>(alloc: Global, conn: &mut Connection<S>) -> Result<Items<LegRow>, Error>
-    ensures rows { HasCleanDisk (state S.Store conn.new) → IfOk result (λ rows. (t : Tables) → InOrder t → Holds (state S.Store conn.old).now t → rows ≡ t.legs) }
-    ensures same { HasCleanDisk (state S.Store conn.new) → OnOk result ((t : Tables) → Holds (state S.Store conn.old).now t → IsUnchanged (state S.Store conn.old) (state S.Store conn.new)) }
+    ensures rows { HasCleanDisk (state S.Store conn.new) → IfOk result (λ rows. (t : Tables) → InOrder t → ShowsTables (state S.Store conn.old).now t → rows ≡ t.legs) }
+    ensures shown { HasCleanDisk (state S.Store conn.new) → IfOk result (λ rows. (state S.Store conn.old).now.schema ≡ store_schema → IsPermutation (map leg_row rows) (map shown_leg ((state S.Store conn.old).now.trees 8))) }
+    ensures same { HasCleanDisk (state S.Store conn.new) → OnOk result ((state S.Store conn.old).now.schema ≡ store_schema → IsUnchanged (state S.Store conn.old) (state S.Store conn.new)) }
     ensures queries { Queries S.Store conn.old conn.new result }
 {
     let rows = queried(
@@ -240,8 +262,9 @@ fn load_legs<S: Alter>(alloc: Global, conn: &mut Connection<S>) -> Result<Items<
 }
 
 fn load_claims<S: Alter>(alloc: Global, conn: &mut Connection<S>) -> Result<Items<ClaimRow>, Error>
-    ensures rows { HasCleanDisk (state S.Store conn.new) → IfOk result (λ rows. (t : Tables) → InOrder t → Holds (state S.Store conn.old).now t → rows ≡ t.claims) }
-    ensures same { HasCleanDisk (state S.Store conn.new) → OnOk result ((t : Tables) → Holds (state S.Store conn.old).now t → IsUnchanged (state S.Store conn.old) (state S.Store conn.new)) }
+    ensures rows { HasCleanDisk (state S.Store conn.new) → IfOk result (λ rows. (t : Tables) → InOrder t → ShowsTables (state S.Store conn.old).now t → rows ≡ t.claims) }
+    ensures shown { HasCleanDisk (state S.Store conn.new) → IfOk result (λ rows. (state S.Store conn.old).now.schema ≡ store_schema → IsPermutation (map claim_row rows) (map shown_claim ((state S.Store conn.old).now.trees 10))) }
+    ensures same { HasCleanDisk (state S.Store conn.new) → OnOk result ((state S.Store conn.old).now.schema ≡ store_schema → IsUnchanged (state S.Store conn.old) (state S.Store conn.new)) }
     ensures queries { Queries S.Store conn.old conn.new result }
 {
     let rows = queried(
@@ -255,8 +278,9 @@ fn load_transfers<S: Alter>(
     alloc: Global,
     conn: &mut Connection<S>,
 ) -> Result<Items<TransferRow>, Error>
-    ensures rows { HasCleanDisk (state S.Store conn.new) → IfOk result (λ rows. (t : Tables) → InOrder t → Holds (state S.Store conn.old).now t → rows ≡ t.transfers) }
-    ensures same { HasCleanDisk (state S.Store conn.new) → OnOk result ((t : Tables) → Holds (state S.Store conn.old).now t → IsUnchanged (state S.Store conn.old) (state S.Store conn.new)) }
+    ensures rows { HasCleanDisk (state S.Store conn.new) → IfOk result (λ rows. (t : Tables) → InOrder t → ShowsTables (state S.Store conn.old).now t → rows ≡ t.transfers) }
+    ensures shown { HasCleanDisk (state S.Store conn.new) → IfOk result (λ rows. (state S.Store conn.old).now.schema ≡ store_schema → IsPermutation (map transfer_row rows) (map shown_transfer ((state S.Store conn.old).now.trees 12))) }
+    ensures same { HasCleanDisk (state S.Store conn.new) → OnOk result ((state S.Store conn.old).now.schema ≡ store_schema → IsUnchanged (state S.Store conn.old) (state S.Store conn.new)) }
     ensures queries { Queries S.Store conn.old conn.new result }
 {
     let rows = queried(
@@ -268,11 +292,12 @@ fn load_transfers<S: Alter>(
 
 /// The rows of all tables, each list in the order of its key: one query a table.
 ///
-/// Where the tables hold rows, a success changes nothing; where they are committed, nor does an error of a connection that
-/// is still open.
+/// Where the tables are ours, a success answers just the rows that they show, and changes nothing; where they are committed,
+/// nor does an error of a connection that is still open.
 pub fn load_parts<S: Alter>(alloc: Global, conn: &mut Connection<S>) -> Result<Parts, Error>
-    ensures parts { HasCleanDisk (state S.Store conn.new) → IfOk result (λ parts. (t : Tables) → InOrder t → Holds (state S.Store conn.old).now t → parts ≡ t) }
-    ensures same { HasCleanDisk (state S.Store conn.new) → OnOk result ((t : Tables) → Holds (state S.Store conn.old).now t → IsUnchanged (state S.Store conn.old) (state S.Store conn.new)) }
+    ensures parts { HasCleanDisk (state S.Store conn.new) → IfOk result (λ parts. (t : Tables) → InOrder t → ShowsTables (state S.Store conn.old).now t → parts ≡ t) }
+    ensures shown { HasCleanDisk (state S.Store conn.new) → IfOk result (λ parts. (state S.Store conn.old).now.schema ≡ store_schema → ShowsTables (state S.Store conn.old).now parts) }
+    ensures same { HasCleanDisk (state S.Store conn.new) → OnOk result ((state S.Store conn.old).now.schema ≡ store_schema → IsUnchanged (state S.Store conn.old) (state S.Store conn.new)) }
     ensures queries { Queries S.Store conn.old conn.new result }
 {
     let units = load_units(alloc, conn)?;

@@ -86,6 +86,7 @@ pub fn are_tables_there<S: Alter>(conn: &mut Connection<S>) -> Result<bool, Erro
     ensures tables { IfOk result (λ there. IsTrue there → IsTrue (has_all (state S.Store conn.old).now.schema)) }
     ensures none { has_all (state S.Store conn.old).now.schema ≡ false → (result ≡ Ok false) × (conn.new ≡ conn.old) }
     ensures same { HasCleanDisk (state S.Store conn.new) → OnOk result (MadeHere (state S.Store conn.old).now.schema → ((state S.Store conn.new).now ≡ (state S.Store conn.old).now) × ((state S.Store conn.new).committed ≡ (state S.Store conn.old).committed)) }
+    ensures clean { doubt (state S.Store conn.old).is_clean ≤ doubt (state S.Store conn.new).is_clean }
 {
     if !has_all(conn) {
         return Ok(false);

@@ -1,16 +1,18 @@
 //! The store of a treasury: a connection whose tables are the rows of a state.
 
-ghost use Rattle.std.specs.Prelude.{◌≡◌, ◌⊎◌, ◌↔◌, [], false, None, Some, Err, OnOk, OnErr, IfOk, IfErr, IsTrue};
+ghost use Rattle.std.specs.Prelude.{◌≡◌, ◌≤◌, ◌⊎◌, ◌↔◌, [], false, None, Some, Err, OnOk, OnErr, IfOk, IfErr, IsTrue};
 ghost use Rattle.sqlite.specs.State.{HasCleanDisk, Survives};
 ghost use Rattle.sqlite.specs.Held.{state};
 ghost use Rattle.sqlite.specs.Effect.{Database};
+ghost use Rattle.sqlite_trees.specs.View.{doubt};
 ghost use Rattle.treasury_core.specs.Federation.{Federation};
 ghost use Rattle.treasury_core.specs.Good.{IsGoodState};
 ghost use Rattle.treasury_core.specs.Joined.{joined};
 ghost use Rattle.treasury_core.specs.Rows.{rows, HasShortLocks};
 ghost use Rattle.treasury_store.specs.Rows.{Tables, Holds};
 ghost use Rattle.treasury_store.specs.Kept.{KeepsTables};
-ghost use Rattle.treasury_store.specs.Tables.{no_schema};
+ghost use Rattle.treasury_store.specs.Shown.{ShowsTables};
+ghost use Rattle.treasury_store.specs.Tables.{no_schema, store_schema};
 ghost use Rattle.treasury_store.specs.Creating.{has_one, has_all, has_counter, Beside};
 ghost use Rattle.treasury_store.specs.Opening.{MadeHere, IsTreasury};
 ghost use Rattle.treasury_store.specs.Store.{empty_state, TablesAre, Knows, IsOf, Answers, AnswersState};
@@ -101,6 +103,7 @@ impl<S: Alter> Store<S> {
         ensures tables { IfOk result (λ s. IsTrue (has_all (state S.Store conn).now.schema)) }
         ensures same { IfOk result (λ s. HasCleanDisk (state S.Store s.conn) → MadeHere (state S.Store conn).now.schema → ((state S.Store s.conn).now ≡ (state S.Store conn).now) × ((state S.Store s.conn).committed ≡ (state S.Store conn).committed)) }
         ensures fresh { IfOk result (λ s. (s.numbers ≡ None) × (s.failed ≡ false)) }
+        ensures clean { IfOk result (λ s. doubt (state S.Store conn).is_clean ≤ doubt (state S.Store s.conn).is_clean) }
         ensures none { has_all (state S.Store conn).now.schema ≡ false → result ≡ Err (record { conn = conn; cause = Cause.Damaged }) }
         ensures refused { IfErr result (λ r. (r.cause ≡ Cause.Damaged) ⊎ ((r.cause ≡ Cause.OutOfMemory) ⊎ (r.cause ≡ Cause.Store))) }
         ensures damaged { IfErr result (λ r. r.cause ≡ Cause.Damaged → HasCleanDisk (state S.Store r.conn) → MadeHere (state S.Store conn).now.schema → (IsTreasury (state S.Store conn).now → ⊥)
@@ -155,6 +158,9 @@ impl<S: Alter> Store<S> {
         ensures still_open { OnOk result (HasCleanDisk (state S.Store self.new.conn) → IsTrue (state S.Store self.new.conn).is_open) }
         // No state in memory has a lock day that is not in 32 bits.
         ensures damaged { result ≡ Err Cause.Damaged → HasCleanDisk (state S.Store self.new.conn) → (f : Federation) → IsGoodState f → HasShortLocks f → TablesAre S.Store self.old.conn (rows f) → ⊥ }
+        // What is loaded has the rows that our tables show, whatever they are, and 43 says that no such state has them.
+        ensures shown { IfOk result (λ s. HasCleanDisk (state S.Store self.new.conn) → (state S.Store self.old.conn).now.schema ≡ store_schema → ShowsTables (state S.Store self.old.conn).now (rows s)) }
+        ensures unfit { result ≡ Err Cause.Damaged → HasCleanDisk (state S.Store self.new.conn) → (f : Federation) → IsGoodState f → HasShortLocks f → ShowsTables (state S.Store self.old.conn).now (rows f) → ⊥ }
         ensures err { OnErr result ((f : Federation) → IsOf S.Store self.old f → IsOf S.Store self.new f) }
         ensures tables { OnErr result ((t : Tables) → TablesAre S.Store self.old.conn t → TablesAre S.Store self.new.conn t) }
         ensures unknown { OnErr result (self.new.numbers ≡ self.old.numbers) }
