@@ -11,6 +11,8 @@ pub mod AskedLemmas
 pub mod ReplyLemmas
 pub mod AnswerLemmas
 pub mod ServeLemmas
+pub mod SaidLemmas
+pub mod OverFileLemmas
 pub mod HistoryLemmas
 pub mod RunEndLemmas
 pub mod WorkedHistory

@@ -69,7 +69,7 @@ memory_line styles (ClaimFailed failure) empty mid text none same said other = i
 
 -- ---- a line that spells no request, or for which there was no memory
 
-after_plain : (f : Federation) (asked : Result Asked Refusal) (refusal : Refusal) → f ≡ after f asked (Err refusal)
+pub after_plain : (f : Federation) (asked : Result Asked Refusal) (refusal : Refusal) → f ≡ after f asked (Err refusal)
 after_plain f (Ok (Command c)) refusal = refl
 after_plain f (Ok (Report report)) refusal = refl
 after_plain f (Err e) refusal = refl
@@ -147,7 +147,7 @@ no_report false styles (ForTransit day) report asks = refl
 no_report false styles (ForJournal name) report asks = refl
 
 -- what is replied leads on
-leads : {S : Type 0} (old new : Treasury S) (f : Federation) (asked : Result Asked Refusal) (r : Result Answer Refusal) → new.store.failed ≡ (old.store.failed || is_failure r) → standing new (after f asked r) ≡ next (standing old f) asked r
+pub leads : {S : Type 0} (old new : Treasury S) (f : Federation) (asked : Result Asked Refusal) (r : Result Answer Refusal) → new.store.failed ≡ (old.store.failed || is_failure r) → standing new (after f asked r) ≡ next (standing old f) asked r
 leads old new f asked r left = ap (λ (b : Bool). record { now = after f asked r; failed = b }) left
 
 spelled_some : (line : List ℕ) (request : Request) → spelled line ≡ Some request → IsSome (spelled line)
@@ -164,7 +164,7 @@ done_only f failed report answer (inr (inl e)) = absurd cc
 done_only f failed report answer (inr (inr e)) = absurd (let k = e.1 in cc)
 
 -- nothing that is refused is answered
-refused_only : (f : Federation) (failed : Bool) (refusal : Refusal) (answer : Answer) (P : Type 0) → MayReply (record { now = f; failed = failed }) (Err refusal) (Ok answer) → P
+pub refused_only : (f : Federation) (failed : Bool) (refusal : Refusal) (answer : Answer) (P : Type 0) → MayReply (record { now = f; failed = failed }) (Err refusal) (Ok answer) → P
 refused_only f failed refusal answer P (inl e) = absurd cc
 refused_only f failed refusal answer P (inr (inl e)) = absurd cc
 refused_only f failed refusal answer P (inr (inr e)) = absurd (let k = e.1 in cc)
@@ -247,7 +247,7 @@ served_memory g old new line written text request made x is ok clean answers rep
 -- ---- a request that is refused
 
 -- the line of a refusal on the treasury that is of the state, or that of 40
-data_line : {S : Type 0} (g : Ghosts S) (new : Treasury S) (f : Federation) (refusal : Refusal) (text : List ℕ) → IsTreasuryOf g new f → IsLineOf new refusal text
+pub data_line : {S : Type 0} (g : Ghosts S) (new : Treasury S) (f : Federation) (refusal : Refusal) (text : List ℕ) → IsTreasuryOf g new f → IsLineOf new refusal text
     → (text ≡ answer_text f.styles (Err refusal)) ⊎ ((text ≡ answer_text f.styles (Err (Plain OutOfMemory))) × (is_failure (Err refusal) ≡ false))
 data_line g new f (Plain cause) text of said = inl (said ∙ plain_line f.styles cause)
 data_line g new f (Text fault) text of (s, (held, inl memory)) = inr (memory ∙ plain_line f.styles OutOfMemory, refl)

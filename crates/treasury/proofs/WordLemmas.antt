@@ -1,4 +1,13 @@
 -- What the answer of `clap` says of the words.
+use Rattle.std.specs.Prelude.{Option, Some, None, option_map, Box}
+use Rattle.std.specs.Box.{box_value}
+use Rattle.clap.specs.Walk.{Row}
+use Rattle.clap.specs.Matches.{subcommand_name_of}
+use Rattle.clap.specs.Simple.{HasMatchesOf, is_simple, subcommand_of, subcommand_rows}
+use Rattle.clap.specs.declared.parser.matches.ArgMatches.{ArgMatches}
+use Rattle.clap.specs.declared.parser.matches.ArgMatches.TheViews.{out-ArgMatches, out-SubCommand}
+use Rattle.clap.specs.declared.parser.matches.SubCommand.{SubCommand}
+use Rattle.treasury.specs.Known.{known}
 use Rattle.std.proofs.Common.{◌≡◌, ◌≢◌, ℕ, true, List, [], Result, Ok, Err, OnOk, OnErr, MatchResult, ap, refl, sym, ◌∙◌, subst, inl, inr, ◌⊎◌}
 use Rattle.money_core.specs.declared.cause.Cause.{Cause}
 use Rattle.clap.specs.Simple.{App}
@@ -7,7 +16,7 @@ use Rattle.clap.specs.Faults.{fault_of, is_simple_and_free}
 use Rattle.clap.specs.declared.error.kind.ErrorKind.{ErrorKind}
 use Rattle.clap.specs.declared.error.kind.ErrorKind.TheVariants.{OutOfMemory, DisplayHelp, DisplayVersion}
 use Rattle.clap.proofs.OnLiterals.{clap_on_literals}
-use Rattle.treasury.specs.Words.{known, objections, AskForRun, MayAskForHelp}
+use Rattle.treasury.specs.Words.{objections, named, AreTaken, AskForRun, MayAskForHelp}
 
 known_is_simple : is_simple_and_free known ≡ true
 unfolding clap_on_literals
@@ -17,18 +26,37 @@ fault_of_known : (app : App) (words : List (List ℕ)) → app ≡ known → fau
 unfolding objections
 fault_of_known app words is = ap (λ a. fault_of a words) is
 
--- words that are taken ask for a run
-pub taken : (app : App) (words : List (List ℕ)) → app ≡ known → (is_simple_and_free app ≡ true → fault_of app words ≡ []) → AskForRun words
+-- words that clap takes are taken
+pub taken : (app : App) (words : List (List ℕ)) → app ≡ known → (is_simple_and_free app ≡ true → fault_of app words ≡ []) → AreTaken words
 taken app words is none = sym (fault_of_known app words is) ∙ none (ap is_simple_and_free is ∙ known_is_simple)
 
 -- words that are not taken fail for want of memory, or by one of the objections to them
 pub fails_by : (app : App) (words : List (List ℕ)) (kind : ErrorKind) → app ≡ known → (is_simple_and_free app ≡ true → (kind ≡ OutOfMemory) ⊎ IsAmong kind (fault_of app words)) → (kind ≡ OutOfMemory) ⊎ IsAmong kind (objections words)
 fails_by app words kind is fails = subst (λ kinds. (kind ≡ OutOfMemory) ⊎ IsAmong kind kinds) (fault_of_known app words is) (fails (ap is_simple_and_free is ∙ known_is_simple))
 
--- words that ask for a run fail only for want of memory
+-- words that are taken fail only for want of memory
+pub taken_fails : (words : List (List ℕ)) (kind : ErrorKind) → (kind ≡ OutOfMemory) ⊎ IsAmong kind (objections words) → AreTaken words → kind ≡ OutOfMemory
+taken_fails words kind (inl memory) asks = memory
+taken_fails words kind (inr among) asks = absurd (subst (IsAmong kind) asks among)
+
 pub run_fails : (words : List (List ℕ)) (kind : ErrorKind) → (kind ≡ OutOfMemory) ⊎ IsAmong kind (objections words) → AskForRun words → kind ≡ OutOfMemory
-run_fails words kind (inl memory) asks = memory
-run_fails words kind (inr among) asks = absurd (subst (IsAmong kind) asks among)
+run_fails words kind fails asks = taken_fails words kind fails asks.0
+
+-- the word that a parse met is the one that the words name
+name_of : {Z : Type 0} (o : Option (Box SubCommand Z)) → option_map (λ (p : List ℕ × List Row). p.0) (subcommand_rows o) ≡ option_map (λ b. (out-SubCommand (box_value b)).name.now) o
+name_of None = refl
+name_of (Some b) = refl
+
+known_is_plain : is_simple known ≡ true
+unfolding clap_on_literals
+known_is_plain = refl
+
+pub named_word : (app : App) (words : List (List ℕ)) (m : ArgMatches) → app ≡ known → HasMatchesOf app words m → option_map (λ (p : List ℕ × List Row). p.0) (named words) ≡ subcommand_name_of m
+unfolding named
+named_word app words m is matches =
+    let found = (matches (ap is_simple is ∙ known_is_plain)).1 in
+    ap (λ (a : App). option_map (λ (p : List ℕ × List Row). p.0) (subcommand_of a words)) (sym is)
+    ∙ (ap (λ (o : Option (List ℕ × List Row)). option_map (λ (p : List ℕ × List Row). p.0) o) (sym found) ∙ name_of (out-ArgMatches m).subcommand)
 
 -- the kinds whose text is written to the output
 abbrev pub IsShown : ErrorKind → Type 0

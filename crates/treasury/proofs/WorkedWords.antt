@@ -1,8 +1,10 @@
 -- What words ask for, worked out by hand, whatever name the program is called by.
-use Rattle.std.specs.Prelude.{◌≡◌, ℕ, List, [], ◌∷◌, codes, refl}
-use Rattle.clap.specs.declared.error.kind.ErrorKind.TheVariants.{UnknownArgument, InvalidSubcommand, DisplayHelp, DisplayVersion, DisplayHelpOnMissingArgumentOrSubcommand}
+use Rattle.std.specs.Prelude.{◌≡◌, ℕ, List, [], ◌∷◌, Some, option_and_then, codes, refl}
+use Rattle.clap.specs.declared.error.kind.ErrorKind.TheVariants.{UnknownArgument, InvalidSubcommand, ArgumentConflict, MissingRequiredArgument, DisplayHelp, DisplayVersion, DisplayHelpOnMissingArgumentOrSubcommand}
 use Rattle.clap.proofs.OnLiterals.{clap_on_literals}
-use Rattle.treasury.specs.Words.{objections}
+use Rattle.treasury.specs.declared.request.Request.TheVariants.{Branch, Journal}
+use Rattle.treasury.specs.Words.{objections, named}
+use Rattle.treasury.specs.Spelling.{request_in}
 
 pub run_is_asked_for : (name : List ℕ) → objections (name ∷ codes "run" ∷ []) ≡ []
 unfolding clap_on_literals objections
@@ -31,3 +33,25 @@ help_is_asked_for name = refl
 pub version_is_asked_for : (name : List ℕ) → objections (name ∷ codes "--version" ∷ []) ≡ DisplayVersion ∷ []
 unfolding clap_on_literals objections
 version_is_asked_for name = refl
+
+-- words over a database file
+
+pub balance_is_taken : (name : List ℕ) → objections (name ∷ codes "balance" ∷ codes "--db" ∷ codes "t.db" ∷ codes "--branch" ∷ codes "north" ∷ codes "--day" ∷ codes "2024-01-31" ∷ []) ≡ []
+unfolding clap_on_literals objections
+balance_is_taken name = refl
+
+pub no_file_is_given : (name : List ℕ) → objections (name ∷ codes "transit" ∷ codes "--day" ∷ codes "2024-01-31" ∷ []) ≡ MissingRequiredArgument ∷ []
+unfolding clap_on_literals objections
+no_file_is_given name = refl
+
+pub option_is_given_twice : (name : List ℕ) → objections (name ∷ codes "journal" ∷ codes "--db" ∷ codes "t.db" ∷ codes "--db" ∷ codes "t.db" ∷ codes "--branch" ∷ codes "north" ∷ []) ≡ ArgumentConflict ∷ []
+unfolding clap_on_literals objections
+option_is_given_twice name = refl
+
+pub journal_is_asked_for : (name : List ℕ) → option_and_then (λ p. request_in p.0 p.1) (named (name ∷ codes "journal" ∷ codes "--db" ∷ codes "t.db" ∷ codes "--branch" ∷ codes "north" ∷ [])) ≡ Some (Journal (codes "north"))
+unfolding clap_on_literals named
+journal_is_asked_for name = refl
+
+pub branch_is_asked_for : (name : List ℕ) → option_and_then (λ p. request_in p.0 p.1) (named (name ∷ codes "branch" ∷ codes "--db=t.db" ∷ codes "north" ∷ [])) ≡ Some (Branch (codes "north"))
+unfolding clap_on_literals named
+branch_is_asked_for name = refl

@@ -8,9 +8,15 @@ pub mod Step
 pub mod Answer
 pub mod Replied
 pub mod History
+pub mod Known
+pub mod Spelling
+pub mod Word
+pub mod OverFile
 pub mod Kept
 pub mod Words
 -- What mirrors code, for private clauses: nobody has to believe it
 pub mod Serving
 pub mod Form
+pub mod Knowing
+pub mod Started
 pub mod Served

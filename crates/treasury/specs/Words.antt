@@ -1,6 +1,8 @@
 -- What the words of the command line ask for (own rule; docs/RULES.md, "The program"), by the definitions of `clap`.
-use Rattle.std.specs.Prelude.{◌≡◌, ℕ, true, false, codes, List, [], Option, ◌⊎◌}
-use Rattle.clap.specs.Simple.{App, new_app, new_shape, on_top, with_subcommand}
+use Rattle.std.specs.Prelude.{◌≡◌, ℕ, false, codes, List, [], Option, Some, option_map, ◌⊎◌}
+use Rattle.clap.specs.Simple.{subcommand_of}
+use Rattle.clap.specs.Walk.{Row}
+use Rattle.treasury.specs.Known.{known}
 use Rattle.clap.specs.Kinds.{Kinds, IsAmong}
 use Rattle.clap.specs.Faults.{fault_of}
 use Rattle.clap.specs.declared.error.kind.ErrorKind.TheVariants.{DisplayHelp, DisplayVersion}
@@ -9,21 +11,21 @@ use Rattle.treasury_core.specs.Federation.{Federation}
 use Rattle.treasury.specs.Step.{Standing}
 use Rattle.treasury.specs.Kept.{IsCutOffBy}
 
--- the words that the program knows: it has a version; one of its subcommands has to be given, and `run` is the only one
-abbrev pub known : App
-known = with_subcommand
-    (on_top
-    (λ s. record s { has_version = true; arg_required_else_help = true; subcommand_required = true })
-    (new_app (codes "treasury")))
-    (new_shape (codes "run"))
-
--- why these words, the program's name first, ask for no run: no reason, or those of which `clap` gives one
+-- why these words, the program's name first, are not taken: no reason, or those of which `clap` gives one
 unfoldable pub objections : List (List ℕ) → Kinds
 objections words = fault_of known words
 
+-- they are taken
+abbrev pub AreTaken : List (List ℕ) → Type 0
+AreTaken words = objections words ≡ []
+
+-- the one of the known words that they name, with its values
+unfoldable pub named : List (List ℕ) → Option (List ℕ × List Row)
+named words = subcommand_of known words
+
 -- the words ask for a run
 abbrev pub AskForRun : List (List ℕ) → Type 0
-AskForRun words = objections words ≡ []
+AskForRun words = AreTaken words × (option_map (λ p. p.0) (named words) ≡ Some (codes "run"))
 
 -- the words may ask for help, or for the version
 abbrev pub MayAskForHelp : List (List ℕ) → Type 0

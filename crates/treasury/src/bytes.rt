@@ -29,6 +29,13 @@ impl Bytes {
         Ok(Bytes { bytes })
     }
 
+    /// The bytes of a vector, without a copy.
+    pub fn from_vec(bytes: Vec<u8>) -> Self
+        ensures { result ≡ bytes.items }
+    {
+        Bytes { bytes }
+    }
+
     /// The bytes.
     pub fn as_bytes(&self) -> &[u8]
         ensures { result.now ≡ self.now }

@@ -1,10 +1,11 @@
-//! The program `treasury`: a federation's requests from standard input, their answers to standard output.
+//! The program `treasury`: a federation's books over a file, word by word, or its requests from standard input in memory.
 #![tactic(auto)]
 
 mod answering;
 mod answers;
 mod asking;
 mod bytes;
+mod explain;
 mod laws;
 mod lines;
 mod report;

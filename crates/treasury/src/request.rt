@@ -8,8 +8,9 @@ ghost use Rattle.std.specs.Result.{IsOkUnless};
 ghost use Rattle.treasury.specs.Request.{is_report};
 
 use crate::bytes::Bytes;
+pub use form::Form;
 use money_core::{Cause, Copied, Day, Text};
-pub use reading::{read_command, read_line};
+pub use reading::{read_command, read_line, request_of};
 
 /// A request, with its texts as they were written and its days read.
 #[derive(Debug, Drop)]

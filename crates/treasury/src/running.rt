@@ -58,7 +58,7 @@ fn refuse_in(alloc: Global, styles: &Styles, refusal: Refusal, room: Vec<u8>) ->
 }
 
 /// The line of a refusal by the treasury, as `refuse_in` makes it.
-fn refuse<S: Alter>(
+pub fn refuse<S: Alter>(
     alloc: Global,
     treasury: &Treasury<S>,
     refusal: Refusal,

@@ -1,20 +1,29 @@
 //! The words of the command line, and what they do.
 
-ghost use Rattle.std.specs.Prelude.{◌≡◌, ◌⊎◌, ◌≢◌, map, false, IfOk, OnOk, OnErr, MatchResult};
+mod file;
+mod known;
+mod over_file;
+mod said;
+mod spelling;
+
+ghost use Rattle.std.specs.Prelude.{◌≡◌, ◌⊎◌, ◌≢◌, map, codes, false, Some, IfOk, OnOk, OnErr, MatchResult};
+ghost use Rattle.clap.specs.Matches.{subcommand_name_of};
 ghost use Rattle.sqlite.specs.Files.{over_files};
 ghost use Rattle.treasury_store.specs.Treasury.{IsTreasuryOf};
 ghost use Rattle.std.specs.String.{string_bytes};
-ghost use Rattle.clap.specs.Simple.{app_of};
 ghost use Rattle.treasury.specs.Step.{Standing};
 ghost use Rattle.treasury.specs.Kept.{AnswersAll};
-ghost use Rattle.treasury.specs.Words.{known, nothing, at_first, AskForRun, MayAskForHelp, IsCutOff};
+ghost use Rattle.treasury.specs.Words.{nothing, at_first, AreTaken, AskForRun, MayAskForHelp, IsCutOff};
 
 use crate::laws::{commands_law, refusal_law, run_law};
 use crate::running::run_lines;
+use crate::words::known::known_words;
+use crate::words::over_file::answer_over_file;
 use clap::error::ErrorKind;
-use clap::{Command, Error};
+use clap::{ArgMatches, Error};
 use money_core::Cause;
-use std::alloc::{AllocError, Global};
+use sqlite::Wary;
+use std::alloc::Global;
 use std::io::{Read, Write};
 use std::mem::ManuallyDrop;
 use treasury_core::{
@@ -23,66 +32,6 @@ use treasury_core::{
 };
 use treasury_memory::{MemoryStore, open_memory};
 use treasury_store::{Store, Treasury};
-
-/// The version that `--version` shows.
-const VERSION: &str = "0.2.0";
-
-/// What the program is for, and an example.
-const ABOUT: &str = "Keeps the books of a federation of branches: requests in, answers out.";
-
-/// How the program is called.
-const EXAMPLE: &str =
-    "Example:{n}  treasury run < requests.jsonl{n}{n}Status 0: done. 1: cut off, by input, output or memory. 2: other words.";
-
-/// What `run` does.
-const ABOUT_RUN: &str =
-    "Answers the requests on standard input, one JSON object a line, on standard output";
-
-/// A day's requests and their answers.
-const EXAMPLE_RUN: &str = r#"Requests:
-  {"do":"branch","name":NAME}                    a new branch
-  {"do":"commodity","sample":AMOUNT}             a new commodity, in the style of the amount
-  {"do":"import","branch":NAME,"journal":TEXT}   a journal's transactions, into the branch
-  {"do":"dispatch","id":ID,"from":NAME,"to":NAME,"day":DAY,"amount":AMOUNT,"account":ACCOUNT}
-                                                 money on its way from the branch's account
-  {"do":"receive","id":ID,"branch":NAME,"day":DAY,"account":ACCOUNT}
-                                                 money that has come into the branch's account
-  {"do":"lock","branch":NAME,"day":DAY}          no more entries through the day
-  {"do":"close","branch":NAME,"day":DAY}         revenues and expenses to zero through the day, and a lock
-
-Reports:
-  {"do":"balance","branch":NAME,"day":DAY}       the branch's balances through the day
-  {"do":"register","branch":NAME,"account":ACCOUNT}
-                                                 the account's and its subaccounts' postings, with running sums;
-                                                 with "tag":TAG or "tag":"TAG=VALUE" of transactions that have it
-  {"do":"transit","day":DAY}                     what is on its way between branches through the day
-  {"do":"journal","branch":NAME}                 the branch's journal
-
-Each is answered by a line that begins with ok, repeated or refused; a report stands above its ok.
-All is kept in memory, and ends with the input.
-
-Example:
-  $ treasury run
-  {"do":"branch","name":"north"}
-  ok
-  {"do":"branch","name":"North"}
-  refused 21 BranchName"#;
-
-/// The words that the program knows.
-fn known_words<'a>(alloc: Global) -> Result<Command<'a>, AllocError>
-    ensures { IfOk result (λ command. app_of command ≡ known) }
-{
-    let run = Command::new(alloc, "run")
-        .about(ABOUT_RUN)
-        .after_help(EXAMPLE_RUN);
-    Command::new(alloc, "treasury")
-        .version(VERSION)
-        .about(ABOUT)
-        .after_help(EXAMPLE)
-        .arg_required_else_help(true)
-        .subcommand_required(true)
-        .subcommand(run)
-}
 
 /// What it means that something is cut off by this cause, which is 40, 45 or 46.
 fn meaning(cause: Cause) -> &'static str {
@@ -161,14 +110,69 @@ fn show<W: Write>(alloc: Global, text: &Error, output: &mut W) -> Result<(), Cau
     }
 }
 
+/// The answer where there is no memory for one.
+const NO_MEMORY: &[u8] = b"refused 40 OutOfMemory\n";
+
+/// Writes the answer to a word to the output.
+fn write_answer<W: Write>(rt: &HostRuntime, answer: &[u8], is_refused: bool, output: &mut W) -> u8
+    ensures { result ≢ 2 }
+{
+    match output.write_all(answer) {
+        Ok(()) => u8::from(is_refused),
+        Err(_) => status(rt, Err(Cause::WriteFault)),
+    }
+}
+
+/// Does what a word over a file says: its answer goes to the output, the reason of a refusal to standard error.
+fn do_over_file<W: Write>(
+    rt: &HostRuntime,
+    word: &str,
+    values: &ArgMatches<'_>,
+    output: &mut W,
+) -> u8
+    ensures { result ≢ 2 }
+{
+    let said = match answer_over_file(rt, word, values, Wary) {
+        Ok(said) => said,
+        Err(_) => return write_answer(rt, NO_MEMORY, true, output),
+    };
+    let ended = write_answer(rt, said.answer.as_slice(), said.is_refused, output);
+    if let Ok(reason) = str::from_utf8(said.reason.as_slice()) {
+        let _ = rt.eprint(reason);
+    }
+    ended
+}
+
+/// Does what words say that are taken, by what they match, and answers the exit status.
+fn do_word<R: Read, W: Write>(
+    rt: &HostRuntime,
+    matches: &ArgMatches<'_>,
+    input: &mut R,
+    output: &mut W,
+) -> u8
+    ensures done { subcommand_name_of matches.now ≡ Some (codes "run") → result ≡ 0
+        → (end : Standing) × AnswersAll R.remaining input.old input.new W.contents output.old output.new at_first end }
+    ensures cut_off { subcommand_name_of matches.now ≡ Some (codes "run") → result ≢ 0
+        → (result ≡ 1) × IsCutOff R.remaining input.old input.new W.contents output.old output.new }
+    ensures other { (subcommand_name_of matches.now ≡ Some (codes "run") → ⊥) → input.new ≡ input.old }
+    ensures usage { result ≡ 2 → (input.new ≡ input.old) × (output.new ≡ output.old) }
+{
+    match matches.subcommand_matches("run") {
+        Some(_) => status(rt, run(rt.alloc(), input, output)),
+        None => match matches.subcommand() {
+            Some((word, values)) => do_over_file(rt, word, values, output),
+            None => 2,
+        },
+    }
+}
+
 /// Does what the words say, and answers the exit status.
 ///
 /// The words begin with the program's name. 0: done, whatever was refused. 1: cut off, because memory was refused, the
 /// input broke or a write failed, with the refusal and its meaning on standard error. 2: words that say nothing to do,
 /// with the reason and the usage on standard error. `--help` and `--version` are written to the output.
-pub fn run_words<H, R, W>(rt: &H, words: &[String], input: &mut R, output: &mut W) -> u8
+pub fn run_words<R, W>(rt: &HostRuntime, words: &[String], input: &mut R, output: &mut W) -> u8
 where
-    H: Eprint + AllocGlobal,
     R: Read,
     W: Write,
     // Words that ask for a run have one, unless there is no memory to read them.
@@ -177,9 +181,9 @@ where
     ensures cut_off { AskForRun (map string_bytes words.now) → result ≢ 0
         → (result ≡ 1) × IsCutOff R.remaining input.old input.new W.contents output.old output.new }
 
-    // Others have none, and all but those that may ask for help or for the version are answered 2.
+    // Others read none, and those that are not taken, but for those that may ask for help or for the version, are answered 2.
     ensures other { (AskForRun (map string_bytes words.now) → ⊥) → input.new ≡ input.old }
-    ensures wrong { (AskForRun (map string_bytes words.now) → ⊥) → (MayAskForHelp (map string_bytes words.now) → ⊥)
+    ensures wrong { (AreTaken (map string_bytes words.now) → ⊥) → (MayAskForHelp (map string_bytes words.now) → ⊥)
         → ((result ≡ 2) ⊎ (result ≡ 1)) × (output.new ≡ output.old) }
     ensures usage { result ≡ 2 → (input.new ≡ input.old) × (output.new ≡ output.old) }
 {
@@ -189,7 +193,7 @@ where
         Err(_) => return status(rt, Err(Cause::OutOfMemory)),
     };
     match known.try_get_matches_from(words) {
-        Ok(_) => status(rt, run(alloc, input, output)),
+        Ok(matches) => do_word(rt, &matches, input, output),
         Err(error) => match error.kind() {
             ErrorKind::OutOfMemory => status(rt, Err(Cause::OutOfMemory)),
             ErrorKind::DisplayHelp | ErrorKind::DisplayVersion => {

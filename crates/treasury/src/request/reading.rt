@@ -27,7 +27,7 @@ fn owned_text(alloc: Global, text: Option<&str>) -> Result<Option<Text>, Cause>
 }
 
 /// The request of a form, with texts of its own.
-fn owned(alloc: Global, form: Form) -> Result<Request, Cause>
+pub fn request_of(alloc: Global, form: Form) -> Result<Request, Cause>
     ensures equal { IfOk result (λ request. request ≡ shown form.entry) }
     ensures memory { IsOkUnless result Cause.OutOfMemory }
 {
@@ -141,7 +141,7 @@ pub fn read_command(alloc: Global, text: &str) -> Result<Request, Cause>
         Some(form) => form,
         None => return Err(Cause::Request),
     };
-    match owned(alloc, form) {
+    match request_of(alloc, form) {
         Ok(request) => Ok(request),
         Err(_) => Err(Cause::OutOfMemory),
     }

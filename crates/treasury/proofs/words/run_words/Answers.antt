@@ -1,21 +1,22 @@
-use Rattle.std.proofs.Common.{refl, ◌∙◌, inl}
-use Rattle.treasury.proofs.WordLemmas.{taken, fails_by, run_fails, help_shown, run_shows_none, cut_off_status, done_status}
+use Rattle.std.proofs.Common.{refl, sym, ◌∙◌, inl}
+use Rattle.treasury.proofs.WordLemmas.{taken, named_word, fails_by, run_fails, help_shown, run_shows_none}
 use Rattle.treasury.proofs.words.run_words.Goals as goal
 
 pub returns-in-Ok-try_get_matches_from-clause-done :
     goal.returns-in-Ok-try_get_matches_from-clause-done
 returns-in-Ok-try_get_matches_from-clause-done g c =
-    λ _ zero. done_status c.run.result _ _ c.status-in-Ok-try_get_matches_from.ensures c.run.ensures.done zero
+    λ asks. c.do_word.ensures.done (sym (named_word _ _ c.in-Ok-try_get_matches_from.matches c.in-Ok.ensures c.in-Ok-try_get_matches_from.ensures.matches) ∙ asks.1)
 
 pub returns-in-Ok-try_get_matches_from-clause-cut_off :
     goal.returns-in-Ok-try_get_matches_from-clause-cut_off
 returns-in-Ok-try_get_matches_from-clause-cut_off g c =
-    λ _ other. cut_off_status c.run.result _ _ c.status-in-Ok-try_get_matches_from.ensures c.run.ensures.cut_off other
+    λ asks. c.do_word.ensures.cut_off (sym (named_word _ _ c.in-Ok-try_get_matches_from.matches c.in-Ok.ensures c.in-Ok-try_get_matches_from.ensures.matches) ∙ asks.1)
 
 pub returns-in-Ok-try_get_matches_from-clause-other :
     goal.returns-in-Ok-try_get_matches_from-clause-other
 returns-in-Ok-try_get_matches_from-clause-other g c =
-    λ others. absurd (others (taken _ _ c.in-Ok.ensures c.in-Ok-try_get_matches_from.ensures.kinds))
+    λ others. c.do_word.ensures.other
+    (λ named. others (taken _ _ c.in-Ok.ensures c.in-Ok-try_get_matches_from.ensures.kinds, named_word _ _ c.in-Ok-try_get_matches_from.matches c.in-Ok.ensures c.in-Ok-try_get_matches_from.ensures.matches ∙ named))
 
 pub returns-in-Ok-try_get_matches_from-clause-wrong :
     goal.returns-in-Ok-try_get_matches_from-clause-wrong

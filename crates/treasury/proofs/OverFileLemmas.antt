@@ -1,0 +1,129 @@
+-- A word over a database file: its treasury is started, answers and is closed.
+use Rattle.std.proofs.Common.{◌≡◌, ◌≤◌, ℕ, Bool, false, List, Result, Ok, Err, OnOk, sym, ap, ◌∙◌, subst}
+use Rattle.std.proofs.Math.Arith.{le-zero}
+use Rattle.sqlite_disk.specs.declared.Disk as disk
+use Rattle.sqlite_disk.specs.declared.Files.{Files}
+use Rattle.sqlite_wal.specs.Recovery.{Image}
+use Rattle.sqlite_wal.specs.Reads.{AreClean}
+use Rattle.sqlite_trees.specs.Tree.{Trees}
+use Rattle.sqlite_trees.specs.View.{doubt}
+use Rattle.sqlite_store.specs.declared.store.FileStore.{FileStore}
+use Rattle.sqlite.specs.Effect.{Database}
+use Rattle.sqlite.specs.Held.{Held}
+use Rattle.sqlite.specs.State.{HasCleanDisk}
+use Rattle.sqlite.specs.Start.{FindsIn}
+use Rattle.sqlite.specs.Files.{image_of, file_state, over_files, IsOpened}
+use Rattle.sqlite.specs.Closing.{IsCopied, HoldsAlone}
+use Rattle.treasury_core.specs.Federation.{Federation}
+use Rattle.treasury_core.specs.Good.{IsGoodState}
+use Rattle.treasury_core.specs.Rows.{rows, HasShortLocks}
+use Rattle.treasury_store.specs.Rows.{Holds}
+use Rattle.treasury_store.specs.Kept.{KeepsTables}
+use Rattle.treasury_store.specs.Tables.{no_schema}
+use Rattle.treasury_store.specs.Creating.{has_one}
+use Rattle.treasury_store.specs.Opening.{MadeHere}
+use Rattle.treasury_store.specs.declared.store.Store.{Store}
+use Rattle.treasury_store.specs.Store.{TablesAre, IsOf, empty_state}
+use Rattle.treasury_store.specs.Treasury.{Treasury, IsTreasuryOf}
+use Rattle.treasury.specs.declared.request.Request.{Request}
+use Rattle.treasury.specs.Replied.{standing}
+use Rattle.treasury.specs.Step.{Standing}
+use Rattle.treasury.specs.Word.{AnswersWord, SaysTo}
+use Rattle.treasury.specs.OverFile.{Spoken, ShowsState, HoldsState, AnswersOver, MakesOver}
+use Rattle.treasury.specs.Started.{IsStarted, IsClosedAs, SaysOver}
+
+no_more : (n m : ℕ) → n ≤ m → m ≡ 0 → n ≡ 0
+no_more n m within none = le-zero (subst (λ k. n ≤ k) none within)
+
+module _ {D : Type 0} (g : disk.Ghosts D) where
+  -- a treasury is started on a store that was opened on a connection
+  pub is_started : (image : Image) (opened : Held (FileStore D g)) (s : Store (FileStore D g)) (t : Treasury (FileStore D g))
+      → (HasCleanDisk (file_state opened) → IsOpened opened)
+      → (HasCleanDisk (file_state opened) → FindsIn image (file_state opened))
+      → (HasCleanDisk (file_state s.conn) → MadeHere (file_state opened).now.schema → ((file_state s.conn).now ≡ (file_state opened).now) × ((file_state s.conn).committed ≡ (file_state opened).committed))
+      → doubt (file_state opened).is_clean ≤ doubt (file_state s.conn).is_clean
+      → (HasCleanDisk (file_state t.store.conn) → (f : Federation) → IsGoodState f → HasShortLocks f → TablesAre over_files s.conn (rows f) → IsTreasuryOf over_files t f)
+      → t.store.failed ≡ false
+      → KeepsTables over_files s.conn t.store.conn
+      → IsStarted g image t
+  is_started image opened s t opens finds same first treasury unfailed keeps = record {
+    opened = opened;
+    found = finds;
+    clean = clean;
+    of = of;
+    unfailed = unfailed;
+  }
+    where
+      clean : HasCleanDisk (file_state t.store.conn) → HasCleanDisk (file_state opened)
+      clean k = no_more _ _ first (no_more _ _ keeps.clean k)
+
+      of : HasCleanDisk (file_state t.store.conn) → (f : Federation) → ShowsState g opened f → IsTreasuryOf over_files t f
+      of k f shows =
+          treasury k f shows.good shows.short
+          (λ at_store _.
+          let is = same at_store (λ _. shows.holds.schema) in (
+            subst (λ (db : Database). Holds db (rows f)) (sym is.0) shows.holds,
+            is.1 ∙ (sym (opens (clean k)).0.clean ∙ sym is.0),
+          ))
+
+  -- what a file holds whose connection is closed, and shows the rows of a state
+  left_behind : (c : Held (FileStore D g)) (closed : Files D) (f : Federation) → IsCopied c closed → TablesAre over_files c (rows f) → HoldsState g closed f
+  left_behind c closed f copied tables =
+      let held = tables copied.was_clean copied.was_open in record {
+        db = (file_state c).now;
+        tables = held.0;
+        alone = subst (λ (trees : Trees). HoldsAlone (image_of g closed) trees) (ap (λ (db : Database). db.trees) held.1) copied.seen;
+      }
+
+  -- its treasury answers a request, and the file is closed
+  pub over : (image : Image) (request : Request) (old new : Treasury (FileStore D g)) (text : List ℕ) (refused : Bool)
+      → IsStarted g image old → SaysTo over_files old request text refused new → IsClosedAs g new.store.conn
+      → AnswersOver g image request (record { text = text; refused = refused })
+  over image request old new text refused started says (closed, copies) = record {
+    opened = started.opened;
+    closed = closed;
+    found = λ k. started.found (started.clean (says.clean (copies k).was_clean));
+    answers = answers;
+  }
+    where
+      answers : AreClean g closed.log closed.db → (f : Federation) → ShowsState g started.opened f
+          → (end : Standing) × AnswersWord (record { now = f; failed = false }) request text refused end × HoldsState g closed end.now
+      answers k f shows =
+          let at_end = (copies k).was_clean in
+          let r = says.answers at_end f (started.of (says.clean at_end) f shows) in (
+            standing new r.0,
+            subst (λ (failed : Bool). AnswersWord (record { now = f; failed = failed }) request text refused (standing new r.0)) started.unfailed r.1.1,
+            left_behind new.store.conn closed r.0 (copies k) r.1.0.store.tables,
+          )
+
+  -- tables are made on a connection, and the file is closed
+  pub makes : (image : Image) (opened : Held (FileStore D g)) (s : Store (FileStore D g))
+      → (HasCleanDisk (file_state opened) → FindsIn image (file_state opened))
+      → ((file_state opened).now.schema ≡ no_schema → IsOf over_files s empty_state)
+      → has_one (file_state opened).now.schema ≡ false
+      → IsClosedAs g s.conn → MakesOver g image
+  makes image opened s finds made free (closed, copies) = record {
+    opened = opened;
+    closed = closed;
+    found = finds;
+    free = free;
+    makes = λ k none. left_behind s.conn closed empty_state (copies k) (made none).tables;
+  }
+
+  -- a closing of one connection is that of an equal one
+  pub closed_alike : {T E : Type 0} (result : Result T E) (one other : Held (FileStore D g)) → one ≡ other → OnOk result (IsClosedAs g one) → OnOk result (IsClosedAs g other)
+  closed_alike result one other same closed = subst (λ (c : Held (FileStore D g)). OnOk result (IsClosedAs g c)) same closed
+
+  -- tables are made on a connection whose file is then closed
+  pub makes_if_closed : {T E : Type 0} (result : Result T E) (image : Image) (opened last : Held (FileStore D g)) (s : Store (FileStore D g))
+      → last ≡ s.conn
+      → (HasCleanDisk (file_state opened) → FindsIn image (file_state opened))
+      → ((file_state opened).now.schema ≡ no_schema → IsOf over_files s empty_state)
+      → has_one (file_state opened).now.schema ≡ false
+      → OnOk result (IsClosedAs g last) → OnOk result (MakesOver g image)
+  makes_if_closed (Ok x) image opened last s same finds made free closed = makes image opened s finds made free (subst (λ (c : Held (FileStore D g)). IsClosedAs g c) same closed)
+  makes_if_closed (Err e) image opened last s same finds made free closed = tt
+
+  -- what is said to one request is said to an equal one
+  pub said_alike : (image : Image) (one other : Request) (said : Spoken) → one ≡ other → SaysOver g image one said → SaysOver g image other said
+  said_alike image one other said same says = subst (λ (r : Request). SaysOver g image r said) same says

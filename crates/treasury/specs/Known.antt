@@ -1,0 +1,76 @@
+-- The words that the program knows (own rule; docs/RULES.md, "The program"), as `clap` reads them.
+use Rattle.std.specs.Prelude.{ℕ, true, false, codes, List, [], ◌∷◌, ◌++◌, Some}
+use Rattle.clap.specs.Walk.{Rule}
+use Rattle.clap.specs.Simple.{App, Shape, new_rule, new_shape}
+
+-- an option that may be given, `--NAME VALUE`; one that has to be; and a value that stands by itself and has to be given
+abbrev pub optional : List ℕ → Rule
+optional name = record (new_rule name) { long = Some name; value_names = 1 }
+
+abbrev pub option : List ℕ → Rule
+option name = record (optional name) { required = true }
+
+abbrev pub operand : List ℕ → Rule
+operand name = record (new_rule name) { value_names = 1; required = true }
+
+-- a word over a database file: `--db FILE`, and what else it takes
+abbrev pub word : List ℕ → List Rule → Shape
+word name rules = record (new_shape name) { rules = option (codes "db") ∷ rules }
+
+-- `--branch NAME`, `--day DAY`, `--account ACCOUNT`, `--id ID`
+abbrev pub branch : Rule
+branch = option (codes "branch")
+
+abbrev pub day : Rule
+day = option (codes "day")
+
+abbrev pub account : Rule
+account = option (codes "account")
+
+abbrev pub id : Rule
+id = option (codes "id")
+
+-- the words by which a treasury begins
+abbrev pub begins : List Shape
+begins =
+    word (codes "init") []
+    ∷ word (codes "branch") (operand (codes "name") ∷ [])
+    ∷ word (codes "commodity") (operand (codes "sample") ∷ [])
+    ∷ []
+
+-- those of every month
+abbrev pub months : List Shape
+months =
+    word (codes "import") (branch ∷ operand (codes "journal") ∷ [])
+    ∷ word (codes "balance") (branch ∷ day ∷ [])
+    ∷ word (codes "register") (branch ∷ account ∷ optional (codes "tag") ∷ [])
+    ∷ []
+
+-- those of transfers
+abbrev pub transfers : List Shape
+transfers =
+    word (codes "dispatch") (id ∷ option (codes "from") ∷ option (codes "to") ∷ day ∷ option (codes "amount") ∷ account ∷ [])
+    ∷ word (codes "receive") (id ∷ branch ∷ day ∷ account ∷ [])
+    ∷ word (codes "transit") (day ∷ [])
+    ∷ []
+
+-- those of a month's or a year's end, and the one that is over no file
+abbrev pub ends : List Shape
+ends =
+    word (codes "lock") (branch ∷ day ∷ [])
+    ∷ word (codes "close") (branch ∷ day ∷ [])
+    ∷ word (codes "journal") (branch ∷ [])
+    ∷ new_shape (codes "run")
+    ∷ []
+
+-- the words that the program knows: it has a version, and one of its words has to be given
+abbrev pub known : App
+known = record {
+  top = record (new_shape (codes "treasury")) {
+    has_version = true;
+    arg_required_else_help = true;
+    subcommand_required = true;
+    is_leaf = false;
+  };
+  subs = begins ++ months ++ transfers ++ ends;
+}

@@ -1,0 +1,86 @@
+-- What is said to a word over a database file, and what it leaves of the file (own rules; docs/RULES.md, "The program"), while the
+-- disk returns what was written. The image is what the files, the database and its log, held when they were opened.
+use Rattle.std.specs.Prelude.{◌≡◌, ◌⊎◌, ℕ, Bool, true, false, List, [], Ok, Err}
+use Rattle.sqlite_disk.specs.declared.Disk as disk
+use Rattle.sqlite_disk.specs.declared.Files.{Files}
+use Rattle.sqlite_wal.specs.Recovery.{Image}
+use Rattle.sqlite_wal.specs.Reads.{AreClean}
+use Rattle.sqlite_store.specs.declared.store.FileStore.{FileStore}
+use Rattle.sqlite.specs.Effect.{Database}
+use Rattle.sqlite.specs.Held.{Held}
+use Rattle.sqlite.specs.State.{HasCleanDisk}
+use Rattle.sqlite.specs.Start.{FindsIn}
+use Rattle.sqlite.specs.Files.{image_of, file_state}
+use Rattle.sqlite.specs.Closing.{HoldsAlone}
+use Rattle.money_core.specs.declared.cause.Cause.{Cause}
+use Rattle.money_core.specs.declared.cause.Cause.TheVariants.{OutOfMemory, Store, Damaged, ReadFault}
+use Rattle.book_core.specs.declared.refusal.Refusal.TheVariants.{Plain}
+use Rattle.treasury_core.specs.declared.command.Answer.TheVariants.{Done}
+use Rattle.treasury_core.specs.Federation.{Federation}
+use Rattle.treasury_core.specs.Good.{IsGoodState}
+use Rattle.treasury_core.specs.Rows.{rows, HasShortLocks}
+use Rattle.treasury_store.specs.Rows.{Holds}
+use Rattle.treasury_store.specs.Store.{empty_state}
+use Rattle.treasury_store.specs.Tables.{no_schema}
+use Rattle.treasury_store.specs.Creating.{has_one}
+use Rattle.treasury.specs.declared.request.Request.{Request}
+use Rattle.treasury.specs.Answer.{answer_text}
+use Rattle.treasury.specs.Step.{Standing}
+use Rattle.treasury.specs.Word.{AnswersWord}
+
+-- what is said to a word: a text for standard output, and whether that is a refusal
+pub record Spoken : Type 0 where
+  pub text : List ℕ
+  pub refused : Bool
+
+-- ---- what is said by a cause alone
+
+abbrev pub IsRefusedBy : Cause → Spoken → Type 0
+IsRefusedBy cause said = (said.text ≡ answer_text [] (Err (Plain cause))) × (said.refused ≡ true)
+
+-- 40, 41 or 43: there is no memory, the file cannot be used, or it has no treasury
+abbrev pub IsFileRefused : Spoken → Type 0
+IsFileRefused said = IsRefusedBy OutOfMemory said ⊎ (IsRefusedBy Store said ⊎ IsRefusedBy Damaged said)
+
+-- 45 or 40: the journal's file cannot be read
+abbrev pub IsJournalRefused : Spoken → Type 0
+IsJournalRefused said = IsRefusedBy ReadFault said ⊎ IsRefusedBy OutOfMemory said
+
+-- ---- what is said by the file
+
+module _ {D : Type 0} (g : disk.Ghosts D) where
+  -- a connection shows tables that are the rows of a good state, with lock days that a table takes
+  pub record ShowsState (c : Held (FileStore D g)) (f : Federation) : Type 0 where
+    pub good : IsGoodState f
+    pub short : HasShortLocks f
+    pub holds : Holds (file_state c).now (rows f)
+
+  -- the database file, also with no log beside it, holds tables that are the rows of a state
+  pub record HoldsState (files : Files D) (f : Federation) : Type 0 where
+    pub db : Database
+    pub tables : Holds db (rows f)
+    pub alone : HoldsAlone (image_of g files) db.trees
+
+  -- A file was opened and closed. What its connection showed first is what the image holds, and of whichever state these are the
+  -- rows: the request is answered as by that state, and the file that is closed holds the rows of the state where the answer leads.
+  pub record AnswersOver (image : Image) (request : Request) (said : Spoken) : Type 0 where
+    pub opened : Held (FileStore D g)
+    pub closed : Files D
+    pub found : AreClean g closed.log closed.db → FindsIn image (file_state opened)
+    pub answers : AreClean g closed.log closed.db → (f : Federation) → ShowsState opened f
+        → (end : Standing) × AnswersWord (record { now = f; failed = false }) request said.text said.refused end × HoldsState closed end.now
+
+  -- A file was opened and closed. Where its connection showed no table first, the file that is closed holds the rows of a state that
+  -- has nothing; in no case was there a table with one of our names.
+  pub record MakesOver (image : Image) : Type 0 where
+    pub opened : Held (FileStore D g)
+    pub closed : Files D
+    pub found : HasCleanDisk (file_state opened) → FindsIn image (file_state opened)
+    pub free : has_one (file_state opened).now.schema ≡ false
+    pub makes : AreClean g closed.log closed.db → (file_state opened).now.schema ≡ no_schema → HoldsState closed empty_state
+
+  -- `init`
+  abbrev pub SaysToInit : Image → Spoken → Type 0
+  SaysToInit image said =
+      IsFileRefused said
+      ⊎ (MakesOver image × (said ≡ record { text = answer_text [] (Ok Done); refused = false }))

@@ -1,0 +1,51 @@
+-- The request that a word over a database file spells (own rule; docs/RULES.md, "The program"): the one that a line of `run`
+-- spells whose keys have the word's values.
+use Rattle.std.specs.Prelude.{ℕ, List, codes, Option, None, option_map, option_and_then, if◌then◌else◌}
+use Rattle.std.specs.Str.{bytes_eq}
+use Rattle.clap.specs.Walk.{Row, first_of}
+use Rattle.money_core.specs.declared.day.Day.{Day}
+use Rattle.journal_lines.specs.DateReading.{date_of}
+use Rattle.treasury.specs.declared.request.Request.{Request}
+use Rattle.treasury.specs.declared.request.Request.TheVariants.{Branch, Commodity, Dispatch, Receive, Lock, Close, Balance, Register, Transit, Journal}
+
+-- the day that is given, where it is a date
+abbrev pub day_in : List Row → Option Day
+day_in rows = option_and_then date_of (first_of (codes "day") rows)
+
+-- what `dispatch` spells, and `receive`
+abbrev pub dispatch_in : List Row → Option Request
+dispatch_in rows =
+    option_and_then (λ id. option_and_then (λ from. option_and_then (λ to. option_and_then (λ day. option_and_then (λ amount.
+    option_map (λ account. Dispatch id from to day amount account) (first_of (codes "account") rows)) (first_of (codes "amount") rows))
+    (day_in rows)) (first_of (codes "to") rows)) (first_of (codes "from") rows)) (first_of (codes "id") rows)
+
+abbrev pub receive_in : List Row → Option Request
+receive_in rows =
+    option_and_then (λ id. option_and_then (λ branch. option_and_then (λ day.
+    option_map (λ account. Receive id branch day account) (first_of (codes "account") rows))
+    (day_in rows)) (first_of (codes "branch") rows)) (first_of (codes "id") rows)
+
+-- what the word of a report spells
+abbrev pub report_in : List ℕ → List Row → Option Request
+report_in word rows =
+    if bytes_eq word (codes "balance")
+    then option_and_then (λ branch. option_map (Balance branch) (day_in rows)) (first_of (codes "branch") rows)
+    else if bytes_eq word (codes "register")
+    then option_and_then (λ branch. option_map (λ account. Register branch account (first_of (codes "tag") rows)) (first_of (codes "account") rows))
+    (first_of (codes "branch") rows)
+    else if bytes_eq word (codes "transit") then option_map Transit (day_in rows)
+    else if bytes_eq word (codes "journal") then option_map Journal (first_of (codes "branch") rows)
+    else None
+
+-- what any word spells but `init`, which spells none, and `import`, whose journal stands in a file
+abbrev pub request_in : List ℕ → List Row → Option Request
+request_in word rows =
+    if bytes_eq word (codes "branch") then option_map Branch (first_of (codes "name") rows)
+    else if bytes_eq word (codes "commodity") then option_map Commodity (first_of (codes "sample") rows)
+    else if bytes_eq word (codes "dispatch") then dispatch_in rows
+    else if bytes_eq word (codes "receive") then receive_in rows
+    else if bytes_eq word (codes "lock")
+    then option_and_then (λ branch. option_map (Lock branch) (day_in rows)) (first_of (codes "branch") rows)
+    else if bytes_eq word (codes "close")
+    then option_and_then (λ branch. option_map (Close branch) (day_in rows)) (first_of (codes "branch") rows)
+    else report_in word rows

@@ -1,0 +1,391 @@
+//! The words that the program knows, and their help.
+
+ghost use Rattle.std.specs.Prelude.{◌≡◌, ◌∷◌, [], false, codes, IfOk};
+ghost use Rattle.clap.specs.Walk.{rule_of};
+ghost use Rattle.clap.specs.Simple.{app_of, new_app};
+ghost use Rattle.clap.specs.declared.builder.command.Command.TheViews.{out-Command};
+ghost use Rattle.treasury.specs.Known.{known, word, option, optional, operand, branch, day, account, id, begins, months, transfers, ends};
+ghost use Rattle.treasury.specs.Knowing.{IsWord, HasMore};
+
+use clap::{Arg, Command};
+use std::alloc::{AllocError, Global};
+
+/// The version that `--version` shows.
+const VERSION: &str = "0.2.0";
+
+/// What the program is for.
+const ABOUT: &str = "Keeps the books of a federation of branches, in a database file.";
+
+/// How the program is called, and what it ends with.
+const EXAMPLE: &str = r#"Example, a first day:
+  treasury init --db books.db
+  treasury branch --db books.db north
+  treasury commodity --db books.db '1,000.00 EUR'
+  treasury import --db books.db --branch north north.journal
+  treasury balance --db books.db --branch north --day 2024-12-31
+
+The answer is written to standard output: ok, repeated, refused with a number and a name, or a report. Standard error
+says more of a refusal. DAY is a date as 2024-12-31, FILE the database.
+
+Status 0: done, repeated or reported. 1: refused, or cut off. 2: other words."#;
+
+/// What each word does, in the order of a treasurer's year, with an example that works.
+const ABOUT_INIT: &str = "Makes the tables of a new treasury in FILE";
+
+const EXAMPLE_INIT: &str = "Example:\n  treasury init --db books.db";
+
+const ABOUT_BRANCH: &str = "Adds a branch, with an empty book";
+
+const EXAMPLE_BRANCH: &str = "Example:\n  treasury branch --db books.db north";
+
+const ABOUT_COMMODITY: &str = "Adds a commodity, in the style of a sample amount";
+
+const EXAMPLE_COMMODITY: &str =
+    "Examples:\n  treasury commodity --db books.db '1,000.00 EUR'\n  treasury commodity --db books.db '$1,000.00'";
+
+const ABOUT_IMPORT: &str = "Enters a journal's new transactions into a branch's book";
+
+const EXAMPLE_IMPORT: &str =
+    "Example:\n  treasury import --db books.db --branch north north.journal\n\nWhat the branch has already is counted as repeated, so a journal may grow and be imported again.";
+
+const ABOUT_BALANCE: &str = "Reports a branch's balances through a day";
+
+const EXAMPLE_BALANCE: &str =
+    "Example:\n  treasury balance --db books.db --branch north --day 2024-12-31";
+
+const ABOUT_REGISTER: &str = "Reports an account's postings, with running sums";
+
+const EXAMPLE_REGISTER: &str =
+    "Examples:\n  treasury register --db books.db --branch north --account assets:bank\n  treasury register --db books.db --branch north --account expenses --tag project=hall\n\nThe account's subaccounts are taken in.";
+
+const ABOUT_DISPATCH: &str = "Sends money from a branch to another";
+
+const EXAMPLE_DISPATCH: &str =
+    "Example:\n  treasury dispatch --db books.db --id t7 --from north --to south --day 2024-03-01 --amount '50.00 EUR' --account assets:bank";
+
+const ABOUT_RECEIVE: &str = "Receives the money of a transfer in a branch";
+
+const EXAMPLE_RECEIVE: &str =
+    "Example:\n  treasury receive --db books.db --id t7 --branch south --day 2024-03-03 --account assets:bank";
+
+const ABOUT_TRANSIT: &str = "Reports what is on its way between branches through a day";
+
+const EXAMPLE_TRANSIT: &str = "Example:\n  treasury transit --db books.db --day 2024-12-31";
+
+const ABOUT_LOCK: &str = "Locks a branch through a day: no more entries on it or before";
+
+const EXAMPLE_LOCK: &str =
+    "Example:\n  treasury lock --db books.db --branch north --day 2024-01-31";
+
+const ABOUT_CLOSE: &str = "Closes a branch's revenues and expenses at a day, and locks it";
+
+const EXAMPLE_CLOSE: &str =
+    "Example:\n  treasury close --db books.db --branch north --day 2024-12-31";
+
+const ABOUT_JOURNAL: &str = "Reports a branch's book as a journal in hledger's format";
+
+const EXAMPLE_JOURNAL: &str =
+    "Example:\n  treasury journal --db books.db --branch north > north.journal";
+
+const ABOUT_RUN: &str = "Answers the requests on standard input, in memory alone";
+
+/// A day's requests and their answers.
+const EXAMPLE_RUN: &str = r#"One JSON object a line is a request. Requests:
+  {"do":"branch","name":NAME}                    a new branch
+  {"do":"commodity","sample":AMOUNT}             a new commodity, in the style of the amount
+  {"do":"import","branch":NAME,"journal":TEXT}   a journal's transactions, into the branch
+  {"do":"dispatch","id":ID,"from":NAME,"to":NAME,"day":DAY,"amount":AMOUNT,"account":ACCOUNT}
+                                                 money on its way from the branch's account
+  {"do":"receive","id":ID,"branch":NAME,"day":DAY,"account":ACCOUNT}
+                                                 money that has come into the branch's account
+  {"do":"lock","branch":NAME,"day":DAY}          no more entries through the day
+  {"do":"close","branch":NAME,"day":DAY}         revenues and expenses to zero through the day, and a lock
+
+Reports:
+  {"do":"balance","branch":NAME,"day":DAY}       the branch's balances through the day
+  {"do":"register","branch":NAME,"account":ACCOUNT}
+                                                 the account's and its subaccounts' postings, with running sums;
+                                                 with "tag":TAG or "tag":"TAG=VALUE" of transactions that have it
+  {"do":"transit","day":DAY}                     what is on its way between branches through the day
+  {"do":"journal","branch":NAME}                 the branch's journal
+
+Each is answered by a line that begins with ok, repeated or refused; a report stands above its ok.
+All is kept in memory, and ends with the input.
+
+Example:
+  $ treasury run
+  {"do":"branch","name":"north"}
+  ok
+  {"do":"branch","name":"North"}
+  refused 21 BranchName"#;
+
+/// What stands beside the values in the help of each word.
+const NAME_HELP: &str = "A lower-case letter, then at most 31 lower-case letters, digits or -";
+
+const SAMPLE_HELP: &str = "An amount in the commodity's style, with its decimal mark";
+
+const JOURNAL_HELP: &str = "The journal's file, of at most 1 MiB";
+
+const TAG_HELP: &str = "Only of transactions that have the tag: NAME, or NAME=VALUE";
+
+const ID_HELP: &str = "The transfer: at most 64 letters, digits or -._";
+
+/// An option that may be given, with a value.
+fn optional<'a>(alloc: Global, name: &'a str, value: &'a str, help: &'a str) -> Arg<'a>
+    ensures rule { rule_of result ≡ optional name.entry.now }
+    ensures local { result.global ≡ false }
+{
+    Arg::new(alloc, name)
+        .long(name)
+        .value_name(value)
+        .help(help)
+}
+
+/// An option that has to be given, with a value.
+fn option<'a>(alloc: Global, name: &'a str, value: &'a str, help: &'a str) -> Arg<'a>
+    ensures rule { rule_of result ≡ option name.entry.now }
+    ensures local { result.global ≡ false }
+{
+    optional(alloc, name, value, help).required(true)
+}
+
+/// A value that stands by itself, and has to be given.
+fn operand<'a>(alloc: Global, name: &'a str, value: &'a str, help: &'a str) -> Arg<'a>
+    ensures rule { rule_of result ≡ operand name.entry.now }
+    ensures local { result.global ≡ false }
+{
+    Arg::new(alloc, name)
+        .value_name(value)
+        .required(true)
+        .help(help)
+}
+
+/// The option of the branch that a word is on.
+fn branch_option<'a>(alloc: Global) -> Arg<'a>
+    ensures rule { rule_of result ≡ branch }
+    ensures local { result.global ≡ false }
+{
+    option(alloc, "branch", "NAME", "The branch")
+}
+
+/// The option of the day that a word is on.
+fn day_option<'a>(alloc: Global) -> Arg<'a>
+    ensures rule { rule_of result ≡ day }
+    ensures local { result.global ≡ false }
+{
+    option(alloc, "day", "DAY", "The day, as 2024-12-31")
+}
+
+/// The option of the account that a word is on.
+fn account_option<'a>(alloc: Global, help: &'a str) -> Arg<'a>
+    ensures rule { rule_of result ≡ account }
+    ensures local { result.global ≡ false }
+{
+    option(alloc, "account", "ACCOUNT", help)
+}
+
+/// A word over a database file.
+fn word<'a>(
+    alloc: Global,
+    name: &'a str,
+    about: &'a str,
+    example: &'a str,
+) -> Result<Command<'a>, AllocError>
+    ensures { IfOk result (IsWord name.entry.now []) }
+{
+    Command::new(alloc, name)
+        .about(about)
+        .after_help(example)
+        .arg(option(alloc, "db", "FILE", "The database file"))
+}
+
+/// The word `init`.
+fn init<'a>(alloc: Global) -> Result<Command<'a>, AllocError>
+    ensures { IfOk result (IsWord (codes "init") ([])) }
+{
+    word(alloc, "init", ABOUT_INIT, EXAMPLE_INIT)
+}
+
+/// The word `branch`.
+fn branch<'a>(alloc: Global) -> Result<Command<'a>, AllocError>
+    ensures { IfOk result (IsWord (codes "branch") (operand (codes "name") ∷ [])) }
+{
+    word(alloc, "branch", ABOUT_BRANCH, EXAMPLE_BRANCH)?.arg(operand(
+        alloc, "name", "NAME", NAME_HELP,
+    ))
+}
+
+/// The word `commodity`.
+fn commodity<'a>(alloc: Global) -> Result<Command<'a>, AllocError>
+    ensures { IfOk result (IsWord (codes "commodity") (operand (codes "sample") ∷ [])) }
+{
+    word(alloc, "commodity", ABOUT_COMMODITY, EXAMPLE_COMMODITY)?.arg(operand(
+        alloc,
+        "sample",
+        "SAMPLE",
+        SAMPLE_HELP,
+    ))
+}
+
+/// The word `import`.
+fn import<'a>(alloc: Global) -> Result<Command<'a>, AllocError>
+    ensures { IfOk result (IsWord (codes "import") (branch ∷ operand (codes "journal") ∷ [])) }
+{
+    word(alloc, "import", ABOUT_IMPORT, EXAMPLE_IMPORT)?
+        .arg(branch_option(alloc))?
+        .arg(operand(alloc, "journal", "JOURNAL", JOURNAL_HELP))
+}
+
+/// The word `balance`.
+fn balance<'a>(alloc: Global) -> Result<Command<'a>, AllocError>
+    ensures { IfOk result (IsWord (codes "balance") (branch ∷ day ∷ [])) }
+{
+    word(alloc, "balance", ABOUT_BALANCE, EXAMPLE_BALANCE)?
+        .arg(branch_option(alloc))?
+        .arg(day_option(alloc))
+}
+
+/// The word `register`.
+fn register<'a>(alloc: Global) -> Result<Command<'a>, AllocError>
+    ensures { IfOk result (IsWord (codes "register") (branch ∷ account ∷ optional (codes "tag") ∷ [])) }
+{
+    word(alloc, "register", ABOUT_REGISTER, EXAMPLE_REGISTER)?
+        .arg(branch_option(alloc))?
+        .arg(account_option(alloc, "The account, with its subaccounts"))?
+        .arg(optional(alloc, "tag", "TAG", TAG_HELP))
+}
+
+/// The word `dispatch`, with what is sent from where to where.
+fn sending<'a>(alloc: Global) -> Result<Command<'a>, AllocError>
+    ensures { IfOk result (IsWord (codes "dispatch") (id ∷ option (codes "from") ∷ option (codes "to") ∷ [])) }
+{
+    word(alloc, "dispatch", ABOUT_DISPATCH, EXAMPLE_DISPATCH)?
+        .arg(option(alloc, "id", "ID", ID_HELP))?
+        .arg(option(alloc, "from", "NAME", "The branch that pays"))?
+        .arg(option(alloc, "to", "NAME", "The branch that is paid"))
+}
+
+/// The word `dispatch`.
+fn dispatch<'a>(alloc: Global) -> Result<Command<'a>, AllocError>
+    ensures { IfOk result (IsWord (codes "dispatch") (id ∷ option (codes "from") ∷ option (codes "to") ∷ day ∷ option (codes "amount") ∷ account ∷ [])) }
+{
+    sending(alloc)?
+        .arg(day_option(alloc))?
+        .arg(option(alloc, "amount", "AMOUNT", "What is sent"))?
+        .arg(account_option(alloc, "The account that pays"))
+}
+
+/// The word `receive`.
+fn receive<'a>(alloc: Global) -> Result<Command<'a>, AllocError>
+    ensures { IfOk result (IsWord (codes "receive") (id ∷ branch ∷ day ∷ account ∷ [])) }
+{
+    word(alloc, "receive", ABOUT_RECEIVE, EXAMPLE_RECEIVE)?
+        .arg(option(alloc, "id", "ID", ID_HELP))?
+        .arg(branch_option(alloc))?
+        .arg(day_option(alloc))?
+        .arg(account_option(alloc, "The account that is paid"))
+}
+
+/// The word `transit`.
+fn transit<'a>(alloc: Global) -> Result<Command<'a>, AllocError>
+    ensures { IfOk result (IsWord (codes "transit") (day ∷ [])) }
+{
+    word(alloc, "transit", ABOUT_TRANSIT, EXAMPLE_TRANSIT)?.arg(day_option(alloc))
+}
+
+/// The word `lock`.
+fn lock<'a>(alloc: Global) -> Result<Command<'a>, AllocError>
+    ensures { IfOk result (IsWord (codes "lock") (branch ∷ day ∷ [])) }
+{
+    word(alloc, "lock", ABOUT_LOCK, EXAMPLE_LOCK)?
+        .arg(branch_option(alloc))?
+        .arg(day_option(alloc))
+}
+
+/// The word `close`.
+fn close<'a>(alloc: Global) -> Result<Command<'a>, AllocError>
+    ensures { IfOk result (IsWord (codes "close") (branch ∷ day ∷ [])) }
+{
+    word(alloc, "close", ABOUT_CLOSE, EXAMPLE_CLOSE)?
+        .arg(branch_option(alloc))?
+        .arg(day_option(alloc))
+}
+
+/// The word `journal`.
+fn journal<'a>(alloc: Global) -> Result<Command<'a>, AllocError>
+    ensures { IfOk result (IsWord (codes "journal") (branch ∷ [])) }
+{
+    word(alloc, "journal", ABOUT_JOURNAL, EXAMPLE_JOURNAL)?.arg(branch_option(alloc))
+}
+
+/// With the words by which a treasury begins.
+fn with_begins<'a>(alloc: Global, command: Command<'a>) -> Result<Command<'a>, AllocError>
+    ensures { IfOk result (HasMore begins command.entry) }
+{
+    command
+        .subcommand(init(alloc)?)?
+        .subcommand(branch(alloc)?)?
+        .subcommand(commodity(alloc)?)
+}
+
+/// With the words of every month.
+fn with_months<'a>(alloc: Global, command: Command<'a>) -> Result<Command<'a>, AllocError>
+    ensures { IfOk result (HasMore months command.entry) }
+{
+    command
+        .subcommand(import(alloc)?)?
+        .subcommand(balance(alloc)?)?
+        .subcommand(register(alloc)?)
+}
+
+/// With the words of transfers.
+fn with_transfers<'a>(alloc: Global, command: Command<'a>) -> Result<Command<'a>, AllocError>
+    ensures { IfOk result (HasMore transfers command.entry) }
+{
+    command
+        .subcommand(dispatch(alloc)?)?
+        .subcommand(receive(alloc)?)?
+        .subcommand(transit(alloc)?)
+}
+
+/// The word `run`, which is over no file.
+fn run<'a>(alloc: Global) -> Command<'a>
+    ensures app { app_of result ≡ new_app (codes "run") }
+    ensures local { (out-Command result).has_globals ≡ false }
+{
+    Command::new(alloc, "run")
+        .about(ABOUT_RUN)
+        .after_help(EXAMPLE_RUN)
+}
+
+/// With the words that lock a branch.
+fn with_locks<'a>(alloc: Global, command: Command<'a>) -> Result<Command<'a>, AllocError>
+    ensures { IfOk result (HasMore (word (codes "lock") (branch ∷ day ∷ []) ∷ word (codes "close") (branch ∷ day ∷ []) ∷ []) command.entry) }
+{
+    command.subcommand(lock(alloc)?)?.subcommand(close(alloc)?)
+}
+
+/// With the words of a month's or a year's end, and `run`.
+fn with_ends<'a>(alloc: Global, command: Command<'a>) -> Result<Command<'a>, AllocError>
+    ensures { IfOk result (HasMore ends command.entry) }
+{
+    with_locks(alloc, command)?
+        .subcommand(journal(alloc)?)?
+        .subcommand(run(alloc))
+}
+
+/// The words that the program knows, in the order of a treasurer's year.
+pub fn known_words<'a>(alloc: Global) -> Result<Command<'a>, AllocError>
+    ensures { IfOk result (λ command. app_of command ≡ known) }
+{
+    let command = Command::new(alloc, "treasury")
+        .version(VERSION)
+        .about(ABOUT)
+        .after_help(EXAMPLE)
+        .arg_required_else_help(true)
+        .subcommand_required(true);
+    let command = with_begins(alloc, command)?;
+    let command = with_months(alloc, command)?;
+    let command = with_transfers(alloc, command)?;
+    with_ends(alloc, command)
+}

@@ -1,0 +1,65 @@
+//! What is said to a word: the answer, and the reason of a refusal.
+
+ghost use Rattle.std.specs.Prelude.{◌≡◌, [], false, Ok, IfOk};
+ghost use Rattle.treasury_core.specs.declared.command.Answer.{Answer as Answered};
+ghost use Rattle.treasury.specs.Answer.{answer_text};
+ghost use Rattle.treasury.specs.OverFile.{IsRefusedBy};
+ghost use Rattle.treasury.specs.Started.{spoken};
+
+use crate::answers::{MOST_PLAIN, answer_line};
+use crate::explain::push_reason;
+use book_core::Refusal;
+use money_core::{Cause, Styles};
+use std::alloc::{AllocError, Global};
+use treasury_core::Answer;
+
+/// What is said to a word.
+#[derive(Drop)]
+pub struct Said {
+    /// For standard output: the line of a command or of a refusal, or the lines of a report.
+    pub answer: Vec<u8>,
+    /// For standard error: why it is refused, as far as there was memory for it.
+    pub reason: Vec<u8>,
+    pub is_refused: bool,
+}
+
+/// Said where the word is refused by a cause alone, with the reason of what it comes from.
+pub fn refused(alloc: Global, cause: Cause, origin: &str, reason: &str) -> Result<Said, AllocError>
+    ensures { IfOk result (λ said. IsRefusedBy cause (spoken said)) }
+{
+    let mut answer = match Vec::with_capacity(alloc, MOST_PLAIN) {
+        Ok(room) => room,
+        Err(error) => return Err(error),
+    };
+    let line = Err(Refusal::Plain(cause));
+    match answer_line(alloc, &line, &Styles::empty(alloc), &mut answer) {
+        Ok(()) => {}
+        Err(_) => unreachable!(),
+    }
+    let mut told = Vec::new(alloc);
+    let _ = push_reason(origin, reason, &mut told);
+    Ok(Said {
+        answer,
+        reason: told,
+        is_refused: true,
+    })
+}
+
+/// Said where it is done, by the line `ok`.
+pub fn done(alloc: Global) -> Result<Said, AllocError>
+    ensures { IfOk result (λ said. spoken said ≡ record { text = answer_text [] (Ok Answered.Done); refused = false }) }
+{
+    let mut answer = match Vec::with_capacity(alloc, MOST_PLAIN) {
+        Ok(room) => room,
+        Err(error) => return Err(error),
+    };
+    match answer_line(alloc, &Ok(Answer::Done), &Styles::empty(alloc), &mut answer) {
+        Ok(()) => {}
+        Err(_) => unreachable!(),
+    }
+    Ok(Said {
+        answer,
+        reason: Vec::new(alloc),
+        is_refused: false,
+    })
+}

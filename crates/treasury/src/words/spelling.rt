@@ -1,0 +1,126 @@
+//! What a word over a file asks for, by its values.
+
+ghost use Rattle.std.specs.Prelude.{◌≡◌, codes, option_map, option_copied, IfSome};
+ghost use Rattle.clap.specs.Matches.{found_of};
+ghost use Rattle.clap.specs.Walk.{first_of, rows_of};
+ghost use Rattle.journal_lines.specs.Date.{IsDayNumber};
+ghost use Rattle.treasury.specs.Form.{shown};
+ghost use Rattle.treasury.specs.Request.{HasDayNumbers};
+ghost use Rattle.treasury.specs.Spelling.{day_in, dispatch_in, receive_in, report_in, request_in};
+
+use crate::request::Form;
+use clap::ArgMatches;
+use journal_lines::read_date;
+use money_core::Day;
+
+/// The value of that name.
+fn value_of<'a>(values: &ArgMatches<'a>, name: &str) -> Option<&'a str>
+    ensures { option_map (λ s. s.now) result ≡ first_of name.now (rows_of (found_of values.now)) }
+{
+    values.get_str(name)
+}
+
+/// The value that is a day.
+fn day_of(values: &ArgMatches<'_>) -> Option<Day>
+    ensures value { result ≡ day_in (rows_of (found_of values.now)) }
+    ensures range { IfSome result IsDayNumber }
+{
+    let text = value_of(values, "day")?;
+    read_date(text.as_bytes())
+}
+
+/// What `dispatch` asks for.
+fn dispatch_of<'a>(values: &ArgMatches<'a>) -> Option<Form<'a>>
+    ensures value { option_map shown result ≡ dispatch_in (rows_of (found_of values.now)) }
+    ensures days { IfSome result (λ form. HasDayNumbers (shown form)) }
+{
+    let id = value_of(values, "id")?;
+    let from = value_of(values, "from")?;
+    let to = value_of(values, "to")?;
+    let day = day_of(values)?;
+    let amount = value_of(values, "amount")?;
+    let account = value_of(values, "account")?;
+    Some(Form::Dispatch {
+        id,
+        from,
+        to,
+        day,
+        amount,
+        account,
+    })
+}
+
+/// What `receive` asks for.
+fn receive_of<'a>(values: &ArgMatches<'a>) -> Option<Form<'a>>
+    ensures value { option_map shown result ≡ receive_in (rows_of (found_of values.now)) }
+    ensures days { IfSome result (λ form. HasDayNumbers (shown form)) }
+{
+    let id = value_of(values, "id")?;
+    let branch = value_of(values, "branch")?;
+    let day = day_of(values)?;
+    let account = value_of(values, "account")?;
+    Some(Form::Receive {
+        id,
+        branch,
+        day,
+        account,
+    })
+}
+
+/// What the word of a report asks for.
+fn report_of<'a>(word: &str, values: &ArgMatches<'a>) -> Option<Form<'a>>
+    ensures value { option_map shown result ≡ report_in word.now (rows_of (found_of values.now)) }
+    ensures days { IfSome result (λ form. HasDayNumbers (shown form)) }
+{
+    if word == "balance" {
+        let branch = value_of(values, "branch")?;
+        let day = day_of(values)?;
+        Some(Form::Balance { branch, day })
+    } else if word == "register" {
+        let branch = value_of(values, "branch")?;
+        let account = value_of(values, "account")?;
+        let tag = value_of(values, "tag");
+        Some(Form::Register {
+            branch,
+            account,
+            tag,
+        })
+    } else if word == "transit" {
+        let day = day_of(values)?;
+        Some(Form::Transit { day })
+    } else if word == "journal" {
+        let branch = value_of(values, "branch")?;
+        Some(Form::Journal { branch })
+    } else {
+        None
+    }
+}
+
+/// What the word of a command or a report asks for, `init` and `import` aside: the request that a line of `run` spells whose
+/// keys have these values. Nothing where a value is missing, or a day is no date.
+pub fn form_of_word<'a>(word: &str, values: &ArgMatches<'a>) -> Option<Form<'a>>
+    ensures value { option_map shown result ≡ request_in word.now (rows_of (found_of values.now)) }
+    ensures days { IfSome result (λ form. HasDayNumbers (shown form)) }
+{
+    if word == "branch" {
+        let name = value_of(values, "name")?;
+        Some(Form::Branch { name })
+    } else if word == "commodity" {
+        let sample = value_of(values, "sample")?;
+        Some(Form::Commodity { sample })
+    } else if word == "dispatch" {
+        dispatch_of(values)
+    } else if word == "receive" {
+        receive_of(values)
+    } else if word == "lock" {
+        let branch = value_of(values, "branch")?;
+        let day = day_of(values)?;
+        Some(Form::Lock { branch, day })
+    } else if word == "close" {
+        let branch = value_of(values, "branch")?;
+        let day = day_of(values)?;
+        Some(Form::Close { branch, day })
+    } else {
+        report_of(word, values)
+    }
+}
