@@ -1,8 +1,9 @@
 //! The tables of a new treasury.
 
-ghost use Rattle.std.specs.Prelude.{◌≡◌, Ok, OnOk, OnErr, IfOk, IsTrue, false, [], codes};
+ghost use Rattle.std.specs.Prelude.{◌≡◌, ◌≤◌, Ok, OnOk, OnErr, IfOk, IsTrue, false, [], codes};
 ghost use Rattle.std.specs.List.{list_any};
 ghost use Rattle.sqlite_schema.specs.Names.{same_name};
+ghost use Rattle.sqlite_trees.specs.View.{doubt};
 ghost use Rattle.sqlite.specs.Schema.{Schema};
 ghost use Rattle.sqlite.specs.Change.{created, next_tree};
 ghost use Rattle.sqlite.specs.State.{HasCleanDisk, KeepsCommit, Survives};
@@ -146,6 +147,7 @@ pub fn create_tables<S: Alter>(conn: &mut Connection<S>) -> Result<bool, Error>
     // Beside other tables, none of which has AUTOINCREMENT.
     ensures beside { HasCleanDisk (state S.Store conn.new) → IfOk result (λ made. IsTrue made → has_counter (state S.Store conn.old).now.schema ≡ false → Beside (state S.Store conn.old).now (state S.Store conn.new).now) }
     ensures still_open { HasCleanDisk (state S.Store conn.new) → IfOk result (λ made. IsTrue made → IsTrue (state S.Store conn.new).is_open) }
+    ensures clean { OnOk result (doubt (state S.Store conn.old).is_clean ≤ doubt (state S.Store conn.new).is_clean) }
     ensures taken { IsTrue (has_one (state S.Store conn.old).now.schema) → (result ≡ Ok false) × (conn.new ≡ conn.old) }
     ensures free { IfOk result (λ made. IsTrue made → has_one (state S.Store conn.old).now.schema ≡ false) }
     ensures refused { IfOk result (λ made. made ≡ false → IsTrue (has_one (state S.Store conn.old).now.schema) × (conn.new ≡ conn.old)) }

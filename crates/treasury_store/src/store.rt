@@ -70,6 +70,7 @@ impl<S: Alter> Store<S> {
         // Beside other tables, none of which has AUTOINCREMENT.
         ensures beside { IfOk result (λ s. HasCleanDisk (state S.Store s.conn) → has_counter (state S.Store conn).now.schema ≡ false → Beside (state S.Store conn).now (state S.Store s.conn).now) }
         ensures still_open { IfOk result (λ s. HasCleanDisk (state S.Store s.conn) → IsTrue (state S.Store s.conn).is_open) }
+        ensures clean { IfOk result (λ s. doubt (state S.Store conn).is_clean ≤ doubt (state S.Store s.conn).is_clean) }
         ensures fresh { IfOk result (λ s. Knows s empty_state × (s.failed ≡ false)) }
         ensures free { IfOk result (λ s. has_one (state S.Store conn).now.schema ≡ false) }
         ensures taken { IsTrue (has_one (state S.Store conn).now.schema) → result ≡ Err (record { conn = conn; cause = Cause.Damaged }) }

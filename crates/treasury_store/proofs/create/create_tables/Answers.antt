@@ -1,4 +1,5 @@
-use Rattle.std.proofs.Common.{◌≡◌, ◌∙◌, sym, ap, subst, false, refl, arith, rules}
+use Rattle.std.proofs.Common.{◌≡◌, ◌≤◌, ◌∙◌, sym, ap, subst, false, refl, arith, rules}
+use Rattle.sqlite_trees.specs.View.{doubt}
 use Rattle.sqlite.specs.State.{HasCleanDisk}
 use Rattle.sqlite.specs.Held.{state}
 use Rattle.treasury_store.specs.Tables.{format}
@@ -36,3 +37,13 @@ returns-clause-made g c clean is_made empty =
       holds_none _ _ empty (returns-clause-beside g c clean is_made (ap has_counter empty)),
       subst (λ h. (state g.S.Store h).committed ≡ (state g.S.Store h).now) same (done.committed_is ∙ sym done.now_is),
     )
+
+pub returns-clause-clean : goal.returns-clause-clean
+returns-clause-clean g c =
+    let old = c.args.conn.now in
+    let first = c.create_format.new.tx.conn.now in
+    let end = c.commit.new.self.0 in
+    let same : end ≡ c.conn-2-1.given.0 = search rules in
+    let made = subst (λ h. doubt (state g.S.Store h).is_clean ≤ doubt (state g.S.Store first).is_clean) c.transaction-tx.ensures.begun c.create_format.ensures.creates.survives.clean in
+    subst (λ h. doubt (state g.S.Store old).is_clean ≤ doubt (state g.S.Store h).is_clean) same
+    (omega (arith, made, c.put_format.ensures.survives.clean, c.create_state.ensures.survives.clean, c.commit.ensures.survives.clean))
