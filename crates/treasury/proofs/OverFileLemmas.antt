@@ -1,5 +1,9 @@
 -- A word over a database file: its treasury is started, answers and is closed.
-use Rattle.std.proofs.Common.{◌≡◌, ◌≤◌, ℕ, Bool, false, List, Result, Ok, Err, OnOk, sym, ap, ◌∙◌, subst}
+use Rattle.std.proofs.Common.{◌≡◌, ◌≤◌, ℕ, Bool, true, false, List, [], Option, Result, Ok, Err, OnOk, codes, take, refl, sym, ap, ◌∙◌, subst, inl, inr}
+use Rattle.std.proofs.KnownBytes.{Appends-nil}
+use Rattle.std.specs.Fmt.{digits}
+use Rattle.std.specs.Io.KnownBytes.{Appends}
+use Rattle.clap.specs.Walk.{Row}
 use Rattle.std.proofs.Math.Arith.{le-zero}
 use Rattle.sqlite_disk.specs.declared.Disk as disk
 use Rattle.sqlite_disk.specs.declared.Files.{Files}
@@ -14,6 +18,8 @@ use Rattle.sqlite.specs.State.{HasCleanDisk}
 use Rattle.sqlite.specs.Start.{FindsIn}
 use Rattle.sqlite.specs.Files.{image_of, file_state, over_files, IsOpened}
 use Rattle.sqlite.specs.Closing.{IsCopied, HoldsAlone}
+use Rattle.money_core.specs.declared.cause.Cause.TheVariants.{OutOfMemory}
+use Rattle.book_core.specs.declared.refusal.Refusal.TheVariants.{Plain}
 use Rattle.treasury_core.specs.Federation.{Federation}
 use Rattle.treasury_core.specs.Good.{IsGoodState}
 use Rattle.treasury_core.specs.Rows.{rows, HasShortLocks}
@@ -26,11 +32,22 @@ use Rattle.treasury_store.specs.declared.store.Store.{Store}
 use Rattle.treasury_store.specs.Store.{TablesAre, IsOf, empty_state}
 use Rattle.treasury_store.specs.Treasury.{Treasury, IsTreasuryOf}
 use Rattle.treasury.specs.declared.request.Request.{Request}
+use Rattle.treasury.specs.Answer.{answer_text}
 use Rattle.treasury.specs.Replied.{standing}
 use Rattle.treasury.specs.Step.{Standing}
 use Rattle.treasury.specs.Word.{AnswersWord, SaysTo}
-use Rattle.treasury.specs.OverFile.{Spoken, ShowsState, HoldsState, AnswersOver, MakesOver}
-use Rattle.treasury.specs.Started.{IsStarted, IsClosedAs, SaysOver}
+use Rattle.treasury.specs.OverFile.{Spoken, ShowsState, HoldsState, AnswersOver, MakesOver, Tells, SaysOver, SaysToWord, IsTold}
+use Rattle.treasury.specs.Started.{IsStarted, IsClosedAs}
+
+-- the line of 40
+pub line_of_40 : codes "refused 40 OutOfMemory\n" ≡ answer_text [] (Err (Plain OutOfMemory))
+unfolding answer_text digits
+line_of_40 = refl
+
+-- nothing is told, for want of memory
+pub tells_nothing : {W : Type 0} (contents : W → Option (List ℕ)) (w0 w1 : W) (status : ℕ) (said : Spoken) → w1 ≡ w0 → status ≡ 1 → Tells contents w0 w1 status said
+tells_nothing {W} contents w0 w1 status said same one =
+    inr (0, subst (λ (w : W). Appends (contents w0) (contents w) []) (sym same) (Appends-nil (contents w0)), one)
 
 no_more : (n m : ℕ) → n ≤ m → m ≡ 0 → n ≡ 0
 no_more n m within none = le-zero (subst (λ k. n ≤ k) none within)
@@ -101,11 +118,12 @@ module _ {D : Type 0} (g : disk.Ghosts D) where
       → (HasCleanDisk (file_state opened) → FindsIn image (file_state opened))
       → ((file_state opened).now.schema ≡ no_schema → IsOf over_files s empty_state)
       → has_one (file_state opened).now.schema ≡ false
+      → doubt (file_state opened).is_clean ≤ doubt (file_state s.conn).is_clean
       → IsClosedAs g s.conn → MakesOver g image
-  makes image opened s finds made free (closed, copies) = record {
+  makes image opened s finds made free first (closed, copies) = record {
     opened = opened;
     closed = closed;
-    found = finds;
+    found = λ k. finds (no_more _ _ first (copies k).was_clean);
     free = free;
     makes = λ k none. left_behind s.conn closed empty_state (copies k) (made none).tables;
   }
@@ -120,10 +138,36 @@ module _ {D : Type 0} (g : disk.Ghosts D) where
       → (HasCleanDisk (file_state opened) → FindsIn image (file_state opened))
       → ((file_state opened).now.schema ≡ no_schema → IsOf over_files s empty_state)
       → has_one (file_state opened).now.schema ≡ false
+      → doubt (file_state opened).is_clean ≤ doubt (file_state s.conn).is_clean
       → OnOk result (IsClosedAs g last) → OnOk result (MakesOver g image)
-  makes_if_closed (Ok x) image opened last s same finds made free closed = makes image opened s finds made free (subst (λ (c : Held (FileStore D g)). IsClosedAs g c) same closed)
-  makes_if_closed (Err e) image opened last s same finds made free closed = tt
+  makes_if_closed (Ok x) image opened last s same finds made free first closed = makes image opened s finds made free first (subst (λ (c : Held (FileStore D g)). IsClosedAs g c) same closed)
+  makes_if_closed (Err e) image opened last s same finds made free first closed = tt
 
   -- what is said to one request is said to an equal one
   pub said_alike : (image : Image) (one other : Request) (said : Spoken) → one ≡ other → SaysOver g image one said → SaysOver g image other said
   said_alike image one other said same says = subst (λ (r : Request). SaysOver g image r said) same says
+
+  -- a word is told 40
+  pub told_40 : {W : Type 0} (image : Image) (contents : W → Option (List ℕ)) (w0 w1 : W) (status : ℕ) (word : List ℕ) (values : List Row)
+      → Tells contents w0 w1 status (record { text = codes "refused 40 OutOfMemory\n"; refused = true }) → IsTold g image contents w0 w1 status word values
+  told_40 image contents w0 w1 status word values tells = (record { text = codes "refused 40 OutOfMemory\n"; refused = true }, tells, inl (line_of_40, refl))
+
+  -- or nothing, where there is no memory to read the words
+  pub told_nothing : {W : Type 0} (image : Image) (contents : W → Option (List ℕ)) (w0 w1 : W) (status : ℕ) (word : List ℕ) (values : List Row)
+      → w1 ≡ w0 → status ≡ 1 → IsTold g image contents w0 w1 status word values
+  told_nothing image contents w0 w1 status word values same one = (
+    record { text = answer_text [] (Err (Plain OutOfMemory)); refused = true },
+    tells_nothing contents w0 w1 status (record { text = answer_text [] (Err (Plain OutOfMemory)); refused = true }) same one,
+    inl (refl, refl),
+  )
+
+  -- or what is said to it
+  pub told : {W : Type 0} (image : Image) (contents : W → Option (List ℕ)) (w0 w1 : W) (status : ℕ) (word : List ℕ) (values : List Row) (said : Spoken)
+      → Tells contents w0 w1 status said → SaysToWord g image word values said → IsTold g image contents w0 w1 status word values
+  told image contents w0 w1 status word values said tells says = (said, tells, inr says)
+
+  -- what is told to one word is told to an equal one
+  pub told_alike : {W : Type 0} (image : Image) (contents : W → Option (List ℕ)) (w0 w1 : W) (status : ℕ) (one other : List ℕ) (these those : List Row)
+      → (one ≡ other) × (these ≡ those) → IsTold g image contents w0 w1 status one these → IsTold g image contents w0 w1 status other those
+  told_alike image contents w0 w1 status one other these those (same, alike) is =
+      subst (λ (word : List ℕ). IsTold g image contents w0 w1 status word those) same (subst (λ (values : List Row). IsTold g image contents w0 w1 status one values) alike is)

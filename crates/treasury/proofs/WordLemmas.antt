@@ -3,7 +3,7 @@ use Rattle.std.specs.Prelude.{Option, Some, None, option_map, Box}
 use Rattle.std.specs.Box.{box_value}
 use Rattle.clap.specs.Walk.{Row}
 use Rattle.clap.specs.Matches.{subcommand_name_of}
-use Rattle.clap.specs.Simple.{HasMatchesOf, is_simple, subcommand_of, subcommand_rows}
+use Rattle.clap.specs.Simple.{HasMatchesOf, is_simple, subcommand_of, subcommand_rows, subcommand_rows_of}
 use Rattle.clap.specs.declared.parser.matches.ArgMatches.{ArgMatches}
 use Rattle.clap.specs.declared.parser.matches.ArgMatches.TheViews.{out-ArgMatches, out-SubCommand}
 use Rattle.clap.specs.declared.parser.matches.SubCommand.{SubCommand}
@@ -58,6 +58,28 @@ named_word app words m is matches =
     ap (λ (a : App). option_map (λ (p : List ℕ × List Row). p.0) (subcommand_of a words)) (sym is)
     ∙ (ap (λ (o : Option (List ℕ × List Row)). option_map (λ (p : List ℕ × List Row). p.0) o) (sym found) ∙ name_of (out-ArgMatches m).subcommand)
 
+-- and so are its values
+pub named_rows : (app : App) (words : List (List ℕ)) (m : ArgMatches) → app ≡ known → HasMatchesOf app words m → named words ≡ subcommand_rows_of m
+unfolding named
+named_rows app words m is matches =
+    ap (λ (a : App). subcommand_of a words) (sym is) ∙ sym (matches (ap is_simple is ∙ known_is_plain)).1
+
+-- a parse that met a word with its values met that word
+pub met_name : (m : ArgMatches) (word : List ℕ) (values : List Row) → subcommand_rows_of m ≡ Some (word, values) → subcommand_name_of m ≡ Some word
+met_name m word values met =
+    sym (name_of (out-ArgMatches m).subcommand) ∙ ap (λ (o : Option (List ℕ × List Row)). option_map (λ (p : List ℕ × List Row). p.0) o) met
+
+pub same_some : {X : Type 0} (a b : X) → Some a ≡ Some b → a ≡ b
+same_some a b same = cc
+
+-- and what is lent of it is that word, with those values
+pub met_word : (m : ArgMatches) (word lent : List ℕ) (values rows : List Row) → subcommand_rows_of m ≡ Some (word, values) → Some lent ≡ subcommand_name_of m
+    → Some rows ≡ option_map (λ (p : List ℕ × List Row). p.1) (subcommand_rows_of m) → (lent ≡ word) × (rows ≡ values)
+met_word m word lent values rows met named found = (
+  same_some lent word (named ∙ met_name m word values met),
+  same_some rows values (found ∙ ap (λ (o : Option (List ℕ × List Row)). option_map (λ (p : List ℕ × List Row). p.1) o) met),
+)
+
 -- the kinds whose text is written to the output
 abbrev pub IsShown : ErrorKind → Type 0
 IsShown kind = (kind ≡ DisplayHelp) ⊎ (kind ≡ DisplayVersion)
@@ -72,9 +94,9 @@ help_shown words kind (inl memory) shown = absurd (shown_is_no_want kind shown m
 help_shown words kind (inr among) (inl help) = inl (subst (λ k. IsAmong k (objections words)) help among)
 help_shown words kind (inr among) (inr version) = inr (subst (λ k. IsAmong k (objections words)) version among)
 
--- and never to words that ask for a run
-pub run_shows_none : (words : List (List ℕ)) (kind : ErrorKind) → (kind ≡ OutOfMemory) ⊎ IsAmong kind (objections words) → IsShown kind → AskForRun words → ⊥
-run_shows_none words kind fails shown asks = shown_is_no_want kind shown (run_fails words kind fails asks)
+-- and never to words that are taken
+pub taken_shows_none : (words : List (List ℕ)) (kind : ErrorKind) → (kind ≡ OutOfMemory) ⊎ IsAmong kind (objections words) → IsShown kind → AreTaken words → ⊥
+taken_shows_none words kind fails shown asks = shown_is_no_want kind shown (taken_fails words kind fails asks)
 
 -- the status of a run that is cut off
 pub cut_off_status : {T : Type 0} (result : Result T Cause) (status : ℕ) (P : Type 0) → MatchResult result (λ _. status ≡ 0) (λ _. status ≡ 1) → OnErr result P → status ≢ 0 → (status ≡ 1) × P

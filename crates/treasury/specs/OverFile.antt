@@ -1,6 +1,8 @@
 -- What is said to a word over a database file, and what it leaves of the file (own rules; docs/RULES.md, "The program"), while the
 -- disk returns what was written. The image is what the files, the database and its log, held when they were opened.
-use Rattle.std.specs.Prelude.{◌≡◌, ◌⊎◌, ℕ, Bool, true, false, List, [], Ok, Err}
+use Rattle.std.specs.Prelude.{◌≡◌, ◌≢◌, ◌⊎◌, ℕ, Bool, true, false, if◌then◌else◌, List, [], take, Option, None, Some, Ok, Err, codes}
+use Rattle.std.specs.Io.KnownBytes.{Appends}
+use Rattle.clap.specs.Walk.{Row, first_of}
 use Rattle.sqlite_disk.specs.declared.Disk as disk
 use Rattle.sqlite_disk.specs.declared.Files.{Files}
 use Rattle.sqlite_wal.specs.Recovery.{Image}
@@ -8,12 +10,11 @@ use Rattle.sqlite_wal.specs.Reads.{AreClean}
 use Rattle.sqlite_store.specs.declared.store.FileStore.{FileStore}
 use Rattle.sqlite.specs.Effect.{Database}
 use Rattle.sqlite.specs.Held.{Held}
-use Rattle.sqlite.specs.State.{HasCleanDisk}
 use Rattle.sqlite.specs.Start.{FindsIn}
 use Rattle.sqlite.specs.Files.{image_of, file_state}
 use Rattle.sqlite.specs.Closing.{HoldsAlone}
 use Rattle.money_core.specs.declared.cause.Cause.{Cause}
-use Rattle.money_core.specs.declared.cause.Cause.TheVariants.{OutOfMemory, Store, Damaged, ReadFault}
+use Rattle.money_core.specs.declared.cause.Cause.TheVariants.{OutOfMemory, Store, Damaged, Request as NoRequest, ReadFault}
 use Rattle.book_core.specs.declared.refusal.Refusal.TheVariants.{Plain}
 use Rattle.treasury_core.specs.declared.command.Answer.TheVariants.{Done}
 use Rattle.treasury_core.specs.Federation.{Federation}
@@ -24,8 +25,10 @@ use Rattle.treasury_store.specs.Store.{empty_state}
 use Rattle.treasury_store.specs.Tables.{no_schema}
 use Rattle.treasury_store.specs.Creating.{has_one}
 use Rattle.treasury.specs.declared.request.Request.{Request}
+use Rattle.treasury.specs.declared.request.Request.TheVariants.{Import}
 use Rattle.treasury.specs.Answer.{answer_text}
 use Rattle.treasury.specs.Step.{Standing}
+use Rattle.treasury.specs.Spelling.{request_in}
 use Rattle.treasury.specs.Word.{AnswersWord}
 
 -- what is said to a word: a text for standard output, and whether that is a refusal
@@ -45,6 +48,14 @@ IsFileRefused said = IsRefusedBy OutOfMemory said ⊎ (IsRefusedBy Store said �
 -- 45 or 40: the journal's file cannot be read
 abbrev pub IsJournalRefused : Spoken → Type 0
 IsJournalRefused said = IsRefusedBy ReadFault said ⊎ IsRefusedBy OutOfMemory said
+
+-- ---- what is told: a text on standard output, and an exit status
+
+-- All of the text is written, and the status is 1 where it is a refusal, else 0; or the output takes no more, and it is 1.
+abbrev pub Tells : {W : Type 0} → (W → Option (List ℕ)) → W → W → ℕ → Spoken → Type 0
+Tells contents w0 w1 status said =
+    (Appends (contents w0) (contents w1) said.text × (status ≡ (if said.refused then 1 else 0)))
+    ⊎ ((taken : ℕ) × Appends (contents w0) (contents w1) (take taken said.text) × (status ≡ 1))
 
 -- ---- what is said by the file
 
@@ -75,7 +86,7 @@ module _ {D : Type 0} (g : disk.Ghosts D) where
   pub record MakesOver (image : Image) : Type 0 where
     pub opened : Held (FileStore D g)
     pub closed : Files D
-    pub found : HasCleanDisk (file_state opened) → FindsIn image (file_state opened)
+    pub found : AreClean g closed.log closed.db → FindsIn image (file_state opened)
     pub free : has_one (file_state opened).now.schema ≡ false
     pub makes : AreClean g closed.log closed.db → (file_state opened).now.schema ≡ no_schema → HoldsState closed empty_state
 
@@ -84,3 +95,33 @@ module _ {D : Type 0} (g : disk.Ghosts D) where
   SaysToInit image said =
       IsFileRefused said
       ⊎ (MakesOver image × (said ≡ record { text = answer_text [] (Ok Done); refused = false }))
+
+  -- the request is answered over a file, or the file is refused
+  abbrev pub SaysOver : Image → Request → Spoken → Type 0
+  SaysOver image request said = IsFileRefused said ⊎ AnswersOver image request said
+
+  -- The same of `import`, whose journal is read first.
+  abbrev pub SaysToImport : Image → List Row → Spoken → Type 0
+  SaysToImport image values said =
+      (((first_of (codes "branch") values ≡ None) ⊎ (first_of (codes "journal") values ≡ None)) × IsRefusedBy NoRequest said)
+      ⊎ (IsJournalRefused said
+      ⊎ ((branch : List ℕ) × (journal : List ℕ) × (first_of (codes "branch") values ≡ Some branch) × SaysOver image (Import branch journal) said))
+
+  -- and of a word whose values spell its request
+  abbrev pub SaysToForm : Image → List ℕ → List Row → Spoken → Type 0
+  SaysToForm image word values said =
+      ((request_in word values ≡ None) × IsRefusedBy NoRequest said)
+      ⊎ ((request : Request) × (request_in word values ≡ Some request) × SaysOver image request said)
+
+  -- any word but `run`, by its values
+  abbrev pub SaysToWord : Image → List ℕ → List Row → Spoken → Type 0
+  SaysToWord image word values said =
+      ((first_of (codes "db") values ≡ None) × IsRefusedBy NoRequest said)
+      ⊎ (((word ≡ codes "init") × SaysToInit image said)
+      ⊎ (((word ≡ codes "import") × SaysToImport image values said)
+      ⊎ ((word ≢ codes "init") × (word ≢ codes "import") × SaysToForm image word values said)))
+
+  -- a word is told what is said to it, or 40
+  abbrev pub IsTold : {W : Type 0} → Image → (W → Option (List ℕ)) → W → W → ℕ → List ℕ → List Row → Type 0
+  IsTold image contents w0 w1 status word values =
+      (said : Spoken) × Tells contents w0 w1 status said × (IsRefusedBy OutOfMemory said ⊎ SaysToWord image word values said)

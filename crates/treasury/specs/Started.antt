@@ -1,6 +1,6 @@
 -- Mirrors code: how a word over a database file is answered, part by part.
-use Rattle.std.specs.Prelude.{◌≡◌, ◌⊎◌, ℕ, false, List, None, Some}
-use Rattle.clap.specs.Walk.{Row}
+use Rattle.std.specs.Prelude.{◌≡◌, ◌≤◌, ℕ, false, [], vec_capacity}
+use Rattle.std.specs.Global.{Vec}
 use Rattle.sqlite_disk.specs.declared.Disk as disk
 use Rattle.sqlite_disk.specs.declared.Files.{Files}
 use Rattle.sqlite_wal.specs.Recovery.{Image}
@@ -11,18 +11,18 @@ use Rattle.sqlite.specs.State.{HasCleanDisk}
 use Rattle.sqlite.specs.Start.{FindsIn}
 use Rattle.sqlite.specs.Files.{file_state, over_files}
 use Rattle.sqlite.specs.Closing.{IsCopied}
-use Rattle.money_core.specs.declared.cause.Cause.TheVariants.{Request as NoRequest}
 use Rattle.treasury_core.specs.Federation.{Federation}
 use Rattle.treasury_store.specs.Treasury.{Treasury, IsTreasuryOf}
-use Rattle.treasury.specs.declared.request.Request.{Request}
-use Rattle.treasury.specs.declared.request.Request.TheVariants.{Import}
 use Rattle.treasury.specs.declared.words.said.Said.{Said}
-use Rattle.treasury.specs.Spelling.{request_in}
-use Rattle.treasury.specs.OverFile.{Spoken, IsRefusedBy, IsFileRefused, IsJournalRefused, ShowsState, AnswersOver}
+use Rattle.treasury.specs.OverFile.{Spoken, ShowsState}
 
 -- what is said to a word, less the reason
 abbrev pub spoken : Said → Spoken
 spoken said = record { text = said.answer.items; refused = said.is_refused }
+
+-- an empty vector with room for the line of a plain answer
+abbrev pub IsRoom : Vec ℕ → Type 0
+IsRoom room = (room.items ≡ []) × (64 ≤ vec_capacity room)
 
 module _ {D : Type 0} (g : disk.Ghosts D) where
   -- a treasury was started on a file that was opened
@@ -36,17 +36,3 @@ module _ {D : Type 0} (g : disk.Ghosts D) where
   -- a connection was closed, and the last commit is in the file alone
   abbrev pub IsClosedAs : Held (FileStore D g) → Type 0
   IsClosedAs c = (closed : Files D) × (AreClean g closed.log closed.db → IsCopied c closed)
-
-  -- the request is answered over a file, or the file is refused
-  abbrev pub SaysOver : Image → Request → Spoken → Type 0
-  SaysOver image request said = IsFileRefused said ⊎ AnswersOver g image request said
-
-  -- the same of `import`, whose journal is read first
-  abbrev pub SaysToImport : Image → List ℕ → Spoken → Type 0
-  SaysToImport image branch said = IsJournalRefused said ⊎ ((journal : List ℕ) × SaysOver image (Import branch journal) said)
-
-  -- and of a word whose values spell its request
-  abbrev pub SaysToForm : Image → List ℕ → List Row → Spoken → Type 0
-  SaysToForm image word values said =
-      ((request_in word values ≡ None) × IsRefusedBy NoRequest said)
-      ⊎ ((request : Request) × (request_in word values ≡ Some request) × SaysOver image request said)

@@ -1,5 +1,5 @@
 -- What the words of the command line ask for (own rule; docs/RULES.md, "The program"), by the definitions of `clap`.
-use Rattle.std.specs.Prelude.{◌≡◌, ℕ, false, codes, List, [], Option, Some, option_map, ◌⊎◌}
+use Rattle.std.specs.Prelude.{◌≡◌, ◌≢◌, ℕ, false, codes, List, [], Option, Some, option_map, ◌⊎◌}
 use Rattle.clap.specs.Simple.{subcommand_of}
 use Rattle.clap.specs.Walk.{Row}
 use Rattle.treasury.specs.Known.{known}
@@ -26,6 +26,10 @@ named words = subcommand_of known words
 -- the words ask for a run
 abbrev pub AskForRun : List (List ℕ) → Type 0
 AskForRun words = AreTaken words × (option_map (λ p. p.0) (named words) ≡ Some (codes "run"))
+
+-- the words ask for another word, with these values
+abbrev pub AskForWord : List (List ℕ) → List ℕ → List Row → Type 0
+AskForWord words word values = AreTaken words × ((named words ≡ Some (word, values)) × (word ≢ codes "run"))
 
 -- the words may ask for help, or for the version
 abbrev pub MayAskForHelp : List (List ℕ) → Type 0

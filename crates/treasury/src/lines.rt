@@ -6,3 +6,4 @@ mod write;
 
 pub use machine::Machine;
 pub use run::{MAX_INPUT, is_blank_text, run_machine};
+pub use write::write_whole;

@@ -13,6 +13,7 @@ mod request;
 mod running;
 mod words;
 
+use sqlite::Wary;
 use std::process::ExitCode;
 use std::{env, io};
 
@@ -33,6 +34,6 @@ fn main(rt: HostRuntime) -> io::Result<ExitCode> {
     };
     let mut input = rt.reader();
     let mut output = io::writer(&rt);
-    let status = words::run_words(&rt, words.as_slice(), &mut input, &mut output);
+    let status = words::run_words(&rt, words.as_slice(), &mut input, &mut output, Wary);
     Ok(ExitCode::from(status))
 }

@@ -6,23 +6,30 @@ mod over_file;
 mod said;
 mod spelling;
 
-ghost use Rattle.std.specs.Prelude.{◌≡◌, ◌⊎◌, ◌≢◌, map, codes, false, Some, IfOk, OnOk, OnErr, MatchResult};
-ghost use Rattle.clap.specs.Matches.{subcommand_name_of};
+ghost use Rattle.std.specs.Prelude.{◌≡◌, ◌⊎◌, ◌≢◌, ℕ, List, map, codes, false, Some, IfOk, OnOk, OnErr, MatchResult};
+ghost use Rattle.clap.specs.Matches.{found_of, subcommand_name_of};
+ghost use Rattle.clap.specs.Simple.{subcommand_rows_of};
+ghost use Rattle.clap.specs.Walk.{Row, rows_of};
 ghost use Rattle.sqlite.specs.Files.{over_files};
+ghost use Rattle.sqlite_wal.specs.Files.{image_at};
 ghost use Rattle.treasury_store.specs.Treasury.{IsTreasuryOf};
 ghost use Rattle.std.specs.String.{string_bytes};
 ghost use Rattle.treasury.specs.Step.{Standing};
 ghost use Rattle.treasury.specs.Kept.{AnswersAll};
-ghost use Rattle.treasury.specs.Words.{nothing, at_first, AreTaken, AskForRun, MayAskForHelp, IsCutOff};
+ghost use Rattle.treasury.specs.Words.{nothing, at_first, AreTaken, AskForRun, AskForWord, MayAskForHelp, IsCutOff};
+ghost use Rattle.treasury.specs.OverFile.{Tells, IsTold};
 
 use crate::laws::{commands_law, refusal_law, run_law};
+use crate::lines::write_whole;
 use crate::running::run_lines;
 use crate::words::known::known_words;
 use crate::words::over_file::answer_over_file;
+use crate::words::said::room_for_line;
 use clap::error::ErrorKind;
 use clap::{ArgMatches, Error};
 use money_core::Cause;
-use sqlite::Wary;
+use sqlite::{FileFrom, Start};
+use sqlite_disk::Disk;
 use std::alloc::Global;
 use std::io::{Read, Write};
 use std::mem::ManuallyDrop;
@@ -113,29 +120,31 @@ fn show<W: Write>(alloc: Global, text: &Error, output: &mut W) -> Result<(), Cau
 /// The answer where there is no memory for one.
 const NO_MEMORY: &[u8] = b"refused 40 OutOfMemory\n";
 
-/// Writes the answer to a word to the output.
+/// Writes the answer to a word to the output, and answers the exit status: 1 where it is a refusal or cannot be written.
 fn write_answer<W: Write>(rt: &HostRuntime, answer: &[u8], is_refused: bool, output: &mut W) -> u8
-    ensures { result ≢ 2 }
+    ensures { Tells W.contents output.old output.new result (record { text = answer.now; refused = is_refused }) }
 {
-    match output.write_all(answer) {
+    match write_whole(output, answer) {
         Ok(()) => u8::from(is_refused),
         Err(_) => status(rt, Err(Cause::WriteFault)),
     }
 }
 
 /// Does what a word over a file says: its answer goes to the output, the reason of a refusal to standard error.
-fn do_over_file<W: Write>(
+fn do_over_file<W: Write, S: Start>(
     rt: &HostRuntime,
     word: &str,
     values: &ArgMatches<'_>,
     output: &mut W,
+    start: S,
 ) -> u8
-    ensures { result ≢ 2 }
+    ensures told { IsTold ⟦<FileFrom<S> as Disk>⟧ (image_at S.Start) W.contents output.old output.new result word.now (rows_of (found_of values.now)) }
+    ensures usage { result ≢ 2 }
 {
-    let said = match answer_over_file(rt, word, values, Wary) {
-        Ok(said) => said,
-        Err(_) => return write_answer(rt, NO_MEMORY, true, output),
+    let Ok(room) = room_for_line(rt.alloc()) else {
+        return write_answer(rt, NO_MEMORY, true, output);
     };
+    let said = answer_over_file(rt, room, word, values, start);
     let ended = write_answer(rt, said.answer.as_slice(), said.is_refused, output);
     if let Ok(reason) = str::from_utf8(said.reason.as_slice()) {
         let _ = rt.eprint(reason);
@@ -144,23 +153,26 @@ fn do_over_file<W: Write>(
 }
 
 /// Does what words say that are taken, by what they match, and answers the exit status.
-fn do_word<R: Read, W: Write>(
+fn do_word<R: Read, W: Write, S: Start>(
     rt: &HostRuntime,
     matches: &ArgMatches<'_>,
     input: &mut R,
     output: &mut W,
+    start: S,
 ) -> u8
     ensures done { subcommand_name_of matches.now ≡ Some (codes "run") → result ≡ 0
         → (end : Standing) × AnswersAll R.remaining input.old input.new W.contents output.old output.new at_first end }
     ensures cut_off { subcommand_name_of matches.now ≡ Some (codes "run") → result ≢ 0
         → (result ≡ 1) × IsCutOff R.remaining input.old input.new W.contents output.old output.new }
+    ensures word { (word : List ℕ) → (values : List Row) → subcommand_rows_of matches.now ≡ Some (word, values) → word ≢ codes "run"
+        → IsTold ⟦<FileFrom<S> as Disk>⟧ (image_at S.Start) W.contents output.old output.new result word values }
     ensures other { (subcommand_name_of matches.now ≡ Some (codes "run") → ⊥) → input.new ≡ input.old }
     ensures usage { result ≡ 2 → (input.new ≡ input.old) × (output.new ≡ output.old) }
 {
     match matches.subcommand_matches("run") {
         Some(_) => status(rt, run(rt.alloc(), input, output)),
         None => match matches.subcommand() {
-            Some((word, values)) => do_over_file(rt, word, values, output),
+            Some((word, values)) => do_over_file(rt, word, values, output, start),
             None => 2,
         },
     }
@@ -170,16 +182,28 @@ fn do_word<R: Read, W: Write>(
 ///
 /// The words begin with the program's name. 0: done, whatever was refused. 1: cut off, because memory was refused, the
 /// input broke or a write failed, with the refusal and its meaning on standard error. 2: words that say nothing to do,
-/// with the reason and the usage on standard error. `--help` and `--version` are written to the output.
-pub fn run_words<R, W>(rt: &HostRuntime, words: &[String], input: &mut R, output: &mut W) -> u8
+/// with the reason and the usage on standard error. `--help` and `--version` are written to the output. `start` stands for
+/// what the database file of a word holds when it is opened.
+pub fn run_words<R, W, S>(
+    rt: &HostRuntime,
+    words: &[String],
+    input: &mut R,
+    output: &mut W,
+    start: S,
+) -> u8
 where
     R: Read,
     W: Write,
+    S: Start,
     // Words that ask for a run have one, unless there is no memory to read them.
     ensures done { AskForRun (map string_bytes words.now) → result ≡ 0
         → (end : Standing) × AnswersAll R.remaining input.old input.new W.contents output.old output.new at_first end }
     ensures cut_off { AskForRun (map string_bytes words.now) → result ≢ 0
         → (result ≡ 1) × IsCutOff R.remaining input.old input.new W.contents output.old output.new }
+
+    // A word over a database file is answered over that file.
+    ensures word { (word : List ℕ) → (values : List Row) → AskForWord (map string_bytes words.now) word values
+        → IsTold ⟦<FileFrom<S> as Disk>⟧ (image_at S.Start) W.contents output.old output.new result word values }
 
     // Others read none, and those that are not taken, but for those that may ask for help or for the version, are answered 2.
     ensures other { (AskForRun (map string_bytes words.now) → ⊥) → input.new ≡ input.old }
@@ -193,7 +217,7 @@ where
         Err(_) => return status(rt, Err(Cause::OutOfMemory)),
     };
     match known.try_get_matches_from(words) {
-        Ok(matches) => do_word(rt, &matches, input, output),
+        Ok(matches) => do_word(rt, &matches, input, output, start),
         Err(error) => match error.kind() {
             ErrorKind::OutOfMemory => status(rt, Err(Cause::OutOfMemory)),
             ErrorKind::DisplayHelp | ErrorKind::DisplayVersion => {

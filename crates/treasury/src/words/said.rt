@@ -4,7 +4,7 @@ ghost use Rattle.std.specs.Prelude.{◌≡◌, [], false, Ok, IfOk};
 ghost use Rattle.treasury_core.specs.declared.command.Answer.{Answer as Answered};
 ghost use Rattle.treasury.specs.Answer.{answer_text};
 ghost use Rattle.treasury.specs.OverFile.{IsRefusedBy};
-ghost use Rattle.treasury.specs.Started.{spoken};
+ghost use Rattle.treasury.specs.Started.{spoken, IsRoom};
 
 use crate::answers::{MOST_PLAIN, answer_line};
 use crate::explain::push_reason;
@@ -23,14 +23,19 @@ pub struct Said {
     pub is_refused: bool,
 }
 
-/// Said where the word is refused by a cause alone, with the reason of what it comes from.
-pub fn refused(alloc: Global, cause: Cause, origin: &str, reason: &str) -> Result<Said, AllocError>
-    ensures { IfOk result (λ said. IsRefusedBy cause (spoken said)) }
+/// Room for the line of an answer. It is taken before anything is done, so that what is done can be answered.
+pub fn room_for_line(alloc: Global) -> Result<Vec<u8>, AllocError>
+    ensures { IfOk result IsRoom }
 {
-    let mut answer = match Vec::with_capacity(alloc, MOST_PLAIN) {
-        Ok(room) => room,
-        Err(error) => return Err(error),
-    };
+    Vec::with_capacity(alloc, MOST_PLAIN)
+}
+
+/// Said where the word is refused by a cause alone, with the reason of what it comes from.
+pub fn refused(alloc: Global, room: Vec<u8>, cause: Cause, origin: &str, reason: &str) -> Said
+    requires { IsRoom room }
+    ensures { IsRefusedBy cause (spoken result) }
+{
+    let mut answer = room;
     let line = Err(Refusal::Plain(cause));
     match answer_line(alloc, &line, &Styles::empty(alloc), &mut answer) {
         Ok(()) => {}
@@ -38,28 +43,26 @@ pub fn refused(alloc: Global, cause: Cause, origin: &str, reason: &str) -> Resul
     }
     let mut told = Vec::new(alloc);
     let _ = push_reason(origin, reason, &mut told);
-    Ok(Said {
+    Said {
         answer,
         reason: told,
         is_refused: true,
-    })
+    }
 }
 
 /// Said where it is done, by the line `ok`.
-pub fn done(alloc: Global) -> Result<Said, AllocError>
-    ensures { IfOk result (λ said. spoken said ≡ record { text = answer_text [] (Ok Answered.Done); refused = false }) }
+pub fn done(alloc: Global, room: Vec<u8>) -> Said
+    requires { IsRoom room }
+    ensures { spoken result ≡ record { text = answer_text [] (Ok Answered.Done); refused = false } }
 {
-    let mut answer = match Vec::with_capacity(alloc, MOST_PLAIN) {
-        Ok(room) => room,
-        Err(error) => return Err(error),
-    };
+    let mut answer = room;
     match answer_line(alloc, &Ok(Answer::Done), &Styles::empty(alloc), &mut answer) {
         Ok(()) => {}
         Err(_) => unreachable!(),
     }
-    Ok(Said {
+    Said {
         answer,
         reason: Vec::new(alloc),
         is_refused: false,
-    })
+    }
 }

@@ -14,7 +14,7 @@ use journal_lines::read_date;
 use money_core::Day;
 
 /// The value of that name.
-fn value_of<'a>(values: &ArgMatches<'a>, name: &str) -> Option<&'a str>
+pub fn value_of<'a>(values: &ArgMatches<'a>, name: &str) -> Option<&'a str>
     ensures { option_map (λ s. s.now) result ≡ first_of name.now (rows_of (found_of values.now)) }
 {
     values.get_str(name)

@@ -1,9 +1,5 @@
 use Rattle.std.proofs.Common.{◌∙◌, Some, ap, sym, inr}
-use Rattle.std.proofs.lemmas.Result.{IfOk-weaker}
 use Rattle.treasury.proofs.words.over_file.answer_form.Goals as goal
 
 pub returns-in-Ok : goal.returns-in-Ok
-returns-in-Ok g c =
-    IfOk-weaker c.answer_request.result _ _
-    (λ said says. inr (c.in-Ok.request, sym (ap Some c.in-Ok.ensures.equal ∙ c.in-Some.ensures.value), says))
-    c.answer_request.ensures
+returns-in-Ok g c = inr (c.in-Ok.request, sym (ap Some c.in-Ok.ensures.equal ∙ c.in-Some.ensures.value), c.answer_request.ensures)
