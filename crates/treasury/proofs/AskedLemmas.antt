@@ -153,7 +153,7 @@ amount_fits styles id from to text account day (Ok (unit, qty)) c days e h =
     subst (Fits styles) (sym same) (record { day = days; amount = amounts_bound styles text unit qty e })
 amount_fits styles id from to text account day (Err cause) c days e h = absurd cc
 
-request_fits : (styles : List Style) (request : Request) (c : AnyCommand) → HasDayNumbers request → RequestAsks styles request (Ok (Command c)) → Fits styles c
+pub request_fits : (styles : List Style) (request : Request) (c : AnyCommand) → HasDayNumbers request → RequestAsks styles request (Ok (Command c)) → Fits styles c
 request_fits styles (ForBranch name) c days h = let same : c ≡ cmd.Branch name = cc in subst (Fits styles) (sym same) tt
 request_fits styles (ForCommodity sample) c days h = sample_fits styles sample (style_of sample) c refl (sym h)
 request_fits styles (ForImport name journal) c days (inl reads) =

@@ -73,11 +73,11 @@ failure_is (Ok answer) h = absurd cc
 failure_is (Err (Plain Failed)) h = refl
 failure_is (Err refusal) h = absurd cc
 
-failure_leaves : (f : Federation) (c : AnyCommand) (r : Result Answer Refusal) → is_failure r ≡ true → after f (Ok (Command c)) r ≡ f
+pub failure_leaves : (f : Federation) (c : AnyCommand) (r : Result Answer Refusal) → is_failure r ≡ true → after f (Ok (Command c)) r ≡ f
 failure_leaves f c r h = ap (after f (Ok (Command c))) (failure_is r h)
 
 -- a command that is not answered 41 is replied to by the machine of commands
-command_replied : (s : Standing) (c : AnyCommand) (r : Result Answer Refusal) → is_failure r ≡ false → MayReply s (Ok (Command c)) r → CommandReplies s.now c r
+pub command_replied : (s : Standing) (c : AnyCommand) (r : Result Answer Refusal) → is_failure r ≡ false → MayReply s (Ok (Command c)) r → CommandReplies s.now c r
 command_replied s c r h (inl stepped) = inl stepped
 command_replied s c r h (inr (inl memory)) = inr memory
 command_replied s c r h (inr (inr failed)) = let e = ap is_failure failed.1 in absurd cc

@@ -14,6 +14,7 @@ pub mod ServeLemmas
 pub mod SaidLemmas
 pub mod OverFileLemmas
 pub mod HistoryLemmas
+pub mod ToldLemmas
 pub mod RunEndLemmas
 pub mod WorkedHistory
 pub mod WorkedReports

@@ -12,6 +12,7 @@ use Rattle.treasury_store.specs.Treasury.{Treasury, IsTreasuryOf}
 use Rattle.treasury.specs.declared.request.Request.{Request}
 use Rattle.treasury.specs.declared.asking.Asked.{Asked}
 use Rattle.treasury.specs.declared.asking.Asked.TheVariants.{Command, Report}
+use Rattle.treasury.specs.Request.{HasDayNumbers}
 use Rattle.treasury.specs.Asked.{AsksOf}
 use Rattle.treasury.specs.Answer.{answer_text}
 use Rattle.treasury.specs.Step.{MayReply, after, is_failure}
@@ -34,11 +35,11 @@ refusal_word f (Ok (Report report)) refusal = refl
 refusal_word f (Err e) refusal = refl
 
 -- a request that is done, repeated or reported
-pub said_done : {S : Type 0} (g : Ghosts S) (old new : Treasury S) (written : List ℕ) (request : Request) (made : Result (Unit {0}) Refusal) (x : Unit {0}) → made ≡ Ok x
+pub said_done : {S : Type 0} (g : Ghosts S) (old new : Treasury S) (written : List ℕ) (request : Request) (made : Result (Unit {0}) Refusal) (x : Unit {0}) → made ≡ Ok x → HasDayNumbers request
     → (HasCleanDisk (state g new.store.conn) → HasCleanDisk (state g old.store.conn))
     → (HasCleanDisk (state g new.store.conn) → (f : Federation) → IsTreasuryOf g old f → IsAnswered g old.store.failed new f request made [] written)
     → SaysTo g old request written false new
-said_done g old new written request made x ok clean answers = record {
+said_done g old new written request made x ok days clean answers = record {
   clean = clean;
   answers = λ k f of. by_reply f (answers k f of);
 }
@@ -53,6 +54,7 @@ said_done g old new written request made x ok clean answers = record {
             record {
               asked = asked;
               reply = Ok told.0;
+              days = days;
               asks = asks;
               replies = replies;
               text = word_body f old.store.failed asked told.0 written replies told.1.1;
@@ -63,11 +65,11 @@ said_done g old new written request made x ok clean answers = record {
         )
 
 -- a request that is refused
-pub said_refusal : {S : Type 0} (g : Ghosts S) (old new : Treasury S) (written text : List ℕ) (request : Request) (made : Result (Unit {0}) Refusal) (refusal : Refusal) → made ≡ Err refusal
+pub said_refusal : {S : Type 0} (g : Ghosts S) (old new : Treasury S) (written text : List ℕ) (request : Request) (made : Result (Unit {0}) Refusal) (refusal : Refusal) → made ≡ Err refusal → HasDayNumbers request
     → (HasCleanDisk (state g new.store.conn) → HasCleanDisk (state g old.store.conn))
     → (HasCleanDisk (state g new.store.conn) → (f : Federation) → IsTreasuryOf g old f → IsAnswered g old.store.failed new f request made [] written)
     → IsLineOf new refusal text → SaysTo g old request text true new
-said_refusal g old new written text request made refusal refused clean answers said = record {
+said_refusal g old new written text request made refusal refused days clean answers said = record {
   clean = clean;
   answers = λ k f of. by_reply f (answers k f of);
 }
@@ -79,6 +81,7 @@ said_refusal g old new written text request made refusal refused clean answers s
     by_line f asked asks replies of left (inl told) = record {
       asked = asked;
       reply = Err refusal;
+      days = days;
       asks = asks;
       replies = replies;
       text = told ∙ refusal_word f asked refusal;
@@ -88,6 +91,7 @@ said_refusal g old new written text request made refusal refused clean answers s
     by_line f asked asks replies of left (inr (told, harmless)) = record {
       asked = asked;
       reply = Err (Plain OutOfMemory);
+      days = days;
       asks = asks;
       replies = inr (inl refl);
       text = told ∙ refusal_word f asked (Plain OutOfMemory);

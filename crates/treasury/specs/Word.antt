@@ -1,6 +1,6 @@
 -- What a word over a database file is answered: as the line of `run` that has its request, but a report has no `ok` behind
 -- its lines (own rules; docs/RULES.md, "The program"; docs/FORMATS.md, "Answer lines").
-use Rattle.std.specs.Prelude.{◌≡◌, ℕ, Bool, true, false, List, Result, Ok, Err}
+use Rattle.std.specs.Prelude.{◌≡◌, ℕ, Bool, true, false, List, [], ◌∷◌, Result, Ok, Err}
 use Rattle.sqlite.specs.Store.{Ghosts}
 use Rattle.sqlite.specs.State.{HasCleanDisk}
 use Rattle.sqlite.specs.Held.{state}
@@ -11,6 +11,7 @@ use Rattle.treasury_store.specs.Treasury.{Treasury, IsTreasuryOf}
 use Rattle.treasury.specs.declared.request.Request.{Request}
 use Rattle.treasury.specs.declared.asking.Asked.{Asked}
 use Rattle.treasury.specs.declared.asking.Asked.TheVariants.{Command, Report}
+use Rattle.treasury.specs.Request.{HasDayNumbers}
 use Rattle.treasury.specs.Asked.{AsksOf}
 use Rattle.treasury.specs.Report.{report_text}
 use Rattle.treasury.specs.Step.{Standing, MayReply, next, reply_text}
@@ -33,11 +34,23 @@ is_refusal (Err refusal) = true
 pub record AnswersWord (s : Standing) (request : Request) (said : List ℕ) (fails : Bool) (t : Standing) : Type 0 where
   pub asked : Result Asked Refusal
   pub reply : Result Answer Refusal
+  pub days : HasDayNumbers request
   pub asks : AsksOf s.failed s.now.styles request asked
   pub replies : MayReply s asked reply
   pub text : said ≡ word_text s.now asked reply
   pub refused : fails ≡ is_refusal reply
   pub left : t ≡ next s asked reply
+
+-- a word over a file: its request, what is said to it, and whether that is a refusal
+pub record Told : Type 0 where
+  pub request : Request
+  pub text : List ℕ
+  pub refused : Bool
+
+-- Words over a file, one after another: each is answered by the state that the one before it left there.
+abbrev pub AreTold : Federation → List Told → Federation → Type 0
+AreTold f [] end = end ≡ f
+AreTold f (w ∷ ws) end = (mid : Standing) × AnswersWord (record { now = f; failed = false }) w.request w.text w.refused mid × AreTold mid.now ws end
 
 -- What the request of a word makes of a treasury: of whichever state it is, while the disk returns what was written, the word is
 -- answered as it has to be, and the treasury is of the state where that leads.

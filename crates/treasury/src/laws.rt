@@ -1,17 +1,22 @@
 //! What transcripts mean, in the words of the machine of commands.
 
-ghost use Rattle.std.specs.Prelude.{◌≡◌, List, ℕ, Result, Ok};
+ghost use Rattle.std.specs.Prelude.{◌≡◌, true, List, ℕ, Result, Ok};
 ghost use Rattle.book_core.specs.declared.refusal.Refusal.{Refusal as Refused};
 ghost use Rattle.treasury_core.specs.declared.command.Answer.{Answer};
 ghost use Rattle.treasury_core.specs.Federation.{Federation};
-ghost use Rattle.treasury_core.specs.History.{IsRun as IsCommandRun, state_after};
+ghost use Rattle.treasury_core.specs.Good.{IsGoodState};
+ghost use Rattle.treasury_core.specs.Headline.{KeepsBooks};
+ghost use Rattle.treasury_core.specs.History.{Turn as CommandTurn, IsRun as IsCommandRun, state_after};
 ghost use Rattle.treasury.specs.declared.report.Report.{Report};
 ghost use Rattle.treasury.specs.Transcript.{IsTranscript};
 ghost use Rattle.treasury.specs.Step.{Standing, after, Answers};
+ghost use Rattle.treasury.specs.declared.request.Request.{Request};
+ghost use Rattle.treasury.specs.Word.{AnswersWord, Told, AreTold};
 ghost use Rattle.treasury.specs.History.{Turn, AreTurns, end_of, IsRun, commands_of};
 ghost use Rattle.treasury.specs.History.{RefusalsLeave, IsRefusalOrRepeat, RefusedLinesLeave};
 
 use crate::asking::Asked;
+use treasury_core::headline_law;
 
 /// A law of transcripts: each has turns, one for each request, whose texts are its output; and such turns have it as
 /// their transcript. Costs nothing.
@@ -41,3 +46,14 @@ pub fn refusal_law()
     ensures report { (f : Federation) (report : Report) (r : Result Answer Refused)
         → after f (Ok (Asked.Report report)) r ≡ f }
 {}
+
+/// A law of words over a file: said one after another, each on the state that the one before it left there, their commands
+/// are a run of the machine of commands, and it keeps the books as the headline says. A word that is refused leaves the
+/// state. Costs nothing.
+pub fn words_law()
+    ensures headline { (f : Federation) (words : List Told) (end : Federation) → IsGoodState f → AreTold f words end
+        → (turns : List CommandTurn) × IsCommandRun f turns × (end ≡ state_after f turns) × KeepsBooks f turns }
+    ensures refused { (s : Standing) (request : Request) (text : List ℕ) (t : Standing) → AnswersWord s request text true t → t.now ≡ s.now }
+{
+    headline_law();
+}
