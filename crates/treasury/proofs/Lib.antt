@@ -15,6 +15,7 @@ pub mod SaidLemmas
 pub mod OverFileLemmas
 pub mod HistoryLemmas
 pub mod ToldLemmas
+pub mod FileLemmas
 pub mod RunEndLemmas
 pub mod WorkedHistory
 pub mod WorkedReports

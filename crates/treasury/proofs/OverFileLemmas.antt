@@ -14,7 +14,7 @@ use Rattle.sqlite_trees.specs.View.{doubt}
 use Rattle.sqlite_store.specs.declared.store.FileStore.{FileStore}
 use Rattle.sqlite.specs.Effect.{Database}
 use Rattle.sqlite.specs.Held.{Held}
-use Rattle.sqlite.specs.State.{HasCleanDisk}
+use Rattle.sqlite.specs.State.{HasCleanDisk, IsLive}
 use Rattle.sqlite.specs.Start.{FindsIn}
 use Rattle.sqlite.specs.Files.{image_of, file_state, over_files, IsOpened}
 use Rattle.sqlite.specs.Closing.{IsCopied, HoldsAlone}
@@ -66,6 +66,7 @@ module _ {D : Type 0} (g : disk.Ghosts D) where
   is_started image opened s t opens finds same first treasury unfailed keeps = record {
     opened = opened;
     found = finds;
+    serves = opens;
     clean = clean;
     of = of;
     unfailed = unfailed;
@@ -83,11 +84,15 @@ module _ {D : Type 0} (g : disk.Ghosts D) where
             is.1 ∙ (sym (opens (clean k)).0.clean ∙ sym is.0),
           ))
 
-  -- what a file holds whose connection is closed, and shows the rows of a state
-  left_behind : (c : Held (FileStore D g)) (closed : Files D) (f : Federation) → IsCopied c closed → TablesAre over_files c (rows f) → HoldsState g closed f
-  left_behind c closed f copied tables =
+  -- what a file holds whose connection is closed, and shows the rows of a good state
+  left_behind : (c : Held (FileStore D g)) (closed : Files D) (f : Federation) → IsLive (file_state c) → IsCopied c closed → IsGoodState f → HasShortLocks f
+      → TablesAre over_files c (rows f) → HoldsState (image_of g closed) f
+  left_behind c closed f live copied good short tables =
       let held = tables copied.was_clean copied.was_open in record {
+        good = good;
+        short = short;
         db = (file_state c).now;
+        listed = (live copied.was_open).0;
         tables = held.0;
         alone = subst (λ (trees : Trees). HoldsAlone (image_of g closed) trees) (ap (λ (db : Database). db.trees) held.1) copied.seen;
       }
@@ -96,21 +101,25 @@ module _ {D : Type 0} (g : disk.Ghosts D) where
   pub over : (image : Image) (request : Request) (old new : Treasury (FileStore D g)) (text : List ℕ) (refused : Bool)
       → IsStarted g image old → SaysTo over_files old request text refused new → IsClosedAs g new.store.conn
       → AnswersOver g image request (record { text = text; refused = refused })
-  over image request old new text refused started says (closed, copies) = record {
+  over image request old new text refused started says (live, (closed, copies)) = record {
     opened = started.opened;
     closed = closed;
-    found = λ k. started.found (started.clean (says.clean (copies k).was_clean));
+    found = λ k. started.found (at_first k);
+    serves = λ k. started.serves (at_first k);
     answers = answers;
   }
     where
+      at_first : AreClean g closed.log closed.db → HasCleanDisk (file_state started.opened)
+      at_first k = started.clean (says.clean (copies k).was_clean)
+
       answers : AreClean g closed.log closed.db → (f : Federation) → ShowsState g started.opened f
-          → (end : Standing) × AnswersWord (record { now = f; failed = false }) request text refused end × HoldsState g closed end.now
+          → (end : Standing) × AnswersWord (record { now = f; failed = false }) request text refused end × HoldsState (image_of g closed) end.now
       answers k f shows =
           let at_end = (copies k).was_clean in
           let r = says.answers at_end f (started.of (says.clean at_end) f shows) in (
             standing new r.0,
             subst (λ (failed : Bool). AnswersWord (record { now = f; failed = failed }) request text refused (standing new r.0)) started.unfailed r.1.1,
-            left_behind new.store.conn closed r.0 (copies k) r.1.0.store.tables,
+            left_behind new.store.conn closed r.0 live (copies k) r.1.0.store.good r.1.0.short r.1.0.store.tables,
           )
 
   -- tables are made on a connection, and the file is closed
@@ -120,12 +129,12 @@ module _ {D : Type 0} (g : disk.Ghosts D) where
       → has_one (file_state opened).now.schema ≡ false
       → doubt (file_state opened).is_clean ≤ doubt (file_state s.conn).is_clean
       → IsClosedAs g s.conn → MakesOver g image
-  makes image opened s finds made free first (closed, copies) = record {
+  makes image opened s finds made free first (live, (closed, copies)) = record {
     opened = opened;
     closed = closed;
     found = λ k. finds (no_more _ _ first (copies k).was_clean);
     free = free;
-    makes = λ k none. left_behind s.conn closed empty_state (copies k) (made none).tables;
+    makes = λ k none. left_behind s.conn closed empty_state live (copies k) (made none).good tt (made none).tables;
   }
 
   -- a closing of one connection is that of an equal one

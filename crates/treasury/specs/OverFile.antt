@@ -1,6 +1,6 @@
 -- What is said to a word over a database file, and what it leaves of the file (own rules; docs/RULES.md, "The program"), while the
--- disk returns what was written. The image is what the files, the database and its log, held when they were opened.
-use Rattle.std.specs.Prelude.{◌≡◌, ◌≢◌, ◌⊎◌, ℕ, Bool, true, false, if◌then◌else◌, List, [], take, Option, None, Some, Ok, Err, codes}
+-- disk returns what was written. An image is what the files, the database and its log, hold; that of a word, when they were opened.
+use Rattle.std.specs.Prelude.{◌≡◌, ◌≢◌, ◌⊎◌, ℕ, Bool, true, false, if◌then◌else◌, List, [], ◌∷◌, take, Option, None, Some, Ok, Err, codes}
 use Rattle.std.specs.Io.KnownBytes.{Appends}
 use Rattle.clap.specs.Walk.{Row, first_of}
 use Rattle.sqlite_disk.specs.declared.Disk as disk
@@ -8,10 +8,10 @@ use Rattle.sqlite_disk.specs.declared.Files.{Files}
 use Rattle.sqlite_wal.specs.Recovery.{Image}
 use Rattle.sqlite_wal.specs.Reads.{AreClean}
 use Rattle.sqlite_store.specs.declared.store.FileStore.{FileStore}
-use Rattle.sqlite.specs.Effect.{Database}
+use Rattle.sqlite.specs.Effect.{Database, IsDatabase}
 use Rattle.sqlite.specs.Held.{Held}
 use Rattle.sqlite.specs.Start.{FindsIn}
-use Rattle.sqlite.specs.Files.{image_of, file_state}
+use Rattle.sqlite.specs.Files.{image_of, file_state, IsOpened}
 use Rattle.sqlite.specs.Closing.{HoldsAlone}
 use Rattle.money_core.specs.declared.cause.Cause.{Cause}
 use Rattle.money_core.specs.declared.cause.Cause.TheVariants.{OutOfMemory, Store, Damaged, Request as NoRequest, ReadFault}
@@ -29,7 +29,7 @@ use Rattle.treasury.specs.declared.request.Request.TheVariants.{Import}
 use Rattle.treasury.specs.Answer.{answer_text}
 use Rattle.treasury.specs.Step.{Standing}
 use Rattle.treasury.specs.Spelling.{request_in}
-use Rattle.treasury.specs.Word.{AnswersWord}
+use Rattle.treasury.specs.Word.{AnswersWord, Told}
 
 -- what is said to a word: a text for standard output, and whether that is a refusal
 pub record Spoken : Type 0 where
@@ -57,7 +57,21 @@ Tells contents w0 w1 status said =
     (Appends (contents w0) (contents w1) said.text × (status ≡ (if said.refused then 1 else 0)))
     ⊎ ((taken : ℕ) × Appends (contents w0) (contents w1) (take taken said.text) × (status ≡ 1))
 
--- ---- what is said by the file
+-- ---- what a file holds, and what is said by it
+
+-- The files hold tables that are the rows of a good state, with lock days that a table takes, and so does the database file with no
+-- log beside it.
+pub record HoldsState (image : Image) (f : Federation) : Type 0 where
+  pub good : IsGoodState f
+  pub short : HasShortLocks f
+  pub db : Database
+  pub listed : IsDatabase db
+  pub tables : Holds db (rows f)
+  pub alone : HoldsAlone image db.trees
+
+-- the files as they were left, or the database file alone
+abbrev pub IsLeft : Image → Image → Type 0
+IsLeft left next = (next ≡ left) ⊎ (next ≡ record left { log = [] })
 
 module _ {D : Type 0} (g : disk.Ghosts D) where
   -- a connection shows tables that are the rows of a good state, with lock days that a table takes
@@ -66,20 +80,15 @@ module _ {D : Type 0} (g : disk.Ghosts D) where
     pub short : HasShortLocks f
     pub holds : Holds (file_state c).now (rows f)
 
-  -- the database file, also with no log beside it, holds tables that are the rows of a state
-  pub record HoldsState (files : Files D) (f : Federation) : Type 0 where
-    pub db : Database
-    pub tables : Holds db (rows f)
-    pub alone : HoldsAlone (image_of g files) db.trees
-
   -- A file was opened and closed. What its connection showed first is what the image holds, and of whichever state these are the
   -- rows: the request is answered as by that state, and the file that is closed holds the rows of the state where the answer leads.
   pub record AnswersOver (image : Image) (request : Request) (said : Spoken) : Type 0 where
     pub opened : Held (FileStore D g)
     pub closed : Files D
     pub found : AreClean g closed.log closed.db → FindsIn image (file_state opened)
+    pub serves : AreClean g closed.log closed.db → IsOpened opened
     pub answers : AreClean g closed.log closed.db → (f : Federation) → ShowsState opened f
-        → (end : Standing) × AnswersWord (record { now = f; failed = false }) request said.text said.refused end × HoldsState closed end.now
+        → (end : Standing) × AnswersWord (record { now = f; failed = false }) request said.text said.refused end × HoldsState (image_of g closed) end.now
 
   -- A file was opened and closed. Where its connection showed no table first, the file that is closed holds the rows of a state that
   -- has nothing; in no case was there a table with one of our names.
@@ -88,7 +97,7 @@ module _ {D : Type 0} (g : disk.Ghosts D) where
     pub closed : Files D
     pub found : AreClean g closed.log closed.db → FindsIn image (file_state opened)
     pub free : has_one (file_state opened).now.schema ≡ false
-    pub makes : AreClean g closed.log closed.db → (file_state opened).now.schema ≡ no_schema → HoldsState closed empty_state
+    pub makes : AreClean g closed.log closed.db → (file_state opened).now.schema ≡ no_schema → HoldsState (image_of g closed) empty_state
 
   -- `init`
   abbrev pub SaysToInit : Image → Spoken → Type 0
@@ -125,3 +134,11 @@ module _ {D : Type 0} (g : disk.Ghosts D) where
   abbrev pub IsTold : {W : Type 0} → Image → (W → Option (List ℕ)) → W → W → ℕ → List ℕ → List Row → Type 0
   IsTold image contents w0 w1 status word values =
       (said : Spoken) × Tells contents w0 w1 status said × (IsRefusedBy OutOfMemory said ⊎ SaysToWord image word values said)
+
+  -- Words over a file, one after another, while the disk returns what was written and nobody else writes to the file: each is
+  -- answered, and opens what the closing of the one before it left, with the log or without.
+  abbrev pub AreToldOver : Image → List Told → Image → Type 0
+  AreToldOver start [] end = end ≡ start
+  AreToldOver start (w ∷ ws) end =
+      (word : AnswersOver start w.request (record { text = w.text; refused = w.refused })) × AreClean g word.closed.log word.closed.db
+      × ((next : Image) × IsLeft (image_of g word.closed) next × AreToldOver next ws end)

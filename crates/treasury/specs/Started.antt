@@ -7,9 +7,9 @@ use Rattle.sqlite_wal.specs.Recovery.{Image}
 use Rattle.sqlite_wal.specs.Reads.{AreClean}
 use Rattle.sqlite_store.specs.declared.store.FileStore.{FileStore}
 use Rattle.sqlite.specs.Held.{Held}
-use Rattle.sqlite.specs.State.{HasCleanDisk}
+use Rattle.sqlite.specs.State.{HasCleanDisk, IsLive}
 use Rattle.sqlite.specs.Start.{FindsIn}
-use Rattle.sqlite.specs.Files.{file_state, over_files}
+use Rattle.sqlite.specs.Files.{file_state, over_files, IsOpened}
 use Rattle.sqlite.specs.Closing.{IsCopied}
 use Rattle.treasury_core.specs.Federation.{Federation}
 use Rattle.treasury_store.specs.Treasury.{Treasury, IsTreasuryOf}
@@ -29,10 +29,11 @@ module _ {D : Type 0} (g : disk.Ghosts D) where
   pub record IsStarted (image : Image) (t : Treasury (FileStore D g)) : Type 0 where
     pub opened : Held (FileStore D g)
     pub found : HasCleanDisk (file_state opened) → FindsIn image (file_state opened)
+    pub serves : HasCleanDisk (file_state opened) → IsOpened opened
     pub clean : HasCleanDisk (file_state t.store.conn) → HasCleanDisk (file_state opened)
     pub of : HasCleanDisk (file_state t.store.conn) → (f : Federation) → ShowsState g opened f → IsTreasuryOf over_files t f
     pub unfailed : t.store.failed ≡ false
 
-  -- a connection was closed, and the last commit is in the file alone
+  -- a connection, which showed a database, was closed, and the last commit is in the file alone
   abbrev pub IsClosedAs : Held (FileStore D g) → Type 0
-  IsClosedAs c = (closed : Files D) × (AreClean g closed.log closed.db → IsCopied c closed)
+  IsClosedAs c = IsLive (file_state c) × ((closed : Files D) × (AreClean g closed.log closed.db → IsCopied c closed))

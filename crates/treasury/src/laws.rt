@@ -3,6 +3,11 @@
 ghost use Rattle.std.specs.Prelude.{◌≡◌, true, List, ℕ, Result, Ok};
 ghost use Rattle.book_core.specs.declared.refusal.Refusal.{Refusal as Refused};
 ghost use Rattle.treasury_core.specs.declared.command.Answer.{Answer};
+ghost use Rattle.sqlite_wal.specs.Recovery.{Image};
+ghost use Rattle.sqlite_store.specs.declared.store.FileStore.{FileStore};
+ghost use Rattle.sqlite.specs.Held.{Held};
+ghost use Rattle.sqlite.specs.Start.{FindsIn};
+ghost use Rattle.sqlite.specs.Files.{file_state, IsOpened};
 ghost use Rattle.treasury_core.specs.Federation.{Federation};
 ghost use Rattle.treasury_core.specs.Good.{IsGoodState};
 ghost use Rattle.treasury_core.specs.Headline.{KeepsBooks};
@@ -12,10 +17,12 @@ ghost use Rattle.treasury.specs.Transcript.{IsTranscript};
 ghost use Rattle.treasury.specs.Step.{Standing, after, Answers};
 ghost use Rattle.treasury.specs.declared.request.Request.{Request};
 ghost use Rattle.treasury.specs.Word.{AnswersWord, Told, AreTold};
+ghost use Rattle.treasury.specs.OverFile.{HoldsState, ShowsState, AreToldOver};
 ghost use Rattle.treasury.specs.History.{Turn, AreTurns, end_of, IsRun, commands_of};
 ghost use Rattle.treasury.specs.History.{RefusalsLeave, IsRefusalOrRepeat, RefusedLinesLeave};
 
 use crate::asking::Asked;
+use sqlite_disk::Disk;
 use treasury_core::headline_law;
 
 /// A law of transcripts: each has turns, one for each request, whose texts are its output; and such turns have it as
@@ -57,3 +64,12 @@ pub fn words_law()
 {
     headline_law();
 }
+
+/// A law of database files: where a file that is closed holds the rows of a state, its next opening shows that state, with
+/// the log beside it or without. So words one after another, each by a program of its own, are answered each on the state
+/// that the one before it left, and the file holds the state where they lead. Costs nothing.
+pub fn files_law<D: Disk>()
+    ensures shown { (image : Image) (opened : Held (FileStore D D.Disk)) (f : Federation) → HoldsState image f → FindsIn image (file_state opened) → IsOpened opened → ShowsState D.Disk opened f }
+    ensures kept { (start : Image) (words : List Told) (end : Image) (f : Federation) → HoldsState start f → AreToldOver D.Disk start words end
+        → (last : Federation) × AreTold f words last × HoldsState end last }
+{}

@@ -19,7 +19,7 @@ ghost use Rattle.treasury.specs.Kept.{AnswersAll};
 ghost use Rattle.treasury.specs.Words.{nothing, at_first, AreTaken, AskForRun, AskForWord, MayAskForHelp, IsCutOff};
 ghost use Rattle.treasury.specs.OverFile.{Tells, IsTold};
 
-use crate::laws::{commands_law, refusal_law, run_law, words_law};
+use crate::laws::{commands_law, files_law, refusal_law, run_law, words_law};
 use crate::lines::write_whole;
 use crate::running::run_lines;
 use crate::words::known::known_words;
@@ -142,6 +142,7 @@ fn do_over_file<W: Write, S: Start>(
     ensures usage { result ≢ 2 }
 {
     words_law();
+    files_law::<FileFrom<S>>();
     let Ok(room) = room_for_line(rt.alloc()) else {
         return write_answer(rt, NO_MEMORY, true, output);
     };

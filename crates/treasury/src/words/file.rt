@@ -223,6 +223,8 @@ pub fn make_tables<S: Start>(rt: &HostRuntime, path: &str, start: S) -> Result<(
 fn close<S: Start>(conn: Connection<FileStore<FileFrom<S>>>) -> Result<(), Unopened>
     ensures { OnOk result (IsClosedAs ⟦<FileFrom<S> as Disk>⟧ conn) }
 {
+    // What it shows is a database, by this call's contract; so an opening of the file finds its schema again.
+    let _ = conn.schema();
     match conn.close_files() {
         Ok(_closed) => Ok(()),
         Err((_error, store)) => {

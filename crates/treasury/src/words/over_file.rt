@@ -115,6 +115,7 @@ fn answer_on_file<S: Start>(
     ensures { SaysOver ⟦<FileFrom<S> as Disk>⟧ (image_at S.Start) request.now (spoken result) }
 {
     let Ok(spare) = room_for_line(alloc) else {
+        let _ = close_treasury(treasury);
         return refused_file(alloc, room, path, Unopened::NoMemory);
     };
     let mut treasury = treasury;
