@@ -67,9 +67,14 @@ pub fn words_law()
 
 /// A law of database files: where a file that is closed holds the rows of a state, its next opening shows that state, with
 /// the log beside it or without. So words one after another, each by a program of its own, are answered each on the state
-/// that the one before it left, and the file holds the state where they lead. Costs nothing.
+/// that the one before it left, and the file holds the state where they lead: their commands are a run of the machine of
+/// commands, which keeps the books as the headline says, and the file holds the state behind it. Costs nothing.
 pub fn files_law<D: Disk>()
     ensures shown { (image : Image) (opened : Held (FileStore D D.Disk)) (f : Federation) → HoldsState image f → FindsIn image (file_state opened) → IsOpened opened → ShowsState D.Disk opened f }
     ensures kept { (start : Image) (words : List Told) (end : Image) (f : Federation) → HoldsState start f → AreToldOver D.Disk start words end
         → (last : Federation) × AreTold f words last × HoldsState end last }
-{}
+    ensures headline { (start : Image) (words : List Told) (end : Image) (f : Federation) → HoldsState start f → AreToldOver D.Disk start words end
+        → (turns : List CommandTurn) × IsCommandRun f turns × KeepsBooks f turns × HoldsState end (state_after f turns) }
+{
+    words_law();
+}
