@@ -31,10 +31,10 @@ use Rattle.treasury_store.specs.Opening.{MadeHere}
 use Rattle.treasury_store.specs.declared.store.Store.{Store}
 use Rattle.treasury_store.specs.Store.{TablesAre, IsOf, empty_state}
 use Rattle.treasury_store.specs.Treasury.{Treasury, IsTreasuryOf}
-use Rattle.treasury.specs.declared.request.Request.{Request}
-use Rattle.treasury.specs.Answer.{answer_text}
-use Rattle.treasury.specs.Replied.{standing}
-use Rattle.treasury.specs.Step.{Standing}
+use Rattle.treasury_api.specs.declared.request.Request.{Request}
+use Rattle.treasury_api.specs.Answer.{answer_text}
+use Rattle.treasury_api.specs.Replied.{standing}
+use Rattle.treasury_api.specs.Step.{Standing}
 use Rattle.treasury.specs.Word.{AnswersWord, SaysTo}
 use Rattle.treasury.specs.OverFile.{Spoken, ShowsState, HoldsState, AnswersOver, MakesOver, Tells, SaysOver, SaysToWord, IsTold}
 use Rattle.treasury.specs.Started.{IsStarted, IsClosedAs}

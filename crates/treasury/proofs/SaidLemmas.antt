@@ -9,18 +9,18 @@ use Rattle.book_core.specs.declared.refusal.Refusal.TheVariants.{Plain}
 use Rattle.treasury_core.specs.declared.command.Answer.{Answer}
 use Rattle.treasury_core.specs.Federation.{Federation}
 use Rattle.treasury_store.specs.Treasury.{Treasury, IsTreasuryOf}
-use Rattle.treasury.specs.declared.request.Request.{Request}
-use Rattle.treasury.specs.declared.asking.Asked.{Asked}
-use Rattle.treasury.specs.declared.asking.Asked.TheVariants.{Command, Report}
-use Rattle.treasury.specs.Request.{HasDayNumbers}
-use Rattle.treasury.specs.Asked.{AsksOf}
-use Rattle.treasury.specs.Answer.{answer_text}
-use Rattle.treasury.specs.Step.{MayReply, after, is_failure}
+use Rattle.treasury_api.specs.declared.request.Request.{Request}
+use Rattle.treasury_api.specs.declared.asking.Asked.{Asked}
+use Rattle.treasury_api.specs.declared.asking.Asked.TheVariants.{Command, Report}
+use Rattle.treasury_api.specs.Request.{HasDayNumbers}
+use Rattle.treasury_api.specs.Asked.{AsksOf}
+use Rattle.treasury_api.specs.Answer.{answer_text}
+use Rattle.treasury_api.specs.Step.{MayReply, after, is_failure}
 use Rattle.treasury.specs.Word.{AnswersWord, SaysTo, word_text}
-use Rattle.treasury.specs.Replied.{standing, body_of}
-use Rattle.treasury.specs.Serving.{IsLineOf}
-use Rattle.treasury.proofs.AnswerLemmas.{IsAnswered}
-use Rattle.treasury.proofs.ServeLemmas.{after_plain, leads, refused_only, data_line}
+use Rattle.treasury_api.specs.Replied.{standing, body_of}
+use Rattle.treasury_api.specs.Serving.{IsLineOf}
+use Rattle.treasury_api.proofs.AnswerLemmas.{IsAnswered}
+use Rattle.treasury_api.proofs.ServeLemmas.{after_plain, leads, refused_only, data_line}
 
 -- what is written is the text of the reply
 word_body : (f : Federation) (failed : Bool) (asked : Result Asked Refusal) (answer : Answer) (written : List ℕ) → MayReply (record { now = f; failed = failed }) asked (Ok answer) → written ≡ [] ++ body_of f asked answer → written ≡ word_text f asked (Ok answer)

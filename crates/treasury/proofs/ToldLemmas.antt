@@ -4,16 +4,16 @@ use Rattle.book_core.specs.declared.refusal.Refusal.{Refusal}
 use Rattle.treasury_core.specs.declared.command.Answer.{Answer}
 use Rattle.treasury_core.specs.Federation.{Federation}
 use Rattle.treasury_core.specs.History.{Turn, IsRun, state_after}
-use Rattle.treasury.specs.declared.request.Request.{Request}
-use Rattle.treasury.specs.declared.asking.Asked.{Asked}
-use Rattle.treasury.specs.declared.asking.Asked.TheVariants.{Command, Report}
-use Rattle.treasury.specs.Request.{HasDayNumbers}
-use Rattle.treasury.specs.Asked.{RequestAsks}
-use Rattle.treasury.specs.Step.{Standing, MayReply, after, is_failure}
-use Rattle.treasury.specs.History.{command_if}
+use Rattle.treasury_api.specs.declared.request.Request.{Request}
+use Rattle.treasury_api.specs.declared.asking.Asked.{Asked}
+use Rattle.treasury_api.specs.declared.asking.Asked.TheVariants.{Command, Report}
+use Rattle.treasury_api.specs.Request.{HasDayNumbers}
+use Rattle.treasury_api.specs.Asked.{RequestAsks}
+use Rattle.treasury_api.specs.Step.{Standing, MayReply, after, is_failure}
+use Rattle.treasury_api.specs.History.{command_if}
 use Rattle.treasury.specs.Word.{AnswersWord, Told, AreTold, is_refusal}
-use Rattle.treasury.proofs.AskedLemmas.{request_fits}
-use Rattle.treasury.proofs.HistoryLemmas.{command_replied, failure_leaves}
+use Rattle.treasury_api.proofs.AskedLemmas.{request_fits}
+use Rattle.treasury_api.proofs.HistoryLemmas.{command_replied, failure_leaves}
 
 -- commands behind a state that lead to another
 abbrev IsRunTo : Federation → List Turn → Federation → Type 0

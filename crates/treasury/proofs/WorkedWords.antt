@@ -2,7 +2,7 @@
 use Rattle.std.specs.Prelude.{◌≡◌, ℕ, List, [], ◌∷◌, Some, option_and_then, codes, refl}
 use Rattle.clap.specs.declared.error.kind.ErrorKind.TheVariants.{UnknownArgument, InvalidSubcommand, ArgumentConflict, MissingRequiredArgument, DisplayHelp, DisplayVersion, DisplayHelpOnMissingArgumentOrSubcommand}
 use Rattle.clap.proofs.OnLiterals.{clap_on_literals}
-use Rattle.treasury.specs.declared.request.Request.TheVariants.{Branch, Journal}
+use Rattle.treasury_api.specs.declared.request.Request.TheVariants.{Branch, Journal}
 use Rattle.treasury.specs.Words.{objections, named}
 use Rattle.treasury.specs.Spelling.{request_in}
 

@@ -24,10 +24,10 @@ use Rattle.treasury_store.specs.Rows.{Holds}
 use Rattle.treasury_store.specs.Store.{empty_state}
 use Rattle.treasury_store.specs.Tables.{no_schema}
 use Rattle.treasury_store.specs.Creating.{has_one}
-use Rattle.treasury.specs.declared.request.Request.{Request}
-use Rattle.treasury.specs.declared.request.Request.TheVariants.{Import}
-use Rattle.treasury.specs.Answer.{answer_text}
-use Rattle.treasury.specs.Step.{Standing}
+use Rattle.treasury_api.specs.declared.request.Request.{Request}
+use Rattle.treasury_api.specs.declared.request.Request.TheVariants.{Import}
+use Rattle.treasury_api.specs.Answer.{answer_text}
+use Rattle.treasury_api.specs.Step.{Standing}
 use Rattle.treasury.specs.Spelling.{request_in}
 use Rattle.treasury.specs.Word.{AnswersWord, Told}
 

@@ -5,8 +5,8 @@ use Rattle.std.specs.Str.{bytes_eq}
 use Rattle.clap.specs.Walk.{Row, first_of}
 use Rattle.money_core.specs.declared.day.Day.{Day}
 use Rattle.journal_lines.specs.DateReading.{date_of}
-use Rattle.treasury.specs.declared.request.Request.{Request}
-use Rattle.treasury.specs.declared.request.Request.TheVariants.{Branch, Commodity, Dispatch, Receive, Lock, Close, Balance, Register, Transit, Journal}
+use Rattle.treasury_api.specs.declared.request.Request.{Request}
+use Rattle.treasury_api.specs.declared.request.Request.TheVariants.{Branch, Commodity, Dispatch, Receive, Lock, Close, Balance, Register, Transit, Journal}
 
 -- the day that is given, where it is a date
 abbrev pub day_in : List Row → Option Day

@@ -8,14 +8,14 @@ use Rattle.book_core.specs.declared.refusal.Refusal.{Refusal}
 use Rattle.treasury_core.specs.declared.command.Answer.{Answer}
 use Rattle.treasury_core.specs.Federation.{Federation}
 use Rattle.treasury_store.specs.Treasury.{Treasury, IsTreasuryOf}
-use Rattle.treasury.specs.declared.request.Request.{Request}
-use Rattle.treasury.specs.declared.asking.Asked.{Asked}
-use Rattle.treasury.specs.declared.asking.Asked.TheVariants.{Command, Report}
-use Rattle.treasury.specs.Request.{HasDayNumbers}
-use Rattle.treasury.specs.Asked.{AsksOf}
-use Rattle.treasury.specs.Report.{report_text}
-use Rattle.treasury.specs.Step.{Standing, MayReply, next, reply_text}
-use Rattle.treasury.specs.Replied.{standing}
+use Rattle.treasury_api.specs.declared.request.Request.{Request}
+use Rattle.treasury_api.specs.declared.asking.Asked.{Asked}
+use Rattle.treasury_api.specs.declared.asking.Asked.TheVariants.{Command, Report}
+use Rattle.treasury_api.specs.Request.{HasDayNumbers}
+use Rattle.treasury_api.specs.Asked.{AsksOf}
+use Rattle.treasury_api.specs.Report.{report_text}
+use Rattle.treasury_api.specs.Step.{Standing, MayReply, next, reply_text}
+use Rattle.treasury_api.specs.Replied.{standing}
 
 -- the text of a reply
 abbrev pub word_text : Federation → Result Asked Refusal → Result Answer Refusal → List ℕ

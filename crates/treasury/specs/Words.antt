@@ -1,5 +1,5 @@
 -- What the words of the command line ask for (own rule; docs/RULES.md, "The program"), by the definitions of `clap`.
-use Rattle.std.specs.Prelude.{◌≡◌, ◌≢◌, ℕ, false, codes, List, [], Option, Some, option_map, ◌⊎◌}
+use Rattle.std.specs.Prelude.{◌≡◌, ◌≢◌, ℕ, codes, List, [], Option, Some, option_map, ◌⊎◌}
 use Rattle.clap.specs.Simple.{subcommand_of}
 use Rattle.clap.specs.Walk.{Row}
 use Rattle.treasury.specs.Known.{known}
@@ -7,9 +7,8 @@ use Rattle.clap.specs.Kinds.{Kinds, IsAmong}
 use Rattle.clap.specs.Faults.{fault_of}
 use Rattle.clap.specs.declared.error.kind.ErrorKind.TheVariants.{DisplayHelp, DisplayVersion}
 use Rattle.money_core.specs.declared.cause.Cause.{Cause}
-use Rattle.treasury_core.specs.Federation.{Federation}
-use Rattle.treasury.specs.Step.{Standing}
-use Rattle.treasury.specs.Kept.{IsCutOffBy}
+use Rattle.treasury_api.specs.Step.{Standing, at_first}
+use Rattle.treasury_api.specs.Kept.{IsCutOffBy}
 
 -- why these words, the program's name first, are not taken: no reason, or those of which `clap` gives one
 unfoldable pub objections : List (List ℕ) → Kinds
@@ -35,15 +34,7 @@ AskForWord words word values = AreTaken words × ((named words ≡ Some (word, v
 abbrev pub MayAskForHelp : List (List ℕ) → Type 0
 MayAskForHelp words = IsAmong DisplayHelp (objections words) ⊎ IsAmong DisplayVersion (objections words)
 
--- a federation that has nothing yet
-abbrev pub nothing : Federation
-nothing = record { styles = []; branches = []; transfers = [] }
-
--- where a run on such a federation stands before its first line
-abbrev pub at_first : Standing
-at_first = record { now = nothing; failed = false }
-
--- A run over such a federation was cut off, or there was no memory for its words or its tables, and it read and wrote nothing.
+-- A run over a federation that has nothing yet was cut off, or there was no memory for its words or its tables, and it read and wrote nothing.
 abbrev pub IsCutOff : {R W : Type 0} → (R → Option (List ℕ)) → R → R → (W → Option (List ℕ)) → W → W → Type 0
 IsCutOff remaining r0 r1 contents w0 w1 = ((r1 ≡ r0) × (w1 ≡ w0))
     ⊎ ((cause : Cause) × (end : Standing) × IsCutOffBy cause remaining r0 r1 contents w0 w1 at_first end)

@@ -9,10 +9,10 @@ use crate::explain::held::push_held;
 use crate::explain::pieces::{push_amount, push_day, push_number, push_shown};
 pub use crate::explain::sentences::sentence;
 use crate::explain::source::{push_left_over, push_source};
-use crate::request::Request;
 use book_core::{Failure, Ledger, Refusal};
 use money_core::{Cause, Fault, Styles};
 use std::alloc::Global;
+use treasury_api::Request;
 use treasury_core::State;
 
 /// Appends the first line of an explanation: where it comes from, if that is known, and the refusal's sentence.

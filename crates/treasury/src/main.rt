@@ -1,16 +1,8 @@
 //! The program `treasury`: a federation's books over a file, word by word, or its requests from standard input in memory.
 #![tactic(auto)]
 
-mod answering;
-mod answers;
-mod asking;
-mod bytes;
 mod explain;
 mod laws;
-mod lines;
-mod report;
-mod request;
-mod running;
 mod words;
 
 use sqlite::Wary;

@@ -12,16 +12,15 @@ ghost use Rattle.clap.specs.Simple.{subcommand_rows_of};
 ghost use Rattle.clap.specs.Walk.{Row, rows_of};
 ghost use Rattle.sqlite.specs.Files.{over_files};
 ghost use Rattle.sqlite_wal.specs.Files.{image_at};
+ghost use Rattle.treasury_store.specs.Store.{empty_state};
 ghost use Rattle.treasury_store.specs.Treasury.{IsTreasuryOf};
 ghost use Rattle.std.specs.String.{string_bytes};
-ghost use Rattle.treasury.specs.Step.{Standing};
-ghost use Rattle.treasury.specs.Kept.{AnswersAll};
-ghost use Rattle.treasury.specs.Words.{nothing, at_first, AreTaken, AskForRun, AskForWord, MayAskForHelp, IsCutOff};
+ghost use Rattle.treasury_api.specs.Step.{Standing, at_first};
+ghost use Rattle.treasury_api.specs.Kept.{AnswersAll};
+ghost use Rattle.treasury.specs.Words.{AreTaken, AskForRun, AskForWord, MayAskForHelp, IsCutOff};
 ghost use Rattle.treasury.specs.OverFile.{Tells, IsTold};
 
-use crate::laws::{commands_law, files_law, refusal_law, run_law, words_law};
-use crate::lines::write_whole;
-use crate::running::run_lines;
+use crate::laws::{files_law, words_law};
 use crate::words::known::known_words;
 use crate::words::over_file::answer_over_file;
 use crate::words::said::room_for_line;
@@ -33,6 +32,7 @@ use sqlite_disk::Disk;
 use std::alloc::Global;
 use std::io::{Read, Write};
 use std::mem::ManuallyDrop;
+use treasury_api::{commands_law, refusal_law, run_law, run_lines, write_whole};
 use treasury_core::{
     accepted_closing_law, good_law, growing_law, headline_law, late_entry_law, lock_law,
     records_law, sound_law,
@@ -68,7 +68,7 @@ fn status<H: Eprint>(rt: &H, done: Result<(), Cause>) -> u8
 
 /// A treasury in memory, of a federation that has nothing yet. Nothing but want of memory refuses it.
 fn treasury_in_memory(alloc: Global) -> Result<Treasury<MemoryStore>, Cause>
-    ensures of { IfOk result (λ t. IsTreasuryOf over_files t nothing) }
+    ensures of { IfOk result (λ t. IsTreasuryOf over_files t empty_state) }
     ensures open { IfOk result (λ t. t.store.failed ≡ false) }
 {
     let conn = open_memory(alloc)?;

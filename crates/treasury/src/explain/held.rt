@@ -1,10 +1,10 @@
 //! What is held that stands against a request: branches, a lock, a transfer.
 
 use crate::explain::pieces::{push_amount, push_day};
-use crate::request::Request;
 use book_core::Ledger;
 use money_core::{Cause, Styles, Text};
 use std::alloc::Global;
+use treasury_api::Request;
 use treasury_core::{State, Transfer};
 
 /// The branch that a request takes entries into, or locks.

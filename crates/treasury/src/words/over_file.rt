@@ -5,17 +5,13 @@ ghost use Rattle.std.specs.Result.{IsOkUnless};
 ghost use Rattle.clap.specs.Matches.{found_of};
 ghost use Rattle.clap.specs.Walk.{rows_of};
 ghost use Rattle.sqlite_wal.specs.Files.{image_at};
-ghost use Rattle.treasury.specs.declared.request.Request.TheVariants.{Import};
-ghost use Rattle.treasury.specs.Request.{HasDayNumbers};
+ghost use Rattle.treasury_api.specs.declared.request.Request.TheVariants.{Import};
+ghost use Rattle.treasury_api.specs.Request.{HasDayNumbers};
 ghost use Rattle.treasury.specs.Word.{SaysTo};
 ghost use Rattle.treasury.specs.OverFile.{IsRefusedBy, IsFileRefused, SaysToInit, SaysOver, SaysToImport, SaysToForm, SaysToWord};
 ghost use Rattle.treasury.specs.Started.{spoken, IsRoom, IsStarted};
 
-use crate::answering::answer;
-use crate::bytes::Bytes;
 use crate::explain::{explain, sentence};
-use crate::request::{Request, request_of};
-use crate::running::refuse;
 use crate::words::file::{
     FileTreasury, Unopened, close_treasury, make_tables, open_treasury, read_journal_file,
 };
@@ -27,6 +23,7 @@ use money_core::{Cause, Text};
 use sqlite::{Alter, FileFrom, Start};
 use sqlite_disk::Disk;
 use std::alloc::Global;
+use treasury_api::{Bytes, Request, answer, refuse, request_of};
 use treasury_store::Treasury;
 
 /// Said where a file serves no word.

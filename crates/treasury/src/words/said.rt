@@ -2,15 +2,15 @@
 
 ghost use Rattle.std.specs.Prelude.{◌≡◌, [], false, Ok, IfOk};
 ghost use Rattle.treasury_core.specs.declared.command.Answer.{Answer as Answered};
-ghost use Rattle.treasury.specs.Answer.{answer_text};
+ghost use Rattle.treasury_api.specs.Answer.{answer_text};
 ghost use Rattle.treasury.specs.OverFile.{IsRefusedBy};
 ghost use Rattle.treasury.specs.Started.{spoken, IsRoom};
 
-use crate::answers::{MOST_PLAIN, answer_line};
 use crate::explain::push_reason;
 use book_core::Refusal;
 use money_core::{Cause, Styles};
 use std::alloc::{AllocError, Global};
+use treasury_api::{MOST_PLAIN, answer_line};
 use treasury_core::Answer;
 
 /// What is said to a word.

@@ -4,14 +4,14 @@ ghost use Rattle.std.specs.Prelude.{◌≡◌, codes, option_map, option_copied,
 ghost use Rattle.clap.specs.Matches.{found_of};
 ghost use Rattle.clap.specs.Walk.{first_of, rows_of};
 ghost use Rattle.journal_lines.specs.Date.{IsDayNumber};
-ghost use Rattle.treasury.specs.Form.{shown};
-ghost use Rattle.treasury.specs.Request.{HasDayNumbers};
+ghost use Rattle.treasury_api.specs.Form.{shown};
+ghost use Rattle.treasury_api.specs.Request.{HasDayNumbers};
 ghost use Rattle.treasury.specs.Spelling.{day_in, dispatch_in, receive_in, report_in, request_in};
 
-use crate::request::Form;
 use clap::ArgMatches;
 use journal_lines::read_date;
 use money_core::Day;
+use treasury_api::Form;
 
 /// The value of that name.
 pub fn value_of<'a>(values: &ArgMatches<'a>, name: &str) -> Option<&'a str>

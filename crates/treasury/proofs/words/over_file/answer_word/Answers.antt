@@ -1,5 +1,5 @@
 use Rattle.std.proofs.Common.{ℕ, List, subst}
-use Rattle.treasury.proofs.AnswerLemmas.{IsAnswered}
+use Rattle.treasury_api.proofs.AnswerLemmas.{IsAnswered}
 use Rattle.treasury.proofs.SaidLemmas.{said_done, said_refusal}
 use Rattle.treasury.proofs.words.over_file.answer_word.Goals as goal
 

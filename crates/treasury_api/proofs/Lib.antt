@@ -1,0 +1,16 @@
+pub mod RequestLemmas
+pub mod WriteLemmas
+pub mod LineLemmas
+pub mod RunLemmas
+pub mod LiftLemmas
+pub mod AppendLemmas
+pub mod PrintableLemmas
+pub mod AskedLemmas
+pub mod ReplyLemmas
+pub mod AnswerLemmas
+pub mod ServeLemmas
+pub mod HistoryLemmas
+pub mod RunEndLemmas
+pub mod WorkedValues
+pub mod WorkedHistory
+pub mod WorkedReports

@@ -1,0 +1,323 @@
+-- A line is served on a treasury as a run answers it.
+use Rattle.std.proofs.Common.{◌≡◌, ◌++◌, ◌⊎◌, ◌||◌, ℕ, ℤ, List, [], Bool, true, false, not, if◌then◌else◌, Option, Some, None, Result, Ok, Err, IsSome, MatchResult, refl, ap, ◌∙◌, sym, subst, inl, inr, append-nil}
+use Rattle.sqlite.specs.Store.{Ghosts}
+use Rattle.sqlite.specs.State.{HasCleanDisk}
+use Rattle.sqlite.specs.Held.{state}
+use Rattle.money_core.specs.declared.style.Style.{Style}
+use Rattle.money_core.specs.declared.unit.Unit.{Unit as Commodity}
+use Rattle.money_core.specs.declared.day.Day.{Day}
+use Rattle.money_core.specs.Sampling.{style_of}
+use Rattle.money_core.specs.Reading.{amount}
+use Rattle.money_core.specs.declared.cause.Cause.{Cause}
+use Rattle.money_core.specs.declared.cause.Cause.TheVariants.{OutOfMemory, UnknownBranch, Closed, Request as NoRequest}
+use Rattle.book_core.specs.declared.refusal.Refusal.{Refusal}
+use Rattle.book_core.specs.declared.refusal.Refusal.TheVariants.{Plain, Text, ClaimFailed}
+use Rattle.treasury_core.specs.declared.command.Answer.{Answer}
+use Rattle.treasury_core.specs.declared.command.Answer.TheVariants.{Done}
+use Rattle.treasury_core.specs.declared.command.Command.{Command as AnyCommand}
+use Rattle.treasury_core.specs.Federation.{Federation}
+use Rattle.treasury_store.specs.Treasury.{Treasury, IsTreasuryOf}
+use Rattle.treasury_api.specs.declared.request.Request.{Request}
+use Rattle.treasury_api.specs.declared.request.Request.TheVariants.{Branch as ForBranch, Commodity as ForCommodity, Import as ForImport, Dispatch as ForDispatch, Receive as ForReceive, Lock as ForLock, Close as ForClose, Balance as ForBalance, Register as ForRegister, Transit as ForTransit, Journal as ForJournal}
+use Rattle.treasury_api.specs.declared.asking.Asked.{Asked}
+use Rattle.treasury_api.specs.declared.asking.Asked.TheVariants.{Command, Report}
+use Rattle.treasury_api.specs.declared.report.Report.{Report as AnyReport}
+use Rattle.treasury_api.specs.Request.{spelled, is_report}
+use Rattle.treasury_api.specs.Asked.{AsksOf, Asks, asked_by_sample, asked_by_amount}
+use Rattle.treasury_api.specs.Report.{report_text, has_its_branch}
+use Rattle.treasury_api.specs.Answer.{answer_text, IsPlainAnswer}
+use Rattle.treasury_api.specs.Step.{Standing, Answers, MayReply, after, next, reply_text, is_failure}
+use Rattle.treasury_api.specs.Replied.{standing, body_of}
+use Rattle.treasury_api.specs.Serving.{IsLineOf, IsLineIn, Serves, end_of_report}
+use Rattle.treasury_api.specs.RunEnd.{Ends}
+use Rattle.treasury_api.proofs.LiftLemmas.{ends_lifted}
+use Rattle.treasury_api.proofs.AnswerLemmas.{ReadsAll, IsAnswered, request_asks}
+use Rattle.treasury_api.proofs.ReplyLemmas.{state_is, same_line}
+
+-- every line asks something
+line_asks : ReadsAll → (failed : Bool) (styles : List Style) (line : List ℕ) → (asked : Result Asked Refusal) × Asks failed styles line asked
+line_asks law failed styles line = by_request (spelled line) refl
+  where
+    of_request : (b : Bool) (request : Request) → (asked : Result Asked Refusal) × AsksOf b styles request asked
+    of_request true request = (Err (Plain Closed), refl)
+    of_request false request = request_asks law styles request
+
+    by_request : (o : Option Request) → spelled line ≡ o → (asked : Result Asked Refusal) × Asks failed styles line asked
+    by_request (Some request) e = let a = of_request failed request in (a.0, inl (request, (e, a.1)))
+    by_request None e = (Err (Plain NoRequest), inr (e, refl))
+
+or_false : (b : Bool) → b ≡ (b || false)
+or_false true = refl
+or_false false = refl
+
+-- a plain refusal is the same line under all commodities
+pub plain_line : (styles : List Style) (cause : Cause) → answer_text [] (Err (Plain cause)) ≡ answer_text styles (Err (Plain cause))
+unfolding answer_text
+plain_line styles cause = refl
+
+-- the line of a refusal, on an empty vector
+pub refused_line : (styles : List Style) (refusal : Refusal) (empty text : List ℕ) → empty ≡ [] → text ≡ empty ++ answer_text styles (Err refusal) → IsLineIn styles refusal text
+refused_line styles (Plain cause) empty text none said = said ∙ (ap (λ (xs : List ℕ). xs ++ answer_text styles (Err (Plain cause))) none ∙ sym (plain_line styles cause))
+refused_line styles (Text fault) empty text none said = inr (said ∙ ap (λ (xs : List ℕ). xs ++ answer_text styles (Err (Text fault))) none)
+refused_line styles (ClaimFailed failure) empty text none said = inr (said ∙ ap (λ (xs : List ℕ). xs ++ answer_text styles (Err (ClaimFailed failure))) none)
+
+-- that of want of memory in place of one that is not plain
+pub memory_line : (styles : List Style) (refusal : Refusal) (empty mid text : List ℕ) → empty ≡ [] → mid ≡ empty → text ≡ mid ++ answer_text styles (Err (Plain OutOfMemory)) → (IsPlainAnswer (Err refusal) → ⊥) → IsLineIn styles refusal text
+memory_line styles (Plain cause) empty mid text none same said other = absurd (other tt)
+memory_line styles (Text fault) empty mid text none same said other = inl (said ∙ (ap (λ (xs : List ℕ). xs ++ answer_text styles (Err (Plain OutOfMemory))) (same ∙ none) ∙ sym (plain_line styles OutOfMemory)))
+memory_line styles (ClaimFailed failure) empty mid text none same said other = inl (said ∙ (ap (λ (xs : List ℕ). xs ++ answer_text styles (Err (Plain OutOfMemory))) (same ∙ none) ∙ sym (plain_line styles OutOfMemory)))
+
+-- ---- a line that spells no request, or for which there was no memory
+
+pub after_plain : (f : Federation) (asked : Result Asked Refusal) (refusal : Refusal) → f ≡ after f asked (Err refusal)
+after_plain f (Ok (Command c)) refusal = refl
+after_plain f (Ok (Report report)) refusal = refl
+after_plain f (Err e) refusal = refl
+
+stays : {S : Type 0} (t : Treasury S) (f : Federation) (asked : Result Asked Refusal) (cause : Cause) → is_failure (Err (Plain cause)) ≡ false → standing t f ≡ next (standing t f) asked (Err (Plain cause))
+stays t f asked cause harmless =
+    let same : t.store.failed ≡ (t.store.failed || is_failure (Err (Plain cause))) = or_false t.store.failed ∙ ap (λ (b : Bool). t.store.failed || b) (sym harmless) in
+    ap (λ (now : Federation). record { now = now; failed = t.store.failed }) (after_plain f asked (Plain cause)) ∙ ap (λ (b : Bool). record { now = after f asked (Err (Plain cause)); failed = b }) same
+
+pub unread : {S : Type 0} → ReadsAll → (g : Ghosts S) (t : Treasury S) (line text : List ℕ) (cause : Cause) (read : Result Request Cause) → read ≡ Err cause → (read ≡ Err NoRequest → spelled line ≡ None)
+    → (cause ≡ NoRequest) ⊎ (cause ≡ OutOfMemory) → text ≡ answer_text [] (Err (Plain cause)) → Serves g t line text t
+unread law g t line text cause read is none causes said = record {
+  clean = λ k. k;
+  answers = λ clean f of. (f, (of, by_cause f causes));
+}
+  where
+    by_cause : (f : Federation) → (cause ≡ NoRequest) ⊎ (cause ≡ OutOfMemory) → Answers (standing t f) line text (standing t f)
+    by_cause f (inl form) = record {
+      asked = Err (Plain NoRequest);
+      reply = Err (Plain NoRequest);
+      asks = inr (none (is ∙ ap (λ (x : Cause). Err x) form), refl);
+      replies = (inl refl, λ e. absurd cc);
+      text = said ∙ (plain_line f.styles cause ∙ ap (λ (x : Cause). answer_text f.styles (Err (Plain x))) form);
+      left = stays t f (Err (Plain NoRequest)) NoRequest refl;
+    }
+    by_cause f (inr memory) =
+        let asked = line_asks law t.store.failed f.styles line in
+        record {
+          asked = asked.0;
+          reply = Err (Plain OutOfMemory);
+          asks = asked.1;
+          replies = (inr (inl refl), λ e. absurd cc);
+          text = said ∙ (plain_line f.styles cause ∙ ap (λ (x : Cause). answer_text f.styles (Err (Plain x))) memory);
+          left = stays t f asked.0 OutOfMemory refl;
+        }
+
+-- ---- a request that is answered
+
+-- a report asks for a report
+asks_report : (failed : Bool) (styles : List Style) (request : Request) (c : AnyCommand) → AsksOf failed styles request (Ok (Command c)) → is_report request ≡ false
+asks_report true styles request c asks = absurd cc
+asks_report false styles (ForBalance name day) c asks = absurd cc
+asks_report false styles (ForRegister name account tag) c asks = absurd cc
+asks_report false styles (ForTransit day) c asks = absurd cc
+asks_report false styles (ForJournal name) c asks = absurd cc
+asks_report false styles (ForBranch name) c asks = refl
+asks_report false styles (ForCommodity sample) c asks = refl
+asks_report false styles (ForImport name journal) c asks = refl
+asks_report false styles (ForDispatch id from to day text account) c asks = refl
+asks_report false styles (ForReceive id name day account) c asks = refl
+asks_report false styles (ForLock name day) c asks = refl
+asks_report false styles (ForClose name day) c asks = refl
+
+by_sample : (o : Option Style) (report : AnyReport) (P : Type 0) → Ok (Report report) ≡ asked_by_sample o → P
+by_sample None report P e = absurd cc
+by_sample (Some style) report P e = absurd cc
+
+by_amount : (id from to account : List ℕ) (day : Day) (r : Result (Commodity × ℤ) Cause) (report : AnyReport) (P : Type 0) → Ok (Report report) ≡ asked_by_amount id from to day account r → P
+by_amount id from to account day (Ok (unit, qty)) report P e = absurd cc
+by_amount id from to account day (Err cause) report P e = absurd cc
+
+no_report : (failed : Bool) (styles : List Style) (request : Request) (report : AnyReport) → AsksOf failed styles request (Ok (Report report)) → is_report request ≡ true
+no_report true styles request report asks = absurd cc
+no_report false styles (ForBranch name) report asks = absurd cc
+no_report false styles (ForCommodity sample) report asks = by_sample (style_of sample) report _ asks
+no_report false styles (ForImport name journal) report (inl reads) = absurd (let e = reads.1.1 in cc)
+no_report false styles (ForImport name journal) report (inr fault) = absurd (let e = fault.1.1 in cc)
+no_report false styles (ForDispatch id from to day text account) report asks = by_amount id from to account day (amount styles text) report _ asks
+no_report false styles (ForReceive id name day account) report asks = absurd cc
+no_report false styles (ForLock name day) report asks = absurd cc
+no_report false styles (ForClose name day) report asks = absurd cc
+no_report false styles (ForBalance name day) report asks = refl
+no_report false styles (ForRegister name account tag) report asks = refl
+no_report false styles (ForTransit day) report asks = refl
+no_report false styles (ForJournal name) report asks = refl
+
+-- what is replied leads on
+pub leads : {S : Type 0} (old new : Treasury S) (f : Federation) (asked : Result Asked Refusal) (r : Result Answer Refusal) → new.store.failed ≡ (old.store.failed || is_failure r) → standing new (after f asked r) ≡ next (standing old f) asked r
+leads old new f asked r left = ap (λ (b : Bool). record { now = after f asked r; failed = b }) left
+
+spelled_some : (line : List ℕ) (request : Request) → spelled line ≡ Some request → IsSome (spelled line)
+spelled_some line request is = subst (λ (o : Option Request). IsSome o) (sym is) cc
+
+-- a report whose branch is there is replied to by `ok`
+done_only : (f : Federation) (failed : Bool) (report : AnyReport) (answer : Answer) → MayReply (record { now = f; failed = failed }) (Ok (Report report)) (Ok answer) → answer ≡ Done
+done_only f failed report answer (inl e) = by_branch (has_its_branch f report) e
+  where
+    by_branch : (t : Bool) → Ok answer ≡ (if not t then Err (Plain UnknownBranch) else Ok Done) → answer ≡ Done
+    by_branch true e = cc
+    by_branch false e = absurd cc
+done_only f failed report answer (inr (inl e)) = absurd cc
+done_only f failed report answer (inr (inr e)) = absurd (let k = e.1 in cc)
+
+-- nothing that is refused is answered
+pub refused_only : (f : Federation) (failed : Bool) (refusal : Refusal) (answer : Answer) (P : Type 0) → MayReply (record { now = f; failed = failed }) (Err refusal) (Ok answer) → P
+refused_only f failed refusal answer P (inl e) = absurd cc
+refused_only f failed refusal answer P (inr (inl e)) = absurd cc
+refused_only f failed refusal answer P (inr (inr e)) = absurd (let k = e.1 in cc)
+
+-- the text of an answer: the line that ends a report stands behind it
+whole_text : (f : Federation) (failed : Bool) (request : Request) (asked : Result Asked Refusal) (answer : Answer) (written text : List ℕ) → AsksOf failed f.styles request asked
+    → MayReply (record { now = f; failed = failed }) asked (Ok answer) → written ≡ [] ++ body_of f asked answer → text ≡ written ++ end_of_report request → text ≡ reply_text f asked (Ok answer)
+whole_text f failed request (Ok (Command c)) answer written text asks replies said ended =
+    let none : end_of_report request ≡ [] = ap (λ (t : Bool). if t then answer_text [] (Ok Done) else []) (asks_report failed f.styles request c asks) in
+    ended ∙ (ap (λ (xs : List ℕ). written ++ xs) none ∙ (append-nil written ∙ said))
+whole_text f failed request (Ok (Report report)) answer written text asks replies said ended =
+    let last : end_of_report request ≡ answer_text [] (Ok Done) = ap (λ (t : Bool). if t then answer_text [] (Ok Done) else []) (no_report failed f.styles request report asks) in
+    ended ∙ (ap (λ (xs : List ℕ). written ++ xs) (last ∙ same_line f.styles Done) ∙ (ap (λ (xs : List ℕ). xs ++ answer_text f.styles (Ok Done)) said
+    ∙ ap (λ (a : Answer). report_text f report ++ answer_text f.styles (Ok a)) (sym (done_only f failed report answer replies))))
+whole_text f failed request (Err refusal) answer written text asks replies said ended = refused_only f failed refusal answer _ replies
+
+-- an answer with its end
+pub served : {S : Type 0} (g : Ghosts S) (old new : Treasury S) (line written text : List ℕ) (request : Request) (made : Result (Unit {0}) Refusal) (x : Unit {0}) → spelled line ≡ Some request → made ≡ Ok x
+    → (HasCleanDisk (state g new.store.conn) → HasCleanDisk (state g old.store.conn))
+    → (HasCleanDisk (state g new.store.conn) → (f : Federation) → IsTreasuryOf g old f → IsAnswered g old.store.failed new f request made [] written)
+    → text ≡ written ++ end_of_report request → Serves g old line text new
+served g old new line written text request made x is ok clean answers ended = record {
+  clean = clean;
+  answers = λ k f of. by_reply f (answers k f of);
+}
+  where
+    by_reply : (f : Federation) → IsAnswered g old.store.failed new f request made [] written → (end : Federation) × (IsTreasuryOf g new end × Answers (standing old f) line text (standing new end))
+    by_reply f (asked, (asks, r)) =
+        let told = subst (λ (m : Result (Unit {0}) Refusal). MatchResult m (λ _. (answer : Answer) × ((r.reply ≡ Ok answer) × (written ≡ [] ++ body_of f asked answer))) (λ refusal. (r.reply ≡ Err refusal) × (written ≡ []))) ok r.text in (
+          after f asked r.reply,
+          (
+            r.of,
+            record {
+              asked = asked;
+              reply = r.reply;
+              asks = inl (request, (is, asks));
+              replies = (r.replies, λ _. spelled_some line request is);
+              text = whole_text f old.store.failed request asked told.0 written text asks (subst (λ (y : Result Answer Refusal). MayReply (record { now = f; failed = old.store.failed }) asked y) told.1.0 r.replies) told.1.1 ended
+                  ∙ ap (λ (y : Result Answer Refusal). reply_text f asked y) (sym told.1.0);
+              left = leads old new f asked r.reply r.left;
+            },
+          ),
+        )
+
+-- want of memory in place of the end of a report
+pub served_memory : {S : Type 0} (g : Ghosts S) (old new : Treasury S) (line written text : List ℕ) (request : Request) (made : Result (Unit {0}) Refusal) (x : Unit {0}) → spelled line ≡ Some request → made ≡ Ok x
+    → (HasCleanDisk (state g new.store.conn) → HasCleanDisk (state g old.store.conn))
+    → (HasCleanDisk (state g new.store.conn) → (f : Federation) → IsTreasuryOf g old f → IsAnswered g old.store.failed new f request made [] written)
+    → is_report request ≡ true → text ≡ answer_text [] (Err (Plain OutOfMemory)) → Serves g old line text new
+served_memory g old new line written text request made x is ok clean answers report said = record {
+  clean = clean;
+  answers = λ k f of. by_reply f (answers k f of);
+}
+  where
+    by_asked : (f : Federation) (asked : Result Asked Refusal) (answer : Answer) → AsksOf old.store.failed f.styles request asked → MayReply (record { now = f; failed = old.store.failed }) asked (Ok answer)
+        → IsTreasuryOf g new (after f asked (Ok answer)) → new.store.failed ≡ (old.store.failed || false) → (end : Federation) × (IsTreasuryOf g new end × Answers (standing old f) line text (standing new end))
+    by_asked f (Ok (Command c)) answer asks replies of left = absurd (let e : true ≡ false = sym report ∙ asks_report old.store.failed f.styles request c asks in cc)
+    by_asked f (Ok (Report asked)) answer asks replies of left = (
+      f,
+      (
+        of,
+        record {
+          asked = Ok (Report asked);
+          reply = Err (Plain OutOfMemory);
+          asks = inl (request, (is, asks));
+          replies = (inr (inl refl), λ e. absurd cc);
+          text = said ∙ plain_line f.styles OutOfMemory;
+          left = leads old new f (Ok (Report asked)) (Err (Plain OutOfMemory)) left;
+        },
+      ),
+    )
+    by_asked f (Err refusal) answer asks replies of left = refused_only f old.store.failed refusal answer _ replies
+
+    by_reply : (f : Federation) → IsAnswered g old.store.failed new f request made [] written → (end : Federation) × (IsTreasuryOf g new end × Answers (standing old f) line text (standing new end))
+    by_reply f (asked, (asks, r)) =
+        let told = subst (λ (m : Result (Unit {0}) Refusal). MatchResult m (λ _. (answer : Answer) × ((r.reply ≡ Ok answer) × (written ≡ [] ++ body_of f asked answer))) (λ refusal. (r.reply ≡ Err refusal) × (written ≡ []))) ok r.text in
+        by_asked f asked told.0 asks (subst (λ (y : Result Answer Refusal). MayReply (record { now = f; failed = old.store.failed }) asked y) told.1.0 r.replies)
+        (subst (λ (y : Result Answer Refusal). IsTreasuryOf g new (after f asked y)) told.1.0 r.of) (r.left ∙ ap (λ (y : Result Answer Refusal). old.store.failed || is_failure y) told.1.0)
+
+-- ---- a request that is refused
+
+-- the line of a refusal on the treasury that is of the state, or that of 40
+pub data_line : {S : Type 0} (g : Ghosts S) (new : Treasury S) (f : Federation) (refusal : Refusal) (text : List ℕ) → IsTreasuryOf g new f → IsLineOf new refusal text
+    → (text ≡ answer_text f.styles (Err refusal)) ⊎ ((text ≡ answer_text f.styles (Err (Plain OutOfMemory))) × (is_failure (Err refusal) ≡ false))
+data_line g new f (Plain cause) text of said = inl (said ∙ plain_line f.styles cause)
+data_line g new f (Text fault) text of (s, (held, inl memory)) = inr (memory ∙ plain_line f.styles OutOfMemory, refl)
+data_line g new f (Text fault) text of (s, (held, inr said)) = inl (said ∙ ap (λ (x : Federation). answer_text x.styles (Err (Text fault))) (state_is g new s f of held))
+data_line g new f (ClaimFailed failure) text of (s, (held, inl memory)) = inr (memory ∙ plain_line f.styles OutOfMemory, refl)
+data_line g new f (ClaimFailed failure) text of (s, (held, inr said)) = inl (said ∙ ap (λ (x : Federation). answer_text x.styles (Err (ClaimFailed failure))) (state_is g new s f of held))
+
+pub served_refusal : {S : Type 0} (g : Ghosts S) (old new : Treasury S) (line written text : List ℕ) (request : Request) (made : Result (Unit {0}) Refusal) (refusal : Refusal) → spelled line ≡ Some request → made ≡ Err refusal
+    → (HasCleanDisk (state g new.store.conn) → HasCleanDisk (state g old.store.conn))
+    → (HasCleanDisk (state g new.store.conn) → (f : Federation) → IsTreasuryOf g old f → IsAnswered g old.store.failed new f request made [] written)
+    → IsLineOf new refusal text → Serves g old line text new
+served_refusal g old new line written text request made refusal is refused clean answers said = record {
+  clean = clean;
+  answers = λ k f of. by_reply f (answers k f of);
+}
+  where
+    by_line : (f : Federation) (asked : Result Asked Refusal) → AsksOf old.store.failed f.styles request asked → MayReply (record { now = f; failed = old.store.failed }) asked (Err refusal) → IsTreasuryOf g new f
+        → new.store.failed ≡ (old.store.failed || is_failure (Err refusal))
+        → (text ≡ answer_text f.styles (Err refusal)) ⊎ ((text ≡ answer_text f.styles (Err (Plain OutOfMemory))) × (is_failure (Err refusal) ≡ false))
+        → Answers (standing old f) line text (standing new f)
+    by_line f asked asks replies of left (inl told) = record {
+      asked = asked;
+      reply = Err refusal;
+      asks = inl (request, (is, asks));
+      replies = (replies, λ _. spelled_some line request is);
+      text = told;
+      left = ap (λ (x : Federation). standing new x) (after_plain f asked refusal) ∙ leads old new f asked (Err refusal) left;
+    }
+    by_line f asked asks replies of left (inr (told, harmless)) = record {
+      asked = asked;
+      reply = Err (Plain OutOfMemory);
+      asks = inl (request, (is, asks));
+      replies = (inr (inl refl), λ _. spelled_some line request is);
+      text = told;
+      left = ap (λ (x : Federation). standing new x) (after_plain f asked (Plain OutOfMemory))
+          ∙ leads old new f asked (Err (Plain OutOfMemory)) (left ∙ ap (λ (b : Bool). old.store.failed || b) harmless);
+    }
+
+    by_reply : (f : Federation) → IsAnswered g old.store.failed new f request made [] written → (end : Federation) × (IsTreasuryOf g new end × Answers (standing old f) line text (standing new end))
+    by_reply f (asked, (asks, r)) =
+        let told = subst (λ (m : Result (Unit {0}) Refusal). MatchResult m (λ _. (answer : Answer) × ((r.reply ≡ Ok answer) × (written ≡ [] ++ body_of f asked answer))) (λ e. (r.reply ≡ Err e) × (written ≡ []))) refused r.text in
+        let of : IsTreasuryOf g new f = subst (IsTreasuryOf g new) (sym (after_plain f asked refusal)) (subst (λ (y : Result Answer Refusal). IsTreasuryOf g new (after f asked y)) told.0 r.of) in (
+          f,
+          (
+            of,
+            by_line f asked asks (subst (λ (y : Result Answer Refusal). MayReply (record { now = f; failed = old.store.failed }) asked y) told.0 r.replies) of
+                (r.left ∙ ap (λ (y : Result Answer Refusal). old.store.failed || is_failure y) told.0) (data_line g new f refusal text of said),
+          ),
+        )
+
+-- ---- a run on a treasury is a run of the state that it is of
+
+-- a treasury stands where a run stands
+abbrev pub IsAt : {S : Type 0} → Ghosts S → Treasury S → Standing → Type 0
+IsAt g t s = IsTreasuryOf g t s.now × (s.failed ≡ t.store.failed)
+
+stands : {S : Type 0} (g : Ghosts S) (t : Treasury S) (s : Standing) → IsAt g t s → s ≡ standing t s.now
+stands g t s at = ap (λ (b : Bool). record { now = s.now; failed = b }) at.1
+
+serves_told : {S : Type 0} (g : Ghosts S) (s t : Treasury S) (line text : List ℕ) → Serves g s line text t → HasCleanDisk (state g t.store.conn) → (a : Standing) → IsAt g s a
+    → (b : Standing) × (IsAt g t b × Answers a line text b)
+serves_told g s t line text step clean a at =
+    let next = step.answers clean a.now at.0 in
+    (standing t next.0, ((next.1.0, refl), subst (λ (x : Standing). Answers x line text (standing t next.0)) (sym (stands g s a at)) next.1.1))
+
+pub run_on : {S T R W : Type 0} (g : Ghosts S) (result : Result T Cause) (most : ℕ) (remaining : R → Option (List ℕ)) (r0 r1 : R) (contents : W → Option (List ℕ)) (w0 w1 : W) (old new : Treasury S)
+    → Ends result (Serves g) most remaining r0 r1 contents w0 w1 old new → HasCleanDisk (state g new.store.conn) → (f : Federation) → IsTreasuryOf g old f
+    → (end : Federation) × (IsTreasuryOf g new end × Ends result Answers most remaining r0 r1 contents w0 w1 (standing old f) (standing new end))
+run_on {S = S} g result most remaining r0 r1 contents w0 w1 old new ends clean f of =
+    let IsClean : Treasury S → Type 0 = λ t. HasCleanDisk (state g t.store.conn) in
+    let Is : Treasury S → Standing → Type 0 = λ t s. IsAt g t s in
+    let told = ends_lifted (Serves g) Answers IsClean Is (λ s t line text step. step.clean) (serves_told g) result most remaining r0 r1 contents w0 w1 old new ends clean (standing old f) (of, refl) in
+    (told.0.now, (told.1.0.0, subst (λ (x : Standing). Ends result Answers most remaining r0 r1 contents w0 w1 (standing old f) x) (stands g new told.0 told.1.0) told.1.1))

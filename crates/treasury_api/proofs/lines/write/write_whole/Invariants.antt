@@ -1,0 +1,13 @@
+use Rattle.std.proofs.Common.{length, ◌-◌, ◌≤◌, take}
+use Rattle.std.specs.Io.KnownBytes.{Appends}
+use Rattle.treasury_api.proofs.lines.write.write_whole.Given as goal
+
+-- the text up to `at` is written
+abbrev pub invariant-writing : goal.invariant-writing
+invariant-writing g l = record {
+  within : l.at ≤ length l.text;
+  written : Appends (g.W.Write.contents l.initial.writer) (g.W.Write.contents l.writer) (take l.at l.text);
+}
+
+abbrev pub decreases-writing : goal.decreases-writing
+decreases-writing g l = length l.text - l.at

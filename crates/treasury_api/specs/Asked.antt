@@ -1,0 +1,67 @@
+-- What a line asks, once its texts are read (own rule; docs/FORMATS.md, "Requests"): a journal by the grammar's
+-- relation, or by its first fault.
+use Rattle.std.specs.Prelude.{◌≡◌, ℕ, ℤ, Bool, true, false, List, ◌⊎◌, Option, Some, None, Result, Ok, Err}
+use Rattle.money_core.specs.declared.style.Style.{Style}
+use Rattle.money_core.specs.declared.unit.Unit.{Unit}
+use Rattle.money_core.specs.declared.day.Day.{Day}
+use Rattle.money_core.specs.declared.cause.Cause.{Cause}
+use Rattle.money_core.specs.declared.cause.Fault.{Fault}
+use Rattle.money_core.specs.declared.cause.Cause.TheVariants.{Amount, Closed, Request as NoRequest}
+use Rattle.money_core.specs.Sampling.{style_of}
+use Rattle.money_core.specs.Reading.{amount}
+use Rattle.book_core.specs.declared.refusal.Refusal.{Refusal}
+use Rattle.book_core.specs.declared.refusal.Refusal.TheVariants.{Plain, Text}
+use Rattle.journal_format.specs.declared.txn.Located.{Located}
+use Rattle.journal_format.specs.Pieces.{Reads}
+use Rattle.journal_format.specs.Fault.{IsFirstFault}
+use Rattle.treasury_core.specs.declared.command.Command.TheVariants as cmd
+use Rattle.treasury_api.specs.declared.request.Request.{Request}
+use Rattle.treasury_api.specs.declared.request.Request.TheVariants.{Branch, Commodity, Import, Dispatch, Receive, Lock, Close, Balance, Register, Transit, Journal}
+use Rattle.treasury_api.specs.declared.asking.Asked.{Asked}
+use Rattle.treasury_api.specs.declared.asking.Asked.TheVariants.{Command, Report}
+use Rattle.treasury_api.specs.declared.report.Report.TheVariants as report
+use Rattle.treasury_api.specs.Request.{spelled}
+
+-- a sample asks for a commodity in its style; a text that is none asks for nothing
+abbrev pub asked_by_sample : Option Style → Result Asked Refusal
+asked_by_sample None = Err (Plain Amount)
+asked_by_sample (Some style) = Ok (Command (cmd.Commodity style))
+
+-- a journal asks to enter the list that the grammar relates to its text; or for nothing, by the text's first fault
+abbrev pub JournalAsks : List Style → List ℕ → List ℕ → Result Asked Refusal → Type 0
+JournalAsks styles name journal asked =
+    ((list : List Located) × (Reads styles journal list × (asked ≡ Ok (Command (cmd.Enter name list)))))
+    ⊎ ((fault : Fault) × (IsFirstFault styles journal fault × (asked ≡ Err (Text fault))))
+
+-- a dispatch of the amount that its text is; a text that is none asks for nothing, by its first fault
+abbrev pub asked_by_amount : List ℕ → List ℕ → List ℕ → Day → List ℕ → Result (Unit × ℤ) Cause → Result Asked Refusal
+asked_by_amount id from to day account (Ok (unit, qty)) =
+    Ok (Command (cmd.Dispatch (record { id = id; source = from; target = to; day = day; unit = unit; qty = qty; account = account })))
+asked_by_amount id from to day account (Err cause) = Err (Plain cause)
+
+-- what a request asks, under the declared commodities: a command, a report, or nothing, since a text has a fault
+abbrev pub RequestAsks : List Style → Request → Result Asked Refusal → Type 0
+RequestAsks styles (Branch name) asked = asked ≡ Ok (Command (cmd.Branch name))
+RequestAsks styles (Commodity sample) asked = asked ≡ asked_by_sample (style_of sample)
+RequestAsks styles (Import name journal) asked = JournalAsks styles name journal asked
+RequestAsks styles (Dispatch id from to day text account) asked =
+    asked ≡ asked_by_amount id from to day account (amount styles text)
+RequestAsks styles (Receive id name day account) asked =
+    asked ≡ Ok (Command (cmd.Receive (record { id = id; branch = name; day = day; account = account })))
+RequestAsks styles (Lock name day) asked = asked ≡ Ok (Command (cmd.Lock name day))
+RequestAsks styles (Close name day) asked = asked ≡ Ok (Command (cmd.Close name day))
+RequestAsks styles (Balance name day) asked = asked ≡ Ok (Report (report.Balance name day))
+RequestAsks styles (Register name account tag) asked = asked ≡ Ok (Report (report.Register name account tag))
+RequestAsks styles (Transit day) asked = asked ≡ Ok (Report (report.Transit day))
+RequestAsks styles (Journal name) asked = asked ≡ Ok (Report (report.Journal name))
+
+-- what a request asks of a treasury: what its texts say, or nothing, by 42, where a call of its database has failed
+abbrev pub AsksOf : Bool → List Style → Request → Result Asked Refusal → Type 0
+AsksOf false styles request asked = RequestAsks styles request asked
+AsksOf true styles request asked = asked ≡ Err (Plain Closed)
+
+-- what a line asks: what its request does, or nothing where it spells none
+abbrev pub Asks : Bool → List Style → List ℕ → Result Asked Refusal → Type 0
+Asks failed styles line asked =
+    ((request : Request) × ((spelled line ≡ Some request) × AsksOf failed styles request asked))
+    ⊎ ((spelled line ≡ None) × (asked ≡ Err (Plain NoRequest)))

@@ -1,0 +1,69 @@
+-- What a run did, told from what was asked and replied: its commands are a run of the machine of commands, and refusals
+-- and repeats leave the state (own rules; docs/RULES.md, "Books", "Orders").
+use Rattle.std.specs.Prelude.{◌≡◌, ◌⊎◌, ⊤, ℕ, if◌then◌else◌, Result, Ok, Err, List, [], ◌∷◌, ◌++◌, map, codes}
+use Rattle.book_core.specs.declared.refusal.Refusal.{Refusal}
+use Rattle.treasury_core.specs.declared.command.Answer.{Answer}
+use Rattle.treasury_core.specs.History.{Turn as CommandTurn, IsRefusedOrRepeated}
+use Rattle.treasury_api.specs.declared.asking.Asked.{Asked}
+use Rattle.treasury_api.specs.declared.asking.Asked.TheVariants.{Command, Report}
+use Rattle.treasury_api.specs.Asked.{Asks}
+use Rattle.treasury_api.specs.Step.{Standing, next, is_failure, reply_text, Replies}
+use Rattle.treasury_api.specs.Transcript.{requests_in}
+
+-- a request: its line, what it asks, and what was replied
+pub record Turn : Type 0 where
+  pub line : List ℕ
+  pub asked : Result Asked Refusal
+  pub reply : Result Answer Refusal
+
+-- where a run stands after a turn
+abbrev pub after_turn : Standing → Turn → Standing
+after_turn s t = next s t.asked t.reply
+
+-- the turns follow one another: each asks what its line does, and is replied as the step says, by 40, or by 41
+abbrev pub AreTurns : Standing → List Turn → Type 0
+AreTurns s [] = ⊤
+AreTurns s (t ∷ ts) = Asks s.failed s.now.styles t.line t.asked × Replies s t.line t.asked t.reply × AreTurns (after_turn s t) ts
+
+-- where a run stands at their end
+abbrev pub end_of : Standing → List Turn → Standing
+end_of s [] = s
+end_of s (t ∷ ts) = end_of (after_turn s t) ts
+
+-- the texts of their replies, one behind the other
+abbrev pub texts_of : Standing → List Turn → List ℕ
+texts_of s [] = []
+texts_of s (t ∷ ts) = reply_text s.now t.asked t.reply ++ texts_of (after_turn s t) ts
+
+-- the turns of a transcript: the input's requests, and the output that answers them
+pub record IsRun (start : Standing) (input output : List ℕ) (end : Standing) (turns : List Turn) : Type 0 where
+  pub requests : map (λ (t : Turn). t.line) turns ≡ requests_in input
+  pub follow : AreTurns start turns
+  pub written : output ≡ texts_of start turns
+  pub left : end ≡ end_of start turns
+
+-- the command that is asked for, with its reply; none where it is answered 41, or where a report is asked for, or nothing
+abbrev pub command_if : Result Asked Refusal → Result Answer Refusal → List CommandTurn
+command_if (Ok (Command c)) r = if is_failure r then [] else record { command = c; reply = r } ∷ []
+command_if (Ok (Report report)) r = []
+command_if (Err refusal) r = []
+
+-- the commands of turns with their replies, in order
+abbrev pub commands_of : List Turn → List CommandTurn
+commands_of [] = []
+commands_of (t ∷ ts) = command_if t.asked t.reply ++ commands_of ts
+
+-- each turn whose reply is a refusal or `repeated` leaves the state
+abbrev pub RefusalsLeave : Standing → List Turn → Type 0
+RefusalsLeave s [] = ⊤
+RefusalsLeave s (t ∷ ts) = (IsRefusedOrRepeated t.reply → (after_turn s t).now ≡ s.now) × RefusalsLeave (after_turn s t) ts
+
+-- the line of a refusal, or of `repeated`
+abbrev pub IsRefusalOrRepeat : List ℕ → Type 0
+IsRefusalOrRepeat text = ((rest : List ℕ) × (text ≡ codes "refused " ++ rest)) ⊎ (text ≡ codes "repeated\n")
+
+-- each turn whose text is the line of a refusal, or of `repeated`, leaves the state
+abbrev pub RefusedLinesLeave : Standing → List Turn → Type 0
+RefusedLinesLeave s [] = ⊤
+RefusedLinesLeave s (t ∷ ts) =
+    (IsRefusalOrRepeat (reply_text s.now t.asked t.reply) → (after_turn s t).now ≡ s.now) × RefusedLinesLeave (after_turn s t) ts

@@ -1,0 +1,41 @@
+-- What a run did and what it left, from whichever state it began on (own rules; docs/RULES.md, "Books", "Runs").
+use Rattle.std.specs.Prelude.{◌≡◌, ℕ, List, Option, Result, MatchResult}
+use Rattle.money_core.specs.declared.cause.Cause.{Cause}
+use Rattle.treasury_core.specs.History.{IsRun as IsCommandRun, state_after}
+use Rattle.treasury_core.specs.Headline.{KeepsBooks}
+use Rattle.treasury_api.specs.RunEnd.{most_input, Finished, EndsBy}
+use Rattle.treasury_api.specs.Step.{Standing, Answers}
+use Rattle.treasury_api.specs.History.{Turn, AreTurns, end_of, IsRun, commands_of, RefusalsLeave, RefusedLinesLeave}
+
+-- All of the input is answered, at most 64 MiB of it: by turns, one for each request. Their commands are a run of the machine of
+-- commands, which leads to the state at the end, and of which the headline holds. Each reply that is a refusal or `repeated`, and
+-- each whose text is the line of one, left the state as it was.
+pub record AnswersAll {R W : Type 0} (remaining : R → Option (List ℕ)) (r0 r1 : R)
+    (contents : W → Option (List ℕ)) (w0 w1 : W) (start end : Standing) : Type 0 where
+  pub turns : List Turn
+  pub finished : Finished Answers most_input (remaining r0) (remaining r1) (contents w0) (contents w1) start end
+  pub run : IsRun start finished.seen finished.written end turns
+  pub commands : IsCommandRun start.now (commands_of turns)
+  pub left : end.now ≡ state_after start.now (commands_of turns)
+  pub headline : KeepsBooks start.now (commands_of turns)
+  pub refusals : RefusalsLeave start turns
+  pub lines : RefusedLinesLeave start turns
+
+-- A run is cut off by this cause: memory, its input or its output. It ends by turns too, and of their commands the headline holds.
+pub record IsCutOffBy {R W : Type 0} (cause : Cause) (remaining : R → Option (List ℕ)) (r0 r1 : R)
+    (contents : W → Option (List ℕ)) (w0 w1 : W) (start end : Standing) : Type 0 where
+  pub ends : EndsBy cause Answers most_input (remaining r0) (remaining r1) (contents w0) (contents w1) start end
+  pub turns : List Turn
+  pub follow : AreTurns start turns
+  pub last : end ≡ end_of start turns
+  pub commands : IsCommandRun start.now (commands_of turns)
+  pub left : end.now ≡ state_after start.now (commands_of turns)
+  pub headline : KeepsBooks start.now (commands_of turns)
+  pub refusals : RefusalsLeave start turns
+
+-- a run, by its result
+abbrev pub Runs : {T R W : Type 0} → Result T Cause → (R → Option (List ℕ)) → R → R
+    → (W → Option (List ℕ)) → W → W → Standing → Standing → Type 0
+Runs result remaining r0 r1 contents w0 w1 start end = MatchResult result
+    (λ _. AnswersAll remaining r0 r1 contents w0 w1 start end)
+    (λ cause. IsCutOffBy cause remaining r0 r1 contents w0 w1 start end)

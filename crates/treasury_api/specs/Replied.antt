@@ -1,0 +1,39 @@
+-- What a treasury answers to what is asked of it (own rules; docs/RULES.md, "Runs").
+use Rattle.std.specs.Prelude.{◌≡◌, ⊤, ℕ, Bool, ◌||◌, List, [], ◌++◌, Some, Result, Ok, Err, MatchResult}
+use Rattle.sqlite.specs.Store.{Ghosts}
+use Rattle.book_core.specs.declared.refusal.Refusal.{Refusal}
+use Rattle.book_core.specs.declared.refusal.Refusal.TheVariants.{Plain}
+use Rattle.treasury_core.specs.declared.command.Answer.{Answer}
+use Rattle.treasury_core.specs.Federation.{Federation}
+use Rattle.treasury_store.specs.Treasury.{Treasury, IsTreasuryOf}
+use Rattle.treasury_api.specs.declared.asking.Asked.{Asked}
+use Rattle.treasury_api.specs.declared.asking.Asked.TheVariants.{Command, Report}
+use Rattle.treasury_api.specs.Report.{report_text}
+use Rattle.treasury_api.specs.Answer.{answer_text, IsPrintableRefusal}
+use Rattle.treasury_api.specs.Step.{Standing, MayReply, after, is_failure}
+
+-- where a run on a treasury stands
+abbrev pub standing : {S : Type 0} → Treasury S → Federation → Standing
+standing t f = record { now = f; failed = t.store.failed }
+
+-- what is answered to what is asked, but for the line that ends a report
+abbrev pub body_of : Federation → Result Asked Refusal → Answer → List ℕ
+body_of f (Ok (Command c)) answer = answer_text f.styles (Ok answer)
+body_of f (Ok (Report report)) answer = report_text f report
+body_of f (Err refusal) answer = []
+
+-- What is asked is replied to: the treasury is of the state after the reply, and the answer stands behind what was written before; nothing does where
+-- the reply is a refusal. `failed` is whether a call of the database had failed.
+pub record IsReplied {S T : Type 0} (g : Ghosts S) (failed : Bool) (new : Treasury S) (f : Federation) (asked : Result Asked Refusal) (result : Result T Refusal) (before written : List ℕ) : Type 0 where
+  pub reply : Result Answer Refusal
+  pub replies : MayReply (record { now = f; failed = failed }) asked reply
+  pub of : IsTreasuryOf g new (after f asked reply)
+  pub left : new.store.failed ≡ (failed || is_failure reply)
+  pub text : MatchResult result
+      (λ _. (answer : Answer) × ((reply ≡ Ok answer) × (written ≡ before ++ body_of f asked answer)))
+      (λ refusal. (reply ≡ Err refusal) × (written ≡ before))
+
+-- a refusal can be printed: it is plain, or the state in memory has the commodities that it names
+abbrev pub IsPrintableIn : {S : Type 0} → Treasury S → Refusal → Type 0
+IsPrintableIn t (Plain cause) = ⊤
+IsPrintableIn t refusal = (s : Federation) × ((t.held ≡ Some s) × IsPrintableRefusal s.styles refusal)

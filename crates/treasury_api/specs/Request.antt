@@ -1,0 +1,125 @@
+-- The requests (own rule; docs/FORMATS.md, "Requests"). A request is one JSON object, and each of its values is a text.
+-- What JSON is, `serde_json` says: arrays and objects nest 127 deep, and of a key that is written twice the last one stays.
+use Rattle.std.specs.Prelude.{ℕ, ◌+◌, Bool, ◌==◌, ◌&&◌, if◌then◌else◌, List, codes, ⊤, true, false}
+use Rattle.std.specs.Prelude.{Option, Some, None, option_map, option_and_then}
+use Rattle.std.specs.Str.{bytes_eq, is_utf8}
+use Rattle.serde_json.specs.Data.{Data, null, boolean, number, string, array, object, Members, no_members, member}
+use Rattle.serde_json.specs.Find.{get, as_str}
+use Rattle.serde_json.specs.Read.{read}
+use Rattle.money_core.specs.declared.day.Day.{Day}
+use Rattle.journal_lines.specs.Date.{IsDayNumber}
+use Rattle.journal_lines.specs.DateReading.{date_of}
+use Rattle.treasury_api.specs.declared.request.Request.{Request}
+use Rattle.treasury_api.specs.declared.request.Request.TheVariants.{Branch, Commodity, Import, Dispatch, Receive, Lock, Close, Balance, Register, Transit, Journal}
+
+-- the text at a key of an object
+abbrev pub text_at : List ℕ → Data → Option (List ℕ)
+text_at key d = option_and_then as_str (get key d)
+
+-- the day at a key of an object: its text is a date
+abbrev pub day_at : List ℕ → Data → Option Day
+day_at key d = option_and_then date_of (text_at key d)
+
+-- how many members there are
+abbrev pub count_members : Members → ℕ
+count_members no_members = 0
+count_members (member k d ms) = count_members ms + 1
+
+-- how many keys an object has, each counted once
+abbrev pub key_count : Data → ℕ
+key_count null = 0
+key_count (boolean b) = 0
+key_count (number n) = 0
+key_count (string s) = 0
+key_count (array ds) = 0
+key_count (object ms) = count_members ms
+
+-- the word of `do` is this one, and there are so many keys with `do`
+abbrev pub is_form : List ℕ → ℕ → List ℕ → Data → Bool
+is_form name keys word d = bytes_eq word name && (key_count d == keys)
+
+-- the request of a dispatch, and of a receipt: their keys are all there, each with a text
+abbrev pub dispatch_at : Data → Option Request
+dispatch_at d =
+    option_and_then (λ id. option_and_then (λ from. option_and_then (λ to. option_and_then (λ day. option_and_then (λ amount.
+    option_map (λ account. Dispatch id from to day amount account) (text_at (codes "account") d)) (text_at (codes "amount") d))
+    (day_at (codes "day") d)) (text_at (codes "to") d)) (text_at (codes "from") d)) (text_at (codes "id") d)
+
+abbrev pub receive_at : Data → Option Request
+receive_at d =
+    option_and_then (λ id. option_and_then (λ branch. option_and_then (λ day.
+    option_map (λ account. Receive id branch day account) (text_at (codes "account") d))
+    (day_at (codes "day") d)) (text_at (codes "branch") d)) (text_at (codes "id") d)
+
+-- the request of a register, without a tag and with one
+abbrev pub register_at : Data → Option Request
+register_at d =
+    option_and_then (λ branch. option_map (λ account. Register branch account None) (text_at (codes "account") d)) (text_at (codes "branch") d)
+
+abbrev pub tagged_at : Data → Option Request
+tagged_at d =
+    option_and_then (λ branch. option_and_then (λ account.
+    option_map (λ tag. Register branch account (Some tag)) (text_at (codes "tag") d))
+    (text_at (codes "account") d)) (text_at (codes "branch") d)
+
+-- the request of each word that asks for a report
+abbrev pub report_form : List ℕ → Data → Option Request
+report_form word d =
+    if is_form (codes "balance") 3 word d
+    then option_and_then (λ branch. option_map (Balance branch) (day_at (codes "day") d)) (text_at (codes "branch") d)
+    else if is_form (codes "register") 3 word d then register_at d
+    else if is_form (codes "register") 4 word d then tagged_at d
+    else if is_form (codes "transit") 2 word d then option_map Transit (day_at (codes "day") d)
+    else if is_form (codes "journal") 2 word d then option_map Journal (text_at (codes "branch") d)
+    else None
+
+-- the request of each word: its keys are all there, each with a text, and since they are so many there is no further one
+abbrev pub form : List ℕ → Data → Option Request
+form word d =
+    if is_form (codes "branch") 2 word d then option_map Branch (text_at (codes "name") d)
+    else if is_form (codes "commodity") 2 word d then option_map Commodity (text_at (codes "sample") d)
+    else if is_form (codes "import") 3 word d
+    then option_and_then (λ branch. option_map (Import branch) (text_at (codes "journal") d)) (text_at (codes "branch") d)
+    else if is_form (codes "dispatch") 7 word d then dispatch_at d
+    else if is_form (codes "receive") 5 word d then receive_at d
+    else if is_form (codes "lock") 3 word d
+    then option_and_then (λ branch. option_map (Lock branch) (day_at (codes "day") d)) (text_at (codes "branch") d)
+    else if is_form (codes "close") 3 word d
+    then option_and_then (λ branch. option_map (Close branch) (day_at (codes "day") d)) (text_at (codes "branch") d)
+    else report_form word d
+
+-- the request that an object is
+abbrev pub request_of : Data → Option Request
+request_of d = option_and_then (λ word. form word d) (text_at (codes "do") d)
+
+-- the request that bytes spell: they are UTF-8, and JSON of one of the forms
+unfoldable pub spelled : List ℕ → Option Request
+spelled bytes = if is_utf8 bytes then option_and_then request_of (read bytes) else None
+
+-- each day of the request is one of the years 1 to 9999
+abbrev pub HasDayNumbers : Request → Type 0
+HasDayNumbers (Branch name) = ⊤
+HasDayNumbers (Commodity sample) = ⊤
+HasDayNumbers (Import branch journal) = ⊤
+HasDayNumbers (Dispatch id from to day amount account) = IsDayNumber day
+HasDayNumbers (Receive id branch day account) = IsDayNumber day
+HasDayNumbers (Lock branch day) = IsDayNumber day
+HasDayNumbers (Close branch day) = IsDayNumber day
+HasDayNumbers (Balance branch day) = IsDayNumber day
+HasDayNumbers (Register branch account tag) = ⊤
+HasDayNumbers (Transit day) = IsDayNumber day
+HasDayNumbers (Journal branch) = ⊤
+
+-- a report is asked for, not a command
+abbrev pub is_report : Request → Bool
+is_report (Branch name) = false
+is_report (Commodity sample) = false
+is_report (Import branch journal) = false
+is_report (Dispatch id from to day amount account) = false
+is_report (Receive id branch day account) = false
+is_report (Lock branch day) = false
+is_report (Close branch day) = false
+is_report (Balance branch day) = true
+is_report (Register branch account tag) = true
+is_report (Transit day) = true
+is_report (Journal branch) = true

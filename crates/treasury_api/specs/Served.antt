@@ -1,0 +1,61 @@
+-- Mirrors code: one line that is served, and further bytes of an input.
+use Rattle.std.specs.Prelude.{◌≡◌, ℕ, ◌==◌, List, [], ◌∷◌, ◌++◌, Option, take, position, Result, MatchResult}
+use Rattle.std.specs.Io.KnownBytes.{Appends}
+use Rattle.money_core.specs.declared.cause.Cause.{Cause}
+use Rattle.money_core.specs.declared.cause.Cause.TheVariants.{OutOfMemory, WriteFault}
+use Rattle.treasury_api.specs.Transcript.{AnswersInTurn}
+use Rattle.treasury_api.specs.RunEnd.{AnswersWhole, StopsBy}
+
+-- the writer got the answers to these requests
+pub record Served {S : Type 0} (Step : S → List ℕ → List ℕ → S → Type 0)
+    (w0 w1 : Option (List ℕ)) (start : S) (requests : List (List ℕ)) (end : S) : Type 0 where
+  pub written : List ℕ
+  pub answers : AnswersInTurn Step start requests written end
+  pub appended : Appends w0 w1 written
+
+-- memory was refused: nothing was written, and the state is as before
+pub record Unserved {S : Type 0} (w0 w1 : Option (List ℕ)) (start end : S) : Type 0 where
+  pub appended : Appends w0 w1 []
+  pub same : end ≡ start
+
+-- a write failed: of the one request's answer a first part was written
+pub record HalfServed {S : Type 0} (Step : S → List ℕ → List ℕ → S → Type 0)
+    (w0 w1 : Option (List ℕ)) (start : S) (requests : List (List ℕ)) (end : S) : Type 0 where
+  pub request : List ℕ
+  pub answer : List ℕ
+  pub taken : ℕ
+  pub one : requests ≡ request ∷ []
+  pub last : Step start request answer end
+  pub appended : Appends w0 w1 (take taken answer)
+
+-- the requests are not served, for this cause
+abbrev pub FailsBy : {S : Type 0} → Cause → (S → List ℕ → List ℕ → S → Type 0)
+    → Option (List ℕ) → Option (List ℕ) → S → List (List ℕ) → S → Type 0
+FailsBy OutOfMemory Step w0 w1 start requests end = Unserved w0 w1 start end
+FailsBy WriteFault Step w0 w1 start requests end = HalfServed Step w0 w1 start requests end
+FailsBy _ Step w0 w1 start requests end = ⊥
+
+-- the requests are served, or not, by the result
+abbrev pub Serves : {T S : Type 0} → Result T Cause → (S → List ℕ → List ℕ → S → Type 0)
+    → Option (List ℕ) → Option (List ℕ) → S → List (List ℕ) → S → Type 0
+Serves result Step w0 w1 start requests end = MatchResult result
+    (λ _. Served Step w0 w1 start requests end)
+    (λ cause. FailsBy cause Step w0 w1 start requests end)
+
+-- the complete lines of what was seen are answered, or the answers stop, by the result
+abbrev pub Feeds : {T S : Type 0} → Result T Cause → (S → List ℕ → List ℕ → S → Type 0)
+    → Option (List ℕ) → Option (List ℕ) → S → List ℕ → List ℕ → S → Type 0
+Feeds result Step w0 w1 start seen begun end = MatchResult result
+    (λ _. AnswersWhole Step w0 w1 start seen begun end)
+    (λ cause. StopsBy cause Step ⊥ w0 w1 start seen end)
+
+-- where the first line feed of a text stands
+abbrev pub feed_place : List ℕ → Option ℕ
+feed_place text = position (λ b. b == 10) text
+
+-- the line, which a line feed ends, is answered, or the answers stop there, whatever stands behind it
+abbrev pub EndsLine : {T S : Type 0} → Result T Cause → (S → List ℕ → List ℕ → S → Type 0)
+    → Option (List ℕ) → Option (List ℕ) → S → List ℕ → List ℕ → S → Type 0
+EndsLine result Step w0 w1 start line begun end = MatchResult result
+    (λ _. AnswersWhole Step w0 w1 start (line ++ 10 ∷ []) begun end)
+    (λ cause. (rest : List ℕ) → StopsBy cause Step ⊥ w0 w1 start (line ++ 10 ∷ rest) end)

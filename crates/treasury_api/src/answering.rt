@@ -1,0 +1,92 @@
+//! Answers to requests, on a treasury.
+
+ghost use Rattle.std.specs.Prelude.{◌≡◌, false, Ok, IfErr, OnErr, Result};
+ghost use Rattle.sqlite.specs.State.{HasCleanDisk};
+ghost use Rattle.sqlite.specs.Held.{state};
+ghost use Rattle.book_core.specs.declared.refusal.Refusal.{Refusal as Refused};
+ghost use Rattle.treasury_core.specs.Federation.{Federation};
+ghost use Rattle.treasury_store.specs.Treasury.{IsTreasuryOf};
+ghost use Rattle.treasury_api.specs.declared.asking.Asked.{Asked as Meant};
+ghost use Rattle.treasury_api.specs.Asked.{AsksOf};
+ghost use Rattle.treasury_api.specs.Request.{HasDayNumbers};
+ghost use Rattle.treasury_api.specs.Replied.{IsReplied, IsPrintableIn};
+ghost use Rattle.treasury_api.specs.Serving.{IsHeldFor};
+
+use crate::answers::{MOST_PLAIN, answer_line};
+use crate::asking::{Asked, asked_by};
+use crate::report::push_report;
+use crate::request::Request;
+use book_core::Refusal;
+use journal_format::reading_law;
+use money_core::{Cause, Styles};
+use sqlite::Alter;
+use std::alloc::Global;
+use treasury_core::Command;
+use treasury_store::Treasury;
+
+/// Performs a command, and appends the line of its answer, for which the room is made before.
+fn answer_command<S: Alter>(
+    alloc: Global,
+    treasury: &mut Treasury<S>,
+    command: Command,
+    out: &mut Vec<u8>,
+) -> Result<(), Refusal>
+    requires held { IsHeldFor treasury.old command }
+    requires unfailed { treasury.old.store.failed ≡ false }
+    ensures replies { HasCleanDisk (state S.Store treasury.new.store.conn) → (f : Federation) → IsTreasuryOf S.Store treasury.old f
+        → IsReplied S.Store false treasury.new f (Ok (Asked.Command command)) result out.old.items out.new.items }
+    ensures err { OnErr result (out.new.items ≡ out.old.items) }
+    ensures printable { IfErr result (IsPrintableIn treasury.new) }
+    ensures clean { HasCleanDisk (state S.Store treasury.new.store.conn) → HasCleanDisk (state S.Store treasury.old.store.conn) }
+{
+    match out.reserve(MOST_PLAIN) {
+        Ok(()) => {}
+        Err(_) => return Err(Refusal::Plain(Cause::OutOfMemory)),
+    }
+    let answer = match treasury.perform(command) {
+        Ok(answer) => answer,
+        Err(refusal) => return Err(refusal),
+    };
+    match answer_line(alloc, &Ok(answer), &Styles::empty(alloc), out) {
+        Ok(()) => Ok(()),
+        Err(_) => unreachable!(),
+    }
+}
+
+/// Does what a request asks of the treasury, and appends its answer: the line of a command that is accepted or repeated, or
+/// the lines of a report, without the `ok` behind them.
+///
+/// It refuses as the texts of the request, the command or the report are refused, and 40 to 42 as the treasury; the vector is
+/// then as it was. The room for the line of a command is made before it is performed.
+pub fn answer<S: Alter>(
+    alloc: Global,
+    request: &Request,
+    treasury: &mut Treasury<S>,
+    out: &mut Vec<u8>,
+) -> Result<(), Refusal>
+    requires { HasDayNumbers request.now }
+    ensures replies { HasCleanDisk (state S.Store treasury.new.store.conn) → (f : Federation) → IsTreasuryOf S.Store treasury.old f
+        → (asked : Result Meant Refused) × (AsksOf treasury.old.store.failed f.styles request.now asked
+        × IsReplied S.Store treasury.old.store.failed treasury.new f asked result out.old.items out.new.items) }
+    ensures err { OnErr result (out.new.items ≡ out.old.items) }
+    ensures printable { IfErr result (IsPrintableIn treasury.new) }
+    ensures clean { HasCleanDisk (state S.Store treasury.new.store.conn) → HasCleanDisk (state S.Store treasury.old.store.conn) }
+{
+    reading_law();
+    match treasury.hold() {
+        Ok(()) => {}
+        Err(cause) => return Err(Refusal::Plain(cause)),
+    }
+    let Some(state) = treasury.state() else {
+        unreachable!()
+    };
+    state.is_good();
+    match asked_by(alloc, state.styles(), request) {
+        Ok(Asked::Command(command)) => answer_command(alloc, treasury, command, out),
+        Ok(Asked::Report(report)) => match push_report(alloc, state, &report, out) {
+            Ok(()) => Ok(()),
+            Err(cause) => Err(Refusal::Plain(cause)),
+        },
+        Err(refusal) => Err(refusal),
+    }
+}

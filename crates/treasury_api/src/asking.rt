@@ -1,0 +1,147 @@
+//! What a request asks, once its texts are read: a command, or a report.
+
+ghost use Rattle.std.specs.Prelude.{◌≡◌};
+ghost use Rattle.money_core.specs.Sampling.{style_of};
+ghost use Rattle.money_core.specs.Reading.{amount};
+ghost use Rattle.journal_lines.specs.Date.{IsDayNumber};
+ghost use Rattle.treasury_api.specs.Asked.{asked_by_sample, asked_by_amount, JournalAsks, RequestAsks};
+ghost use Rattle.treasury_api.specs.Request.{HasDayNumbers};
+ghost use Rattle.treasury_api.specs.Serving.{IsReady, OrMemory};
+
+use crate::report::Report;
+use crate::request::Request;
+use book_core::Refusal;
+use journal_format::read_journal;
+use money_core::{Cause, Copied, Day, Items, Styles, Text, read_amount, read_style};
+use std::alloc::Global;
+use treasury_core::{Command, Dispatch, Receive};
+
+/// What is asked of the treasury.
+#[derive(Drop)]
+pub enum Asked {
+    Command(Command),
+    Report(Report),
+}
+
+/// Want of memory.
+const NO_MEMORY: Refusal = Refusal::Plain(Cause::OutOfMemory);
+
+/// Asks for a commodity in the style that the sample spells.
+fn asked_by_sample(alloc: Global, styles: &Styles, sample: &str) -> Result<Asked, Refusal>
+    ensures asks { OrMemory (λ asked. asked ≡ asked_by_sample (style_of sample.now)) result }
+    ensures ready { IsReady styles.now result }
+{
+    match read_style(alloc, sample) {
+        Ok(style) => Ok(Asked::Command(Command::Commodity(style))),
+        Err(Cause::OutOfMemory) => Err(NO_MEMORY),
+        Err(_) => Err(Refusal::Plain(Cause::Amount)),
+    }
+}
+
+/// Asks to enter the transactions that the journal's text has.
+fn asked_by_journal(
+    alloc: Global,
+    styles: &Styles,
+    name: Text,
+    journal: &[u8],
+) -> Result<Asked, Refusal>
+    ensures asks { OrMemory (JournalAsks styles.now name journal.now) result }
+    ensures ready { IsReady styles.now result }
+{
+    match read_journal(alloc, journal, styles) {
+        Ok(list) => Ok(Asked::Command(Command::Enter(name, Items::from_vec(list)))),
+        Err(fault) => match fault.cause {
+            Cause::OutOfMemory => Err(NO_MEMORY),
+            _ => Err(Refusal::Text(fault)),
+        },
+    }
+}
+
+/// Asks for a dispatch of the amount that the text is.
+fn asked_by_amount(
+    styles: &Styles,
+    id: Text,
+    from: Text,
+    to: Text,
+    day: Day,
+    text: &str,
+    account: Text,
+) -> Result<Asked, Refusal>
+    requires { IsDayNumber day }
+    ensures asks { result ≡ asked_by_amount id from to day account (amount styles.now text.now) }
+    ensures ready { IsReady styles.now result }
+{
+    match read_amount(text, styles) {
+        Ok((unit, qty)) => Ok(Asked::Command(Command::Dispatch(Dispatch {
+            id,
+            source: from,
+            target: to,
+            day,
+            unit,
+            qty,
+            account,
+        }))),
+        Err(cause) => Err(Refusal::Plain(cause)),
+    }
+}
+
+/// What the request asks, or the first fault of its texts; 40 for want of memory.
+fn asked_by_request(alloc: Global, styles: &Styles, request: Request) -> Result<Asked, Refusal>
+    requires { HasDayNumbers request }
+    ensures asks { OrMemory (RequestAsks styles.now request) result }
+    ensures ready { IsReady styles.now result }
+{
+    match request {
+        Request::Branch { name } => Ok(Asked::Command(Command::Branch(name))),
+        Request::Commodity { sample } => asked_by_sample(alloc, styles, sample.as_str()),
+        Request::Import { branch, journal } => {
+            asked_by_journal(alloc, styles, branch, journal.as_bytes())
+        }
+        Request::Dispatch {
+            id,
+            from,
+            to,
+            day,
+            amount,
+            account,
+        } => asked_by_amount(styles, id, from, to, day, amount.as_str(), account),
+        Request::Receive {
+            id,
+            branch,
+            day,
+            account,
+        } => Ok(Asked::Command(Command::Receive(Receive {
+            id,
+            branch,
+            day,
+            account,
+        }))),
+        Request::Lock { branch, day } => Ok(Asked::Command(Command::Lock(branch, day))),
+        Request::Close { branch, day } => Ok(Asked::Command(Command::Close(branch, day))),
+        Request::Balance { branch, day } => Ok(Asked::Report(Report::Balance { branch, day })),
+        Request::Register {
+            branch,
+            account,
+            tag,
+        } => Ok(Asked::Report(Report::Register {
+            branch,
+            account,
+            tag,
+        })),
+        Request::Transit { day } => Ok(Asked::Report(Report::Transit { day })),
+        Request::Journal { branch } => Ok(Asked::Report(Report::Journal { branch })),
+    }
+}
+
+/// What the request asks: a command that fits the commodities, or a report. Or the first fault of its texts; 40 for want of
+/// memory. Each of these refusals can be printed.
+pub fn asked_by(alloc: Global, styles: &Styles, request: &Request) -> Result<Asked, Refusal>
+    requires { HasDayNumbers request.now }
+    ensures asks { OrMemory (RequestAsks styles.now request.now) result }
+    ensures ready { IsReady styles.now result }
+{
+    match request.copy() {
+        Ok(request) => asked_by_request(alloc, styles, request),
+        Err(_) => Err(NO_MEMORY),
+    }
+}

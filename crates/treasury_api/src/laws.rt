@@ -1,0 +1,43 @@
+//! What transcripts mean, in the words of the machine of commands.
+
+ghost use Rattle.std.specs.Prelude.{◌≡◌, List, ℕ, Result, Ok};
+ghost use Rattle.book_core.specs.declared.refusal.Refusal.{Refusal as Refused};
+ghost use Rattle.treasury_core.specs.declared.command.Answer.{Answer};
+ghost use Rattle.treasury_core.specs.Federation.{Federation};
+ghost use Rattle.treasury_core.specs.History.{IsRun as IsCommandRun, state_after};
+ghost use Rattle.treasury_api.specs.declared.report.Report.{Report};
+ghost use Rattle.treasury_api.specs.Transcript.{IsTranscript};
+ghost use Rattle.treasury_api.specs.Step.{Standing, after, Answers};
+ghost use Rattle.treasury_api.specs.History.{Turn, AreTurns, end_of, IsRun, commands_of};
+ghost use Rattle.treasury_api.specs.History.{RefusalsLeave, IsRefusalOrRepeat, RefusedLinesLeave};
+
+use crate::asking::Asked;
+
+/// A law of transcripts: each has turns, one for each request, whose texts are its output; and such turns have it as
+/// their transcript. Costs nothing.
+pub fn run_law()
+    ensures turns { (start : Standing) (input output : List ℕ) (end : Standing)
+        → IsTranscript Answers start input output end → (turns : List Turn) × IsRun start input output end turns }
+    ensures transcript { (start : Standing) (input output : List ℕ) (end : Standing) (turns : List Turn)
+        → IsRun start input output end turns → IsTranscript Answers start input output end }
+{}
+
+/// A law of turns: their commands fit, and are a run of the machine of commands that leads where the turns do. So all
+/// laws of its runs hold of them. Costs nothing.
+pub fn commands_law()
+    ensures run { (start : Standing) (turns : List Turn) → AreTurns start turns → IsCommandRun start.now (commands_of turns) }
+    ensures end { (start : Standing) (turns : List Turn) → (end_of start turns).now ≡ state_after start.now (commands_of turns) }
+{}
+
+/// Laws of what is refused or repeated: along turns each such reply leaves the state, and so does every line whose
+/// answer is a refusal or `repeated`. Along a run so does each answer that stands in its output as such a line. A report
+/// leaves the state whatever is replied. Costs nothing.
+pub fn refusal_law()
+    ensures turns { (start : Standing) (turns : List Turn) → AreTurns start turns → RefusalsLeave start turns }
+    ensures answered { (s : Standing) (line text : List ℕ) (t : Standing)
+        → Answers s line text t → IsRefusalOrRepeat text → t.now ≡ s.now }
+    ensures along { (start : Standing) (input output : List ℕ) (end : Standing) (turns : List Turn)
+        → IsRun start input output end turns → RefusedLinesLeave start turns }
+    ensures report { (f : Federation) (report : Report) (r : Result Answer Refused)
+        → after f (Ok (Asked.Report report)) r ≡ f }
+{}

@@ -1,0 +1,22 @@
+//! Requests to a treasury and their answers: one at a time, and by lines.
+#![tactic(auto)]
+
+mod answering;
+mod answers;
+mod asking;
+mod bytes;
+mod laws;
+mod lines;
+mod report;
+mod request;
+mod running;
+
+pub use answering::answer;
+pub use answers::{MOST_PLAIN, answer_line};
+pub use asking::Asked;
+pub use bytes::Bytes;
+pub use laws::{commands_law, refusal_law, run_law};
+pub use lines::write_whole;
+pub use report::Report;
+pub use request::{Form, Request, read_command, request_of};
+pub use running::{refuse, run_lines};

@@ -1,0 +1,207 @@
+//! The forms of requests: which keys each word of `do` has beside it.
+
+ghost use Rattle.std.specs.Prelude.{◌≡◌, option_map, option_and_then, IfSome};
+ghost use Rattle.serde_json.specs.View.{view};
+ghost use Rattle.journal_lines.specs.Date.{IsDayNumber};
+ghost use Rattle.treasury_api.specs.Request.{text_at, day_at, key_count, dispatch_at, receive_at, tagged_at, report_form, request_of, HasDayNumbers};
+ghost use Rattle.treasury_api.specs.Form.{shown};
+
+use journal_lines::read_date;
+use money_core::Day;
+use serde_json::Value;
+
+/// A request whose texts are those of a JSON value.
+#[derive(Clone, Copy, Drop)]
+pub enum Form<'a> {
+    Branch {
+        name: &'a str,
+    },
+    Commodity {
+        sample: &'a str,
+    },
+    Import {
+        branch: &'a str,
+        journal: &'a str,
+    },
+    Dispatch {
+        id: &'a str,
+        from: &'a str,
+        to: &'a str,
+        day: Day,
+        amount: &'a str,
+        account: &'a str,
+    },
+    Receive {
+        id: &'a str,
+        branch: &'a str,
+        day: Day,
+        account: &'a str,
+    },
+    Lock {
+        branch: &'a str,
+        day: Day,
+    },
+    Close {
+        branch: &'a str,
+        day: Day,
+    },
+    Balance {
+        branch: &'a str,
+        day: Day,
+    },
+    Register {
+        branch: &'a str,
+        account: &'a str,
+        tag: Option<&'a str>,
+    },
+    Transit {
+        day: Day,
+    },
+    Journal {
+        branch: &'a str,
+    },
+}
+
+/// The text at a key.
+fn text_at<'a>(value: &'a Value, key: &str) -> Option<&'a str>
+    ensures { option_map (λ s. s.now) result ≡ text_at key.now (view value.now) }
+{
+    value.get(key).and_then(Value::as_str)
+}
+
+/// The day at a key.
+fn day_at(value: &Value, key: &str) -> Option<Day>
+    ensures value { result ≡ day_at key.now (view value.now) }
+    ensures range { IfSome result IsDayNumber }
+{
+    let text = text_at(value, key)?;
+    read_date(text.as_bytes())
+}
+
+/// How many keys an object has.
+fn count_keys(value: &Value) -> usize
+    ensures { result ≡ key_count (view value.now) }
+{
+    match value.as_object() {
+        Some(map) => map.len(),
+        None => 0,
+    }
+}
+
+/// The form of a dispatch, where all its keys are there.
+fn dispatch_of<'a>(value: &'a Value) -> Option<Form<'a>>
+    ensures value { option_map shown result ≡ dispatch_at (view value.now) }
+    ensures days { IfSome result (λ form. HasDayNumbers (shown form)) }
+{
+    let id = text_at(value, "id")?;
+    let from = text_at(value, "from")?;
+    let to = text_at(value, "to")?;
+    let day = day_at(value, "day")?;
+    let amount = text_at(value, "amount")?;
+    let account = text_at(value, "account")?;
+    Some(Form::Dispatch {
+        id,
+        from,
+        to,
+        day,
+        amount,
+        account,
+    })
+}
+
+/// The form of a receipt, where all its keys are there.
+fn receive_of<'a>(value: &'a Value) -> Option<Form<'a>>
+    ensures value { option_map shown result ≡ receive_at (view value.now) }
+    ensures days { IfSome result (λ form. HasDayNumbers (shown form)) }
+{
+    let id = text_at(value, "id")?;
+    let branch = text_at(value, "branch")?;
+    let day = day_at(value, "day")?;
+    let account = text_at(value, "account")?;
+    Some(Form::Receive {
+        id,
+        branch,
+        day,
+        account,
+    })
+}
+
+/// The form of a register with a tag, where all its keys are there.
+fn tagged_of<'a>(value: &'a Value) -> Option<Form<'a>>
+    ensures value { option_map shown result ≡ tagged_at (view value.now) }
+    ensures days { IfSome result (λ form. HasDayNumbers (shown form)) }
+{
+    let branch = text_at(value, "branch")?;
+    let account = text_at(value, "account")?;
+    let tag = text_at(value, "tag")?;
+    Some(Form::Register {
+        branch,
+        account,
+        tag: Some(tag),
+    })
+}
+
+/// The form of a report's word, if the value has one of so many keys.
+fn report_of<'a>(word: &str, keys: usize, value: &'a Value) -> Option<Form<'a>>
+    requires { keys ≡ key_count (view value.now) }
+    ensures value { option_map shown result ≡ report_form word.now (view value.now) }
+    ensures days { IfSome result (λ form. HasDayNumbers (shown form)) }
+{
+    if word == "balance" && keys == 3 {
+        let branch = text_at(value, "branch")?;
+        let day = day_at(value, "day")?;
+        Some(Form::Balance { branch, day })
+    } else if word == "register" && keys == 3 {
+        let branch = text_at(value, "branch")?;
+        let account = text_at(value, "account")?;
+        Some(Form::Register {
+            branch,
+            account,
+            tag: None,
+        })
+    } else if word == "register" && keys == 4 {
+        tagged_of(value)
+    } else if word == "transit" && keys == 2 {
+        let day = day_at(value, "day")?;
+        Some(Form::Transit { day })
+    } else if word == "journal" && keys == 2 {
+        let branch = text_at(value, "branch")?;
+        Some(Form::Journal { branch })
+    } else {
+        None
+    }
+}
+
+/// The form of a value, if it has one: the word's keys, each with a text, and no further key.
+pub fn form_of<'a>(value: &'a Value) -> Option<Form<'a>>
+    ensures value { option_map shown result ≡ request_of (view value.now) }
+    ensures days { IfSome result (λ form. HasDayNumbers (shown form)) }
+{
+    let word = text_at(value, "do")?;
+    let keys = count_keys(value);
+    if word == "branch" && keys == 2 {
+        let name = text_at(value, "name")?;
+        Some(Form::Branch { name })
+    } else if word == "commodity" && keys == 2 {
+        let sample = text_at(value, "sample")?;
+        Some(Form::Commodity { sample })
+    } else if word == "import" && keys == 3 {
+        let branch = text_at(value, "branch")?;
+        let journal = text_at(value, "journal")?;
+        Some(Form::Import { branch, journal })
+    } else if word == "dispatch" && keys == 7 {
+        dispatch_of(value)
+    } else if word == "receive" && keys == 5 {
+        receive_of(value)
+    } else if word == "lock" && keys == 3 {
+        let branch = text_at(value, "branch")?;
+        let day = day_at(value, "day")?;
+        Some(Form::Lock { branch, day })
+    } else if word == "close" && keys == 3 {
+        let branch = text_at(value, "branch")?;
+        let day = day_at(value, "day")?;
+        Some(Form::Close { branch, day })
+    } else {
+        report_of(word, keys, value)
+    }
+}

@@ -1,0 +1,165 @@
+//! Requests out of JSON.
+
+ghost use Rattle.std.specs.Prelude.{◌≡◌, ◌⊎◌, Some, None, Ok, Err, IfOk, IfErr, option_copied};
+ghost use Rattle.std.specs.Result.{IsOkUnless};
+ghost use Rattle.treasury_api.specs.Request.{spelled, HasDayNumbers};
+ghost use Rattle.treasury_api.specs.Form.{shown};
+
+use crate::bytes::Bytes;
+use crate::request::Request;
+use crate::request::form::{Form, form_of};
+use money_core::{Cause, Text};
+use serde_json::Value;
+use std::alloc::Global;
+
+/// A text of its own, if there is one.
+fn owned_text(alloc: Global, text: Option<&str>) -> Result<Option<Text>, Cause>
+    ensures equal { IfOk result (λ owned. owned ≡ option_copied text.entry) }
+    ensures memory { IsOkUnless result Cause.OutOfMemory }
+{
+    match text {
+        Some(text) => {
+            let text = Text::of(alloc, text)?;
+            Ok(Some(text))
+        }
+        None => Ok(None),
+    }
+}
+
+/// The request of a form, with texts of its own.
+pub fn request_of(alloc: Global, form: Form) -> Result<Request, Cause>
+    ensures equal { IfOk result (λ request. request ≡ shown form.entry) }
+    ensures memory { IsOkUnless result Cause.OutOfMemory }
+{
+    match form {
+        Form::Branch { name } => {
+            let name = Text::of(alloc, name)?;
+            Ok(Request::Branch { name })
+        }
+        Form::Commodity { sample } => {
+            let sample = Text::of(alloc, sample)?;
+            Ok(Request::Commodity { sample })
+        }
+        Form::Import { branch, journal } => {
+            let branch = Text::of(alloc, branch)?;
+            let journal = Bytes::of(alloc, journal.as_bytes())?;
+            Ok(Request::Import { branch, journal })
+        }
+        Form::Dispatch {
+            id,
+            from,
+            to,
+            day,
+            amount,
+            account,
+        } => {
+            let id = Text::of(alloc, id)?;
+            let from = Text::of(alloc, from)?;
+            let to = Text::of(alloc, to)?;
+            let amount = Text::of(alloc, amount)?;
+            let account = Text::of(alloc, account)?;
+            Ok(Request::Dispatch {
+                id,
+                from,
+                to,
+                day,
+                amount,
+                account,
+            })
+        }
+        Form::Receive {
+            id,
+            branch,
+            day,
+            account,
+        } => {
+            let id = Text::of(alloc, id)?;
+            let branch = Text::of(alloc, branch)?;
+            let account = Text::of(alloc, account)?;
+            Ok(Request::Receive {
+                id,
+                branch,
+                day,
+                account,
+            })
+        }
+        Form::Lock { branch, day } => {
+            let branch = Text::of(alloc, branch)?;
+            Ok(Request::Lock { branch, day })
+        }
+        Form::Close { branch, day } => {
+            let branch = Text::of(alloc, branch)?;
+            Ok(Request::Close { branch, day })
+        }
+        Form::Balance { branch, day } => {
+            let branch = Text::of(alloc, branch)?;
+            Ok(Request::Balance { branch, day })
+        }
+        Form::Register {
+            branch,
+            account,
+            tag,
+        } => {
+            let branch = Text::of(alloc, branch)?;
+            let account = Text::of(alloc, account)?;
+            let tag = owned_text(alloc, tag)?;
+            Ok(Request::Register {
+                branch,
+                account,
+                tag,
+            })
+        }
+        Form::Transit { day } => Ok(Request::Transit { day }),
+        Form::Journal { branch } => {
+            let branch = Text::of(alloc, branch)?;
+            Ok(Request::Journal { branch })
+        }
+    }
+}
+
+/// The request that a text spells.
+///
+/// 44 comes only where the text is no JSON object of a request's form, and 40 where there is no memory to read it.
+#[tactic(auto, unfolding(crate::specs::Request::spelled))]
+pub fn read_command(alloc: Global, text: &str) -> Result<Request, Cause>
+    ensures ok { IfOk result (λ request. spelled text.now ≡ Some request) }
+    ensures days { IfOk result HasDayNumbers }
+    ensures refused { result ≡ Err Cause.Request → spelled text.now ≡ None }
+    ensures causes { IfErr result (λ cause. (cause ≡ Cause.Request) ⊎ (cause ≡ Cause.OutOfMemory)) }
+{
+    let value = match Value::from_str(alloc, text) {
+        Ok(value) => value,
+        Err(error) => {
+            return if error.is_memory() {
+                Err(Cause::OutOfMemory)
+            } else {
+                Err(Cause::Request)
+            };
+        }
+    };
+    let form = match form_of(&value) {
+        Some(form) => form,
+        None => return Err(Cause::Request),
+    };
+    match request_of(alloc, form) {
+        Ok(request) => Ok(request),
+        Err(_) => Err(Cause::OutOfMemory),
+    }
+}
+
+/// The request that the bytes of a line spell, as `read_command` reads it; bytes that are not UTF-8 spell none. Answers 40
+/// as it does.
+pub fn read_line(alloc: Global, line: &[u8]) -> Result<Request, Cause>
+    ensures ok { IfOk result (λ request. spelled line.now ≡ Some request) }
+    ensures days { IfOk result HasDayNumbers }
+    ensures refused { result ≡ Err Cause.Request → spelled line.now ≡ None }
+    ensures causes { IfErr result (λ cause. (cause ≡ Cause.Request) ⊎ (cause ≡ Cause.OutOfMemory)) }
+{
+    match str::from_utf8(line) {
+        Ok(text) => match read_command(alloc, text) {
+            Ok(request) => Ok(request),
+            Err(cause) => Err(cause),
+        },
+        Err(_) => Err(Cause::Request),
+    }
+}

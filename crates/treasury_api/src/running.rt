@@ -1,0 +1,121 @@
+//! The run of a treasury over the lines of a reader.
+
+ghost use Rattle.std.specs.Prelude.{◌≡◌, ◌≤◌, ◌++◌, [], vec_capacity, IsTrue, OnOk, OnErr};
+ghost use Rattle.sqlite.specs.State.{HasCleanDisk};
+ghost use Rattle.sqlite.specs.Held.{state};
+ghost use Rattle.treasury_core.specs.Federation.{Federation};
+ghost use Rattle.treasury_store.specs.Treasury.{IsTreasuryOf};
+ghost use Rattle.treasury_api.specs.Request.{is_report};
+ghost use Rattle.treasury_api.specs.Answer.{IsPrintableRefusal};
+ghost use Rattle.treasury_api.specs.Kept.{Runs};
+ghost use Rattle.treasury_api.specs.Replied.{IsPrintableIn, standing};
+ghost use Rattle.treasury_api.specs.Serving.{Serves, IsLineIn, IsLineOf, end_of_report};
+
+use crate::answering::answer;
+use crate::answers::{MOST_PLAIN, answer_line};
+use crate::lines::{Machine, run_machine};
+use crate::request::{Request, read_line};
+use book_core::Refusal;
+use journal_format::reading_law;
+use money_core::{Cause, Styles};
+use sqlite::Alter;
+use std::alloc::{AllocError, Global};
+use std::io::{Read, Write};
+use treasury_core::Answer;
+use treasury_store::Treasury;
+
+/// Appends the line `ok` that ends a report. Other answers have their line.
+fn end_report(alloc: Global, request: &Request, text: &mut Vec<u8>) -> Result<(), Cause>
+    ensures ok { OnOk result (text.new.items ≡ text.old.items ++ end_of_report request.now) }
+    ensures err { OnErr result (IsTrue (is_report request.now)) }
+{
+    if request.is_report() {
+        answer_line(alloc, &Ok(Answer::Done), &Styles::empty(alloc), text)
+    } else {
+        Ok(())
+    }
+}
+
+/// The line of a refusal, on an empty vector that has room for a plain one. Where memory is refused for another, it is the
+/// line of 40.
+fn refuse_in(alloc: Global, styles: &Styles, refusal: Refusal, room: Vec<u8>) -> Vec<u8>
+    requires printable { IsPrintableRefusal styles.now refusal }
+    requires empty { room.items ≡ [] }
+    requires room { MOST_PLAIN ≤ vec_capacity room }
+    ensures { IsLineIn styles.now refusal result.items }
+{
+    let mut line = room;
+    match answer_line(alloc, &Err(refusal), styles, &mut line) {
+        Ok(()) => line,
+        Err(_) => {
+            let no_memory = Err(Refusal::Plain(Cause::OutOfMemory));
+            match answer_line(alloc, &no_memory, styles, &mut line) {
+                Ok(()) => line,
+                Err(_) => unreachable!(),
+            }
+        }
+    }
+}
+
+/// The line of a refusal by the treasury, as `refuse_in` makes it.
+pub fn refuse<S: Alter>(
+    alloc: Global,
+    treasury: &Treasury<S>,
+    refusal: Refusal,
+    room: Vec<u8>,
+) -> Vec<u8>
+    requires printable { IsPrintableIn treasury.now refusal }
+    requires empty { room.items ≡ [] }
+    requires room { MOST_PLAIN ≤ vec_capacity room }
+    ensures { IsLineOf treasury.now refusal result.items }
+{
+    match treasury.state() {
+        Some(state) => refuse_in(alloc, state.styles(), refusal, room),
+        None => refuse_in(alloc, &Styles::empty(alloc), refusal, room),
+    }
+}
+
+impl<S: Alter> Machine for Treasury<S> {
+    ghost step = { Serves S.Store };
+
+    fn answer(&mut self, alloc: Global, line: &[u8]) -> Result<Vec<u8>, AllocError> {
+        reading_law();
+        let room = match Vec::with_capacity(alloc, MOST_PLAIN) {
+            Ok(room) => room,
+            Err(error) => return Err(error),
+        };
+        let request = match read_line(alloc, line) {
+            Ok(request) => request,
+            Err(cause) => return Ok(refuse(alloc, self, Refusal::Plain(cause), room)),
+        };
+        let mut text = Vec::new(alloc);
+        match answer(alloc, &request, self, &mut text) {
+            Ok(()) => match end_report(alloc, &request, &mut text) {
+                Ok(()) => Ok(text),
+                Err(_) => Ok(refuse(alloc, self, Refusal::Plain(Cause::OutOfMemory), room)),
+            },
+            Err(refusal) => Ok(refuse(alloc, self, refusal, room)),
+        }
+    }
+}
+
+/// Answers each request that the reader gives, one a line, of at most 64 MiB in all.
+///
+/// On `Ok` all input was read, and what was written is its transcript. 45 comes where a read fails, whatever its error,
+/// or where the input goes on past 64 MiB: the complete lines before that are answered. 46 comes where a write fails or
+/// takes nothing: the last answer may be cut off, and its command stands. 40 comes where there is no memory for an answer:
+/// its request has changed nothing.
+pub fn run_lines<R: Read, W: Write, S: Alter>(
+    alloc: Global,
+    reader: &mut R,
+    writer: &mut W,
+    treasury: &mut Treasury<S>,
+) -> Result<(), Cause>
+    // Of whichever state the treasury is, while the disk returned what was written: a run, and the headline holds of it.
+    ensures { HasCleanDisk (state S.Store treasury.new.store.conn) → (f : Federation) → IsTreasuryOf S.Store treasury.old f
+        → (end : Federation) × (IsTreasuryOf S.Store treasury.new end
+        × Runs result R.remaining reader.old reader.new W.contents writer.old writer.new
+        (standing treasury.old f) (standing treasury.new end)) }
+{
+    run_machine(alloc, reader, writer, treasury)
+}
