@@ -104,6 +104,12 @@ performs_decided g new f c a next replied is fits short of held =
 pub fits_held : (held : Option Federation) (s : Federation) (c : Command) → IfSome held (λ (x : Federation). Fits x.styles c) → held ≡ Some s → Fits s.styles c
 fits_held held s c fits is = subst (λ (o : Option Federation). IfSome o (λ (x : Federation). Fits x.styles c)) is fits
 
+-- a command that fits the state in memory fits the state that the treasury is of
+pub fits_of : {S : Type 0} (g : Ghosts S) (old : Treasury S) (s f : Federation) (c : Command) → old.held ≡ Some s → IsTreasuryOf g old f → Fits s.styles c → Fits f.styles c
+fits_of g old s f c is of fits =
+    let same : s ≡ f = subst (λ (o : Option Federation). IfSome o (λ x. x ≡ f)) is of.held in
+    subst (λ (x : Federation). Fits x.styles c) same fits
+
 -- what is performed on the state in memory is performed on the state that the treasury is of
 pub performs_held : {S : Type 0} (g : Ghosts S) (old new : Treasury S) (s f : Federation) (c : Command) (r : Result Answer Refusal)
     → old.held ≡ Some s → IsTreasuryOf g old f → (IsOf g old.store s → HasShortLocks s → Performs g new s c r) → Performs g new f c r

@@ -1,6 +1,6 @@
 -- What a treasury is of, and what a command makes of it.
 use Rattle.std.specs.Prelude.{◌≡◌, ◌⊎◌, ◌↔◌, Bool, true, false, if◌then◌else◌, List, [], ◌∷◌, Option, Result, Err, IfSome, IsTrue}
-use Rattle.money_core.specs.declared.cause.Cause.TheVariants.{Store as Failed}
+use Rattle.money_core.specs.declared.cause.Cause.TheVariants.{Damaged, OutOfMemory, Store as Failed}
 use Rattle.book_core.specs.declared.refusal.Refusal.{Refusal}
 use Rattle.book_core.specs.declared.refusal.Refusal.TheVariants.{Plain}
 use Rattle.sqlite.specs.Store.{Ghosts}
@@ -31,6 +31,10 @@ pub record IsTreasuryOf {S : Type 0} (g : Ghosts S) (t : Treasury S) (f : Federa
 -- the reply is the step's, or 40 or 41
 abbrev pub MayReply : Federation → Command → Result Answer Refusal → Type 0
 MayReply f c r = Replies f c r ⊎ (r ≡ Err (Plain Failed))
+
+-- a command that does not fit the tables' state: the reply is 43, or 40 or 41, as that state could not be loaded
+abbrev pub IsUnfit : Result Answer Refusal → Type 0
+IsUnfit r = (r ≡ Err (Plain Damaged)) ⊎ (r ≡ Err (Plain OutOfMemory)) ⊎ (r ≡ Err (Plain Failed))
 
 -- A turn of a run: the reply is the step's, or 40 or 41, and the treasury is of the state after it.
 pub record Performs {S : Type 0} (g : Ghosts S) (new : Treasury S) (f : Federation) (c : Command) (r : Result Answer Refusal) : Type 0 where

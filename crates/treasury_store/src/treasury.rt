@@ -14,7 +14,7 @@ ghost use Rattle.treasury_core.specs.Headline.{KeepsBooks};
 ghost use Rattle.treasury_store.specs.Rows.{Holds, AreTreesOf};
 ghost use Rattle.treasury_store.specs.Kept.{KeepsTables};
 ghost use Rattle.treasury_store.specs.Store.{TablesAre, Knows, IsOf, Answers, AnswersState};
-ghost use Rattle.treasury_store.specs.Treasury.{IsTreasuryOf, MayReply, Performs, turn_if, SurvivesCommand, AddsNothing, FailsBy};
+ghost use Rattle.treasury_store.specs.Treasury.{IsTreasuryOf, MayReply, Performs, turn_if, SurvivesCommand, IsUnfit, AddsNothing, FailsBy};
 
 use crate::store::Store;
 use book_core::{DayLedger, Refusal};
@@ -190,6 +190,8 @@ impl<S: Alter> Treasury<S> {
         requires { IfSome self.old.held (λ s. Fits s.styles command) }
         // Of whichever state the treasury is: a turn of a run.
         ensures performs { HasCleanDisk (state S.Store self.new.store.conn) → self.old.store.failed ≡ false → (f : Federation) → IsTreasuryOf S.Store self.old f → Fits f.styles command → Performs S.Store self.new f command result }
+        // A command that does not fit the state of the tables is refused, and the treasury is of that state.
+        ensures unfit { HasCleanDisk (state S.Store self.new.store.conn) → self.old.store.failed ≡ false → (f : Federation) → IsTreasuryOf S.Store self.old f → (Fits f.styles command → ⊥) → IsUnfit result × IsTreasuryOf S.Store self.new f }
         // The headline, of this one command; one that is answered 41 is none.
         ensures headline { HasCleanDisk (state S.Store self.new.store.conn) → self.old.store.failed ≡ false → (f : Federation) → IsTreasuryOf S.Store self.old f → Fits f.styles command
             → KeepsBooks f (turn_if command result) × IsTreasuryOf S.Store self.new (state_after f (turn_if command result)) }

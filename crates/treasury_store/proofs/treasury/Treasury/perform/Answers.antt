@@ -12,7 +12,7 @@ use Rattle.treasury_store.specs.Rows.{Holds}
 use Rattle.treasury_store.specs.Kept.{KeepsTables}
 use Rattle.treasury_store.specs.Store.{IsOf}
 use Rattle.treasury_store.specs.Treasury.{Treasury, IsTreasuryOf}
-use Rattle.treasury_store.proofs.TreasuryLemmas.{fits_held, performs_held, ok_unfailed, performs_unheld, headline_of, SurvivesChange, survives_load, survives_settle}
+use Rattle.treasury_store.proofs.TreasuryLemmas.{fits_held, fits_of, performs_held, ok_unfailed, performs_unheld, headline_of, SurvivesChange, survives_load, survives_settle}
 use Rattle.treasury_store.proofs.treasury.Treasury.perform.Goals.{else-not-was_held-via-then-not-was_held+else-not-fits, else-not-was_held-via-else-not-was_held}
 use Rattle.treasury_store.proofs.treasury.Treasury.perform.Goals as goal
 
@@ -39,6 +39,16 @@ returns-clause-performs g c clean unfailed f was fits =
     let still = subst (λ (t : Treasury _). t.store.failed ≡ false) back (ok_unfailed c.in-Ok.field-0 _ (c.in-Ok.ensures.answers unfailed)) in
     performs_held g.S.Store (record { store = c.self-2.inside.store; held = c.self-2.inside.held }) c.settle.new.self c.in-Some.now f c.args.command c.settle.result (search rules) of
     (λ store short. c.settle.ensures.performs (subst (λ (s : Store _). IsOf g.S.Store s c.in-Some.now) (sym here) store) short (ap (λ (s : Store _). s.failed) here ∙ still))
+
+pub returns-clause-unfit : goal.returns-clause-unfit
+returns-clause-unfit g c clean unfailed f was unfit =
+    let here : c.else-not-was_held.self.store ≡ c.self-2.inside.store = elim c.else-not-was_held.branch [
+      | else-not-was_held-via-then-not-was_held+else-not-fits w ↦ ap (λ (t : Treasury _). t.store) w.self-is
+      | else-not-was_held-via-else-not-was_held w ↦ ap (λ (t : Treasury _). t.store) w.self-is
+    ] in
+    let clean_there = subst (λ (s : Store _). HasCleanDisk (state g.S.Store s.conn)) here (c.settle.ensures.clean clean) in
+    let of = subst (λ (t : Treasury _). HasCleanDisk (state g.S.Store t.store.conn) → IsTreasuryOf g.S.Store t f) (sym c.self-2.view_is) (λ k. c.in-Ok.ensures.of k f was) clean_there in
+    absurd (unfit (fits_of g.S.Store (record { store = c.self-2.inside.store; held = c.self-2.inside.held }) c.in-Some.now f c.args.command (search rules) of (settle-requires-clause-fits g c.before.before)))
 
 pub returns-clause-headline : goal.returns-clause-headline
 returns-clause-headline g c clean unfailed f was fits =
