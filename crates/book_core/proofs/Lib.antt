@@ -20,5 +20,4 @@ pub mod DayLemmas
 pub mod RaiseLemmas
 pub mod DayPlaceLemmas
 pub mod NextLemmas
-mod LateLemmas
 mod WorkedValues

@@ -26,8 +26,6 @@ mod reached;
 mod refusal;
 mod stray;
 mod sums;
-#[cfg(test)]
-mod tests;
 mod turnover;
 mod turnover_table;
 

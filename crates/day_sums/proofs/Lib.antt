@@ -7,4 +7,3 @@ pub mod RaisedRow
 pub mod NameLemmas
 pub mod SumLemmas
 pub mod SpotLemmas
-pub mod TestLemmas

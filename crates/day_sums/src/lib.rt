@@ -8,8 +8,6 @@ mod points;
 mod row;
 mod spots;
 mod sums;
-#[cfg(test)]
-mod tests;
 
 pub use money_core::{Cause, Day, Unit};
 pub use named_spots::NamedSpots;

@@ -1,16 +1,14 @@
 //! Late entries: what they reach, and what of it fails.
 
+ghost use Rattle.book_core.specs.GoodBook.{IsGoodBook};
+
 use super::{
     BANK, EUR, Failing, SAVINGS, USD, answer_of, assert_balances, at, checked_by, entry, holding,
     moves, transfer,
 };
-use crate::reached::reached_places;
-use crate::turnover::passes_limit;
-use crate::{
-    Cause, ClaimKind, Copied, Count, DayLedger, Entry, Failure, Ledger, MAX_ENTRIES, Place,
-    PlainLedger, Unit, are_fit,
+use book_core::{
+    ClaimKind, Count, DayLedger, Entry, Failure, Ledger, PlainLedger, Refusal, Unit, are_fit,
 };
-use day_sums::NamedSpots;
 use std::alloc::Global;
 use std::process::Abort;
 use std::slice::from_ref;
@@ -37,50 +35,29 @@ fn two_assertions(rt: &impl Abort, alloc: Global) -> Vec<Entry> {
     moves(rt, alloc, "income:dues", ROWS)
 }
 
-/// The places of the entries' assertions, in order, each with the failure there and how many assertions were examined
-/// for it: in a ledger to which all entries were added without a check. None where they pass a limit.
+/// What fails where, of the assertions of the entries and a new one, that is examined alone which a check names; and how
+/// many were examined.
 fn examined_alone(
     rt: &impl Abort,
-    alloc: Global,
-    entries: &[Entry],
-) -> Result<Vec<(Place, Option<Failure>, u64)>, Cause> {
-    assert!(rt; are_fit(entries));
-    let mut found = Vec::new(alloc);
-    if entries.len() > MAX_ENTRIES {
-        return Ok(found);
-    }
-    if passes_limit(&[], entries) {
-        return Ok(found);
-    }
-    let mut ledger = DayLedger::empty(alloc);
-    for entry in entries {
-        ledger.add(entry.copy()?)?;
-    }
-    let none = NamedSpots::empty(alloc);
-    for place in &reached_places(alloc, &[], &none, entries)? {
-        let mut count = Count { claims: 0 };
-        let failure = ledger.examine(&[], from_ref(place), &mut count);
-        found.push((*place, failure, count.claims))?;
-    }
-    Ok(found)
-}
-
-/// Asserts what fails after a euro of the day, entered last, each assertion examined alone.
-fn assert_alone(rt: &impl Abort, alloc: Global, day: i32, wanted: [Option<Failure>; 2]) {
-    let mut entries = two_assertions(rt, alloc);
-    let late = transfer(rt, alloc, day, (BANK, EUR, 100), "income:dues", None);
-    entries.push(late).expect(rt, "memory");
-    let found = examined_alone(rt, alloc, &entries).expect(rt, "memory");
-    assert_eq!(rt; found.len(), 2);
-    for (one, want) in found.iter().zip(wanted) {
-        assert_eq!(rt; one.1, want, "{day}");
-        assert_eq!(rt; one.2, 1, "{day}");
+    ledger: &DayLedger,
+    new: &[Entry],
+) -> Option<(Option<Failure>, u64)>
+    requires { IsGoodBook ledger.now }
+{
+    assert!(rt; are_fit(new));
+    match ledger.check(new, &mut Count { claims: 0 }) {
+        Err(Refusal::ClaimFailed(failure)) => {
+            let mut count = Count { claims: 0 };
+            let found = ledger.examine(new, from_ref(&failure.place), &mut count);
+            Some((found, count.claims))
+        }
+        _ => None,
     }
 }
 
-// A euro of the 15th, entered last, breaks the assertion of the 20th alone, and one of the 5th breaks both.
+// A euro of the 15th, entered last, breaks the assertion of the 20th, and one of the 5th that of the 10th.
 #[test]
-fn each_assertion_is_examined_alone(rt: HostRuntime) {
+fn a_failing_assertion_is_examined_alone(rt: HostRuntime) {
     let first = Failure {
         place: at(10, 1),
         unit: Unit(EUR),
@@ -93,8 +70,17 @@ fn each_assertion_is_examined_alone(rt: HostRuntime) {
         asserted: 1500,
         found: 1600,
     };
-    assert_alone(&rt, rt.alloc(), 15, [None, Some(second)]);
-    assert_alone(&rt, rt.alloc(), 5, [Some(first), Some(second)]);
+    assert_alone(&rt, rt.alloc(), 15, second);
+    assert_alone(&rt, rt.alloc(), 5, first);
+}
+
+/// Asserts what fails after a euro of the day, entered last, and that one assertion was examined.
+fn assert_alone(rt: &impl Abort, alloc: Global, day: i32, wanted: Failure) {
+    let old = two_assertions(rt, alloc);
+    let ledger = holding::<DayLedger>(rt, alloc, &old).expect(rt, "a ledger");
+    let late = transfer(rt, alloc, day, (BANK, EUR, 100), "income:dues", None);
+    let found = examined_alone(rt, &ledger, from_ref(&late));
+    assert_eq!(rt; found, Some((Some(wanted), 1)));
 }
 
 fn assert_reached(rt: &impl Abort, alloc: Global, rows: &[(i32, &str, (Option<Failing>, u64))]) {

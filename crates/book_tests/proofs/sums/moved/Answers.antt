@@ -1,7 +1,7 @@
 use Rattle.std.proofs.Common.{rules, w64, to_z, of_z}
 use Rattle.day_sums.specs.Points.{IsUpTo}
-use Rattle.day_sums.proofs.TestLemmas.{same_up_to, raised_up_to}
-use Rattle.day_sums.proofs.tests.moved.Goals as goal
+use Rattle.book_tests.proofs.SumLemmas.{same_up_to, raised_up_to}
+use Rattle.book_tests.proofs.sums.moved.Goals as goal
 
 pub returns : goal.returns
 returns c =

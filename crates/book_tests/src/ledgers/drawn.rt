@@ -4,7 +4,7 @@ ghost use Rattle.std.specs.Prelude.{◌<◌};
 ghost use Rattle.book_core.specs.GoodBook.{IsGoodBook};
 
 use super::{enter, leg};
-use crate::{
+use book_core::{
     Claim, ClaimKind, Copied, Count, Day, DayLedger, Entry, Items, Ledger, Leg, Placed,
     PlainLedger, Text, Unit,
 };

@@ -6,7 +6,7 @@ ghost use Rattle.money_core.specs.declared.day.Day.{Day as Days};
 ghost use Rattle.day_sums.specs.Points.{IsUpTo};
 ghost use Rattle.day_sums.specs.Sums.{sum_of};
 
-use crate::{Cause, Day, DayNumbers, DaySums, NamedSpots, Spot, Unit};
+use day_sums::{Cause, Day, DayNumbers, DaySums, NamedSpots, Spot, Unit};
 use std::alloc::Global;
 
 const EUR: Unit = Unit(0);
