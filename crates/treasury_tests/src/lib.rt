@@ -6,6 +6,4 @@ mod machine;
 #[cfg(test)]
 mod memory;
 #[cfg(test)]
-mod reports;
-#[cfg(test)]
 mod store;

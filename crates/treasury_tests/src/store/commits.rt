@@ -99,3 +99,14 @@ fn a_store_is_closed_once_a_call_failed(rt: HostRuntime) {
     conn.set_step_limit(None);
     assert_shown(&rt, alloc, &mut conn, BRANCHES);
 }
+
+#[test]
+fn a_store_is_closed_once_a_query_failed(rt: HostRuntime) {
+    let alloc = rt.alloc();
+    let mut store = limited(&rt, alloc, Some(0));
+    let _ = branch(&rt, alloc, &mut store, State::empty(alloc), "north");
+    let first: Result<State<PlainLedger>, Cause> = store.load();
+    assert!(rt; matches!(first, Err(Cause::Store)));
+    let second: Result<State<PlainLedger>, Cause> = store.load();
+    assert!(rt; matches!(second, Err(Cause::Closed)));
+}

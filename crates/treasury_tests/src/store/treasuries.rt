@@ -1,15 +1,13 @@
-//! Commands through a treasury, over databases in memory.
+//! When a treasury is closed.
 
 use super::{assert_shown, text};
 use book_core::Refusal;
-use money_core::{Cause, Day, read_style};
+use money_core::{Cause, Day};
 use sqlite::{Connection, MemStore};
 use std::alloc::Global;
 use std::process::Abort;
 use treasury_core::{Answer, Command};
 use treasury_store::{Store, Treasury};
-
-mod worked;
 
 /// The rows of the branches, none of them locked.
 const BRANCHES: &[(&str, usize, &str)] = &[(
@@ -55,35 +53,9 @@ fn branch(rt: &impl Abort, alloc: Global, name: &str) -> Command {
     Command::Branch(text(rt, alloc, name))
 }
 
-fn commodity(rt: &impl Abort, alloc: Global, sample: &str) -> Command {
-    Command::Commodity(read_style(alloc, sample).expect(rt, "a sample"))
-}
-
 /// A lock of north through the 31st of January 2024.
 fn lock(rt: &impl Abort, alloc: Global) -> Command {
     Command::Lock(text(rt, alloc, "north"), Day(19_753))
-}
-
-/// A treasury with north and south, euros and dollars.
-fn founded(rt: &impl Abort, alloc: Global) -> Treasury<MemStore> {
-    let mut treasury = limited(rt, alloc, None);
-    assert_eq!(rt;
-        perform(rt, &mut treasury, branch(rt, alloc, "north")),
-        DONE
-    );
-    assert_eq!(rt;
-        perform(rt, &mut treasury, branch(rt, alloc, "south")),
-        DONE
-    );
-    assert_eq!(rt;
-        perform(rt, &mut treasury, commodity(rt, alloc, "1,000.00 EUR")),
-        DONE
-    );
-    assert_eq!(rt;
-        perform(rt, &mut treasury, commodity(rt, alloc, "$1,000.00")),
-        DONE
-    );
-    treasury
 }
 
 // A row that is changed takes steps of the database, and a row that is new takes none.
