@@ -112,3 +112,24 @@ fn what_is_rolled_back_is_gone(rt: HostRuntime) {
     assert!(rt; put_boxes(&mut conn, 3, 4, "taken").is_err());
     assert_numbers(&rt, &mut conn, &[("SELECT count(*) FROM box", 3)]);
 }
+
+// With two rows to a page there are more pages than are kept beside the two files, and the log is copied into the file.
+#[test]
+fn five_thousand_rows_are_read_again(rt: HostRuntime) {
+    let alloc = rt.alloc();
+    let body = "0123456789".repeat(alloc, 180).expect(&rt, "memory");
+    let mut conn = boxes(&rt, alloc);
+    assert!(rt; conn.execute_batch("BEGIN").is_ok());
+    assert!(rt; put_boxes(&mut conn, 1, 5001, body.as_str()).is_ok());
+    assert!(rt; conn.execute_batch("COMMIT").is_ok());
+    let rows = [
+        ("SELECT count(*) FROM box", 5000),
+        ("SELECT sum(nr) FROM box", 12_502_500),
+        ("SELECT sum(length(body)) FROM box", 9_000_000),
+        ("SELECT nr FROM box WHERE mark = '2916'", 1),
+        ("SELECT nr FROM box WHERE mark = '829'", 2),
+    ];
+    assert_numbers(&rt, &mut conn, rows.as_slice());
+    assert!(rt; put_boxes(&mut conn, 5001, 5002, "last").is_ok());
+    assert_numbers(&rt, &mut conn, &[("SELECT sum(nr) FROM box", 12_507_501)]);
+}
