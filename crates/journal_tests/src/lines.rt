@@ -33,7 +33,7 @@ fn assert_lines(rt: &impl Abort, alloc: Global, rows: &[(&str, &str)]) -> Result
 
 #[test]
 fn a_line_ends_at_lf_with_one_cr_before_it(rt: HostRuntime) -> Result<(), Fail> {
-    let rows = [
+    const ROWS: &[(&str, &str)] = &[
         ("", ""),
         ("\n", "1:|"),
         ("a\r\nb\r\n", "1:a|2:b|"),
@@ -44,7 +44,7 @@ fn a_line_ends_at_lf_with_one_cr_before_it(rt: HostRuntime) -> Result<(), Fail> 
         ("a\nb", "1:a|2:b|"),
         ("\n\nc", "1:|2:|3:c|"),
     ];
-    assert_lines(&rt, rt.alloc(), &rows)
+    assert_lines(&rt, rt.alloc(), ROWS)
 }
 
 /// Asserts the kind of each line.
@@ -56,7 +56,7 @@ fn assert_kinds(rt: &impl Abort, rows: &[(&str, LineKind)]) {
 
 #[test]
 fn a_line_is_told_by_its_first_byte_or_word(rt: HostRuntime) {
-    let rows = [
+    const ROWS: &[(&str, LineKind)] = &[
         ("", LineKind::Blank),
         (" \t", LineKind::Blank),
         ("; x", LineKind::Comment),
@@ -78,7 +78,7 @@ fn a_line_is_told_by_its_first_byte_or_word(rt: HostRuntime) {
         ("Price", LineKind::Unknown),
         ("include other.journal", LineKind::Unknown),
     ];
-    assert_kinds(&rt, &rows);
+    assert_kinds(&rt, ROWS);
     assert!(rt; is_block_end(b"end comment \t"));
     assert!(rt; !is_block_end(b"end comments"));
 }
@@ -92,7 +92,7 @@ fn assert_dates(rt: &impl Abort, rows: &[(&str, Option<Day>)]) {
 
 #[test]
 fn a_date_is_read_in_three_spellings(rt: HostRuntime) {
-    let rows = [
+    const ROWS: &[(&str, Option<Day>)] = &[
         ("2024-01-05", Some(Day(19727))),
         ("2024/01/05", Some(Day(19727))),
         ("2024.01.05", Some(Day(19727))),
@@ -112,38 +112,32 @@ fn a_date_is_read_in_three_spellings(rt: HostRuntime) {
         ("2024-01-05 ", None),
         ("", None),
     ];
-    assert_dates(&rt, &rows);
+    assert_dates(&rt, ROWS);
 }
 
-/// Asserts how the day is printed behind a `>`.
-fn assert_date_printed(
-    rt: &impl Abort,
-    alloc: Global,
-    day: Day,
-    expected: &str,
-) -> Result<(), Fail> {
-    let mut out = Vec::from_slice(alloc, b">")?;
-    if is_day_number(day) {
-        assert!(rt; print_date(alloc, day, &mut out) == Ok(()));
+/// Asserts how each day is printed behind a `>`.
+fn assert_dates_printed(rt: &impl Abort, alloc: Global, rows: &[(Day, &str)]) -> Result<(), Fail> {
+    for (day, expected) in rows {
+        let mut out = Vec::from_slice(alloc, b">")?;
+        if is_day_number(*day) {
+            assert!(rt; print_date(alloc, *day, &mut out) == Ok(()));
+        }
+        assert_eq!(rt; out.as_slice(), expected.as_bytes());
     }
-    assert_eq!(rt; out.as_slice(), expected.as_bytes());
     Ok(())
 }
 
 #[test]
 fn a_date_is_printed_in_ten_bytes(rt: HostRuntime) -> Result<(), Fail> {
-    let rows = [
+    const ROWS: &[(Day, &str)] = &[
         (Day(19727), ">2024-01-05"),
         (Day(0), ">1970-01-01"),
         (Day(-719_162), ">0001-01-01"),
         (Day(2_932_896), ">9999-12-31"),
     ];
-    for (day, expected) in rows {
-        assert_date_printed(&rt, rt.alloc(), day, expected)?;
-    }
     assert!(rt; !is_day_number(Day(-719_163)));
     assert!(rt; !is_day_number(Day(2_932_897)));
-    Ok(())
+    assert_dates_printed(&rt, rt.alloc(), ROWS)
 }
 
 /// The bytes of a text that may be absent.
@@ -170,53 +164,65 @@ fn header<'a>(
     }
 }
 
-/// Asserts the header that each line is.
-fn assert_headers(rt: &impl Abort, rows: &[(&str, Header<'_>)]) {
-    for (line, expected) in rows {
-        assert_eq!(rt; read_header(line.as_bytes()), Ok(*expected), "{line:?}");
+/// Asserts the parts of the header that each line is.
+fn assert_headers(
+    rt: &impl Abort,
+    rows: &[(&str, Option<Status>, Option<&str>, &str, Option<&str>)],
+) {
+    for (line, status, code, description, comment) in rows {
+        let expected = header(*status, *code, *description, *comment);
+        assert_eq!(rt; read_header(line.as_bytes()), Ok(expected), "{line:?}");
     }
 }
 
 #[test]
 fn a_header_has_a_date_and_four_optional_parts(rt: HostRuntime) {
-    let cleared = Some(Status::Cleared);
-    let rows = [
+    const CLEARED: Option<Status> = Some(Status::Cleared);
+    const PENDING: Option<Status> = Some(Status::Pending);
+    const ROWS: &[(&str, Option<Status>, Option<&str>, &str, Option<&str>)] = &[
         (
             "2024-01-05 * (7) hall ; rent",
-            header(cleared, Some("7"), "hall", Some("rent")),
+            CLEARED,
+            Some("7"),
+            "hall",
+            Some("rent"),
         ),
         (
             "2024-01-05 (7) hall ; rent",
-            header(None, Some("7"), "hall", Some("rent")),
+            None,
+            Some("7"),
+            "hall",
+            Some("rent"),
         ),
         (
             "2024-01-05 * hall ; rent",
-            header(cleared, None, "hall", Some("rent")),
+            CLEARED,
+            None,
+            "hall",
+            Some("rent"),
         ),
         (
             "2024-01-05 * (7) ; rent",
-            header(cleared, Some("7"), "", Some("rent")),
+            CLEARED,
+            Some("7"),
+            "",
+            Some("rent"),
         ),
-        (
-            "2024-01-05 * (7) hall",
-            header(cleared, Some("7"), "hall", None),
-        ),
-        ("2024-01-05", header(None, None, "", None)),
-        ("2024-01-05;", header(None, None, "", Some(""))),
+        ("2024-01-05 * (7) hall", CLEARED, Some("7"), "hall", None),
+        ("2024-01-05", None, None, "", None),
+        ("2024-01-05;", None, None, "", Some("")),
         (
             "2024-01-05\t!(a(b )hall  two\t;x;y ",
-            header(
-                Some(Status::Pending),
-                Some("a(b "),
-                "hall  two",
-                Some("x;y"),
-            ),
+            PENDING,
+            Some("a(b "),
+            "hall  two",
+            Some("x;y"),
         ),
-        ("2024-01-05 ()", header(None, Some(""), "", None)),
-        ("2024-01-05 * ! x", header(cleared, None, "! x", None)),
-        ("2024-01-05 (a) * x", header(None, Some("a"), "* x", None)),
+        ("2024-01-05 ()", None, Some(""), "", None),
+        ("2024-01-05 * ! x", CLEARED, None, "! x", None),
+        ("2024-01-05 (a) * x", None, Some("a"), "* x", None),
     ];
-    assert_headers(&rt, &rows);
+    assert_headers(&rt, ROWS);
 }
 
 /// Asserts the first fault of each line.
@@ -228,7 +234,7 @@ fn assert_no_headers(rt: &impl Abort, rows: &[(&str, Cause)]) {
 
 #[test]
 fn a_header_is_refused_by_its_first_fault(rt: HostRuntime) {
-    let rows = [
+    const ROWS: &[(&str, Cause)] = &[
         ("2024-01-05* x", Cause::Date),
         ("2024-13-05 x", Cause::Date),
         ("", Cause::Date),
@@ -237,7 +243,7 @@ fn a_header_is_refused_by_its_first_fault(rt: HostRuntime) {
         ("2024-01-05 (x", Cause::Header),
         ("2024-01-05 (x ; )", Cause::Header),
     ];
-    assert_no_headers(&rt, &rows);
+    assert_no_headers(&rt, ROWS);
 }
 
 /// So many letters between two texts.
@@ -248,23 +254,22 @@ fn line_with(alloc: Global, front: &str, count: usize, behind: &str) -> Result<V
     Ok(line)
 }
 
-#[test]
-fn the_parts_of_a_header_have_limits(rt: HostRuntime) -> Result<(), Fail> {
-    // What stands before so many letters, how many are allowed, what stands behind them.
-    let rows = [
-        ("2024-01-05 (", 100, ") x", false),
-        ("2024-01-05 x", 499, "", false),
-        ("2024-01-05 x ; ", 900, "", false),
-        ("2024-13-05 (x ; ", 900, "", true),
-    ];
+/// Asserts of each row that a header takes so many letters and no more: what stands before them, their number, what stands behind,
+/// and whether that header has another fault.
+fn assert_limits(
+    rt: &impl Abort,
+    alloc: Global,
+    rows: &[(&str, u16, &str, bool)],
+) -> Result<(), Fail> {
     for (front, most, behind, has_fault) in rows {
-        let line = line_with(rt.alloc(), front, most, behind)?;
+        let most = usize::from(*most);
+        let line = line_with(alloc, *front, most, *behind)?;
         assert_eq!(rt;
             read_header(line.as_slice()).is_err(),
-            has_fault,
+            *has_fault,
             "{front:?}"
         );
-        let line = line_with(rt.alloc(), front, most + 1, behind)?;
+        let line = line_with(alloc, *front, most + 1, *behind)?;
         assert_eq!(rt;
             read_header(line.as_slice()),
             Err(Cause::TooLong),
@@ -272,6 +277,17 @@ fn the_parts_of_a_header_have_limits(rt: HostRuntime) -> Result<(), Fail> {
         );
     }
     Ok(())
+}
+
+#[test]
+fn the_parts_of_a_header_have_limits(rt: HostRuntime) -> Result<(), Fail> {
+    const ROWS: &[(&str, u16, &str, bool)] = &[
+        ("2024-01-05 (", 100, ") x", false),
+        ("2024-01-05 x", 499, "", false),
+        ("2024-01-05 x ; ", 900, "", false),
+        ("2024-13-05 (x ; ", 900, "", true),
+    ];
+    assert_limits(&rt, rt.alloc(), ROWS)
 }
 
 /// Asserts of each text whether it is an account name.
@@ -283,7 +299,7 @@ fn assert_accounts(rt: &impl Abort, rows: &[(&str, bool)]) {
 
 #[test]
 fn an_account_name_is_well_formed(rt: HostRuntime) -> Result<(), Fail> {
-    let rows = [
+    const ROWS: &[(&str, bool)] = &[
         ("assets", true),
         ("assets:bank", true),
         ("a b", true),
@@ -303,7 +319,7 @@ fn an_account_name_is_well_formed(rt: HostRuntime) -> Result<(), Fail> {
         ("(a)", false),
         ("[a]", false),
     ];
-    assert_accounts(&rt, &rows);
+    assert_accounts(&rt, ROWS);
     assert!(rt; is_account(vec![in rt.alloc(); b'a'; 200]?.as_slice()));
     assert!(rt; !is_account(vec![in rt.alloc(); b'a'; 201]?.as_slice()));
     Ok(())
@@ -318,7 +334,7 @@ fn assert_reserved(rt: &impl Abort, rows: &[(&str, bool)]) {
 
 #[test]
 fn the_transit_account_and_those_below_are_reserved(rt: HostRuntime) {
-    let rows = [
+    const ROWS: &[(&str, bool)] = &[
         ("assets:transit", true),
         ("assets:transit:north:south", true),
         ("assets:transits", false),
@@ -326,7 +342,7 @@ fn the_transit_account_and_those_below_are_reserved(rt: HostRuntime) {
         ("Assets:transit", false),
         ("x:assets:transit", false),
     ];
-    assert_reserved(&rt, &rows);
+    assert_reserved(&rt, ROWS);
 }
 
 /// The tags of a comment.
@@ -352,7 +368,7 @@ fn assert_tags(rt: &impl Abort, alloc: Global, rows: &[(&str, &str)]) -> Result<
 
 #[test]
 fn a_tag_is_a_word_before_a_colon(rt: HostRuntime) -> Result<(), Fail> {
-    let rows = [
+    const ROWS: &[(&str, &str)] = &[
         ("vendor:ACME, due: friday", "vendor=ACME|due=friday|"),
         ("a b:c d:e, f:g", "b=c d:e|f=g|"),
         ("\u{e9}:1", ""),
@@ -363,20 +379,25 @@ fn a_tag_is_a_word_before_a_colon(rt: HostRuntime) -> Result<(), Fail> {
         ("x,y_1:\t2 ,", "y_1=2|"),
         ("", ""),
     ];
-    assert_tags(&rt, rt.alloc(), &rows)
+    assert_tags(&rt, rt.alloc(), ROWS)
+}
+
+/// Asserts of each line whether it is a comment line.
+fn assert_remarks(rt: &impl Abort, rows: &[(&str, bool)]) {
+    for (line, expected) in rows {
+        assert_eq!(rt; is_remark(line.as_bytes()), *expected, "{line:?}");
+    }
 }
 
 #[test]
 fn an_indented_line_is_a_comment_line_by_its_first_byte(rt: HostRuntime) {
-    let rows = [
+    const ROWS: &[(&str, bool)] = &[
         ("    ; x", true),
         ("\t;", true),
         ("    a:b  1 EUR ; x", false),
         ("    * a:b", false),
     ];
-    for (line, expected) in rows {
-        assert_eq!(rt; is_remark(line.as_bytes()), expected, "{line:?}");
-    }
+    assert_remarks(&rt, ROWS);
 }
 
 /// How long a header line is measured, or 0 where a part is too long for one.
@@ -418,9 +439,22 @@ fn assert_header_printed(
     Ok(())
 }
 
+/// Asserts how each header is printed: its status, its code, its description, the text.
+fn assert_headers_printed<'a>(
+    rt: &impl Abort,
+    alloc: Global,
+    rows: &[(Option<Status>, Option<&'a str>, &'a str, &str)],
+) -> Result<(), Fail> {
+    for (status, code, description, expected) in rows {
+        let parts = header(*status, *code, *description, None);
+        assert_header_printed(rt, alloc, &parts, *expected)?;
+    }
+    Ok(())
+}
+
 #[test]
 fn a_header_is_printed_as_it_reads(rt: HostRuntime) -> Result<(), Fail> {
-    let rows = [
+    const ROWS: &[(Option<Status>, Option<&str>, &str, &str)] = &[
         (None, None, "", "2024-01-05"),
         (Some(Status::Cleared), None, "hall", "2024-01-05 * hall"),
         (
@@ -432,11 +466,7 @@ fn a_header_is_printed_as_it_reads(rt: HostRuntime) -> Result<(), Fail> {
         (None, Some(""), "", "2024-01-05 ()"),
         (None, Some("a"), "* x", "2024-01-05 (a) * x"),
     ];
-    for (status, code, description, expected) in rows {
-        let parts = header(status, code, description, None);
-        assert_header_printed(&rt, rt.alloc(), &parts, expected)?;
-    }
-    Ok(())
+    assert_headers_printed(&rt, rt.alloc(), ROWS)
 }
 
 /// Asserts how a comment is printed behind what was there, that it is so long, and that it reads back.
@@ -454,17 +484,26 @@ fn assert_comment_printed(
     Ok(())
 }
 
+/// Asserts how each comment is printed.
+fn assert_comments_printed(
+    rt: &impl Abort,
+    alloc: Global,
+    rows: &[(&str, &str)],
+) -> Result<(), Fail> {
+    for (text, expected) in rows {
+        assert_comment_printed(rt, alloc, text.as_bytes(), expected.as_bytes())?;
+    }
+    Ok(())
+}
+
 #[test]
 fn a_comment_is_printed_as_it_reads(rt: HostRuntime) -> Result<(), Fail> {
-    let rows = [
+    const ROWS: &[(&str, &str)] = &[
         ("", "    ;"),
         ("x", "    ; x"),
         ("a ; b:c", "    ; a ; b:c"),
     ];
-    for (text, expected) in rows {
-        assert_comment_printed(&rt, rt.alloc(), text.as_bytes(), expected.as_bytes())?;
-    }
-    Ok(())
+    assert_comments_printed(&rt, rt.alloc(), ROWS)
 }
 
 /// Asserts of each text whether it is a comment, a code, a description.
@@ -479,7 +518,7 @@ fn assert_tests(rt: &impl Abort, rows: &[(&str, bool, bool, bool)]) {
 
 #[test]
 fn texts_that_read_back_pass_their_tests(rt: HostRuntime) -> Result<(), Fail> {
-    let rows = [
+    const ROWS: &[(&str, bool, bool, bool)] = &[
         ("", true, true, true),
         ("x y", true, true, true),
         ("x ", false, true, false),
@@ -490,7 +529,7 @@ fn texts_that_read_back_pass_their_tests(rt: HostRuntime) -> Result<(), Fail> {
         ("x\ty", true, true, true),
         ("x\u{7f}", false, false, false),
     ];
-    assert_tests(&rt, &rows);
+    assert_tests(&rt, ROWS);
     assert!(rt; is_description(Some(Status::Cleared), None, b"* x"));
     assert!(rt; is_description(None, Some(b"a"), b"(x"));
     assert!(rt; is_clean(b"a\tb"));
