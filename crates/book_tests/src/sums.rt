@@ -8,6 +8,7 @@ ghost use Rattle.day_sums.specs.Sums.{sum_of};
 
 use day_sums::{Cause, Day, DayNumbers, DaySums, NamedSpots, Spot, Unit};
 use std::alloc::Global;
+use std::process::Abort;
 
 const EUR: Unit = Unit(0);
 
@@ -45,10 +46,23 @@ fn sums_of(alloc: Global, moves: &[(&str, Unit, i32, i16)]) -> Result<DaySums, C
     Ok(sums)
 }
 
-// Most moves are late. Columns of the wanted rows: account, commodity, day, the sum through it, the sum before it.
+/// Asserts of each row the sums of an account in a commodity: through the day, and before it.
+fn assert_sums(rt: &impl Abort, sums: &DaySums, rows: &[(&str, Unit, i32, i64, i64)]) {
+    for (account, unit, day, through, before) in rows {
+        let account = account.as_bytes();
+        assert_eq!(rt; sums.sum_in(account, *unit, Day(*day)), *through, "{day}");
+        assert_eq!(rt;
+            sums.sum_before_day(account, *unit, Day(*day)),
+            *before,
+            "{day}"
+        );
+    }
+}
+
+// Most moves are late.
 #[test]
 fn a_late_quantity_counts_from_its_day_on(rt: HostRuntime) {
-    let moves = [
+    const MOVES: &[(&str, Unit, i32, i16)] = &[
         ("assets:bank", EUR, 10, 1_000),
         ("assets:bank", EUR, 12, 500),
         ("assets:bank", EUR, 5, -300),
@@ -57,7 +71,7 @@ fn a_late_quantity_counts_from_its_day_on(rt: HostRuntime) {
         ("assets:bank", USD, 11, 4),
         ("assets:bank", EUR, -3_000, 1),
     ];
-    let rows = [
+    const ROWS: &[(&str, Unit, i32, i64, i64)] = &[
         ("assets:bank", EUR, i32::MIN, 0, 0),
         ("assets:bank", EUR, -3_001, 0, 0),
         ("assets:bank", EUR, -3_000, 1, 0),
@@ -75,26 +89,21 @@ fn a_late_quantity_counts_from_its_day_on(rt: HostRuntime) {
         ("assets", EUR, 4_000, 0, 0),
         ("", USD, 4_000, 0, 0),
     ];
-    let sums = sums_of(rt.alloc(), &moves).expect(&rt, "memory");
-    for (account, unit, day, through, before) in rows {
-        let account = account.as_bytes();
-        assert_eq!(rt; sums.sum_in(account, unit, Day(day)), through, "{day}");
-        assert_eq!(rt;
-            sums.sum_before_day(account, unit, Day(day)),
-            before,
-            "{day}"
-        );
+    let sums = sums_of(rt.alloc(), MOVES).expect(&rt, "memory");
+    assert_sums(&rt, &sums, ROWS);
+}
+
+/// Asserts of each row the sum of `a` in euros through the day.
+fn assert_through(rt: &impl Abort, sums: &DaySums, rows: &[(i32, i64)]) {
+    for (day, through) in rows {
+        assert_eq!(rt; sums.sum_in(b"a", EUR, Day(*day)), *through, "{day}");
     }
 }
 
 // One more on each of 6,000 days, from the last to the first, over four spans.
 #[test]
 fn days_may_fall_over_many_spans(rt: HostRuntime) {
-    let mut moves = Vec::new(rt.alloc());
-    for day in (-2_999..=3_000).rev() {
-        moves.push(("a", EUR, day, 1)).expect(&rt, "memory");
-    }
-    let rows = [
+    const ROWS: &[(i32, i64)] = &[
         (-3_000, 0),
         (-2_999, 1),
         (-2_049, 951),
@@ -106,10 +115,12 @@ fn days_may_fall_over_many_spans(rt: HostRuntime) {
         (3_000, 6_000),
         (9_000, 6_000),
     ];
-    let sums = sums_of(rt.alloc(), &moves).expect(&rt, "memory");
-    for (day, through) in rows {
-        assert_eq!(rt; sums.sum_in(b"a", EUR, Day(day)), through, "{day}");
+    let mut moves = Vec::new(rt.alloc());
+    for day in (-2_999..=3_000).rev() {
+        moves.push(("a", EUR, day, 1)).expect(&rt, "memory");
     }
+    let sums = sums_of(rt.alloc(), &moves).expect(&rt, "memory");
+    assert_through(&rt, &sums, ROWS);
 }
 
 #[test]
@@ -125,27 +136,55 @@ fn a_day_that_is_opened_changes_no_sum(rt: HostRuntime) {
     }
 }
 
+/// Asserts of each day its numbers.
+fn assert_numbers(rt: &impl Abort, days: &DayNumbers, rows: &[(i32, &[usize])]) {
+    for (day, numbers) in rows {
+        assert_eq!(rt; days.numbers_of(Day(*day)), *numbers, "{day}");
+    }
+}
+
 #[test]
 fn numbers_stand_under_their_day_in_order(rt: HostRuntime) {
-    let mut days = DayNumbers::empty(rt.alloc());
-    for (day, number) in [(10, 1), (12, 2), (10, 3), (-4, 4), (10, 5)] {
-        days.put_number(Day(day), number).expect(&rt, "memory");
-    }
-    let rows: [(i32, &[usize]); 5] = [
+    const ROWS: &[(i32, &[usize])] = &[
         (10, &[1, 3, 5]),
         (12, &[2]),
         (-4, &[4]),
         (11, &[]),
         (i32::MAX, &[]),
     ];
-    for (day, numbers) in rows {
-        assert_eq!(rt; days.numbers_of(Day(day)), numbers, "{day}");
+    let mut days = DayNumbers::empty(rt.alloc());
+    for (day, number) in [(10, 1), (12, 2), (10, 3), (-4, 4), (10, 5)] {
+        days.put_number(Day(day), number).expect(&rt, "memory");
+    }
+    assert_numbers(&rt, &days, ROWS);
+}
+
+/// Asserts of each row the numbers of the account's spots behind the day.
+fn assert_behind(rt: &impl Abort, spots: &NamedSpots, rows: &[(&str, i32, &[usize])]) {
+    for (account, day, numbers) in rows {
+        let row = spots
+            .row_of(account.as_bytes())
+            .expect(rt, "an account that has a row");
+        let behind = spots.spots_behind(row, Day(*day));
+        assert_eq!(rt; behind.len(), numbers.len(), "{account} {day}");
+        for (spot, number) in behind.iter().zip(numbers.iter()) {
+            assert_eq!(rt; spot.number, *number, "{account} {day}");
+            assert_eq!(rt; spot.part, 7);
+        }
     }
 }
 
-// The last of them is put where another is. Wanted: account, day, the numbers behind it.
+// The last of them is put where another is.
 #[test]
 fn spots_stand_under_their_account_in_the_order_of_days(rt: HostRuntime) {
+    const ROWS: &[(&str, i32, &[usize])] = &[
+        ("a", i32::MIN, &[4, 1, 5, 3]),
+        ("a", -4, &[1, 5, 3]),
+        ("a", 9, &[1, 5, 3]),
+        ("a", 10, &[3]),
+        ("a", 12, &[]),
+        ("b", 0, &[2]),
+    ];
     let mut spots = NamedSpots::empty(rt.alloc());
     for (account, day, number) in [
         ("a", 10, 1),
@@ -163,24 +202,6 @@ fn spots_stand_under_their_account_in_the_order_of_days(rt: HostRuntime) {
             .put_spot(account.as_bytes(), spot)
             .expect(&rt, "memory");
     }
-    let rows: [(&str, i32, &[usize]); 6] = [
-        ("a", i32::MIN, &[4, 1, 5, 3]),
-        ("a", -4, &[1, 5, 3]),
-        ("a", 9, &[1, 5, 3]),
-        ("a", 10, &[3]),
-        ("a", 12, &[]),
-        ("b", 0, &[2]),
-    ];
-    for (account, day, numbers) in rows {
-        let row = spots
-            .row_of(account.as_bytes())
-            .expect(&rt, "an account that has a row");
-        let behind = spots.spots_behind(row, Day(day));
-        assert_eq!(rt; behind.len(), numbers.len(), "{account} {day}");
-        for (spot, number) in behind.iter().zip(numbers.iter()) {
-            assert_eq!(rt; spot.number, *number, "{account} {day}");
-            assert_eq!(rt; spot.part, 7);
-        }
-    }
+    assert_behind(&rt, &spots, ROWS);
     assert_eq!(rt; spots.row_of(b"c"), None);
 }
