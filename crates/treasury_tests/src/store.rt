@@ -7,7 +7,7 @@ use sqlite::{Connection, MemStore, Row};
 use std::alloc::Global;
 use std::process::Abort;
 use std::str;
-use treasury_core::BranchRow;
+use treasury_core::{BranchRow, LegRow, TransferRow};
 use treasury_store::{Change, create_tables, write_all};
 
 mod commits;
@@ -30,6 +30,33 @@ fn branch(rt: &impl Abort, alloc: Global, nr: i64, name: &str) -> Change {
         nr,
         name: text(rt, alloc, name),
         locked: None,
+    })
+}
+
+/// 50.00 EUR from north to south, on the 1st of March 2024, under that ID.
+fn transfer(rt: &impl Abort, alloc: Global, id: &str) -> Change {
+    Change::Transfer(TransferRow {
+        id: text(rt, alloc, id),
+        source: 0,
+        target: 1,
+        unit: 0,
+        qty: 5000,
+        dispatched: 19783,
+        payer: text(rt, alloc, "assets:bank"),
+        received: None,
+        payee: None,
+    })
+}
+
+/// The leg of that number of north's first entry.
+fn leg(rt: &impl Abort, alloc: Global, nr: i64, account: &str, qty: i64) -> Change {
+    Change::Leg(LegRow {
+        branch: 0,
+        entry: 1,
+        nr,
+        account: text(rt, alloc, account),
+        unit: 0,
+        qty,
     })
 }
 
@@ -79,26 +106,49 @@ fn assert_shown(
     }
 }
 
-/// The rows of the branches: south alone.
-const BRANCHES: &[(&str, usize, &str)] = &[(
-    "SELECT nr, name, locked FROM branch ORDER BY nr",
-    3,
-    "1 south NULL |",
-)];
+/// The rows of one branch, one leg and one transfer.
+const ONE_OF_EACH: &[(&str, usize, &str)] = &[
+    (
+        "SELECT nr, name, locked FROM branch ORDER BY nr",
+        3,
+        "1 south NULL |",
+    ),
+    (
+        "SELECT nr, account, qty FROM leg ORDER BY nr",
+        3,
+        "1 expenses:hall 12000 |",
+    ),
+    (
+        "SELECT id, received FROM transfer ORDER BY id",
+        2,
+        "t7 NULL |",
+    ),
+];
 
+// A name, a leg's number and an ID that are there.
 #[test]
 fn changes_are_written_all_or_none(rt: HostRuntime) {
     let alloc = rt.alloc();
     let mut conn = tables(&rt, alloc);
-    let first = [branch(&rt, alloc, 1, "south")];
+    let first = [
+        branch(&rt, alloc, 1, "south"),
+        leg(&rt, alloc, 1, "expenses:hall", 12000),
+        transfer(&rt, alloc, "t7"),
+    ];
     assert!(rt; write_all(&mut conn, first.as_slice()).is_ok());
-    // A name that is there.
-    let changes = [
+    let name = [
         branch(&rt, alloc, 2, "west"),
         branch(&rt, alloc, 3, "south"),
     ];
-    assert!(rt; write_all(&mut conn, changes.as_slice()).is_err());
-    assert_shown(&rt, alloc, &mut conn, BRANCHES);
+    assert!(rt; write_all(&mut conn, name.as_slice()).is_err());
+    let number = [
+        leg(&rt, alloc, 2, "assets:cash", 5),
+        leg(&rt, alloc, 1, "assets:cash", -5),
+    ];
+    assert!(rt; write_all(&mut conn, number.as_slice()).is_err());
+    let id = [transfer(&rt, alloc, "t6"), transfer(&rt, alloc, "t7")];
+    assert!(rt; write_all(&mut conn, id.as_slice()).is_err());
+    assert_shown(&rt, alloc, &mut conn, ONE_OF_EACH);
 }
 
 #[test]
