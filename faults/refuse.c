@@ -1,6 +1,6 @@
 // Stands between the built program and the C library, and makes calls fail: of CALL (memory, read or write) the one whose
-// number is NUMBER, and those behind it until TIMES have failed, or that one alone. Where the program ends before that call, a
-// line on standard error says so, and how often it was made.
+// number is NUMBER, and those behind it until TIMES have failed, or that one alone; none where NUMBER is 0. A CALL named short is
+// a write that does not fail, and takes one byte. Where the program ends before that call, a line on standard error says so, and how often it was made.
 #define _GNU_SOURCE
 #include <dlfcn.h>
 #include <errno.h>
@@ -19,7 +19,7 @@ static int is_refused(const char *call) {
     if (wanted == 0 || number == 0 || strcmp(wanted, call) != 0) return 0;
     const char *times = getenv("TIMES");
     seen++;
-    if (seen < atol(number) || seen - atol(number) >= (times == 0 ? 1 : atol(times))) return 0;
+    if (atol(number) == 0 || seen < atol(number) || seen - atol(number) >= (times == 0 ? 1 : atol(times))) return 0;
     failed = 1;
     return 1;
 }
@@ -47,6 +47,7 @@ ssize_t read(int file, void *bytes, size_t count) {
 
 ssize_t write(int file, const void *bytes, size_t count) {
     ssize_t (*next)(int, const void *, size_t) = dlsym(RTLD_NEXT, "write");
+    if (file == 1 && count > 1 && is_refused("short")) return next(file, bytes, 1);
     if (file != 1 || !is_refused("write")) return next(file, bytes, count);
     errno = EIO;
     return -1;
