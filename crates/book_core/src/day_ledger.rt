@@ -1,7 +1,8 @@
 //! The ledger that keeps its assertions, and examines those that new entries reach.
 
-ghost use Rattle.std.specs.Prelude.{◌≡◌, ◌≤◌, ◌++◌, length, None, OnOk};
+ghost use Rattle.std.specs.Prelude.{◌≡◌, ◌≤◌, ◌++◌, length, None, OnOk, IfOk};
 ghost use Rattle.std.specs.List.{AllByRecursion};
+ghost use Rattle.std.specs.Result.{IsOkUnless};
 ghost use Rattle.book_core.specs.Claim.{failure, claims_of, counted};
 ghost use Rattle.book_core.specs.GoodBook.{IsWithin, IsFit, Checks};
 ghost use Rattle.book_core.specs.Examine.{examined, ArePlaces};
@@ -25,6 +26,9 @@ use day_sums::NamedSpots;
 use money_core::{Cause, Day, Text, Unit};
 use std::alloc::Global;
 use std::marker::Model;
+
+/// From so many assertions on, sums of the new entries cost less than a pass over them for each assertion.
+const MANY_PLACES: usize = 64;
 
 /// The ledger that keeps its sums by day, and examines the assertions that new entries reach.
 ///
@@ -55,7 +59,56 @@ impl Model for DayLedger {
     ghost invariant = { λ a. IsDayKept a.entries.items a.accounts.items a.claims × AreSumsOf a.sums a.entries.items };
 }
 
+/// The first failure by place among the assertions at the places of a book of these entries alone, by sums that are taken
+/// for this: 40 where memory is refused. Raises `count` by one for each assertion that it examines.
+fn examine_alone(
+    alloc: Global,
+    entries: &[Entry],
+    places: &[Place],
+    count: &mut Count,
+) -> Result<Option<Failure>, Cause>
+    requires fit { AllByRecursion IsFit entries.now }
+    requires room { IsWithin entries.now }
+    requires places { ArePlaces entries.now places.now }
+    ensures first { IfOk result (λ found. found ≡ examined entries.now places.now) }
+    ensures exact { IfOk result (λ found. found ≡ None → count.new.claims ≡ counted count.old.claims (length places.now)) }
+    ensures least { count.old.claims ≤ count.new.claims }
+    ensures most { count.new.claims ≤ counted count.old.claims (length places.now) }
+    ensures memory { IsOkUnless result Cause.OutOfMemory }
+{
+    let _start = count.claims;
+    let sums = Sums::of(alloc, entries)?;
+    let book = DayBook {
+        old: entries,
+        sums: &sums,
+        new: &[],
+    };
+    Ok(first_at(&book, places, count))
+}
+
 impl DayLedger {
+    /// As `examine`, by sums of the new entries where there are no others: 40 where memory is refused.
+    fn examine_new(
+        &self,
+        new: &[Entry],
+        places: &[Place],
+        count: &mut Count,
+    ) -> Result<Option<Failure>, Cause>
+        requires fit { AllByRecursion IsFit new.now }
+        requires room { IsWithin (self.now ++ new.now) }
+        requires places { ArePlaces (self.now ++ new.now) places.now }
+        ensures first { IfOk result (λ found. found ≡ examined (self.now ++ new.now) places.now) }
+        ensures exact { IfOk result (λ found. found ≡ None → count.new.claims ≡ counted count.old.claims (length places.now)) }
+        ensures least { count.old.claims ≤ count.new.claims }
+        ensures most { count.new.claims ≤ counted count.old.claims (length places.now) }
+        ensures memory { IsOkUnless result Cause.OutOfMemory }
+    {
+        if !self.entries.is_empty() || places.len() < MANY_PLACES {
+            return Ok(self.examine(new, places, count));
+        }
+        examine_alone(*self.entries.allocator(), new, places, count)
+    }
+
     /// The first failure by place among the assertions at the places, in the book with the new entries, whatever other
     /// assertions do. Takes no memory. Raises `count` by one for each assertion that it examines.
     pub fn examine(&self, new: &[Entry], places: &[Place], count: &mut Count) -> Option<Failure>
@@ -128,9 +181,10 @@ impl Ledger for DayLedger {
             Ok(places) => places,
             Err(cause) => return Err(Refusal::Plain(cause)),
         };
-        match self.examine(new, &places, count) {
-            Some(failure) => Err(Refusal::ClaimFailed(failure)),
-            None => Ok(()),
+        match self.examine_new(new, &places, count) {
+            Ok(Some(failure)) => Err(Refusal::ClaimFailed(failure)),
+            Ok(None) => Ok(()),
+            Err(cause) => Err(Refusal::Plain(cause)),
         }
     }
 

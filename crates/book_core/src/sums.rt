@@ -1,6 +1,7 @@
 //! What a ledger keeps of its entries beside their list, so that no question passes over all of them.
 
-ghost use Rattle.std.specs.Prelude.{◌≡◌, [], ◌∷◌, ◌++◌, OnOk, OnErr};
+ghost use Rattle.std.specs.Prelude.{◌≡◌, [], ◌∷◌, ◌++◌, OnOk, OnErr, IfOk};
+ghost use Rattle.std.specs.Result.{IsOkUnless};
 ghost use Rattle.book_core.specs.GoodBook.{IsWithin, HasRoom};
 ghost use Rattle.book_core.specs.Query.{balance_for};
 ghost use Rattle.book_core.specs.Sums.{AreSumsOf};
@@ -85,5 +86,18 @@ impl Sums {
         raise_legs(&mut self.own, Reach::Own, legs, day);
         raise_legs(&mut self.inside, Reach::Inside, legs, day);
         Ok(())
+    }
+
+    /// Those of the entries: 40 where memory is refused. Costs what adding each of them costs.
+    pub fn of(alloc: Global, entries: &[Entry]) -> Result<Self, Cause>
+        requires { IsWithin entries.now }
+        ensures value { IfOk result (λ sums. AreSumsOf sums entries.now) }
+        ensures memory { IsOkUnless result Cause.OutOfMemory }
+    {
+        let mut sums = Sums::empty(alloc);
+        'entries: for (i, entry) in entries.iter().enumerate() {
+            sums.add(&entries[..i], entry)?;
+        }
+        Ok(sums)
     }
 }

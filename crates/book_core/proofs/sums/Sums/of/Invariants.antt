@@ -1,0 +1,6 @@
+use Rattle.std.proofs.Common.{take}
+use Rattle.book_core.specs.Sums.{AreSumsOf}
+use Rattle.book_core.proofs.sums.Sums.of.Given as goal
+
+abbrev pub invariant-entries : goal.invariant-entries
+invariant-entries l = AreSumsOf l.sums (take l.i l.entries)
