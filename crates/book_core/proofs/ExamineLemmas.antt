@@ -300,6 +300,5 @@ pub read_left : (old new b : List Entry) (i : ℕ) (d : Entry) → old ++ new �
 read_left old new b i d e l =
     sym (get_or_append_left old new d i l) ∙ ap (λ (es : List Entry). get_or es i d) e ∙ get_or_default b i d (get_or old i d) (omega (arith, ap (λ (es : List Entry). length es) e, length-append old new))
 
-pub read_right : (old new b : List Entry) (i : ℕ) (d : Entry) → old ++ new ≡ b → length old ≤ i → i - length old < length new → get_or new (i - length old) d ≡ get_or b i (get_or new (i - length old) d)
-read_right old new b i d e l m =
-    sym (get_or-append_right old new (length old) i d refl l) ∙ ap (λ (es : List Entry). get_or es i d) e ∙ get_or_default b i d (get_or new (i - length old) d) (omega (arith, ap (λ (es : List Entry). length es) e, length-append old new))
+pub read_right : (old new b : List Entry) (i : ℕ) (x : Entry) → old ++ new ≡ b → length old ≤ i → x ≡ get_or new (i - length old) x → x ≡ get_or b i x
+read_right old new b i x e l is = is ∙ sym (get_or-append_right old new (length old) i x refl l) ∙ ap (λ (es : List Entry). get_or es i x) e

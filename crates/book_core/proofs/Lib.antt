@@ -20,4 +20,5 @@ pub mod DayLemmas
 pub mod RaiseLemmas
 pub mod DayPlaceLemmas
 pub mod NextLemmas
+pub mod BehindLemmas
 mod WorkedValues

@@ -62,11 +62,15 @@ pub next_same : (f g : Commodity → ℕ) (u : Commodity) (o : Option Commodity)
 next_same f g u None same h = λ v l. same v ∙ h v l
 next_same f g u (Some w) same h = (h.0, λ v l m. same v ∙ h.1 v l m)
 
--- of a book with new entries, by the table of the book
-pub next_of_book : (table : List ℕ) (old new b : List Entry) (u : Commodity) (a n o : Option Commodity) → AreMoved table old → IsNextMoved (moved_at table) u a → n ≡ least_unit (is_after u) (legs_of new) → o ≡ lower a n → old ++ new ≡ b → IsNextMoved (λ v. turnover v b) u o
-next_of_book table old new b u a n o are h e f d =
-    next_same (λ v. moved_at table v + moved v (legs_of new)) (λ v. turnover v b) u o (λ v. sym (ap (turnover v) d) ∙ turnover-append v old new ∙ ap (λ (k : ℕ). k + turnover v new) (sym (are v)))
-    (subst (IsNextMoved (λ v. moved_at table v + moved v (legs_of new)) u) (sym f) (next_of_both (moved_at table) (λ v. moved v (legs_of new)) u a n h (next_of_legs (legs_of new) u n e)))
+-- by the table of a book
+pub next_of_table : (table : List ℕ) (b : List Entry) (u : Commodity) (o : Option Commodity) → AreMoved table b → IsNextMoved (moved_at table) u o → IsNextMoved (λ v. turnover v b) u o
+next_of_table table b u o are h = next_same (moved_at table) (λ v. turnover v b) u o (λ v. sym (are v)) h
+
+-- of a book with new entries
+pub next_of_book : (old new b : List Entry) (u : Commodity) (a n o : Option Commodity) → IsNextMoved (λ v. turnover v old) u a → IsNextMoved (λ v. turnover v new) u n → o ≡ lower a n → old ++ new ≡ b → IsNextMoved (λ v. turnover v b) u o
+next_of_book old new b u a n o h k f d =
+    next_same (λ v. turnover v old + turnover v new) (λ v. turnover v b) u o (λ v. sym (ap (turnover v) d) ∙ turnover-append v old new)
+    (subst (IsNextMoved (λ v. turnover v old + turnover v new) u) (sym f) (next_of_both (λ v. turnover v old) (λ v. turnover v new) u a n h k))
 
 -- ---- the first that strays
 -- what has no turnover does not stray

@@ -5,12 +5,12 @@ ghost use Rattle.book_core.specs.Balance.{turnover};
 ghost use Rattle.book_core.specs.Query.{is_stray_for, stray_for};
 ghost use Rattle.book_core.specs.DayRows.{IsNextMoved};
 
-use crate::balance::{Query, sum_entries};
+use crate::balance::Query;
 use crate::commodity::lower_of;
 use crate::entry::Entry;
 use crate::judging::Balances;
+use crate::new_entries::NewEntries;
 use crate::sums::Sums;
-use crate::turnover::tally_entries;
 use crate::turnover_table::next_moved;
 use money_core::Unit;
 use std::marker::Model;
@@ -21,7 +21,7 @@ use std::marker::Model;
 pub struct DayBook<'a> {
     pub old: &'a [Entry],
     pub sums: &'a Sums,
-    pub new: &'a [Entry],
+    pub new: NewEntries<'a>,
 }
 
 impl<'a> Model for DayBook<'a> {
@@ -32,9 +32,9 @@ impl<'a> Model for DayBook<'a> {
 
     ghost Value = { List Line };
 
-    ghost view = { λ b. b.old.now ++ b.new.now };
+    ghost view = { λ b. b.old.now ++ b.new };
 
-    ghost invariant = { λ b. IsWithin (b.old.now ++ b.new.now) × AreSumsOf b.sums.now b.old.now };
+    ghost invariant = { λ b. IsWithin (b.old.now ++ b.new) × AreSumsOf b.sums.now b.old.now };
 }
 
 /// Whether a commodity is another than the one that is asked, and not zero in the account.
@@ -53,7 +53,7 @@ fn next_unit(book: &DayBook<'_>, unit: Unit) -> Option<Unit>
     ensures { IsNextMoved (λ v. turnover v book.now) unit result }
 {
     let kept = next_moved(&book.sums.moved, unit);
-    let added = tally_entries(book.new, unit).next;
+    let added = book.new.next_unit(unit);
     lower_of(kept, added)
 }
 
@@ -73,13 +73,13 @@ fn first_stray(book: &DayBook<'_>, query: &Query<'_>) -> Option<Unit>
     }
 }
 
-/// Costs what the balance of the old entries costs, and one pass over the new ones.
+/// Costs what the balance of the old entries costs, and as much for the new ones, or one pass over these.
 impl<'a> Balances for DayBook<'a> {
     ghost book = { λ b. b };
 
     fn found(&self, query: &Query<'_>) -> i64 {
         let kept = self.sums.balance(self.old, query);
-        let added = sum_entries(query, self.new, self.old.len() + 1);
+        let added = self.new.sum_behind(query, self.old.len());
         kept + added
     }
 

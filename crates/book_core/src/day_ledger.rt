@@ -1,8 +1,7 @@
 //! The ledger that keeps its assertions, and examines those that new entries reach.
 
-ghost use Rattle.std.specs.Prelude.{◌≡◌, ◌≤◌, ◌++◌, length, None, OnOk, IfOk};
+ghost use Rattle.std.specs.Prelude.{◌≡◌, ◌≤◌, ◌++◌, length, None, OnOk};
 ghost use Rattle.std.specs.List.{AllByRecursion};
-ghost use Rattle.std.specs.Result.{IsOkUnless};
 ghost use Rattle.book_core.specs.Claim.{failure, claims_of, counted};
 ghost use Rattle.book_core.specs.GoodBook.{IsWithin, IsFit, Checks};
 ghost use Rattle.book_core.specs.Examine.{examined, ArePlaces};
@@ -16,6 +15,7 @@ use crate::day_book::DayBook;
 use crate::entry::Entry;
 use crate::examine::first_at;
 use crate::ledger::Ledger;
+use crate::new_entries::NewEntries;
 use crate::place::Place;
 use crate::plain_ledger::MAX_ENTRIES;
 use crate::reached::reached_places;
@@ -27,16 +27,14 @@ use money_core::{Cause, Day, Text, Unit};
 use std::alloc::Global;
 use std::marker::Model;
 
-/// From so many assertions on, sums of the new entries cost less than a pass over them for each assertion.
-const MANY_PLACES: usize = 64;
-
 /// The ledger that keeps its sums by day, and examines the assertions that new entries reach.
 ///
 /// `balance` and `balance_in` are one search; `len`, `accounts` and `empty` cost nothing. `check` is one pass over the
 /// new legs for each of their commodities, a search for each account that takes in one of them, and a look at the
 /// assertions of these accounts behind the first new day; then, for each assertion that is reached, two searches and one
-/// pass over the legs of its day and the new ones, and for `==` and `==*` as much for each commodity. `add` is, for each
-/// leg and each account that takes it in, a search and the days of one row behind the entry's own.
+/// pass over the legs of its day and the new ones, and for `==` and `==*` as much for each commodity. Where there are many
+/// of both, it takes sums of the new entries, and passes over none of them. `add` is, for each leg and each account that
+/// takes it in, a search and the days of one row behind the entry's own.
 #[derive(Drop)]
 pub struct DayLedger {
     entries: Vec<Entry>,
@@ -59,54 +57,19 @@ impl Model for DayLedger {
     ghost invariant = { λ a. IsDayKept a.entries.items a.accounts.items a.claims × AreSumsOf a.sums a.entries.items };
 }
 
-/// The first failure by place among the assertions at the places of a book of these entries alone, by sums that are taken
-/// for this: 40 where memory is refused. Raises `count` by one for each assertion that it examines.
-fn examine_alone(
-    alloc: Global,
-    entries: &[Entry],
-    places: &[Place],
-    count: &mut Count,
-) -> Result<Option<Failure>, Cause>
-    requires fit { AllByRecursion IsFit entries.now }
-    requires room { IsWithin entries.now }
-    requires places { ArePlaces entries.now places.now }
-    ensures first { IfOk result (λ found. found ≡ examined entries.now places.now) }
-    ensures exact { IfOk result (λ found. found ≡ None → count.new.claims ≡ counted count.old.claims (length places.now)) }
-    ensures least { count.old.claims ≤ count.new.claims }
-    ensures most { count.new.claims ≤ counted count.old.claims (length places.now) }
-    ensures memory { IsOkUnless result Cause.OutOfMemory }
-{
-    let _start = count.claims;
-    let sums = Sums::of(alloc, entries)?;
-    let book = DayBook {
-        old: entries,
-        sums: &sums,
-        new: &[],
-    };
-    Ok(first_at(&book, places, count))
-}
-
 impl DayLedger {
-    /// As `examine`, by sums of the new entries where there are no others: 40 where memory is refused.
-    fn examine_new(
-        &self,
-        new: &[Entry],
-        places: &[Place],
-        count: &mut Count,
-    ) -> Result<Option<Failure>, Cause>
-        requires fit { AllByRecursion IsFit new.now }
-        requires room { IsWithin (self.now ++ new.now) }
-        requires places { ArePlaces (self.now ++ new.now) places.now }
-        ensures first { IfOk result (λ found. found ≡ examined (self.now ++ new.now) places.now) }
-        ensures exact { IfOk result (λ found. found ≡ None → count.new.claims ≡ counted count.old.claims (length places.now)) }
-        ensures least { count.old.claims ≤ count.new.claims }
-        ensures most { count.new.claims ≤ counted count.old.claims (length places.now) }
-        ensures memory { IsOkUnless result Cause.OutOfMemory }
+    /// The ledger's book with new entries behind it.
+    fn book_with<'a>(&'a self, new: NewEntries<'a>) -> DayBook<'a>
+        requires fit { AllByRecursion IsFit new }
+        requires room { IsWithin (self.now ++ new) }
+        ensures book { result ≡ self.now ++ new.entry }
+        ensures fit { AllByRecursion IsFit result }
     {
-        if !self.entries.is_empty() || places.len() < MANY_PLACES {
-            return Ok(self.examine(new, places, count));
+        DayBook {
+            old: &self.entries,
+            sums: &self.sums,
+            new,
         }
-        examine_alone(*self.entries.allocator(), new, places, count)
     }
 
     /// The first failure by place among the assertions at the places, in the book with the new entries, whatever other
@@ -120,11 +83,7 @@ impl DayLedger {
         ensures least { count.old.claims ≤ count.new.claims }
         ensures most { count.new.claims ≤ counted count.old.claims (length places.now) }
     {
-        let book = DayBook {
-            old: &self.entries,
-            sums: &self.sums,
-            new,
-        };
+        let book = self.book_with(NewEntries::plain(new));
         first_at(&book, places, count)
     }
 }
@@ -181,10 +140,14 @@ impl Ledger for DayLedger {
             Ok(places) => places,
             Err(cause) => return Err(Refusal::Plain(cause)),
         };
-        match self.examine_new(new, &places, count) {
-            Ok(Some(failure)) => Err(Refusal::ClaimFailed(failure)),
-            Ok(None) => Ok(()),
-            Err(cause) => Err(Refusal::Plain(cause)),
+        let new = match NewEntries::to_judge(alloc, new, places.len()) {
+            Ok(new) => new,
+            Err(cause) => return Err(Refusal::Plain(cause)),
+        };
+        let book = self.book_with(new);
+        match first_at(&book, &places, count) {
+            Some(failure) => Err(Refusal::ClaimFailed(failure)),
+            None => Ok(()),
         }
     }
 

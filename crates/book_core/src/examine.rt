@@ -41,9 +41,10 @@ fn fault_at(book: &DayBook<'_>, place: Place) -> Option<Failure>
     if at < book.old.len() {
         return fault_in(book, &book.old[at], place);
     }
+    let new = book.new.entries();
     let behind = at - book.old.len();
-    if behind < book.new.len() {
-        return fault_in(book, &book.new[behind], place);
+    if behind < new.len() {
+        return fault_in(book, &new[behind], place);
     }
     None
 }

@@ -20,6 +20,7 @@ mod judging;
 mod law;
 mod ledger;
 mod leg;
+mod new_entries;
 mod place;
 mod plain_ledger;
 mod reached;
