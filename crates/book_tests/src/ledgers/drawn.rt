@@ -11,9 +11,9 @@ use book_core::{
 use std::alloc::Global;
 use std::process::Abort;
 
-const ACCOUNTS: [&str; 6] = ["a", "a:b", "a:b:c", "a:b2", "b", "b:a"];
+pub const ACCOUNTS: [&str; 6] = ["a", "a:b", "a:b:c", "a:b2", "b", "b:a"];
 
-const KINDS: [ClaimKind; 4] = [
+pub const KINDS: [ClaimKind; 4] = [
     ClaimKind::Exact,
     ClaimKind::Sole,
     ClaimKind::ExactIn,
@@ -21,7 +21,7 @@ const KINDS: [ClaimKind; 4] = [
 ];
 
 /// A number below the bound, by a linear congruence.
-fn draw(state: &mut u64, bound: u64) -> u64
+pub fn draw(state: &mut u64, bound: u64) -> u64
     requires { 0 < bound }
     ensures { result < bound }
 {
