@@ -9,12 +9,35 @@ use sqlite_disk::{Disk, Tally};
 use std::alloc::{AllocError, Global};
 use std::io;
 
-/// The room that a disk asks for first, in bytes, for several times a full federation. Room that is never written to is
+/// The most room that a disk takes, in bytes, for several times a full federation. Room that is never written to is
 /// address space alone.
 const MOST_ROOM: usize = 0x1_0000_0000;
 
 /// The room below which a disk is not made, in bytes.
 const LEAST_ROOM: usize = 0x10_0000;
+
+/// How many times its room has to be granted at once when a disk is made, so that the two of a database take at most a
+/// quarter of it.
+const SHARE: usize = 8;
+
+/// The bytes of a page.
+const PAGE: usize = 1024;
+
+/// How a database with such pages begins that has no rows: the header of SQLite's file format, and an empty leaf behind it.
+const START: [u8; 108] = [
+    // "SQLite format 3", and a 0.
+    83, 81, 76, 105, 116, 101, 32, 102, 111, 114, 109, 97, 116, 32, 51, 0,
+    // The size of a page, a log for writing and for reading, no bytes kept at a page's end, and three fractions that are fixed.
+    4, 0, 2, 2, 0, 64, 32, 32,
+    // One change, one page, no free pages, no change of the schema, the schema's format 4.
+    0, 0, 0, 1, 0, 0, 0, 1, 0, 0, 0, 0, 0, 0, 0, 0, 0, 0, 0, 0, 0, 0, 0, 4,
+    // The usual cache, no vacuum, UTF-8, and no numbers of a program's own.
+    0, 0, 0, 0, 0, 0, 0, 0, 0, 0, 0, 1, 0, 0, 0, 0, 0, 0, 0, 0, 0, 0, 0, 0,
+    // Nothing, and the change that the count of pages is of, with no version.
+    0, 0, 0, 0, 0, 0, 0, 0, 0, 0, 0, 0, 0, 0, 0, 0, 0, 0, 0, 0, 0, 0, 0, 1, 0, 0, 0, 0,
+    // A leaf of a table, with no cells, whose content begins at the page's end.
+    13, 0, 0, 0, 0, 4, 0, 0,
+];
 
 /// A file in memory, with room taken ahead.
 ///
@@ -36,6 +59,16 @@ impl MemoryDisk {
             bytes: take_room(alloc)?,
             faults: 0,
         })
+    }
+
+    /// A file that begins as an empty database with pages of 1,024 bytes, which cost less to copy than the usual 4,096.
+    pub(crate) fn paged(alloc: Global) -> Result<MemoryDisk, AllocError>
+        ensures room { IfOk result (λ disk. LEAST_ROOM ≤ disk_room disk) }
+    {
+        let mut bytes = take_room(alloc)?;
+        bytes.extend_from_slice(&START)?;
+        bytes.resize(PAGE, 0)?;
+        Ok(MemoryDisk { bytes, faults: 0 })
     }
 }
 
@@ -105,17 +138,22 @@ impl Disk for MemoryDisk {
     }
 }
 
-/// No bytes, with the most room that is granted: half of it after each refusal.
+/// Whether so many bytes are granted. They are given back at once.
+fn is_granted(alloc: Global, bytes: usize) -> bool {
+    Vec::<u8>::with_capacity(alloc, bytes).is_ok()
+}
+
+/// No bytes, with the most room of which `SHARE` times as much is granted: half of it after each refusal.
 fn take_room(alloc: Global) -> Result<Vec<u8>, AllocError>
     ensures empty { IfOk result (λ bytes. bytes.items ≡ []) }
     ensures room { IfOk result (λ bytes. LEAST_ROOM ≤ vec_capacity bytes) }
 {
-    let mut room = MOST_ROOM;
-    'halves: while room >= LEAST_ROOM {
-        if let Ok(bytes) = Vec::with_capacity(alloc, room) {
-            return Ok(bytes);
+    let mut asked = SHARE * MOST_ROOM;
+    'halves: while asked >= SHARE * LEAST_ROOM {
+        if is_granted(alloc, asked) {
+            return Vec::with_capacity(alloc, asked / SHARE);
         }
-        room /= 2;
+        asked /= 2;
     }
     Err(AllocError)
 }
@@ -145,6 +183,20 @@ fn count(outcome: Result<(), AllocError>, faults: &mut u64) -> io::Result<()>
     Ok(())
 }
 
+/// Takes more room, so that a file of that length is within it: an eighth of the length and 1 MiB more than that where
+/// they are granted, so that it is seldom asked for.
+fn widen(file: &mut Vec<u8>, len: usize) -> Result<(), AllocError>
+    ensures bytes { file.new.items ≡ file.old.items }
+    ensures past_room { OnErr result (vec_capacity file.old < len) }
+    ensures room { vec_capacity file.old ≤ vec_capacity file.new }
+{
+    let more = len.saturating_sub(file.len());
+    match file.reserve_exact(more.saturating_add(len / 8 + LEAST_ROOM)) {
+        Ok(()) => Ok(()),
+        Err(_) => file.reserve_exact(more),
+    }
+}
+
 /// Cuts the file, or fills it up with zeros. It fails only past its room, and then nothing is changed.
 fn resize(file: &mut Vec<u8>, len: usize) -> Result<(), AllocError>
     ensures len { OnOk result (length file.new.items ≡ len) }
@@ -153,6 +205,9 @@ fn resize(file: &mut Vec<u8>, len: usize) -> Result<(), AllocError>
     ensures past_room { OnErr result (vec_capacity file.old < len) }
     ensures room { vec_capacity file.old ≤ vec_capacity file.new }
 {
+    if len > file.capacity() {
+        widen(file, len)?;
+    }
     file.resize(len, 0)
 }
 
