@@ -1,7 +1,7 @@
 # Writes the journals of a benchmark, FOLDER/1.journal and so on: a bank's statement in order of days, over 28 days of each
-# month of a year and 200 expense accounts, two postings to a transaction. Where EVERY is over 0, the posting to the bank of
-# every so many asserts the balance.
-# Use: awk -v folder=FOLDER -v journals=10 -v transactions=4980 -v every=10 -f bench/statement.awk
+# month of a year, or over the first DAYS of these where DAYS is over 0, and 200 expense accounts, two postings to a
+# transaction. Where EVERY is over 0, the posting to the bank of every so many asserts the balance.
+# Use: awk -v folder=FOLDER -v journals=10 -v transactions=4980 -v every=10 -v days=0 -f bench/statement.awk
 function euros(cents) {
     return sprintf("%s%d.%02d EUR", cents < 0 ? "-" : "", (cents < 0 ? -cents : cents) / 100, (cents < 0 ? -cents : cents) % 100)
 }
@@ -10,7 +10,7 @@ BEGIN {
     balance = 0
     for (n = 0; n < all; n++) {
         file = folder "/" int(n / transactions) + 1 ".journal"
-        day = int(n * 336 / all)
+        day = int(n * (days > 0 ? days : 336) / all)
         cents = (n % 97 + 1) * 100 + n % 100
         balance -= cents
         claim = every > 0 && n % every == every - 1 ? " = " euros(balance) : ""
