@@ -34,9 +34,9 @@ use Rattle.journal_lines.specs.declared.line_kind.LineKind.TheVariants as kind
 use Rattle.journal_lines.proofs.CutLemmas.{trim_start_behind, trim_start_same, trim_start_first, trim_inside, all_joined, all_weaker, first_kept}
 use Rattle.journal_lines.proofs.HeaderLemmas.{StartsBlank, date_ends, chosen}
 use Rattle.journal_lines.proofs.HeaderFormLemmas.{remark_reads, in_row, split_start, blanks_front, end_blanks, split_end, blanks_end, remark_form, blank_no_semicolon}
-use Rattle.journal_format.specs.Posting.{outside}
-use Rattle.journal_format.specs.Directive.{behind_word, shows_digit, agrees, sampled, sampled_at, symbol_at, named, commodity_named, commodity_of, format_at, sample_fault, is_format, format_fault}
-use Rattle.journal_format.specs.DirectiveForm.{IsSampleOf, IsSymbolOf, HasBehind, NamesCommodity, IsBelow}
+use Rattle.journal_format.specs.PostingParts.{outside}
+use Rattle.journal_format.specs.Directive.{shows_digit, agrees, sampled, sampled_at, symbol_at, named, commodity_named, commodity_of, format_at, sample_fault, is_format, format_fault}
+use Rattle.journal_format.specs.DirectiveForm.{IsSampleOf, IsSymbolOf, HasBehind, NamesCommodity, IsBelow, behind_word}
 use Rattle.journal_format.proofs.OutsideLemmas.{IsFree, number_in, passed_symbol, solid_amount, solid_symbol, first_amount, bytes_amount, bytes_symbol}
 use Rattle.journal_format.proofs.PostingFormLemmas.{bars_blank, allows_no_comment}
 
@@ -176,7 +176,7 @@ number_digit mark (b ∷ number) rest h =
         let n : 1 + position_or_len (λ c. c == decimal_byte mark) number ≡ suc (position_or_len (λ c. c == decimal_byte mark) number) = omega arith in
         whole_digit (group_byte mark) b _ (rw (other, n) at parts.0)
 
-sample_digit : (text : List ℕ) (style : Style) → IsSample text style → shows_digit text ≡ true
+pub sample_digit : (text : List ℕ) (style : Style) → IsSample text style → shows_digit text ≡ true
 sample_digit text style s =
     let at = number_in is_ascii_digit digit_free style.mark text s.parts s.amount in
     let number = s.parts.number in
@@ -185,7 +185,7 @@ sample_digit text style s =
     let size : length text ≡ length at.before + (length number + length at.after) = ap length at.whole ∙ (length-append at.before (number ++ at.after) ∙ ap (λ (n : ℕ). length at.before + n) (length-append number at.after)) in
     lt-ltb (outside is_ascii_digit false text) (length text) (omega (arith, digit, place, size))
 
-symbol_digit : (symbol text : List ℕ) → WritesSymbol symbol text → shows_digit text ≡ false
+pub symbol_digit : (symbol text : List ℕ) → WritesSymbol symbol text → shows_digit text ≡ false
 unfolding outside
 symbol_digit symbol text w =
     let place : outside is_ascii_digit false text ≡ length text + 0 = ap (outside is_ascii_digit false) (sym (append-nil text)) ∙ passed_symbol is_ascii_digit digit_free symbol text w [] in
@@ -199,7 +199,7 @@ symbol_some symbol text w = ne_eqb (length text) 0 (λ e. omega (arith, e, (soli
 
 -- ---- the commodity of a text
 
-named_iff : (styles : List Style) (unit : Commodity) (text : List ℕ) → (IsSampleOf styles unit text ⊎ IsSymbolOf styles unit text) ↔ (commodity_named styles text ≡ Ok unit)
+pub named_iff : (styles : List Style) (unit : Commodity) (text : List ℕ) → (IsSampleOf styles unit text ⊎ IsSymbolOf styles unit text) ↔ (commodity_named styles text ≡ Ok unit)
 unfolding commodity_named
 named_iff styles unit text = (to, from)
   where
@@ -402,6 +402,13 @@ names_iff styles line unit k = (
   λ e. has_behind (codes "commodity") _ line commodity_word (plain_name styles unit) (first_word_of line k) ((named_iff styles unit (behind_word (front_of line))).1 e),
 )
 
+-- a line names one commodity at most
+pub one_commodity : (styles : List Style) (line : List ℕ) (unit other : Commodity) → kind_of line ≡ kind.Commodity → NamesCommodity styles unit line → NamesCommodity styles other line → unit ≡ other
+one_commodity styles line unit other k h w = same (commodity_of styles line) ((names_iff styles line unit k).0 h) ((names_iff styles line other k).0 w)
+  where
+    same : (r : Result Commodity Cause) → r ≡ Ok unit → r ≡ Ok other → unit ≡ other
+    same r e f = cc
+
 -- a line behind its blanks, before its comment
 front_first : (xs : List ℕ) → is_blank (slice_index xs 0) ≡ false → is_blank (slice_index (front_of xs) 0) ≡ false
 unfolding front_of
@@ -415,7 +422,7 @@ front_trimmed line =
     ∙ (ap trim_start (front_behind gap (trim_start line) free) ∙ (trim_start_behind gap (front_of (trim_start line)) (blanks_front line) ∙ trim_start_same (front_of (trim_start line)) (front_first (trim_start line) (trim_start_first line))))
 
 -- the fault of a sample below a directive
-sample_none : (styles : List Style) (unit : Commodity) (text : List ℕ) → IsSampleOf styles unit text ↔ (sample_fault styles unit (style_of text) ≡ None)
+pub sample_none : (styles : List Style) (unit : Commodity) (text : List ℕ) → IsSampleOf styles unit text ↔ (sample_fault styles unit (style_of text) ≡ None)
 sample_none styles unit text = (to, at (style_of text) refl)
   where
     to : IsSampleOf styles unit text → sample_fault styles unit (style_of text) ≡ None
@@ -434,7 +441,7 @@ sample_none styles unit text = (to, at (style_of text) refl)
     at None e k = absurd cc
     at (Some sample) e k = placed sample (style_spelled text sample e) (place_of styles sample.symbol) refl k
 
-is_format_iff : (line : List ℕ) → (is_format line ≡ true) ↔ (first_word (trim_start line) ≡ codes "format")
+pub is_format_iff : (line : List ℕ) → (is_format line ≡ true) ↔ (first_word (trim_start line) ≡ codes "format")
 unfolding is_format
 is_format_iff line = (λ h. same_text (first_word (trim_start line)) (codes "format") (sym h), λ e. ap (λ (xs : List ℕ). is_same xs (codes "format")) e)
 

@@ -6,7 +6,7 @@ use Rattle.std.specs.List.{position_or_len}
 use Rattle.std.specs.Str.{is_utf8}
 use Rattle.journal_lines.specs.Blank.{is_blank, first_word}
 use Rattle.journal_lines.proofs.Utf8Lemmas.{IsCut, position_cut, cut_utf8, trim_start_utf8, trim_end_utf8}
-use Rattle.journal_format.specs.Directive.{behind_word}
+use Rattle.journal_format.specs.DirectiveForm.{behind_word}
 
 blank_low : (b : ℕ) → is_blank b ≡ true → b < 128
 blank_low b h = grind (arith, common_steps)

@@ -17,7 +17,7 @@ use Rattle.money_core.proofs.ClassLemmas.{all_weaker, all_joined, first_passes, 
 use Rattle.money_core.proofs.GrammarLemmas.{number_text, first_number, NumberText}
 use Rattle.money_core.proofs.SymbolText.{symbol_facts, bare_facts, short_some}
 use Rattle.journal_lines.specs.Blank.{is_blank}
-use Rattle.journal_format.specs.Posting.{outside}
+use Rattle.journal_format.specs.PostingParts.{outside}
 
 -- the text is passed over whole
 abbrev pub IsPassed : (ℕ → Bool) → List ℕ → Type 0

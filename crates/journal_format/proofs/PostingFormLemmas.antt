@@ -34,7 +34,8 @@ use Rattle.journal_lines.proofs.CutLemmas.{trim_start_behind, trim_start_same, t
 use Rattle.journal_lines.proofs.HeaderLemmas.{past, chosen}
 use Rattle.journal_lines.proofs.HeaderFormLemmas.{status_reads, remark_reads, in_row, split_start, blanks_front, end_blanks, split_end, blanks_end, status_form, remark_form, status_no_semicolon, blank_no_semicolon}
 use Rattle.journal_format.specs.declared.posting.Posting.{Posting}
-use Rattle.journal_format.specs.Posting.{Value, outside, before_mark, from_mark, PostingCut, cut_part, cut_posting, claim_sign, kind_at, claimed, with_claim, with_price, with_amount, value_of, is_virtual, posted, judged_posting, posting_of}
+use Rattle.journal_format.specs.PostingParts.{outside, before_mark, from_mark, kind_at, is_virtual}
+use Rattle.journal_format.specs.Posting.{Value, PostingCut, cut_part, cut_posting, claim_sign, claimed, with_claim, with_price, with_amount, value_of, posted, judged_posting, posting_of}
 use Rattle.journal_format.specs.PostingForm.{WritesClaim, IsPricePart, IsClaimPart, IsAmountPart, is_wide, IsPostingText}
 use Rattle.journal_format.proofs.CutUtf8Lemmas.{outside_mark}
 use Rattle.journal_format.proofs.OutsideLemmas.{IsPassed, IsFree, passed_bytes, passed_joined, passed_blanks, passed_amount, IsSolid, solid_behind, solid_amount, BarsAmount, first_amount, AllowsAmount, bytes_amount}
@@ -725,3 +726,10 @@ reads_form styles line p e =
 -- both ways
 pub posting_iff : (styles : List Style) (line : List ℕ) (p : Posting) → IsPostingText styles line p ↔ (posting_of styles line ≡ Ok p)
 posting_iff styles line p = (form_reads styles line p, reads_form styles line p)
+
+-- a line writes one posting at most
+pub one_posting : (styles : List Style) (line : List ℕ) (p q : Posting) → IsPostingText styles line p → IsPostingText styles line q → p ≡ q
+one_posting styles line p q h k = same (posting_of styles line) (form_reads styles line p h) (form_reads styles line q k)
+  where
+    same : (r : Result Posting Cause) → r ≡ Ok p → r ≡ Ok q → p ≡ q
+    same r e f = cc

@@ -25,7 +25,8 @@ use Rattle.journal_lines.specs.Header.{status_at, behind_status}
 use Rattle.journal_lines.specs.LineKind.{is_block_start, is_block_end, is_commodity_word, is_skipped_word, is_remark}
 use Rattle.journal_lines.specs.AccountName.{is_account, name_end}
 use Rattle.journal_format.specs.declared.posting.Posting.{Posting}
-use Rattle.journal_format.specs.Posting.{outside, cut_posting, kind_at, value_of, judged_posting, posting_of}
+use Rattle.journal_format.specs.PostingParts.{outside, kind_at}
+use Rattle.journal_format.specs.Posting.{cut_posting, value_of, judged_posting, posting_of}
 use Rattle.journal_format.specs.PostingForm.{IsPostingText}
 use Rattle.journal_format.specs.DirectiveForm.{NamesCommodity, IsBelow}
 use Rattle.journal_format.specs.Directive.{is_format, format_fault}

@@ -1,14 +1,18 @@
 -- The form of a directive `commodity` and of the lines below it (hledger manual, "Declaring commodities"). That it declares nothing, and has to
 -- agree with the declared styles, are own rules.
-use Rattle.std.specs.Prelude.{◌≡◌, ◌≢◌, ℕ, List, [], ◌++◌, codes, slice_get, true, Option, Some, ◌⊎◌}
+use Rattle.std.specs.Prelude.{◌≡◌, ◌≢◌, ℕ, List, [], ◌++◌, length, drop, codes, slice_get, true, Option, Some, ◌⊎◌}
 use Rattle.std.specs.List.{list_all}
 use Rattle.money_core.specs.declared.style.Style.{Style}
 use Rattle.money_core.specs.declared.unit.Unit.{Unit as Commodity}
 use Rattle.money_core.specs.Symbol.{WritesSymbol}
 use Rattle.money_core.specs.Amount.{place_of}
 use Rattle.money_core.specs.Style.{IsSample}
-use Rattle.journal_lines.specs.Blank.{is_blank, first_word, trim_start}
+use Rattle.journal_lines.specs.Blank.{is_blank, first_word, trim_start, trim}
 use Rattle.journal_lines.specs.HeaderForm.{IsRemark}
+
+-- what follows the first word, without blanks at its ends
+abbrev pub behind_word : List ℕ → List ℕ
+behind_word text = trim (drop (length (first_word text)) text)
 
 -- the text is a sample of the commodity, and shows the decimal mark and the number of decimals of its declared style
 pub record IsSampleOf (styles : List Style) (unit : Commodity) (text : List ℕ) : Type 0 where

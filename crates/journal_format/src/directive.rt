@@ -2,11 +2,12 @@
 
 ghost use Rattle.std.specs.Prelude.{◌≡◌, ◌≤◌, ◌⊎◌, true, false, length, slice_get, Some};
 ghost use Rattle.std.specs.Char.{is_ascii_digit};
-ghost use Rattle.journal_format.specs.Posting.{outside};
+ghost use Rattle.journal_format.specs.PostingParts.{outside};
 ghost use Rattle.std.specs.Str.{is_utf8};
 ghost use Rattle.money_core.specs.Sampling.{style_of};
 ghost use Rattle.money_core.specs.Cutting.{symbol_of};
-ghost use Rattle.journal_format.specs.Directive.{behind_word, shows_digit, agrees, sampled, named, commodity_of, sample_fault, is_format, format_fault};
+ghost use Rattle.journal_format.specs.DirectiveForm.{behind_word};
+ghost use Rattle.journal_format.specs.Directive.{shows_digit, agrees, sampled, named, commodity_of, sample_fault, is_format, format_fault};
 ghost use Rattle.journal_format.specs.PostingRead.{IsUnlessMemory};
 
 use crate::posting_line::behind;
@@ -23,7 +24,7 @@ fn behind_word(text: &[u8]) -> &[u8]
 }
 
 /// Where a digit first stands outside quotes, or the length.
-#[tactic(auto, unfolding(crate::specs::Posting::outside))]
+#[tactic(auto, unfolding(crate::specs::PostingParts::outside))]
 fn first_digit(text: &[u8]) -> usize
     ensures place { result ≡ outside is_ascii_digit false text.now }
     ensures bound { result ≤ length text.now }

@@ -1,5 +1,5 @@
 -- Which fault a header line has: that of its text from left to right.
-use Rattle.std.proofs.Common.{◌≡◌, ◌≤◌, ◌<◌, ◌↔◌, ◌++◌, ◌==◌, ◌⊎◌, ℕ, List, [], ◌∷◌, Bool, true, false, not, ◌||◌, length, take, drop, slice_index, arith, refl, ap, ◌∙◌, append_assoc, sym, subst, Option, Some, None, Result, Ok, Err, IfErr, inl, inr, nat_lt}
+use Rattle.std.proofs.Common.{◌≡◌, ◌≤◌, ◌<◌, ◌↔◌, ◌++◌, ◌==◌, ◌⊎◌, ℕ, List, [], ◌∷◌, Bool, true, false, not, ◌||◌, length, take, drop, slice_index, arith, refl, ap, ◌∙◌, append_assoc, sym, subst, Option, Some, None, Result, Ok, Err, IfOk, IfErr, inl, inr, nat_lt}
 use Rattle.std.proofs.lemmas.Grind.{common_steps}
 use Rattle.std.proofs.lemmas.Bool.{cases_Bool, and_parts, and_from, or_parts, not-true, not_from_false, lt-ltb, le-ltb, ltb-true, ltb-false, eqb-true}
 use Rattle.std.specs.List.{list_all, position_or_len}
@@ -16,13 +16,13 @@ use Rattle.journal_lines.specs.Comment.{has_no, front_of, comment_of}
 use Rattle.journal_lines.specs.DateReading.{date_of}
 use Rattle.journal_lines.specs.Header.{HeaderParts, length_of, status_at, behind_status}
 use Rattle.journal_lines.specs.HeaderReading.{Coded, closed_code, code_at, HeaderCut, behind_date, cut_header, is_coded_long, is_cut_long, judged_header, dated_header, closed_header, header_of}
-use Rattle.journal_lines.specs.HeaderView.{read_parts}
-use Rattle.journal_lines.specs.HeaderForm.{status_text, code_text, is_closed}
+use Rattle.journal_lines.specs.HeaderView.{parts_of, read_parts}
+use Rattle.journal_lines.specs.HeaderForm.{status_text, code_text, is_closed, Reads}
 use Rattle.journal_lines.specs.HeaderFaults.{IsCut, IsCoded, IsLongText, HasLongPart, HasNoDate, HasOpenCode}
 use Rattle.journal_lines.proofs.CutLemmas.{no_mark, trim_start_behind, trim_start_same, trim_inside, all_weaker, all_joined, all_take, first_trimmed, trim_end_trimmed, before_none}
 use Rattle.journal_lines.proofs.DateLemmas.{reads_date, date_reads}
 use Rattle.journal_lines.proofs.HeaderLemmas.{StartsBlank, date_ends, CodedOk, coded_ok, all_behind_date, all_behind_status, front_none, date_first, status_first, no_status}
-use Rattle.journal_lines.proofs.HeaderFormLemmas.{StatusForm, CodeForm, RemarkForm, status_reads, remark_reads, code_reads, in_row, remark_form, status_form, code_form, date_split, nothing_apart, end_blanks, split_end, blanks_front, blanks_end, blank_no_semicolon, status_no_semicolon, nothing_has_no_status, blanks_joined}
+use Rattle.journal_lines.proofs.HeaderFormLemmas.{form_reads, StatusForm, CodeForm, RemarkForm, status_reads, remark_reads, code_reads, in_row, remark_form, status_form, code_form, date_split, nothing_apart, end_blanks, split_end, blanks_front, blanks_end, blank_no_semicolon, status_no_semicolon, nothing_has_no_status, blanks_joined}
 
 -- ---- each line is cut so
 
@@ -367,6 +367,14 @@ one_cause line (Err c) e = at (fault_of line c (sym e))
     at (inl k) = inl k.0
     at (inr (inl k)) = inr (inl k.0)
     at (inr (inr k)) = inr (inr k.0)
+
+-- what is promised of an answer makes it that of the function
+pub header_answer : (line : List ℕ) (r : Result read.Header Cause) → IfOk r (λ h. Reads line (parts_of h)) → ((r ≡ Err cause.TooLong) ↔ HasLongPart line) → ((r ≡ Err cause.Date) ↔ HasNoDate line)
+    → ((r ≡ Err cause.Header) ↔ HasOpenCode line) → IfErr r (λ c. (c ≡ cause.TooLong) ⊎ ((c ≡ cause.Date) ⊎ (c ≡ cause.Header))) → read_parts r ≡ header_of line
+header_answer line (Ok h) found long undated unclosed causes = sym (form_reads line (parts_of h) found)
+header_answer line (Err c) found long undated unclosed (inl is) = ap (λ (x : Cause). Err x) is ∙ sym (long_fault line (long.0 (ap (λ (x : Cause). Err x) is)))
+header_answer line (Err c) found long undated unclosed (inr (inl is)) = ap (λ (x : Cause). Err x) is ∙ sym (date_fault line (undated.0 (ap (λ (x : Cause). Err x) is)))
+header_answer line (Err c) found long undated unclosed (inr (inr is)) = ap (λ (x : Cause). Err x) is ∙ sym (code_fault line (unclosed.0 (ap (λ (x : Cause). Err x) is)))
 
 -- a header's fault is a limit exactly where a part has too many bytes, for the order of faults above
 pub header_fault : (line : List ℕ) (c : Cause) → header_of line ≡ Err c → (number_of c == 2) ≡ is_cut_long (cut_header line)

@@ -1,4 +1,4 @@
--- Mirrors code: how `read_date` finds the parts of a date. The rule is `IsDate` of `Date`; `date_of` is the function beside it, for laws.
+-- The day of a date by a function, for laws: where its parts stand. The rule is the relation `IsDate` of `Date`; `read_date` promises both.
 use Rattle.std.specs.Prelude.{ℕ, pos, ◌==◌, ◌≡◌, ◌<◌, nat_le, nat_lt, ◌&&◌, Bool, true, if◌then◌else◌, List, length, slice_index, take, drop, Option, Some, None}
 use Rattle.std.specs.Char.{is_ascii_digit}
 use Rattle.std.specs.List.{list_all, before_first, after_first}

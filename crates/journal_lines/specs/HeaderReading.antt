@@ -1,4 +1,4 @@
--- Mirrors code: how `read_header` cuts and judges a line. The rule is `Reads` of `HeaderForm`; `header_of` is the function beside it, for laws.
+-- Mirrors code: how `read_header` cuts and judges a line. The rule is `Reads` of `HeaderForm`, and `HeaderFaults`.
 use Rattle.std.specs.Prelude.{ℕ, ◌==◌, nat_lt, List, length, drop, slice_index, Bool, false, ◌||◌, if◌then◌else◌, Option, Some, None, Result, Ok, Err}
 use Rattle.std.specs.List.{position_or_len, before_first, after_first}
 use Rattle.money_core.specs.declared.day.Day.{Day}

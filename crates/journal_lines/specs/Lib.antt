@@ -14,7 +14,8 @@ pub mod Printed
 pub mod AccountName
 pub mod Tag
 pub mod TagsLeft
--- What mirrors code, for private clauses: nobody has to believe it
+-- the same by a function, for laws: the clauses of `read_date` tie it to its relation
 pub mod DateReading
+-- What mirrors code, for private clauses: nobody has to believe it
 pub mod HeaderReading
 pub mod HeaderCutView

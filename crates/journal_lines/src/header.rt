@@ -5,7 +5,7 @@ ghost use Rattle.std.specs.Option.{option_map};
 ghost use Rattle.std.specs.List.{list_all};
 ghost use Rattle.std.specs.Str.{is_utf8};
 ghost use Rattle.journal_lines.specs.Header.{status_at, behind_status, length_of, HeaderParts};
-ghost use Rattle.journal_lines.specs.HeaderReading.{closed_code, code_at, behind_date, cut_header, is_coded_long, is_cut_long, judged_header, header_of};
+ghost use Rattle.journal_lines.specs.HeaderReading.{closed_code, code_at, behind_date, cut_header, is_coded_long, is_cut_long, judged_header};
 ghost use Rattle.journal_lines.specs.HeaderForm.{Reads};
 ghost use Rattle.journal_lines.specs.HeaderFaults.{HasLongPart, HasNoDate, HasOpenCode};
 ghost use Rattle.journal_lines.specs.Printed.{is_clean, PrintsBack};
@@ -78,9 +78,6 @@ pub fn read_header(line: &[u8]) -> Result<Header<'_>, Cause>
     // The parts of a line without control characters print so that they read back, and those of a line in UTF-8 are UTF-8.
     ensures prints { list_all is_clean line.entry.now ≡ true → IfOk result (λ header. PrintsBack (parts_of header)) }
     ensures utf8 { is_utf8 line.entry.now ≡ true → IfOk result (λ header. IsUtf8Header (parts_of header)) }
-
-    // The same by a function, for the laws of the crates above.
-    ensures value { read_parts result ≡ header_of line.entry.now }
 {
     judged_header(cut_header(line))
 }

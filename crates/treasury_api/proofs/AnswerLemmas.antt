@@ -10,7 +10,6 @@ use Rattle.money_core.specs.Reading.{amount}
 use Rattle.book_core.specs.declared.refusal.Refusal.{Refusal}
 use Rattle.book_core.specs.declared.refusal.Refusal.TheVariants.{Plain, Text}
 use Rattle.journal_format.specs.declared.txn.Located.{Located}
-use Rattle.journal_format.specs.Machine.{journal_of}
 use Rattle.journal_format.specs.Pieces.{Reads}
 use Rattle.journal_format.specs.Fault.{IsFirstFault}
 use Rattle.treasury_core.specs.declared.command.Command.{Command as AnyCommand}
@@ -36,18 +35,17 @@ use Rattle.money_core.proofs.ReadingLemmas.{one_of_causes}
 use Rattle.money_core.specs.declared.unit.Unit.{Unit as Commodity}
 use Rattle.treasury_api.proofs.ReplyLemmas.{refused}
 
--- what reading line by line says of the grammar
-pub record ReadsAll : Type 0 where
-  pub list : (styles : List Style) (text : List ℕ) (list : List Located) → (journal_of styles text ≡ Ok list) ↔ Reads styles text list
-  pub fault : (styles : List Style) (text : List ℕ) (fault : Fault) → (journal_of styles text ≡ Err fault) ↔ IsFirstFault styles text fault
+-- every text has a list or a first fault
+abbrev pub ReadsAll : Type 0
+ReadsAll = (styles : List Style) (text : List ℕ) → ((list : List Located) × Reads styles text list) ⊎ ((fault : Fault) × IsFirstFault styles text fault)
 
 -- every line asks something
 journal_asks : ReadsAll → (styles : List Style) (name journal : List ℕ) → (asked : Result Asked Refusal) × JournalAsks styles name journal asked
-journal_asks law styles name journal = by_reading (journal_of styles journal) refl
+journal_asks law styles name journal = by_reading (law styles journal)
   where
-    by_reading : (r : Result (List Located) Fault) → journal_of styles journal ≡ r → (asked : Result Asked Refusal) × JournalAsks styles name journal asked
-    by_reading (Ok list) e = (Ok (Command (cmd.Enter name list)), inl (list, ((law.list styles journal list).0 e, refl)))
-    by_reading (Err fault) e = (Err (Text fault), inr (fault, ((law.fault styles journal fault).0 e, refl)))
+    by_reading : ((list : List Located) × Reads styles journal list) ⊎ ((fault : Fault) × IsFirstFault styles journal fault) → (asked : Result Asked Refusal) × JournalAsks styles name journal asked
+    by_reading (inl (list, reads)) = (Ok (Command (cmd.Enter name list)), inl (list, (reads, refl)))
+    by_reading (inr (fault, first)) = (Err (Text fault), inr (fault, (first, refl)))
 
 pub request_asks : ReadsAll → (styles : List Style) (request : Request) → (asked : Result Asked Refusal) × RequestAsks styles request asked
 request_asks law styles (ForBranch name) = (Ok (Command (cmd.Branch name)), refl)

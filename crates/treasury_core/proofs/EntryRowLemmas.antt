@@ -12,7 +12,7 @@ use Rattle.book_core.specs.declared.entry.Entry.{Entry}
 use Rattle.journal_format.specs.declared.txn.Txn.{Txn}
 use Rattle.journal_format.specs.declared.txn.Located.{Located}
 use Rattle.journal_format.specs.CanonicalText.{txn_text, body_text, marked}
-use Rattle.journal_format.specs.Machine.{memory_fault}
+use Rattle.journal_format.specs.Fault.{memory_fault}
 use Rattle.journal_format.specs.Pieces.{located, Reads}
 use Rattle.journal_format.specs.Printable.{IsPrintable}
 use Rattle.journal_format.proofs.PrintLemmas.{reads_back}

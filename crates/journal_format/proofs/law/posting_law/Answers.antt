@@ -1,5 +1,5 @@
-use Rattle.journal_format.proofs.PostingFormLemmas.{posting_iff}
+use Rattle.journal_format.proofs.PostingFormLemmas.{one_posting}
 use Rattle.journal_format.proofs.law.posting_law.Goals as goal
 
 pub returns : goal.returns
-returns c = posting_iff c.args.styles.now
+returns c = one_posting c.args.styles.now

@@ -19,7 +19,7 @@ answer_command-requires-clause-held g c =
 
 pub returns-in-Err-clause-replies : goal.returns-in-Err-clause-replies
 returns-in-Err-clause-replies g c clean f of =
-    unheld (record { list = c.reading_law.ensures.list; fault = c.reading_law.ensures.fault }) g.S.Store c.args.treasury.now.store.failed c.hold.new.self f c.args.request.now c.in-Err.cause c.hold.result _ _ _ c.in-Err.is refl
+    unheld c.reading_law.ensures.some g.S.Store c.args.treasury.now.store.failed c.hold.new.self f c.args.request.now c.in-Err.cause c.hold.result _ _ _ c.in-Err.is refl
     (c.hold.ensures.of clean f of) (λ e. c.hold.ensures.damaged e clean f of) c.hold.ensures.answers
     (λ t. let k = c.hold.ensures.closed t in (k.0, ap (λ (x : Treasury _). x.store.failed) k.1)) refl
 
@@ -60,6 +60,6 @@ returns-clause-replies g c clean f of =
     let still_of = c.hold.ensures.of clean f of in
     let same : c.in-Some.state.now ≡ f = state_is g.S.Store c.hold.new.self c.in-Some.state.now f still_of c.in-Some.ensures in
     let was = held_unfailed _ c.in-Ok.field-0 c.hold.result c.in-Ok.is c.hold.ensures.closed in
-    refused_texts (record { list = c.reading_law.ensures.list; fault = c.reading_law.ensures.fault }) g.S.Store c.args.treasury.now.store.failed c.hold.new.self f c.args.request.now c.in-Err-asked_by.refusal _ _ _ was
+    refused_texts c.reading_law.ensures.some g.S.Store c.args.treasury.now.store.failed c.hold.new.self f c.args.request.now c.in-Err-asked_by.refusal _ _ _ was
     (subst (λ (x : List Style). OrMemory (RequestAsks x c.args.request.now) (Err c.in-Err-asked_by.refusal)) (c.styles.ensures ∙ ap (λ (x : Federation). x.styles) same) c.in-Err-asked_by.ensures.asks)
     refl still_of (ok_unfailed c.in-Ok.field-0 _ (c.in-Ok.ensures.answers was)) refl

@@ -5,7 +5,7 @@ use Rattle.treasury_api.proofs.running.TreasuryMachine.answer.Goals as goal
 
 pub returns-in-Err-read_line-clause-ok : goal.returns-in-Err-read_line-clause-ok
 returns-in-Err-read_line-clause-ok g c =
-    unread (record { list = c.reading_law.ensures.list; fault = c.reading_law.ensures.fault }) g.S.Store c.args.self.now c.args.line.now _ c.in-Err-read_line.cause c.read_line.result c.in-Err-read_line.is c.read_line.ensures.refused
+    unread c.reading_law.ensures.some g.S.Store c.args.self.now c.args.line.now _ c.in-Err-read_line.cause c.read_line.result c.in-Err-read_line.is c.read_line.ensures.refused
     c.in-Err-read_line.ensures.causes c.refuse.ensures
 
 pub returns-in-Ok-end_report-clause-ok : goal.returns-in-Ok-end_report-clause-ok
