@@ -5,13 +5,22 @@ use Rattle.book_core.specs.GoodBook.{IsFit, IsWithin}
 use Rattle.money_core.specs.declared.style.Style.{Style}
 use Rattle.treasury_core.specs.declared.record.Record.{Record}
 use Rattle.treasury_core.specs.declared.transfer.Transfer.{Transfer}
+use Rattle.book_core.specs.declared.entry.Entry.{Entry}
+use Rattle.treasury_core.specs.declared.state.Branch.{Branch as Kept}
+use Rattle.treasury_core.specs.Kept.{IsKept}
 use Rattle.treasury_core.specs.Federation.{Branch, Federation, entries}
 use Rattle.treasury_core.specs.Joined.{with_records}
 use Rattle.treasury_core.specs.Good.{IsGoodState}
 use Rattle.treasury_core.specs.Room.{HasRoom}
+use Rattle.treasury_core.proofs.ChangeLemmas.{all_weaker}
 use Rattle.treasury_core.proofs.HistoryLemmas.{entries-append}
 use Rattle.treasury_core.proofs.RoomLemmas.{within_front}
 use Rattle.treasury_core.proofs.BackLemmas.{room_fit, room_within}
+
+-- the ledgers of branches that are kept
+pub ledgers_kept : {L : Type 0} (book : L → List Entry) (lent bs : List (Kept L)) → lent ≡ bs → AllByRecursion (IsKept book) bs → AllByRecursion (λ (b : Kept L). book b.ledger ≡ entries b.records) lent
+ledgers_kept {L = L} book lent bs same h =
+    subst (AllByRecursion (λ (b : Kept L). book b.ledger ≡ entries b.records)) (sym same) (all_weaker (IsKept book) (λ (b : Kept L). book b.ledger ≡ entries b.records) bs (λ b k. k.ledger) h)
 
 -- the front of a list, and what stands behind it
 all_front : {X : Type 0} (P : X → Type 0) (xs ys : List X) → AllByRecursion P (xs ++ ys) → AllByRecursion P xs

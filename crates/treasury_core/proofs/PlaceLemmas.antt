@@ -7,7 +7,7 @@ use Rattle.std.proofs.lemmas.List.{length-map}
 use Rattle.treasury_core.specs.declared.state.Branch.{Branch as Kept}
 use Rattle.treasury_core.specs.Federation.{Branch, name_place}
 use Rattle.treasury_core.specs.Joined.{changed}
-use Rattle.treasury_core.specs.Kept.{branch_of, branches_of}
+use Rattle.treasury_core.specs.Seen.{branch_of, branches_of}
 
 past_at : (g : Branch → Branch) (name : List ℕ) (b : Branch) (bs : List Branch) (n : ℕ) (t : Bool) → suc n ≤ (if t then 0 else suc (name_place bs name)) → (n ≤ name_place bs name → changed g name bs ≡ bs)
     → (if t then g b ∷ bs else b ∷ changed g name bs) ≡ b ∷ bs

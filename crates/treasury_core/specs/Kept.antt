@@ -1,5 +1,5 @@
 -- Mirrors code: how a state is kept, with an index of its branches' names, each branch with its ledger and an index of its marks.
-use Rattle.std.specs.Prelude.{ℕ, ◌≡◌, List, map, Option, find}
+use Rattle.std.specs.Prelude.{ℕ, ◌≡◌, List, Option, find}
 use Rattle.std.specs.List.{AllByRecursion, position_from}
 use Rattle.std.specs.HashMap.{HashMap, get_by_text}
 use Rattle.std.specs.declared.string.String.{String}
@@ -11,7 +11,8 @@ use Rattle.book_core.specs.declared.entry.Entry.{Entry}
 use Rattle.treasury_core.specs.declared.record.Record.{Record}
 use Rattle.treasury_core.specs.declared.transfer.Transfer.{Transfer}
 use Rattle.treasury_core.specs.declared.state.Branch.{Branch as Kept}
-use Rattle.treasury_core.specs.Federation.{Branch, Federation, has_name, entries}
+use Rattle.treasury_core.specs.Federation.{Branch, has_name, entries}
+use Rattle.treasury_core.specs.Seen.{federation_of}
 use Rattle.treasury_core.specs.Mark.{has_mark}
 use Rattle.treasury_core.specs.Good.{IsGoodState}
 
@@ -22,17 +23,6 @@ mark_place rs m = position_from (has_mark m) 0 rs
 -- the map leads from each mark to its record's place
 abbrev pub IsIndexOf : HashMap (String Global) ℕ (BuildHasherDefault FoldHasher) → List Record → Type 0
 IsIndexOf index rs = (m : List ℕ) → get_by_text index m ≡ mark_place rs m
-
--- what contracts see of a branch
-abbrev pub branch_of : {L : Type 0} → Kept L → Branch
-branch_of b = record { name = b.name; locked = b.locked; records = b.records }
-
-abbrev pub branches_of : {L : Type 0} → List (Kept L) → List Branch
-branches_of bs = map branch_of bs
-
--- and of a state
-abbrev pub federation_of : {L : Type 0} → List Style → List (Kept L) → List Transfer → Federation
-federation_of styles bs ts = record { styles = styles; branches = branches_of bs; transfers = ts }
 
 -- the place of the first branch of a name
 abbrev pub branch_place : List Branch → List ℕ → Option ℕ

@@ -1,5 +1,6 @@
 -- What a reader has to believe, in reading order
 pub mod Federation
+pub mod Seen
 pub mod Mark
 pub mod Transfer
 pub mod Accounts

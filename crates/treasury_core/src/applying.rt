@@ -8,7 +8,8 @@ ghost use Rattle.money_core.specs.Style.{AreStyles};
 ghost use Rattle.treasury_core.specs.Federation.{entries, name_place};
 ghost use Rattle.treasury_core.specs.Joined.{new_branch, with_records, with_lock, changed, joined_one, joined};
 ghost use Rattle.treasury_core.specs.Good.{AreAscending, IsGoodState};
-ghost use Rattle.treasury_core.specs.Kept.{branch_of, branches_of, federation_of, ArePlacesOf, IsKept};
+ghost use Rattle.treasury_core.specs.Seen.{branch_of, branches_of, federation_of};
+ghost use Rattle.treasury_core.specs.Kept.{ArePlacesOf, IsKept};
 ghost use Rattle.treasury_core.specs.Room.{HasRoom, IsRoomy};
 
 use crate::delta::{Addition, Delta};

@@ -9,7 +9,8 @@ ghost use Rattle.journal_balance.specs.Plain.{written_entry};
 ghost use Rattle.treasury_core.specs.Mark.{is_held};
 ghost use Rattle.treasury_core.specs.Closing.{close_mark, closing_record, closing_answer, closing_in};
 ghost use Rattle.treasury_core.specs.Step.{entering_refusal, close_refusal, added, Decides};
-ghost use Rattle.treasury_core.specs.Kept.{branch_of, branch_at, IsKept};
+ghost use Rattle.treasury_core.specs.Seen.{branch_of};
+ghost use Rattle.treasury_core.specs.Kept.{branch_at, IsKept};
 
 use crate::closing::{close_mark, closing_entry};
 use crate::command::Command;

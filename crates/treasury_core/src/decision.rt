@@ -9,7 +9,8 @@ ghost use Rattle.treasury_core.specs.Federation.{is_name_byte, is_branch_name, h
 ghost use Rattle.treasury_core.specs.Joined.{joined};
 ghost use Rattle.treasury_core.specs.Step.{is_lock, goes_back, records_in_file, new_in, file_refusal, step, Decides};
 ghost use Rattle.treasury_core.specs.Good.{Fits, IsFile, IsGoodBranch, IsGoodState};
-ghost use Rattle.treasury_core.specs.Kept.{branch_of, IsKept};
+ghost use Rattle.treasury_core.specs.Seen.{branch_of};
+ghost use Rattle.treasury_core.specs.Kept.{IsKept};
 
 use crate::close::decide_close;
 use crate::command::{Answer, Command};

@@ -6,7 +6,8 @@ ghost use Rattle.std.specs.Result.{IsOkUnless};
 ghost use Rattle.book_core.specs.GoodBook.{IsFit, IsWithin};
 ghost use Rattle.treasury_core.specs.Federation.{entries};
 ghost use Rattle.treasury_core.specs.Good.{IsGoodState};
-ghost use Rattle.treasury_core.specs.Kept.{branch_of, IsKept};
+ghost use Rattle.treasury_core.specs.Seen.{branch_of};
+ghost use Rattle.treasury_core.specs.Kept.{IsKept};
 ghost use Rattle.treasury_core.specs.Room.{HasRoom};
 
 use crate::applying::add_record;

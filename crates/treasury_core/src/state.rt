@@ -3,9 +3,10 @@
 ghost use Rattle.std.specs.Prelude.{◌≡◌, [], true, false, MatchOption, IfSome, None, Some};
 ghost use Rattle.std.specs.List.{AllByRecursion};
 ghost use Rattle.book_core.specs.GoodBook.{IsGoodBook};
-ghost use Rattle.treasury_core.specs.Federation.{has_branch, book_of};
+ghost use Rattle.treasury_core.specs.Federation.{has_branch, entries, book_of};
 ghost use Rattle.treasury_core.specs.Good.{IsGoodState};
-ghost use Rattle.treasury_core.specs.Kept.{branch_of, branches_of, IsKept, AreKept, branch_at};
+ghost use Rattle.treasury_core.specs.Seen.{branch_of, branches_of};
+ghost use Rattle.treasury_core.specs.Kept.{IsKept, branch_at};
 
 use crate::record::Record;
 use crate::transfer::Transfer;
@@ -40,7 +41,8 @@ pub struct State<L: Ledger> {
 
 impl<L: Ledger> Model for State<L> {
     ghost use Rattle.treasury_core.specs.Federation.{Federation};
-    ghost use Rattle.treasury_core.specs.Kept.{branches_of, federation_of, ArePlacesOf, AreKept};
+    ghost use Rattle.treasury_core.specs.Seen.{branches_of, federation_of};
+    ghost use Rattle.treasury_core.specs.Kept.{ArePlacesOf, AreKept};
 
     ghost Value = { Federation };
 
@@ -80,7 +82,7 @@ impl<L: Ledger> State<L> {
     pub fn branches(&self) -> &[Branch<L>]
         ensures value { branches_of result.now ≡ self.now.branches }
         // The book of each ledger is the entries of the branch's records.
-        ensures kept { AreKept L.book self.now.styles result.now self.now.transfers }
+        ensures kept { AllByRecursion (λ b. L.book b.ledger ≡ entries b.records) result.now }
     {
         self.branches.as_slice()
     }

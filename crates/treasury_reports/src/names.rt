@@ -5,7 +5,7 @@ ghost use Rattle.std.specs.Result.{IsOkUnless};
 ghost use Rattle.std.specs.List.Sorted.{IsStrictlySortedBy};
 ghost use Rattle.std.specs.declared.cmp.Ordering.TheVariants.{Less};
 ghost use Rattle.book_core.specs.Account.{name_cmp};
-ghost use Rattle.treasury_core.specs.Kept.{branches_of};
+ghost use Rattle.treasury_core.specs.Seen.{branches_of};
 ghost use Rattle.treasury_core.specs.History.{names_of};
 ghost use Rattle.treasury_reports.specs.BalanceReport.{ordered_names};
 

@@ -2,7 +2,7 @@ use Rattle.std.proofs.Common.{◌≡◌, [], ap, sym, ◌∙◌, subst, List}
 use Rattle.treasury_core.specs.declared.transfer.Transfer.{Transfer}
 use Rattle.treasury_core.specs.Joined.{joined, joined_one}
 use Rattle.treasury_core.specs.Good.{IsGoodState}
-use Rattle.treasury_core.specs.Kept.{federation_of}
+use Rattle.treasury_core.specs.Seen.{federation_of}
 use Rattle.treasury_core.specs.Room.{IsRoomy}
 use Rattle.treasury_core.proofs.BackLemmas.{room_back, good_room, no_more}
 use Rattle.treasury_core.proofs.applying.apply.Goals as goal

@@ -1,7 +1,8 @@
 use Rattle.std.proofs.Common.{◌≡◌}
 use Rattle.std.specs.List.{AllByRecursion}
 use Rattle.treasury_core.specs.Joined.{joined}
-use Rattle.treasury_core.specs.Kept.{branches_of, federation_of, ArePlacesOf, IsKept}
+use Rattle.treasury_core.specs.Seen.{branches_of, federation_of}
+use Rattle.treasury_core.specs.Kept.{ArePlacesOf, IsKept}
 use Rattle.treasury_core.proofs.applying.apply.Given as goal
 
 -- with the additions that are left, the state is the one that it was with all

@@ -4,7 +4,8 @@ use Rattle.std.specs.Str.{bytes_eq}
 use Rattle.std.specs.HashMap.{get_by_text}
 use Rattle.std.proofs.lemmas.List.{length-map, map-append}
 use Rattle.treasury_core.specs.Federation.{Branch}
-use Rattle.treasury_core.specs.Kept.{branch_of, branches_of, ArePlacesOf}
+use Rattle.treasury_core.specs.Seen.{branch_of, branches_of}
+use Rattle.treasury_core.specs.Kept.{ArePlacesOf}
 use Rattle.treasury_core.proofs.IndexLemmas.{pushed}
 use Rattle.treasury_core.proofs.applying.apply_branch.Goals as goal
 

@@ -1,6 +1,6 @@
 use Rattle.std.proofs.Common.{ap, sym, ◌∙◌, refl, arith}
 use Rattle.treasury_core.specs.Joined.{with_lock}
-use Rattle.treasury_core.specs.Kept.{branches_of}
+use Rattle.treasury_core.specs.Seen.{branches_of}
 use Rattle.treasury_core.specs.Federation.{name_place}
 use Rattle.treasury_core.proofs.PlaceLemmas.{past_branches, branch_set}
 use Rattle.treasury_core.proofs.applying.apply_lock.Goals as goal

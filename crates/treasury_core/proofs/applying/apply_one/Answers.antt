@@ -1,7 +1,7 @@
 use Rattle.std.proofs.Common.{refl, [], ◌∷◌}
 use Rattle.std.proofs.lemmas.Result.{on_ok_weaker}
 use Rattle.treasury_core.specs.Joined.{with_records, with_lock}
-use Rattle.treasury_core.specs.Kept.{branches_of}
+use Rattle.treasury_core.specs.Seen.{branches_of}
 use Rattle.treasury_core.proofs.IndexLemmas.{places_kept}
 use Rattle.treasury_core.proofs.applying.apply_one.Goals as goal
 

@@ -1,7 +1,7 @@
 use Rattle.std.proofs.Common.{◌∷◌, [], ap, sym, ◌∙◌, arith}
 use Rattle.std.proofs.lemmas.Result.{on_ok_weaker}
 use Rattle.treasury_core.specs.Joined.{with_records}
-use Rattle.treasury_core.specs.Kept.{branch_of, branches_of}
+use Rattle.treasury_core.specs.Seen.{branch_of, branches_of}
 use Rattle.treasury_core.specs.Room.{HasRoom}
 use Rattle.treasury_core.specs.Federation.{name_place}
 use Rattle.treasury_core.proofs.PlaceLemmas.{past_branches, branch_set, changed_holds}

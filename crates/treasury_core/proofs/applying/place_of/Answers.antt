@@ -1,7 +1,7 @@
 use Rattle.std.proofs.Common.{◌∙◌, sym, ap, ℕ, length, Option}
 use Rattle.std.specs.Option.{unwrap_or}
 use Rattle.std.proofs.lemmas.List.{length-map}
-use Rattle.treasury_core.specs.Kept.{branch_of, branches_of}
+use Rattle.treasury_core.specs.Seen.{branch_of, branches_of}
 use Rattle.treasury_core.proofs.IndexLemmas.{place_is}
 use Rattle.treasury_core.proofs.applying.place_of.Goals as goal
 

@@ -3,7 +3,8 @@ use Rattle.treasury_core.specs.declared.command.Command.TheVariants.{Close}
 use Rattle.treasury_core.specs.Mark.{is_held}
 use Rattle.treasury_core.specs.Closing.{close_mark, closing_in}
 use Rattle.treasury_core.specs.Step.{added, close_refusal}
-use Rattle.treasury_core.specs.Kept.{branch_of, branch_at}
+use Rattle.treasury_core.specs.Seen.{branch_of}
+use Rattle.treasury_core.specs.Kept.{branch_at}
 use Rattle.treasury_core.proofs.FindLemmas.{there, missing}
 use Rattle.treasury_core.proofs.TransferReplyLemmas.{repeats, settles}
 use Rattle.treasury_core.proofs.CloseLemmas.{no_branch, closed_before, closes_now}

@@ -9,7 +9,7 @@ use Rattle.treasury_core.specs.declared.delta.Addition.{Addition}
 use Rattle.treasury_core.specs.declared.delta.Addition.TheVariants as add
 use Rattle.treasury_core.specs.Closing.{closing_reply, closing_record}
 use Rattle.treasury_core.specs.Good.{IsGoodBranch}
-use Rattle.treasury_core.specs.Kept.{branch_of}
+use Rattle.treasury_core.specs.Seen.{branch_of}
 use Rattle.treasury_core.proofs.FindLemmas.{there}
 use Rattle.treasury_core.proofs.DecideLemmas.{found_holds}
 use Rattle.treasury_core.proofs.CloseLemmas.{IsTold, told, refused, told_legs, told_fit, told_refusal, closing_adds}

@@ -2,7 +2,8 @@ use Rattle.std.proofs.Common.{◌≡◌, ap, sym, subst, ◌∙◌, arith, inr, 
 use Rattle.money_core.specs.declared.style.Style.{Style}
 use Rattle.treasury_core.specs.Step.{records_in_file}
 use Rattle.treasury_core.specs.Good.{IsGoodBranch}
-use Rattle.treasury_core.specs.Kept.{branch_of, branch_at}
+use Rattle.treasury_core.specs.Seen.{branch_of}
+use Rattle.treasury_core.specs.Kept.{branch_at}
 use Rattle.treasury_core.proofs.FindLemmas.{there, missing}
 use Rattle.treasury_core.proofs.FileLemmas.{length-new, length-records}
 use Rattle.treasury_core.proofs.DecideLemmas.{found_holds, reply_missing, enters_by, refuses_by}

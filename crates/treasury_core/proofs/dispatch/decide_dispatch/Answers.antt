@@ -5,7 +5,8 @@ use Rattle.treasury_core.specs.Federation.{has_branch}
 use Rattle.treasury_core.specs.Transfer.{is_id}
 use Rattle.treasury_core.specs.Step.{transfer_at, dispatch_refusal}
 use Rattle.treasury_core.specs.Good.{IsGoodBranch}
-use Rattle.treasury_core.specs.Kept.{branch_of, branch_at}
+use Rattle.treasury_core.specs.Seen.{branch_of}
+use Rattle.treasury_core.specs.Kept.{branch_at}
 use Rattle.treasury_core.proofs.FindLemmas.{there, missing}
 use Rattle.treasury_core.proofs.DecideLemmas.{found_holds}
 use Rattle.treasury_core.proofs.TransferReplyLemmas.{IsAsked, same_test, same_find, repeats, settles, no_source, no_target, same_branch, bad_id, dispatched_so, dispatched_other, dispatched_new, dispatch_adds}

@@ -1,4 +1,4 @@
-use Rattle.treasury_core.specs.Kept.{branch_of}
+use Rattle.treasury_core.specs.Seen.{branch_of}
 use Rattle.treasury_core.proofs.KeepingLemmas.{next_fit, next_within}
 use Rattle.treasury_core.proofs.keeping.branch_of.Goals as goal
 

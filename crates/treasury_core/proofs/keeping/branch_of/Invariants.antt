@@ -1,5 +1,6 @@
 use Rattle.std.proofs.Common.{◌≡◌}
-use Rattle.treasury_core.specs.Kept.{branch_of, IsKept}
+use Rattle.treasury_core.specs.Seen.{branch_of}
+use Rattle.treasury_core.specs.Kept.{IsKept}
 use Rattle.treasury_core.specs.Joined.{with_records}
 use Rattle.treasury_core.proofs.keeping.branch_of.Given as goal
 

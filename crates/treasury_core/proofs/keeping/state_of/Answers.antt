@@ -5,7 +5,8 @@ use Rattle.std.specs.Str.{bytes_eq}
 use Rattle.std.specs.HashMap.{get_by_text}
 use Rattle.std.proofs.lemmas.List.{length-map, map-append}
 use Rattle.treasury_core.specs.Federation.{Branch, Federation}
-use Rattle.treasury_core.specs.Kept.{branch_of, branches_of, ArePlacesOf, IsKept}
+use Rattle.treasury_core.specs.Seen.{branch_of, branches_of}
+use Rattle.treasury_core.specs.Kept.{ArePlacesOf, IsKept}
 use Rattle.treasury_core.specs.Room.{HasRoom}
 use Rattle.treasury_core.proofs.BackLemmas.{good_room}
 use Rattle.treasury_core.proofs.ChangeLemmas.{all-append}

@@ -1,6 +1,7 @@
 use Rattle.std.proofs.Common.{◌≡◌, ◌++◌}
 use Rattle.std.specs.List.{AllByRecursion}
-use Rattle.treasury_core.specs.Kept.{branches_of, ArePlacesOf, IsKept}
+use Rattle.treasury_core.specs.Seen.{branches_of}
+use Rattle.treasury_core.specs.Kept.{ArePlacesOf, IsKept}
 use Rattle.treasury_core.proofs.keeping.state_of.Given as goal
 
 -- with the branches that are left, they are all

@@ -4,7 +4,8 @@ use Rattle.treasury_core.specs.declared.command.Command.TheVariants.{Receive}
 use Rattle.treasury_core.specs.Transfer.{is_id}
 use Rattle.treasury_core.specs.Step.{transfer_at, receipt_refusal}
 use Rattle.treasury_core.specs.Good.{IsGoodBranch}
-use Rattle.treasury_core.specs.Kept.{branch_of, branch_at}
+use Rattle.treasury_core.specs.Seen.{branch_of}
+use Rattle.treasury_core.specs.Kept.{branch_at}
 use Rattle.treasury_core.proofs.FindLemmas.{there, missing}
 use Rattle.treasury_core.proofs.DecideLemmas.{found_holds}
 use Rattle.treasury_core.proofs.TransferReplyLemmas.{IsClaimed, same_test, same_find, not_true, not_false, repeats, settles, no_branch, bad_receipt_id, no_transfer, wrong_branch, received_so, received_other, received_new, receipt_adds, transfer_small}

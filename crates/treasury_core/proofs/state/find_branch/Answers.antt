@@ -5,7 +5,8 @@ use Rattle.std.proofs.lemmas.Option.{slice_get-map}
 use denote.Ref.{Bor}
 use Rattle.treasury_core.specs.declared.state.Branch.{Branch as Kept}
 use Rattle.treasury_core.specs.Federation.{Federation, Branch}
-use Rattle.treasury_core.specs.Kept.{branch_of, branches_of, branch_at}
+use Rattle.treasury_core.specs.Seen.{branch_of, branches_of}
+use Rattle.treasury_core.specs.Kept.{branch_at}
 use Rattle.treasury_core.proofs.IndexLemmas.{found_branch, absent_branch, copied_get}
 use Rattle.treasury_core.proofs.state.find_branch.Goals as goal
 

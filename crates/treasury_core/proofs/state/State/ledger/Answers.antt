@@ -3,7 +3,8 @@ use Rattle.book_core.specs.declared.entry.Entry.{Entry}
 use Rattle.book_core.specs.GoodBook.{IsGoodBook}
 use Rattle.treasury_core.specs.Federation.{entries}
 use Rattle.treasury_core.specs.Good.{IsGoodBranch}
-use Rattle.treasury_core.specs.Kept.{branch_of, branch_at}
+use Rattle.treasury_core.specs.Seen.{branch_of}
+use Rattle.treasury_core.specs.Kept.{branch_at}
 use Rattle.treasury_core.proofs.FindLemmas.{there, missing}
 use Rattle.treasury_core.proofs.DecideLemmas.{found_holds}
 use Rattle.treasury_core.proofs.state.State.ledger.Goals as goal
