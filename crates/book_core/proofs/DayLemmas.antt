@@ -1,39 +1,68 @@
 -- what the ledger with sums by day keeps
-use Rattle.std.proofs.Common.{◌≡◌, ℕ, ◌+◌, List, [], ◌∷◌, ◌++◌, ap, ◌∙◌, sym, subst, append-nil}
+use Rattle.std.proofs.Common.{◌≡◌, ℕ, ◌+◌, ◌≤◌, Bool, true, false, List, [], ◌∷◌, ◌++◌, length, nat_eq, refl, ap, ◌∙◌, sym, subst, append-nil, ℤ, pos, ◌+ℤ◌, arith}
+use Rattle.std.specs.Prelude.{if◌then◌else◌, ◌&&◌}
 use Rattle.std.specs.List.{AllByRecursion}
-use Rattle.book_core.specs.declared.entry.Entry.{Entry}
-use Rattle.book_core.specs.GoodBook.{IsFit}
-use Rattle.book_core.proofs.GoodBookLemmas.{fit-append}
-use Rattle.std.proofs.Common.{ℤ, pos, ◌+ℤ◌, ◌≤◌, arith}
-use Rattle.std.specs.Prelude.{if◌then◌else◌, int_le}
 use Rattle.std.proofs.lemmas.Int.{ints}
 use Rattle.money_core.specs.declared.unit.Unit.{Unit as Commodity}
 use Rattle.money_core.specs.declared.day.Day.{Day}
 use Rattle.day_sums.specs.declared.sums.DaySums.{DaySums}
+use Rattle.day_sums.specs.declared.period.Period.{Period}
+use Rattle.day_sums.specs.declared.period.Period.TheVariants.{Through}
+use Rattle.day_sums.specs.Period.{is_in}
 use Rattle.day_sums.specs.Sums.{sum_of, SameSums}
 use Rattle.book_core.specs.declared.leg.Leg.{Leg}
+use Rattle.book_core.specs.declared.entry.Entry.{Entry}
 use Rattle.book_core.specs.declared.account.Reach.{Reach}
-use Rattle.book_core.specs.declared.place.Until.TheVariants.{Through}
-use Rattle.book_core.specs.Balance.{balance, moved, sum_in, turnover}
-use Rattle.book_core.specs.GoodBook.{IsWithin, most_turnover}
-use Rattle.book_core.specs.DayRows.{AreSums, AreRaised, HasRoomFor, moved_at, AreMoved}
-use Rattle.book_core.proofs.BookLemmas.{turnover-append}
-use Rattle.book_core.proofs.BalanceLemmas.{balance-append, balance-entry, balance-nil, balance_within}
+use Rattle.book_core.specs.declared.place.Until.{Until}
+use Rattle.book_core.specs.declared.place.Until.TheVariants.{Through as ThroughDay}
+use Rattle.book_core.specs.Account.{reaches}
+use Rattle.book_core.specs.Book.{Posted, posted, posted_legs, posted_from}
+use Rattle.book_core.specs.Balance.{balance, total, moved, sum_in, turnover}
+use Rattle.book_core.specs.GoodBook.{IsFit, IsWithin, most_turnover}
+use Rattle.book_core.specs.DayRows.{counts_in, AreSums, AreRaised, HasRoomFor, moved_at, AreMoved}
+use Rattle.book_core.proofs.GoodBookLemmas.{fit-append}
+use Rattle.book_core.proofs.BookLemmas.{turnover-append, posted_from-append}
+use Rattle.book_core.proofs.SumLemmas.{total-append, within_meant}
 
 pub fit_add : (es more : List Entry) (e : Entry) → more ≡ es ++ e ∷ [] → AllByRecursion IsFit es → IsFit e → AllByRecursion IsFit more
 fit_add es more e d h k = subst (AllByRecursion IsFit) (sym d) (fit-append es (e ∷ []) h (k, tt))
 
 -- ---- sums
+-- over a period: the sum of an entry's legs where its day's number is in it
+total-counts_in : (reach : Reach) (a : List ℕ) (u : Commodity) (p : Period) (day : Day) (n k : ℕ) (legs : List Leg) →
+    total (counts_in reach a u p) (posted_legs day n k legs) ≡ (if is_in p day n then sum_in reach a u legs else pos 0)
+total-counts_in reach a u p day n k legs = by_period (is_in p day n) refl
+  where
+    within : is_in p day n ≡ true → (k : ℕ) (xs : List Leg) → total (counts_in reach a u p) (posted_legs day n k xs) ≡ sum_in reach a u xs
+    within e k [] = refl
+    within e k (x ∷ xs) = rw (within e (k + 1) xs) (ap (λ (t : Bool). (if t then x.qty else pos 0) +ℤ sum_in reach a u xs) (and_in (nat_eq x.unit.0 u.0 && reaches reach a x.account)))
+      where
+        and_in : (t : Bool) → (t && is_in p day n) ≡ t
+        and_in true = e
+        and_in false = refl
+
+    outside : is_in p day n ≡ false → (k : ℕ) (xs : List Leg) → total (counts_in reach a u p) (posted_legs day n k xs) ≡ pos 0
+    outside e k [] = refl
+    outside e k (x ∷ xs) = rw (outside e (k + 1) xs) (ap (λ (t : Bool). (if t then x.qty else pos 0) +ℤ pos 0) (and_out (nat_eq x.unit.0 u.0 && reaches reach a x.account)))
+      where
+        and_out : (t : Bool) → (t && is_in p day n) ≡ false
+        and_out true = e
+        and_out false = refl
+
+    by_period : (t : Bool) → is_in p day n ≡ t → total (counts_in reach a u p) (posted_legs day n k legs) ≡ (if t then sum_in reach a u legs else pos 0)
+    by_period true e = within e k legs
+    by_period false e = outside e k legs
+
 pub room_for : (reach : Reach) (rows : DaySums) (b : List Entry) (e : Entry) (legs : List Leg) → AreSums reach rows b → IsWithin (b ++ e ∷ []) → legs ≡ e.legs → HasRoomFor rows legs
 room_for reach rows b e legs sums within f = record {
-  sums = λ a u d.
-      let w = balance_within reach b a u (Through d) in
+  sums = λ a u p.
+      let w = within_meant reach a u (λ x. is_in p x.place.day x.place.entry) 1 b in
       let l = w.low in
       let h = w.high in
       let t = within.small u in
-      let p = turnover-append u b (e ∷ []) in
+      let m = turnover-append u b (e ∷ []) in
       let q = moved_one u in
-      let s = sums a u d in
+      let s = sums a u p in
       record { low = omega (arith, ints); high = omega (arith, ints) };
   legs_small = λ u. omega (arith, within.small u, turnover-append u b (e ∷ []), moved_one u);
 }
@@ -41,17 +70,26 @@ room_for reach rows b e legs sums within f = record {
     moved_one : (u : Commodity) → turnover u (e ∷ []) ≡ moved u legs
     moved_one u = ap (moved u) (append-nil e.legs ∙ sym f)
 
-pub sums_add : (reach : Reach) (old now : DaySums) (b more : List Entry) (e : Entry) (legs : List Leg) (day : Day) → AreSums reach old b → more ≡ b ++ e ∷ [] → legs ≡ e.legs → day ≡ e.day → AreRaised reach legs day old now → AreSums reach now more
-sums_add reach old now b more e legs day sums d f g raised a u t =
-    raised a u t ∙ ap (λ (z : ℤ). z +ℤ (if int_le day.0 t.0 then sum_in reach a u legs else pos 0)) (sums a u t)
-    ∙ ap (λ (z : ℤ). balance reach b a u (Through t) +ℤ z) (ap (λ (ls : List Leg). if int_le day.0 t.0 then sum_in reach a u ls else pos 0) f ∙ ap (λ (x : Day). if int_le x.0 t.0 then sum_in reach a u e.legs else pos 0) g ∙ sym (balance-entry reach e a u t))
-    ∙ sym (balance-append reach b (e ∷ []) a u t) ∙ sym (ap (λ (es : List Entry). balance reach es a u (Through t)) d)
+-- the entry that comes behind the book has the number after its length
+pub sums_add : (reach : Reach) (old now : DaySums) (b : List Entry) (e : Entry) (legs : List Leg) (n : ℕ) → AreSums reach old b → legs ≡ e.legs → n ≡ length b + 1 → AreRaised reach legs e.day n old now → AreSums reach now (b ++ e ∷ [])
+sums_add reach old now b e legs n sums f g raised a u p =
+    raised a u p ∙ ap (λ (z : ℤ). z +ℤ (if is_in p e.day n then sum_in reach a u legs else pos 0)) (sums a u p)
+    ∙ ap (λ (z : ℤ). total test (posted b) +ℤ z) (ap (λ (ls : List Leg). if is_in p e.day n then sum_in reach a u ls else pos 0) f ∙ sym (total-counts_in reach a u p e.day n 1 e.legs) ∙ ap (λ (m : ℕ). total test (posted_legs e.day m 1 e.legs)) g ∙ sym (ap (total test) (append-nil (posted_legs e.day (length b + 1) 1 e.legs))))
+    ∙ sym (ap (total test) (posted_from-append 1 b (e ∷ [])) ∙ total-append test (posted b) (posted_from (length b + 1) (e ∷ [])))
+  where
+    test : Posted → Bool
+    test = counts_in reach a u p
 
 pub sums_same : (reach : Reach) (old now : DaySums) (b : List Entry) → AreSums reach old b → SameSums old now → AreSums reach now b
-sums_same reach old now b sums same a u d = same.sums a u d ∙ sums a u d
+sums_same reach old now b sums same a u p = same.sums a u p ∙ sums a u p
 
-pub sums_none : (reach : Reach) (rows : DaySums) → ((a : List ℕ) (u : Commodity) (d : Day) → sum_of rows a u d ≡ pos 0) → AreSums reach rows []
-sums_none reach rows e a u d = e a u d ∙ sym (balance-nil reach a u (Through d))
+pub sums_none : (reach : Reach) (rows : DaySums) → ((a : List ℕ) (u : Commodity) (p : Period) → sum_of rows a u p ≡ pos 0) → AreSums reach rows []
+sums_none reach rows e = e
+
+-- through a day: the balance
+pub balance_through : (reach : Reach) (rows : DaySums) (b : List Entry) (a : List ℕ) (u : Commodity) (l : Until) (d : Day) → AreSums reach rows b → l ≡ ThroughDay d → sum_of rows a u (Through d) ≡ balance reach b a u l
+unfolding balance
+balance_through reach rows b a u l d sums e = sums a u (Through d) ∙ sym (ap (balance reach b a u) e)
 
 pub moved_none : (table : List ℕ) → table ≡ [] → AreMoved table []
 moved_none table e u = ap (λ (t : List ℕ). moved_at t u) e

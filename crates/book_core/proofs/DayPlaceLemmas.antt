@@ -1,141 +1,178 @@
--- the balance at a place, by the sum before its day and the legs of its day
-use Rattle.std.proofs.Common.{◌≡◌, ℕ, ◌+◌, ◌-◌, ◌<◌, ◌≤◌, Bool, true, false, ◌&&◌, List, [], ◌∷◌, ◌++◌, length, get_or, drop, drop-cons, add-one, zero, suc, arith, refl, ap, ◌∙◌, sym, nat_eq, ℤ, pos, negsuc, ◌+ℤ◌, ◌≤ℤ◌, Ordering}
-use Rattle.std.specs.Prelude.{if◌then◌else◌, int_le, int_lt, cond}
-use Rattle.std.specs.List.{AllByRecursion}
-use Rattle.std.specs.Ordering.{int_eq, int_cmp, nat_cmp, ordering_then, is_le}
+-- the balance at a place, by what is before its day, what earlier entries add on its day, and what its own entry adds
+use Rattle.std.proofs.Common.{◌≡◌, ℕ, ◌+◌, ◌-◌, ◌<◌, ◌≤◌, min, Bool, true, false, ◌&&◌, List, [], ◌∷◌, length, get_or, zero, suc, arith, refl, ap, ◌∙◌, sym, nat_eq, nat_lt, ℤ, pos, ◌+ℤ◌, ◌⊎◌, inl, inr, Ordering}
+use Rattle.std.specs.Prelude.{if◌then◌else◌, int_lt, nat_le, cond}
+use Rattle.std.specs.Ordering.{int_eq, nat_cmp, ordering_then, is_le, is_eq}
 use Rattle.std.specs.declared.cmp.Ordering.TheVariants.{Less, Equal, Greater}
+use Rattle.std.proofs.lemmas.Bool.{cases_lt}
 use Rattle.std.proofs.lemmas.Int.{ints}
-use Rattle.std.proofs.lemmas.List.{get_or_default}
-use Rattle.std.proofs.lemmas.Bool.Decides.{Decides-int_eq}
+use Rattle.std.proofs.lemmas.Bool.Decides.{nat_tests}
 use Rattle.money_core.specs.declared.unit.Unit.{Unit as Commodity}
 use Rattle.money_core.specs.declared.day.Day.{Day}
-use Rattle.day_sums.specs.Sums.{day_before}
-use Rattle.day_sums.proofs.SearchLemmas.{lt_le}
+use Rattle.day_sums.specs.declared.period.Period.TheVariants.{Before, Within}
 use Rattle.book_core.specs.declared.leg.Leg.{Leg}
 use Rattle.book_core.specs.declared.place.Place.{Place}
 use Rattle.book_core.specs.declared.entry.Entry.{Entry}
 use Rattle.book_core.specs.declared.account.Reach.{Reach}
-use Rattle.book_core.specs.declared.place.Until.TheVariants.{At, Through}
+use Rattle.book_core.specs.declared.place.Until.TheVariants.{At}
 use Rattle.book_core.specs.Account.{reaches}
-use Rattle.book_core.specs.Book.{Posted, posted_legs, posted_from}
-use Rattle.book_core.specs.Balance.{balance, counts, total, turnover, moved}
-use Rattle.std.proofs.Common.{append-nil}
-use Rattle.day_sums.specs.declared.numbers.DayNumbers.{DayNumbers}
-use Rattle.day_sums.specs.Numbers.{numbers_at, Numbered}
-use Rattle.book_core.specs.DayPlace.{AreDays, numbers_on, blank_entry, entry_at, sum_numbers, AreNumbers}
+use Rattle.book_core.specs.Place.{place_le}
+use Rattle.book_core.specs.Book.{Posted, posted, posted_legs, posted_from}
+use Rattle.book_core.specs.Balance.{balance, counts, total, moved, turnover}
+use Rattle.book_core.specs.DayRows.{counts_in}
+use Rattle.book_core.specs.DayPlace.{is_own}
 use Rattle.book_core.proofs.SumLemmas.{total-append, turnover_entry, turnover-drop-le}
 
--- on another day, a place comes before exactly where its day is through the day before
-other_day : (d q : ℤ) (rest : Ordering) → int_eq d q ≡ false → is_le (ordering_then (int_cmp d q) rest) ≡ int_le d (q +ℤ negsuc 0)
-other_day d q rest h = by_tests (int_lt d q) (int_lt q d) refl refl ∙ lt_le d q
-  where
-    equal : int_lt d q ≡ false → int_lt q d ≡ false → d ≡ q
-    equal e f = let g : q ≤ℤ d = grind (arith, ints) in let k : d ≤ℤ q = grind (arith, ints) in omega (arith, ints)
+-- ---- one leg
+-- of entry m, in a book of n entries, at a place in entry e
+module _ (m e n : ℕ) (low : 1 ≤ m) (high : m ≤ n) where
+  earlier : nat_le m (min (e - 1) n) ≡ nat_lt m e
+  earlier = by_order (cases_lt m e)
+    where
+      by_order : (m < e) ⊎ (e ≤ m) → nat_le m (min (e - 1) n) ≡ nat_lt m e
+      by_order (inl h) = let a : nat_lt m e ≡ true = grind (arith, nat_tests) in let b : nat_le m (min (e - 1) n) ≡ true = grind (arith, nat_tests) in b ∙ sym a
+      by_order (inr h) = let a : nat_lt m e ≡ false = grind (arith, nat_tests) in let b : nat_le m (min (e - 1) n) ≡ false = grind (arith, nat_tests) in b ∙ sym a
 
-    by_tests : (t u : Bool) → int_lt d q ≡ t → int_lt q d ≡ u → is_le (ordering_then (cond t Less (cond u Greater Equal)) rest) ≡ t
-    by_tests true u e f = refl
-    by_tests false true e f = refl
-    by_tests false false e f = absurd (let g : int_eq d q ≡ true = (Decides-int_eq d q).1 (equal e f) in cc)
+  not_both : nat_lt m e ≡ true → nat_eq m e ≡ true → ⊥
+  not_both h k = grind (arith, nat_tests)
 
-own_day : (d q : ℤ) → int_eq d q ≡ true → int_le d (q +ℤ negsuc 0) ≡ false
-own_day d q h = sym (lt_le d q) ∙ (let e : d ≡ q = (Decides-int_eq d q).0 h in not_less e)
-  where
-    not_less : d ≡ q → int_lt d q ≡ false
-    not_less e = grind (arith, ints)
+  by_entry : (q : ℤ) (rest : Ordering) (a b l : Bool) → l ≡ a → (a ≡ true → b ≡ true → ⊥) →
+      (if is_le (ordering_then (cond a Less (cond b Equal Greater)) rest) then q else pos 0) ≡ (pos 0 +ℤ (if l then q else pos 0)) +ℤ (if is_le (ordering_then (cond a Less (cond b Equal Greater)) rest) && b then q else pos 0)
+  by_entry q rest true true l h k = absurd (k refl refl)
+  by_entry q rest true false true h k = omega (arith, ints)
+  by_entry q rest true false false h k = absurd (cc)
+  by_entry q rest false true true h k = absurd (cc)
+  by_entry q rest false true false h k = by_rest (is_le rest)
+    where
+      by_rest : (t : Bool) → (if t then q else pos 0) ≡ (pos 0 +ℤ pos 0) +ℤ (if t && true then q else pos 0)
+      by_rest true = omega (arith, ints)
+      by_rest false = refl
+  by_entry q rest false false true h k = absurd (cc)
+  by_entry q rest false false false h k = refl
 
-legs_other : (reach : Reach) (a : List ℕ) (u : Commodity) (p : Place) (day : Day) (n k : ℕ) (legs : List Leg) → int_eq day.0 p.day.0 ≡ false →
-    total (counts reach a u (At p)) (posted_legs day n k legs) ≡ total (counts reach a u (Through (day_before p.day))) (posted_legs day n k legs)
-legs_other reach a u p day n k [] h = refl
-legs_other reach a u p day n k (x ∷ xs) h =
-    ap (λ (t : Bool). (if (nat_eq x.unit.0 u.0 && reaches reach a x.account) && t then x.qty else pos 0) +ℤ total (counts reach a u (At p)) (posted_legs day n (k + 1) xs)) (other_day day.0 p.day.0 (ordering_then (nat_cmp n p.entry) (nat_cmp k p.leg)) h)
-    ∙ ap (λ (z : ℤ). (if (nat_eq x.unit.0 u.0 && reaches reach a x.account) && int_le day.0 (p.day.0 +ℤ negsuc 0) then x.qty else pos 0) +ℤ z) (legs_other reach a u p day n (k + 1) xs h)
+  by_day : (q : ℤ) (rest : Ordering) (t u : Bool) →
+      (if is_le (ordering_then (cond t Less (cond u Greater Equal)) (ordering_then (nat_cmp m e) rest)) then q else pos 0)
+      ≡ ((if t then q else pos 0) +ℤ (if is_eq (cond t Less (cond u Greater Equal)) && nat_le m (min (e - 1) n) then q else pos 0))
+      +ℤ (if is_le (ordering_then (cond t Less (cond u Greater Equal)) (ordering_then (nat_cmp m e) rest)) && (is_eq (cond t Less (cond u Greater Equal)) && nat_eq m e) then q else pos 0)
+  by_day q rest true u = omega (arith, ints)
+  by_day q rest false true = refl
+  by_day q rest false false = by_entry q rest (nat_lt m e) (nat_eq m e) (nat_le m (min (e - 1) n)) earlier not_both
 
-legs_own : (reach : Reach) (a : List ℕ) (u : Commodity) (q day : Day) (n k : ℕ) (legs : List Leg) → int_eq day.0 q.0 ≡ true → total (counts reach a u (Through (day_before q))) (posted_legs day n k legs) ≡ pos 0
-legs_own reach a u q day n k [] h = refl
-legs_own reach a u q day n k (x ∷ xs) h = rw (legs_own reach a u q day n (k + 1) xs h) (ap (λ (t : Bool). (if (nat_eq x.unit.0 u.0 && reaches reach a x.account) && t then x.qty else pos 0) +ℤ pos 0) (own_day day.0 q.0 h) ∙ none (nat_eq x.unit.0 u.0 && reaches reach a x.account))
-  where
-    none : (t : Bool) → (if t && false then x.qty else pos 0) +ℤ pos 0 ≡ pos 0
-    none true = refl
-    none false = refl
+-- ---- the legs of a book
+module _ (reach : Reach) (a : List ℕ) (u : Commodity) (p : Place) (n : ℕ) where
+  abbrev at : Posted → Bool
+  at = counts reach a u (At p)
 
-place_parts : (reach : Reach) (a : List ℕ) (u : Commodity) (p : Place) (b : List Entry) (n : ℕ) (es : List Entry) → ((i : ℕ) → i < length es → get_or es i blank_entry ≡ entry_at b (n + i)) →
-    total (counts reach a u (At p)) (posted_from n es) ≡ total (counts reach a u (Through (day_before p.day))) (posted_from n es) +ℤ sum_numbers (counts reach a u (At p)) b (numbers_on p.day n es)
-place_parts reach a u p b n [] same = refl
-place_parts reach a u p b n (e ∷ es) same = by_day (int_eq e.day.0 p.day.0) refl (place_parts reach a u p b (n + 1) es (λ i l. same (suc i) (omega arith) ∙ ap (entry_at b) (omega arith)))
-  where
-    at : Posted → Bool
-    at = counts reach a u (At p)
+  abbrev before : Posted → Bool
+  before = counts_in reach a u (Before p.day)
 
-    through : Posted → Bool
-    through = counts reach a u (Through (day_before p.day))
+  abbrev on_day : Posted → Bool
+  on_day = counts_in reach a u (Within p.day (min (p.entry - 1) n))
 
-    here : e ≡ entry_at b n
-    here = same 0 (omega arith) ∙ ap (entry_at b) (omega arith)
+  legs_parts : (day : Day) (m k : ℕ) (legs : List Leg) → 1 ≤ m → m ≤ n → total at (posted_legs day m k legs) ≡ (total before (posted_legs day m k legs) +ℤ total on_day (posted_legs day m k legs)) +ℤ total (is_own at p) (posted_legs day m k legs)
+  legs_parts day m k [] h l = refl
+  legs_parts day m k (x ∷ xs) h l = let more = legs_parts day m (k + 1) xs h l in let one = this (nat_eq x.unit.0 u.0 && reaches reach a x.account) in omega (arith, ints)
+    where
+      this : (t : Bool) → (let le = place_le (record { day = day; entry = m; leg = k }) p in (if t && le then x.qty else pos 0) ≡ ((if t && int_lt day.0 p.day.0 then x.qty else pos 0) +ℤ (if t && (int_eq day.0 p.day.0 && nat_le m (min (p.entry - 1) n)) then x.qty else pos 0)) +ℤ (if (t && le) && (int_eq day.0 p.day.0 && nat_eq m p.entry) then x.qty else pos 0))
+      this true = by_day m p.entry n h l x.qty (nat_cmp k p.leg) (int_lt day.0 p.day.0) (int_lt p.day.0 day.0)
+      this false = refl
 
-    by_day : (t : Bool) → int_eq e.day.0 p.day.0 ≡ t → total at (posted_from (n + 1) es) ≡ total through (posted_from (n + 1) es) +ℤ sum_numbers at b (numbers_on p.day (n + 1) es) →
-        total at (posted_legs e.day n 1 e.legs ++ posted_from (n + 1) es) ≡ total through (posted_legs e.day n 1 e.legs ++ posted_from (n + 1) es) +ℤ sum_numbers at b (if t then n ∷ numbers_on p.day (n + 1) es else numbers_on p.day (n + 1) es)
-    by_day true h more =
-        let x = total-append at (posted_legs e.day n 1 e.legs) (posted_from (n + 1) es) in
-        let y = total-append through (posted_legs e.day n 1 e.legs) (posted_from (n + 1) es) in
-        let z = legs_own reach a u p.day e.day n 1 e.legs h in
-        let w : total at (posted_legs e.day n 1 e.legs) ≡ total at (posted_legs (entry_at b n).day n 1 (entry_at b n).legs) = ap (λ (f : Entry). total at (posted_legs f.day n 1 f.legs)) here in
-        omega (arith, ints)
-    by_day false h more =
-        let x = total-append at (posted_legs e.day n 1 e.legs) (posted_from (n + 1) es) in
-        let y = total-append through (posted_legs e.day n 1 e.legs) (posted_from (n + 1) es) in
-        let z = legs_other reach a u p e.day n 1 e.legs h in
-        omega (arith, ints)
+  entries_parts : (m : ℕ) (es : List Entry) → 1 ≤ m → m + length es ≤ n + 1 → total at (posted_from m es) ≡ (total before (posted_from m es) +ℤ total on_day (posted_from m es)) +ℤ total (is_own at p) (posted_from m es)
+  entries_parts m [] h l = refl
+  entries_parts m (e ∷ es) h l =
+      let one = legs_parts e.day m 1 e.legs h (omega arith) in
+      let more = entries_parts (m + 1) es (omega arith) (omega arith) in
+      let x = total-append at (posted_legs e.day m 1 e.legs) (posted_from (m + 1) es) in
+      let y = total-append before (posted_legs e.day m 1 e.legs) (posted_from (m + 1) es) in
+      let z = total-append on_day (posted_legs e.day m 1 e.legs) (posted_from (m + 1) es) in
+      let w = total-append (is_own at p) (posted_legs e.day m 1 e.legs) (posted_from (m + 1) es) in
+      omega (arith, ints)
 
-pub balance_place : (reach : Reach) (b : List Entry) (a : List ℕ) (u : Commodity) (p : Place) → balance reach b a u (At p) ≡ balance reach b a u (Through (day_before p.day)) +ℤ sum_numbers (counts reach a u (At p)) b (numbers_on p.day 1 b)
+-- the balance at a place in three parts
+pub balance_place : (reach : Reach) (b : List Entry) (a : List ℕ) (u : Commodity) (p : Place) →
+    balance reach b a u (At p) ≡ (total (counts_in reach a u (Before p.day)) (posted b) +ℤ total (counts_in reach a u (Within p.day (min (p.entry - 1) (length b)))) (posted b)) +ℤ total (is_own (counts reach a u (At p)) p) (posted b)
 unfolding balance
-balance_place reach b a u p = place_parts reach a u p b 1 b (λ i l. ap (λ (k : ℕ). get_or b k blank_entry) (omega arith))
+balance_place reach b a u p = entries_parts reach a u p (length b) 1 b (omega arith) (omega arith)
 
--- ---- numbers
-pub numbers_in : (d : Day) (n m : ℕ) (es : List Entry) → 1 ≤ n → n + length es ≤ m + 1 → AllByRecursion (λ (k : ℕ). (1 ≤ k) × (k ≤ m)) (numbers_on d n es)
-numbers_in d n m [] h l = tt
-numbers_in d n m (e ∷ es) h l = by_day (int_eq e.day.0 d.0) (numbers_in d (n + 1) m es (omega arith) (omega arith))
-  where
-    by_day : (t : Bool) → AllByRecursion (λ (k : ℕ). (1 ≤ k) × (k ≤ m)) (numbers_on d (n + 1) es) → AllByRecursion (λ (k : ℕ). (1 ≤ k) × (k ≤ m)) (if t then n ∷ numbers_on d (n + 1) es else numbers_on d (n + 1) es)
-    by_day true more = ((h, omega arith), more)
-    by_day false more = more
+-- ---- the legs of the place's own entry
+module _ (test : Posted → Bool) (p : Place) where
+  none : (x : Posted) (t : Bool) (z : ℤ) → (int_eq x.place.day.0 p.day.0 && nat_eq x.place.entry p.entry) ≡ t → t ≡ false → z ≡ pos 0 → (if is_own test p x then x.leg.qty else pos 0) +ℤ z ≡ pos 0
+  none x true z e f g = absurd (cc)
+  none x false z e f g = rw (e, g) (by_test (test x))
+    where
+      by_test : (s : Bool) → (if s && false then x.leg.qty else pos 0) +ℤ pos 0 ≡ pos 0
+      by_test true = refl
+      by_test false = refl
 
-pub numbers_add : (d : Day) (n : ℕ) (es : List Entry) (e : Entry) → numbers_on d n (es ++ e ∷ []) ≡ numbers_on d n es ++ (if int_eq e.day.0 d.0 then (length es + n) ∷ [] else [])
-numbers_add d n [] e = by_day (int_eq e.day.0 d.0)
-  where
-    by_day : (t : Bool) → (if t then n ∷ [] else []) ≡ (if t then (0 + n) ∷ [] else [])
-    by_day true = ap (λ (k : ℕ). k ∷ []) (omega arith)
-    by_day false = refl
-numbers_add d n (x ∷ es) e = by_day (int_eq x.day.0 d.0) (numbers_add d (n + 1) es e ∙ ap (λ (k : ℕ). numbers_on d (n + 1) es ++ (if int_eq e.day.0 d.0 then k ∷ [] else [])) (omega arith))
-  where
-    by_day : (t : Bool) → numbers_on d (n + 1) (es ++ e ∷ []) ≡ numbers_on d (n + 1) es ++ (if int_eq e.day.0 d.0 then (length (x ∷ es) + n) ∷ [] else []) →
-        (if t then n ∷ numbers_on d (n + 1) (es ++ e ∷ []) else numbers_on d (n + 1) (es ++ e ∷ [])) ≡ (if t then n ∷ numbers_on d (n + 1) es else numbers_on d (n + 1) es) ++ (if int_eq e.day.0 d.0 then (length (x ∷ es) + n) ∷ [] else [])
-    by_day true more = ap (λ (ms : List ℕ). n ∷ ms) more
-    by_day false more = more
+  legs_none : (day : Day) (m k : ℕ) (legs : List Leg) → (int_eq day.0 p.day.0 && nat_eq m p.entry) ≡ false → total (is_own test p) (posted_legs day m k legs) ≡ pos 0
+  legs_none day m k [] h = refl
+  legs_none day m k (x ∷ xs) h = none (record { place = record { day = day; entry = m; leg = k }; leg = x }) _ _ refl h (legs_none day m (k + 1) xs h)
 
+  legs_all : (day : Day) (m k : ℕ) (legs : List Leg) → (int_eq day.0 p.day.0 && nat_eq m p.entry) ≡ true → total (is_own test p) (posted_legs day m k legs) ≡ total test (posted_legs day m k legs)
+  legs_all day m k [] h = refl
+  legs_all day m k (x ∷ xs) h = rw (h, legs_all day m (k + 1) xs h) (by_test (test (record { place = record { day = day; entry = m; leg = k }; leg = x })))
+    where
+      by_test : (s : Bool) → (if s && true then x.qty else pos 0) +ℤ total test (posted_legs day m (k + 1) xs) ≡ (if s then x.qty else pos 0) +ℤ total test (posted_legs day m (k + 1) xs)
+      by_test true = refl
+      by_test false = refl
+
+  and_false : (t : Bool) → (t && false) ≡ false
+  and_false true = refl
+  and_false false = refl
+
+  and_true : (t : Bool) → (t && true) ≡ t
+  and_true true = refl
+  and_true false = refl
+
+  legs_other : (day : Day) (m k : ℕ) (legs : List Leg) → (m ≡ p.entry → ⊥) → total (is_own test p) (posted_legs day m k legs) ≡ pos 0
+  legs_other day m k legs h = let e : nat_eq m p.entry ≡ false = grind (arith, nat_tests) in legs_none day m k legs (rw e (and_false (int_eq day.0 p.day.0)))
+
+  -- no entry has the number
+  pub own_none : (m : ℕ) (es : List Entry) → (p.entry < m) ⊎ (m + length es ≤ p.entry) → total (is_own test p) (posted_from m es) ≡ pos 0
+  own_none m [] h = refl
+  own_none m (e ∷ es) h =
+      let x = total-append (is_own test p) (posted_legs e.day m 1 e.legs) (posted_from (m + 1) es) in
+      let y = legs_other e.day m 1 e.legs (away h) in
+      let z = own_none (m + 1) es (more h) in
+      omega (arith, ints)
+    where
+      away : (p.entry < m) ⊎ (m + length (e ∷ es) ≤ p.entry) → m ≡ p.entry → ⊥
+      away (inl l) f = omega arith
+      away (inr l) f = omega arith
+
+      more : (p.entry < m) ⊎ (m + length (e ∷ es) ≤ p.entry) → (p.entry < m + 1) ⊎ (m + 1 + length es ≤ p.entry)
+      more (inl l) = inl (omega arith)
+      more (inr l) = inr (omega arith)
+
+  -- the i-th entry has it
+  own_entry : (m : ℕ) (es : List Entry) (i : ℕ) (x : Entry) → i < length es → x ≡ get_or es i x → p.entry ≡ m + i →
+      total (is_own test p) (posted_from m es) ≡ (if int_eq x.day.0 p.day.0 then total test (posted_legs x.day p.entry 1 x.legs) else pos 0)
+  own_entry m [] i x l e f = absurd (omega arith)
+  own_entry m (y ∷ es) zero x l e f =
+      let a = total-append (is_own test p) (posted_legs y.day m 1 y.legs) (posted_from (m + 1) es) in
+      let b = own_none (m + 1) es (inl (omega arith)) in
+      let c = by_day (int_eq y.day.0 p.day.0) refl in
+      let d : total (is_own test p) (posted_legs y.day m 1 y.legs) +ℤ total (is_own test p) (posted_from (m + 1) es) ≡ (if int_eq y.day.0 p.day.0 then total test (posted_legs y.day p.entry 1 y.legs) else pos 0) = omega (arith, ints) in
+      a ∙ d ∙ ap (λ (z : Entry). if int_eq z.day.0 p.day.0 then total test (posted_legs z.day p.entry 1 z.legs) else pos 0) (sym e)
+    where
+      same : nat_eq m p.entry ≡ true
+      same = grind (arith, nat_tests)
+
+      by_day : (t : Bool) → int_eq y.day.0 p.day.0 ≡ t → total (is_own test p) (posted_legs y.day m 1 y.legs) ≡ (if t then total test (posted_legs y.day p.entry 1 y.legs) else pos 0)
+      by_day true g = legs_all y.day m 1 y.legs (rw (g, same) refl) ∙ ap (λ (j : ℕ). total test (posted_legs y.day j 1 y.legs)) (omega arith)
+      by_day false g = legs_none y.day m 1 y.legs (rw g refl)
+  own_entry m (y ∷ es) (suc i) x l e f =
+      let a = total-append (is_own test p) (posted_legs y.day m 1 y.legs) (posted_from (m + 1) es) in
+      let b = legs_other y.day m 1 y.legs (λ g. omega arith) in
+      let c = own_entry (m + 1) es i x (omega arith) e (omega arith) in
+      omega (arith, ints)
+
+  -- whether its day is the place's
+  pub own_away : (es : List Entry) (i : ℕ) (x : Entry) → i < length es → x ≡ get_or es i x → p.entry ≡ 1 + i → int_eq x.day.0 p.day.0 ≡ false → total (is_own test p) (posted es) ≡ pos 0
+  own_away es i x l e f g = own_entry 1 es i x l e f ∙ ap (λ (t : Bool). if t then total test (posted_legs x.day p.entry 1 x.legs) else pos 0) g
+
+  pub own_there : (es : List Entry) (i : ℕ) (x : Entry) → i < length es → x ≡ get_or es i x → p.entry ≡ 1 + i → int_eq x.day.0 p.day.0 ≡ true → total (is_own test p) (posted es) ≡ total test (posted_legs x.day p.entry 1 x.legs)
+  own_there es i x l e f g = own_entry 1 es i x l e f ∙ ap (λ (t : Bool). if t then total test (posted_legs x.day p.entry 1 x.legs) else pos 0) g
+
+-- the legs of one entry move no more than the book
 pub moved_entry : (u : Commodity) (b : List Entry) (i : ℕ) (x : Entry) → i < length b → x ≡ get_or b i x → moved u x.legs ≤ turnover u b
 moved_entry u b i x l e = omega (arith, turnover_entry u b i x l e, turnover-drop-le u b i)
-
--- one more number
-pub number_fits : (b : List Entry) (ms : List ℕ) (i : ℕ) → AreNumbers b ms → i < length ms → (1 ≤ get_or ms i 0) × (get_or ms i 0 ≤ length b)
-number_fits b [] i h l = absurd (omega arith)
-number_fits b (m ∷ ms) zero h l = h.0
-number_fits b (m ∷ ms) (suc i) h l = number_fits b ms i h.1 (omega arith)
-
-pub number_step : (test : Posted → Bool) (b : List Entry) (ms : List ℕ) (i : ℕ) (x : Entry) → i < length ms → get_or ms i 0 - 1 < length b → x ≡ get_or b (get_or ms i 0 - 1) x →
-    sum_numbers test b (drop i ms) ≡ total test (posted_legs x.day (get_or ms i 0) 1 x.legs) +ℤ sum_numbers test b (drop (i + 1) ms)
-number_step test b ms i x l f e =
-    ap (sum_numbers test b) (drop-cons ms i 0 l ∙ ap (λ (j : ℕ). get_or ms i 0 ∷ drop j ms) (sym (add-one i)))
-    ∙ ap (λ (y : Entry). total test (posted_legs y.day (get_or ms i 0) 1 y.legs) +ℤ sum_numbers test b (drop (i + 1) ms)) (get_or_default b (get_or ms i 0 - 1) blank_entry x f ∙ sym e)
-
--- one more entry in the index
-pub days_add : (old now : DayNumbers) (b more : List Entry) (e : Entry) (n : ℕ) → AreDays old b → Numbered e.day n old now → n ≡ length b + 1 → more ≡ b ++ e ∷ [] → AreDays now more
-days_add old now b more e n days put f g d = by_day (int_eq e.day.0 d.0) refl ∙ sym (ap (numbers_on d 1) g ∙ numbers_add d 1 b e)
-  where
-    by_day : (t : Bool) → int_eq e.day.0 d.0 ≡ t → numbers_at now d ≡ numbers_on d 1 b ++ (if t then (length b + 1) ∷ [] else [])
-    by_day true h =
-        let s : e.day.0 ≡ d.0 = (Decides-int_eq e.day.0 d.0).0 h in
-        sym (ap (λ (z : ℤ). let w : Day = record { 0 = z } in numbers_at now w) s) ∙ put.own ∙ ap (λ (ms : List ℕ). ms ++ n ∷ []) (days e.day ∙ ap (λ (z : ℤ). let w : Day = record { 0 = z } in numbers_on w 1 b) s) ∙ ap (λ (k : ℕ). numbers_on d 1 b ++ k ∷ []) f
-    by_day false h = put.others d (λ k. absurd (cc)) ∙ days d ∙ sym (append-nil (numbers_on d 1 b))
-
-pub days_none : (days : DayNumbers) → ((d : Day) → numbers_at days d ≡ []) → AreDays days []
-days_none days e d = e d

@@ -1,6 +1,6 @@
 -- sums by day of accounts and those above them
 use Rattle.std.proofs.Common.{◌≡◌, ℕ, ◌+◌, ◌-◌, ◌<◌, ◌≤◌, Bool, true, false, ◌||◌, ◌&&◌, List, [], ◌∷◌, ◌++◌, length, take, drop, drop-cons, add-one, get_or, zero, suc, arith, refl, ap, ◌∙◌, sym, subst, nat_eq, nat_lt, ◌⊎◌, inl, inr, ℤ, pos, negsuc, ◌+ℤ◌}
-use Rattle.std.specs.Prelude.{if◌then◌else◌, int_le, unsigned_abs}
+use Rattle.std.specs.Prelude.{if◌then◌else◌, unsigned_abs}
 use Rattle.std.specs.List.{starts_with}
 use Rattle.std.specs.Str.{bytes_eq}
 use Rattle.std.proofs.lemmas.Bool.{cases_lt}
@@ -10,6 +10,8 @@ use Rattle.std.proofs.lemmas.Slice.Eq.{bytes_eq-Decides}
 use Rattle.money_core.specs.declared.unit.Unit.{Unit as Commodity}
 use Rattle.money_core.specs.declared.day.Day.{Day}
 use Rattle.day_sums.specs.declared.sums.DaySums.{DaySums}
+use Rattle.day_sums.specs.declared.period.Period.{Period}
+use Rattle.day_sums.specs.Period.{is_in}
 use Rattle.day_sums.specs.Sums.{sum_of, is_open, share_of, SameSums, RaisedSums, IsSmall}
 use Rattle.book_core.specs.declared.leg.Leg.{Leg}
 use Rattle.book_core.specs.declared.account.Reach.{Reach}
@@ -21,44 +23,44 @@ use Rattle.book_core.specs.DayRows.{FrontsOpen, IsOpen, AreOpen, Raised, AreRais
 
 -- ---- the same sums, step by step
 pub same_none : (rows : DaySums) → SameSums rows rows
-same_none rows = record { sums = λ a u d. refl; days = λ a u d h. h }
+same_none rows = record { sums = λ a u p. refl; opened = λ a u d k h. h }
 
 pub same_more : (old mid now : DaySums) → SameSums old mid → SameSums mid now → SameSums old now
-same_more old mid now h k = record { sums = λ a u d. k.sums a u d ∙ h.sums a u d; days = λ a u d e. k.days a u d (h.days a u d e) }
+same_more old mid now h k = record { sums = λ a u p. k.sums a u p ∙ h.sums a u p; opened = λ a u d n e. k.opened a u d n (h.opened a u d n e) }
 
-pub fronts_kept : (old now : DaySums) (name : List ℕ) (unit : Commodity) (day : Day) (i : ℕ) → ((a : List ℕ) (u : Commodity) (d : Day) → is_open old a u d ≡ true → is_open now a u d ≡ true) → FrontsOpen old name unit day i → FrontsOpen now name unit day i
-fronts_kept old now name unit day i days h j l e = days (take j name) unit day (h j l e)
+pub fronts_kept : (old now : DaySums) (name : List ℕ) (unit : Commodity) (day : Day) (n : ℕ) (i : ℕ) → ((a : List ℕ) (u : Commodity) (d : Day) (k : ℕ) → is_open old a u d k ≡ true → is_open now a u d k ≡ true) → FrontsOpen old name unit day n i → FrontsOpen now name unit day n i
+fronts_kept old now name unit day n i days h j l e = days (take j name) unit day n (h j l e)
 
 -- one more byte
-pub fronts_colon : (rows : DaySums) (name : List ℕ) (unit : Commodity) (day : Day) (i : ℕ) → is_open rows (take i name) unit day ≡ true → FrontsOpen rows name unit day i → FrontsOpen rows name unit day (i + 1)
-fronts_colon rows name unit day i h k j l e = by_place (cases_lt j i)
+pub fronts_colon : (rows : DaySums) (name : List ℕ) (unit : Commodity) (day : Day) (n : ℕ) (i : ℕ) → is_open rows (take i name) unit day n ≡ true → FrontsOpen rows name unit day n i → FrontsOpen rows name unit day n (i + 1)
+fronts_colon rows name unit day n i h k j l e = by_place (cases_lt j i)
   where
-    by_place : (j < i) ⊎ (i ≤ j) → is_open rows (take j name) unit day ≡ true
+    by_place : (j < i) ⊎ (i ≤ j) → is_open rows (take j name) unit day n ≡ true
     by_place (inl m) = k j m e
-    by_place (inr m) = let same : j ≡ i = omega arith in ap (λ (n : ℕ). is_open rows (take n name) unit day) same ∙ h
+    by_place (inr m) = let same : j ≡ i = omega arith in ap (λ (m : ℕ). is_open rows (take m name) unit day n) same ∙ h
 
-pub fronts_other : (rows : DaySums) (name : List ℕ) (unit : Commodity) (day : Day) (i : ℕ) → (get_or name i 0 ≡ colon → ⊥) → FrontsOpen rows name unit day i → FrontsOpen rows name unit day (i + 1)
-fronts_other rows name unit day i h k j l e = by_place (cases_lt j i)
+pub fronts_other : (rows : DaySums) (name : List ℕ) (unit : Commodity) (day : Day) (n : ℕ) (i : ℕ) → (get_or name i 0 ≡ colon → ⊥) → FrontsOpen rows name unit day n i → FrontsOpen rows name unit day n (i + 1)
+fronts_other rows name unit day n i h k j l e = by_place (cases_lt j i)
   where
-    by_place : (j < i) ⊎ (i ≤ j) → is_open rows (take j name) unit day ≡ true
+    by_place : (j < i) ⊎ (i ≤ j) → is_open rows (take j name) unit day n ≡ true
     by_place (inl m) = k j m e
-    by_place (inr m) = let same : j ≡ i = omega arith in absurd (h (ap (λ (n : ℕ). get_or name n 0) (sym same) ∙ e))
+    by_place (inr m) = let same : j ≡ i = omega arith in absurd (h (ap (λ (m : ℕ). get_or name m 0) (sym same) ∙ e))
 
-pub is_open_kept : (reach : Reach) (old now : DaySums) (name : List ℕ) (unit : Commodity) (day : Day) → ((a : List ℕ) (u : Commodity) (d : Day) → is_open old a u d ≡ true → is_open now a u d ≡ true) → IsOpen reach old name unit day → IsOpen reach now name unit day
-is_open_kept Own old now name unit day days h = days name unit day h
-is_open_kept Inside old now name unit day days h = (fronts_kept old now name unit day (length name) days h.0, days name unit day h.1)
+pub is_open_kept : (reach : Reach) (old now : DaySums) (name : List ℕ) (unit : Commodity) (day : Day) (n : ℕ) → ((a : List ℕ) (u : Commodity) (d : Day) (k : ℕ) → is_open old a u d k ≡ true → is_open now a u d k ≡ true) → IsOpen reach old name unit day n → IsOpen reach now name unit day n
+is_open_kept Own old now name unit day n days h = days name unit day n h
+is_open_kept Inside old now name unit day n days h = (fronts_kept old now name unit day n (length name) days h.0, days name unit day n h.1)
 
-pub are_open_kept : (reach : Reach) (old now : DaySums) (legs : List Leg) (day : Day) → ((a : List ℕ) (u : Commodity) (d : Day) → is_open old a u d ≡ true → is_open now a u d ≡ true) → AreOpen reach old legs day → AreOpen reach now legs day
-are_open_kept reach old now [] day days h = tt
-are_open_kept reach old now (x ∷ xs) day days h = (is_open_kept reach old now x.account x.unit day days h.0, are_open_kept reach old now xs day days h.1)
+pub are_open_kept : (reach : Reach) (old now : DaySums) (legs : List Leg) (day : Day) (n : ℕ) → ((a : List ℕ) (u : Commodity) (d : Day) (k : ℕ) → is_open old a u d k ≡ true → is_open now a u d k ≡ true) → AreOpen reach old legs day n → AreOpen reach now legs day n
+are_open_kept reach old now [] day n days h = tt
+are_open_kept reach old now (x ∷ xs) day n days h = (is_open_kept reach old now x.account x.unit day n days h.0, are_open_kept reach old now xs day n days h.1)
 
-open_next : (reach : Reach) (rows : DaySums) (legs : List Leg) (day : Day) (i : ℕ) (x : Leg) → i < length legs → x ≡ get_or legs i x → AreOpen reach rows (take i legs) day → IsOpen reach rows x.account x.unit day → AreOpen reach rows (take (suc i) legs) day
-open_next reach rows [] day i x l e h k = absurd (omega arith)
-open_next reach rows (y ∷ ys) day zero x l e h k = (subst (λ (z : Leg). IsOpen reach rows z.account z.unit day) e k, tt)
-open_next reach rows (y ∷ ys) day (suc i) x l e h k = (h.0, open_next reach rows ys day i x (omega arith) e h.1 k)
+open_next : (reach : Reach) (rows : DaySums) (legs : List Leg) (day : Day) (n : ℕ) (i : ℕ) (x : Leg) → i < length legs → x ≡ get_or legs i x → AreOpen reach rows (take i legs) day n → IsOpen reach rows x.account x.unit day n → AreOpen reach rows (take (suc i) legs) day n
+open_next reach rows [] day n i x l e h k = absurd (omega arith)
+open_next reach rows (y ∷ ys) day n zero x l e h k = (subst (λ (z : Leg). IsOpen reach rows z.account z.unit day n) e k, tt)
+open_next reach rows (y ∷ ys) day n (suc i) x l e h k = (h.0, open_next reach rows ys day n i x (omega arith) e h.1 k)
 
-pub open_more : (reach : Reach) (rows : DaySums) (legs : List Leg) (day : Day) (i : ℕ) (x : Leg) → i < length legs → x ≡ get_or legs i x → AreOpen reach rows (take i legs) day → IsOpen reach rows x.account x.unit day → AreOpen reach rows (take (i + 1) legs) day
-open_more reach rows legs day i x l e h k = subst (λ (j : ℕ). AreOpen reach rows (take j legs) day) (sym (add-one i)) (open_next reach rows legs day i x l e h k)
+pub open_more : (reach : Reach) (rows : DaySums) (legs : List Leg) (day : Day) (n : ℕ) (i : ℕ) (x : Leg) → i < length legs → x ≡ get_or legs i x → AreOpen reach rows (take i legs) day n → IsOpen reach rows x.account x.unit day n → AreOpen reach rows (take (i + 1) legs) day n
+open_more reach rows legs day n i x l e h k = subst (λ (j : ℕ). AreOpen reach rows (take j legs) day n) (sym (add-one i)) (open_next reach rows legs day n i x l e h k)
 
 -- ---- the fronts of a name
 -- a is a front of the name that ends before one of its first i bytes, a colon
@@ -155,9 +157,9 @@ abbrev pub part : Bool → Bool → Bool → ℤ → ℤ
 part unit front on q = if (unit && front) && on then q else pos 0
 
 -- the sums of the fronts among the first i bytes are raised
-pub record RaisedFronts (name : List ℕ) (unit : Commodity) (day : Day) (q : ℤ) (i : ℕ) (old now : DaySums) : Type 0 where
-  pub sums : (a : List ℕ) (u : Commodity) (d : Day) → sum_of now a u d ≡ sum_of old a u d +ℤ part (nat_eq unit.0 u.0) (is_front i name a) (int_le day.0 d.0) q
-  pub days : (a : List ℕ) (u : Commodity) (d : Day) → is_open old a u d ≡ true → is_open now a u d ≡ true
+pub record RaisedFronts (name : List ℕ) (unit : Commodity) (day : Day) (n : ℕ) (q : ℤ) (i : ℕ) (old now : DaySums) : Type 0 where
+  pub sums : (a : List ℕ) (u : Commodity) (p : Period) → sum_of now a u p ≡ sum_of old a u p +ℤ part (nat_eq unit.0 u.0) (is_front i name a) (is_in p day n) q
+  pub opened : (a : List ℕ) (u : Commodity) (d : Day) (k : ℕ) → is_open old a u d k ≡ true → is_open now a u d k ≡ true
 
 two_parts : (unit front new on : Bool) (q z : ℤ) → (new ≡ true → front ≡ false) → (z +ℤ part unit front on q) +ℤ part unit new on q ≡ z +ℤ part unit (front || new) on q
 two_parts false front new on q z h = omega (arith, ints)
@@ -165,46 +167,46 @@ two_parts true true true on q z h = absurd (let k = h refl in cc)
 two_parts true true false on q z h = omega (arith, ints)
 two_parts true false new on q z h = omega (arith, ints)
 
-pub raised_none : (name : List ℕ) (unit : Commodity) (day : Day) (q : ℤ) (rows : DaySums) → RaisedFronts name unit day q 0 rows rows
-raised_none name unit day q rows = record { sums = λ a u d. none a u d; days = λ a u d h. h }
+pub raised_none : (name : List ℕ) (unit : Commodity) (day : Day) (n : ℕ) (q : ℤ) (rows : DaySums) → RaisedFronts name unit day n q 0 rows rows
+raised_none name unit day n q rows = record { sums = none; opened = λ a u d k h. h }
   where
-    none : (a : List ℕ) (u : Commodity) (d : Day) → sum_of rows a u d ≡ sum_of rows a u d +ℤ part (nat_eq unit.0 u.0) (is_front 0 name a) (int_le day.0 d.0) q
-    none a u d =
-        let n : nat_lt (length a) 0 ≡ false = grind (arith, nat_tests) in
-        by_unit (nat_eq unit.0 u.0) (is_front 0 name a) (rw n refl)
+    none : (a : List ℕ) (u : Commodity) (p : Period) → sum_of rows a u p ≡ sum_of rows a u p +ℤ part (nat_eq unit.0 u.0) (is_front 0 name a) (is_in p day n) q
+    none a u p =
+        let l : nat_lt (length a) 0 ≡ false = grind (arith, nat_tests) in
+        by_unit (nat_eq unit.0 u.0) (is_front 0 name a) (rw l refl)
       where
-        by_unit : (t f : Bool) → f ≡ false → sum_of rows a u d ≡ sum_of rows a u d +ℤ part t f (int_le day.0 d.0) q
+        by_unit : (t f : Bool) → f ≡ false → sum_of rows a u p ≡ sum_of rows a u p +ℤ part t f (is_in p day n) q
         by_unit true true e = absurd (cc)
         by_unit true false e = omega (arith, ints)
         by_unit false f e = omega (arith, ints)
 
-pub raised_colon : (name : List ℕ) (unit : Commodity) (day : Day) (q : ℤ) (i : ℕ) (old mid now : DaySums) → i < length name → get_or name i 0 ≡ colon → RaisedFronts name unit day q i old mid → RaisedSums (take i name) unit day q mid now → RaisedFronts name unit day q (i + 1) old now
-raised_colon name unit day q i old mid now h e k m = record {
-  sums = λ a u d.
-      m.sums a u d ∙ ap (λ (z : ℤ). z +ℤ share_of (take i name) unit day q a u d) (k.sums a u d) ∙ two_parts (nat_eq unit.0 u.0) (is_front i name a) (bytes_eq (take i name) a) (int_le day.0 d.0) q (sum_of old a u d) (front_colon name a i h e).1
-      ∙ ap (λ (t : Bool). sum_of old a u d +ℤ part (nat_eq unit.0 u.0) t (int_le day.0 d.0) q) (sym (front_colon name a i h e).0);
-  days = λ a u d g. m.days a u d (k.days a u d g);
+pub raised_colon : (name : List ℕ) (unit : Commodity) (day : Day) (n : ℕ) (q : ℤ) (i : ℕ) (old mid now : DaySums) → i < length name → get_or name i 0 ≡ colon → RaisedFronts name unit day n q i old mid → RaisedSums (take i name) unit day n q mid now → RaisedFronts name unit day n q (i + 1) old now
+raised_colon name unit day n q i old mid now h e k m = record {
+  sums = λ a u p.
+      m.sums a u p ∙ ap (λ (z : ℤ). z +ℤ share_of (take i name) unit day n q a u p) (k.sums a u p) ∙ two_parts (nat_eq unit.0 u.0) (is_front i name a) (bytes_eq (take i name) a) (is_in p day n) q (sum_of old a u p) (front_colon name a i h e).1
+      ∙ ap (λ (t : Bool). sum_of old a u p +ℤ part (nat_eq unit.0 u.0) t (is_in p day n) q) (sym (front_colon name a i h e).0);
+  opened = λ a u d j g. m.opened a u d j (k.opened a u d j g);
 }
 
-pub raised_other : (name : List ℕ) (unit : Commodity) (day : Day) (q : ℤ) (i : ℕ) (old now : DaySums) → (get_or name i 0 ≡ colon → ⊥) → RaisedFronts name unit day q i old now → RaisedFronts name unit day q (i + 1) old now
-raised_other name unit day q i old now h k = record {
-  sums = λ a u d. k.sums a u d ∙ ap (λ (t : Bool). sum_of old a u d +ℤ part (nat_eq unit.0 u.0) t (int_le day.0 d.0) q) (sym (front_other name a i h));
-  days = k.days;
+pub raised_other : (name : List ℕ) (unit : Commodity) (day : Day) (n : ℕ) (q : ℤ) (i : ℕ) (old now : DaySums) → (get_or name i 0 ≡ colon → ⊥) → RaisedFronts name unit day n q i old now → RaisedFronts name unit day n q (i + 1) old now
+raised_other name unit day n q i old now h k = record {
+  sums = λ a u p. k.sums a u p ∙ ap (λ (t : Bool). sum_of old a u p +ℤ part (nat_eq unit.0 u.0) t (is_in p day n) q) (sym (front_other name a i h));
+  opened = k.opened;
 }
 
-pub raised_all : (name : List ℕ) (unit : Commodity) (day : Day) (q : ℤ) (i : ℕ) (old mid now : DaySums) → length name ≤ i → RaisedFronts name unit day q i old mid → RaisedSums name unit day q mid now → Raised Inside name unit day q old now
-raised_all name unit day q i old mid now h k m = record {
-  sums = λ a u d.
-      m.sums a u d ∙ ap (λ (z : ℤ). z +ℤ share_of name unit day q a u d) (k.sums a u d) ∙ two_parts (nat_eq unit.0 u.0) (is_front i name a) (bytes_eq name a) (int_le day.0 d.0) q (sum_of old a u d) (front_all name a i h).1
-      ∙ ap (λ (t : Bool). sum_of old a u d +ℤ part (nat_eq unit.0 u.0) t (int_le day.0 d.0) q) (sym (front_all name a i h).0);
-  days = λ a u d g. m.days a u d (k.days a u d g);
+pub raised_all : (name : List ℕ) (unit : Commodity) (day : Day) (n : ℕ) (q : ℤ) (i : ℕ) (old mid now : DaySums) → length name ≤ i → RaisedFronts name unit day n q i old mid → RaisedSums name unit day n q mid now → Raised Inside name unit day n q old now
+raised_all name unit day n q i old mid now h k m = record {
+  sums = λ a u p.
+      m.sums a u p ∙ ap (λ (z : ℤ). z +ℤ share_of name unit day n q a u p) (k.sums a u p) ∙ two_parts (nat_eq unit.0 u.0) (is_front i name a) (bytes_eq name a) (is_in p day n) q (sum_of old a u p) (front_all name a i h).1
+      ∙ ap (λ (t : Bool). sum_of old a u p +ℤ part (nat_eq unit.0 u.0) t (is_in p day n) q) (sym (front_all name a i h).0);
+  opened = λ a u d j g. m.opened a u d j (k.opened a u d j g);
 }
 
 -- what is still to be raised has its old sums
-pub small_front : (name : List ℕ) (unit : Commodity) (day : Day) (q : ℤ) (i : ℕ) (old now : DaySums) (a : List ℕ) → is_front i name a ≡ false → RaisedFronts name unit day q i old now → ((b : List ℕ) (d : Day) → IsSmall (sum_of old b unit d)) → (d : Day) → IsSmall (sum_of now a unit d)
-small_front name unit day q i old now a e k small d = subst IsSmall (sym (k.sums a unit d ∙ by_unit (nat_eq unit.0 unit.0) (is_front i name a) e)) (small a d)
+pub small_front : (name : List ℕ) (unit : Commodity) (day : Day) (n : ℕ) (q : ℤ) (i : ℕ) (old now : DaySums) (a : List ℕ) → is_front i name a ≡ false → RaisedFronts name unit day n q i old now → ((b : List ℕ) (p : Period) → IsSmall (sum_of old b unit p)) → (p : Period) → IsSmall (sum_of now a unit p)
+small_front name unit day n q i old now a e k small p = subst IsSmall (sym (k.sums a unit p ∙ by_unit (nat_eq unit.0 unit.0) (is_front i name a) e)) (small a p)
   where
-    by_unit : (t f : Bool) → f ≡ false → sum_of old a unit d +ℤ part t f (int_le day.0 d.0) q ≡ sum_of old a unit d
+    by_unit : (t f : Bool) → f ≡ false → sum_of old a unit p +ℤ part t f (is_in p day n) q ≡ sum_of old a unit p
     by_unit true true g = absurd (cc)
     by_unit true false g = omega (arith, ints)
     by_unit false f g = omega (arith, ints)
@@ -216,13 +218,13 @@ pub take_length : (name : List ℕ) (i : ℕ) → i < length name → i ≤ leng
 take_length name i h = omega (arith, length-take name i (omega arith))
 
 -- ---- the legs of an entry, one after another
-pub own_raised : (name : List ℕ) (unit : Commodity) (day : Day) (q : ℤ) (old now : DaySums) → RaisedSums name unit day q old now → Raised Own name unit day q old now
-own_raised name unit day q old now h = record { sums = h.sums; days = h.days }
+pub own_raised : (name : List ℕ) (unit : Commodity) (day : Day) (n : ℕ) (q : ℤ) (old now : DaySums) → RaisedSums name unit day n q old now → Raised Own name unit day n q old now
+own_raised name unit day n q old now h = record { sums = h.sums; opened = h.opened }
 
-pub open_at : (reach : Reach) (rows : DaySums) (legs : List Leg) (day : Day) (i : ℕ) (x : Leg) → AreOpen reach rows legs day → i < length legs → x ≡ get_or legs i x → IsOpen reach rows x.account x.unit day
-open_at reach rows [] day i x h l e = absurd (omega arith)
-open_at reach rows (y ∷ ys) day zero x h l e = subst (λ (z : Leg). IsOpen reach rows z.account z.unit day) (sym e) h.0
-open_at reach rows (y ∷ ys) day (suc i) x h l e = open_at reach rows ys day i x h.1 (omega arith) e
+pub open_at : (reach : Reach) (rows : DaySums) (legs : List Leg) (day : Day) (n : ℕ) (i : ℕ) (x : Leg) → AreOpen reach rows legs day n → i < length legs → x ≡ get_or legs i x → IsOpen reach rows x.account x.unit day n
+open_at reach rows [] day n i x h l e = absurd (omega arith)
+open_at reach rows (y ∷ ys) day n zero x h l e = subst (λ (z : Leg). IsOpen reach rows z.account z.unit day n) (sym e) h.0
+open_at reach rows (y ∷ ys) day n (suc i) x h l e = open_at reach rows ys day n i x h.1 (omega arith) e
 
 upto_add : (m n k : ℕ) (z q : ℤ) → IsUpTo m z → unsigned_abs q ≡ n → m + n ≤ k → IsUpTo k (z +ℤ q)
 upto_add m n k z (pos x) h e l = let a = h.low in let b = h.high in record { low = omega (arith, ints); high = omega (arith, ints) }
@@ -245,30 +247,30 @@ pub moved_own : (x : Leg) (rest : List Leg) → moved x.unit (x ∷ rest) ≡ un
 moved_own x rest = let t : nat_eq x.unit.0 x.unit.0 ≡ true = grind (arith, nat_tests) in rw t refl
 
 -- how far the legs are added
-pub record Adding (reach : Reach) (legs : List Leg) (day : Day) (i : ℕ) (old now : DaySums) : Type 0 where
+pub record Adding (reach : Reach) (legs : List Leg) (day : Day) (n : ℕ) (i : ℕ) (old now : DaySums) : Type 0 where
   pub room : HasRoomFor now (drop i legs)
-  pub sums : (a : List ℕ) (u : Commodity) (d : Day) → sum_of now a u d +ℤ (if int_le day.0 d.0 then sum_in reach a u (drop i legs) else pos 0) ≡ sum_of old a u d +ℤ (if int_le day.0 d.0 then sum_in reach a u legs else pos 0)
+  pub sums : (a : List ℕ) (u : Commodity) (p : Period) → sum_of now a u p +ℤ (if is_in p day n then sum_in reach a u (drop i legs) else pos 0) ≡ sum_of old a u p +ℤ (if is_in p day n then sum_in reach a u legs else pos 0)
 
-pub adding_none : (reach : Reach) (legs : List Leg) (day : Day) (rows : DaySums) → HasRoomFor rows legs → Adding reach legs day 0 rows rows
-adding_none reach legs day rows h = record { room = h; sums = λ a u d. refl }
+pub adding_none : (reach : Reach) (legs : List Leg) (day : Day) (n : ℕ) (rows : DaySums) → HasRoomFor rows legs → Adding reach legs day n 0 rows rows
+adding_none reach legs day n rows h = record { room = h; sums = λ a u p. refl }
 
-pub adding_small : (reach : Reach) (legs : List Leg) (day : Day) (i : ℕ) (old now : DaySums) → Adding reach legs day i old now → (a : List ℕ) (u : Commodity) (d : Day) → IsSmall (sum_of now a u d)
-adding_small reach legs day i old now h a u d = upto_small _ (sum_of now a u d) (h.room.sums a u d) (omega arith)
+pub adding_small : (reach : Reach) (legs : List Leg) (day : Day) (n : ℕ) (i : ℕ) (old now : DaySums) → Adding reach legs day n i old now → (a : List ℕ) (u : Commodity) (p : Period) → IsSmall (sum_of now a u p)
+adding_small reach legs day n i old now h a u p = upto_small _ (sum_of now a u p) (h.room.sums a u p) (omega arith)
 
-pub adding_qty : (reach : Reach) (legs : List Leg) (day : Day) (i : ℕ) (x : Leg) (old now : DaySums) → Adding reach legs day i old now → i < length legs → x ≡ get_or legs i x → IsSmall x.qty
-adding_qty reach legs day i x old now h l e = abs_small x.qty (omega (arith, h.room.legs_small x.unit, ap (moved x.unit) (legs_at legs i x l e) ∙ moved_own x (drop (i + 1) legs)))
+pub adding_qty : (reach : Reach) (legs : List Leg) (day : Day) (n : ℕ) (i : ℕ) (x : Leg) (old now : DaySums) → Adding reach legs day n i old now → i < length legs → x ≡ get_or legs i x → IsSmall x.qty
+adding_qty reach legs day n i x old now h l e = abs_small x.qty (omega (arith, h.room.legs_small x.unit, ap (moved x.unit) (legs_at legs i x l e) ∙ moved_own x (drop (i + 1) legs)))
 
-pub adding_more : (reach : Reach) (legs : List Leg) (day : Day) (i : ℕ) (x : Leg) (old mid now : DaySums) → i < length legs → x ≡ get_or legs i x → Adding reach legs day i old mid → Raised reach x.account x.unit day x.qty mid now → Adding reach legs day (i + 1) old now
-adding_more reach legs day i x old mid now l e h k = record {
+pub adding_more : (reach : Reach) (legs : List Leg) (day : Day) (n : ℕ) (i : ℕ) (x : Leg) (old mid now : DaySums) → i < length legs → x ≡ get_or legs i x → Adding reach legs day n i old mid → Raised reach x.account x.unit day n x.qty mid now → Adding reach legs day n (i + 1) old now
+adding_more reach legs day n i x old mid now l e h k = record {
   room = record {
-    sums = λ a u d. subst (IsUpTo (most_turnover - moved u rest)) (sym (k.sums a u d)) (one_up (nat_eq x.unit.0 u.0) (reaches reach a x.account) (int_le day.0 d.0) (moved u rest) (sum_of mid a u d) (subst (λ (ls : List Leg). moved u ls ≤ most_turnover) parts (h.room.legs_small u)) (subst (λ (ls : List Leg). IsUpTo (most_turnover - moved u ls) (sum_of mid a u d)) parts (h.room.sums a u d)));
+    sums = λ a u p. subst (IsUpTo (most_turnover - moved u rest)) (sym (k.sums a u p)) (one_up (nat_eq x.unit.0 u.0) (reaches reach a x.account) (is_in p day n) (moved u rest) (sum_of mid a u p) (subst (λ (ls : List Leg). moved u ls ≤ most_turnover) parts (h.room.legs_small u)) (subst (λ (ls : List Leg). IsUpTo (most_turnover - moved u ls) (sum_of mid a u p)) parts (h.room.sums a u p)));
     legs_small = λ u. omega (arith, h.room.legs_small u, ap (moved u) parts);
   };
-  sums = λ a u d.
-      ap (λ (z : ℤ). z +ℤ (if int_le day.0 d.0 then sum_in reach a u rest else pos 0)) (k.sums a u d)
-      ∙ join (nat_eq x.unit.0 u.0 && reaches reach a x.account) (int_le day.0 d.0) (sum_of mid a u d) (sum_in reach a u rest)
-      ∙ ap (λ (ls : List Leg). sum_of mid a u d +ℤ (if int_le day.0 d.0 then sum_in reach a u ls else pos 0)) (sym parts)
-      ∙ h.sums a u d;
+  sums = λ a u p.
+      ap (λ (z : ℤ). z +ℤ (if is_in p day n then sum_in reach a u rest else pos 0)) (k.sums a u p)
+      ∙ join (nat_eq x.unit.0 u.0 && reaches reach a x.account) (is_in p day n) (sum_of mid a u p) (sum_in reach a u rest)
+      ∙ ap (λ (ls : List Leg). sum_of mid a u p +ℤ (if is_in p day n then sum_in reach a u ls else pos 0)) (sym parts)
+      ∙ h.sums a u p;
 }
   where
     rest : List Leg
@@ -292,8 +294,8 @@ adding_more reach legs day i x old mid now l e h k = record {
         by_on true = omega (arith, ints)
         by_on false = omega (arith, ints)
 
-pub adding_all : (reach : Reach) (legs : List Leg) (day : Day) (i : ℕ) (old now : DaySums) → length legs ≤ i → Adding reach legs day i old now → AreRaised reach legs day old now
-adding_all reach legs day i old now h k a u d = by_day (int_le day.0 d.0) (sum_of now a u d) (sum_in reach a u (drop i legs)) none ∙ k.sums a u d
+pub adding_all : (reach : Reach) (legs : List Leg) (day : Day) (n : ℕ) (i : ℕ) (old now : DaySums) → length legs ≤ i → Adding reach legs day n i old now → AreRaised reach legs day n old now
+adding_all reach legs day n i old now h k a u p = by_day (is_in p day n) (sum_of now a u p) (sum_in reach a u (drop i legs)) none ∙ k.sums a u p
   where
     past : (xs : List Leg) (j : ℕ) → length xs ≤ j → drop j xs ≡ []
     past [] zero l = refl

@@ -1,47 +1,46 @@
-//! The balance at a place: the sum before its day, and the legs of its day.
+//! The balance at a place: the sum before its day, what earlier entries of its day add, and what its own entry adds.
 
-ghost use Rattle.std.specs.Prelude.{◌≡◌};
+ghost use Rattle.std.specs.Prelude.{◌≡◌, ◌≤◌, length};
 ghost use Rattle.book_core.specs.declared.place.Until.TheVariants.{At};
-ghost use Rattle.book_core.specs.GoodBook.{HasRoom};
+ghost use Rattle.book_core.specs.Book.{posted};
+ghost use Rattle.book_core.specs.Balance.{total};
+ghost use Rattle.book_core.specs.GoodBook.{HasRoom, most_entries};
 ghost use Rattle.book_core.specs.Query.{takes_in, balance_for};
 ghost use Rattle.book_core.specs.DayRows.{AreSums};
-ghost use Rattle.book_core.specs.DayPlace.{AreDays, AreNumbers, sum_numbers};
+ghost use Rattle.book_core.specs.DayPlace.{is_own};
 
 use crate::balance::{Query, sum_legs};
 use crate::entry::Entry;
 use crate::place::Place;
-use day_sums::{DayNumbers, DaySums};
+use day_sums::{DaySums, Period};
 
-/// What the entries of these numbers add to a balance.
-fn sum_of_numbers(query: &Query<'_>, entries: &[Entry], numbers: &[usize]) -> i128
-    requires numbers { AreNumbers entries.now numbers.now }
-    requires room { HasRoom entries.now }
-    ensures { result ≡ sum_numbers (takes_in query.now) entries.now numbers.now }
+/// What the legs of the place's own entry add to a balance, where the book has such an entry on the place's day.
+fn own_share(query: &Query<'_>, entries: &[Entry], place: Place) -> i64
+    requires { HasRoom entries.now }
+    ensures { result ≡ total (is_own (takes_in query.now) place) (posted entries.now) }
 {
-    let mut sum: i128 = 0;
-    for number in numbers {
-        let share = sum_legs(query, &entries[*number - 1], *number);
-        sum += i128::from(share);
+    if place.entry == 0 || place.entry > entries.len() {
+        return 0;
     }
-    sum
+    let entry = &entries[place.entry - 1];
+    if entry.day != place.day {
+        return 0;
+    }
+    sum_legs(query, entry, place.entry)
 }
 
-/// The balance that is asked at a place. Costs two searches, and one pass over the legs of the place's day.
-pub fn balance_at(
-    rows: &DaySums,
-    days: &DayNumbers,
-    entries: &[Entry],
-    query: &Query<'_>,
-    place: Place,
-) -> i64
+/// The balance that is asked at a place. Costs two searches, and one pass over the legs of the place's own entry.
+pub fn balance_at(rows: &DaySums, entries: &[Entry], query: &Query<'_>, place: Place) -> i64
     requires sums { AreSums query.now.reach rows.now entries.now }
-    requires numbers { AreDays days.now entries.now }
+    requires few { length entries.now ≤ most_entries }
     requires room { HasRoom entries.now }
     requires at { query.now.limit ≡ At place }
     ensures { result ≡ balance_for query.now entries.now }
 {
-    let before = rows.sum_before_day(query.account.as_bytes(), query.unit, place.day);
-    let on_day = sum_of_numbers(query, entries, days.numbers_of(place.day));
-    let sum = i128::from(before) + on_day;
-    sum as i64
+    let account = query.account.as_bytes();
+    let earlier = place.entry.saturating_sub(1).min(entries.len()) as u32;
+    let before = rows.sum(account, query.unit, Period::Before(place.day));
+    let on_day = rows.sum(account, query.unit, Period::Within(place.day, earlier));
+    let own = own_share(query, entries, place);
+    before + on_day + own
 }

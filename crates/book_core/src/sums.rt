@@ -13,21 +13,19 @@ use crate::day_rows::{open_legs, raise_legs};
 use crate::entry::Entry;
 use crate::place::Until;
 use crate::turnover_table::{add_legs, list_units};
-use day_sums::{DayNumbers, DaySums};
+use day_sums::{DaySums, Period};
 use money_core::Cause;
 use std::alloc::Global;
 
-/// The sums of a book by day, its turnovers, and which of its entries are of a day.
+/// The sums of a book by day, and on each day by entry, and its turnovers.
 #[derive(Drop)]
 pub struct Sums {
-    /// By account and commodity, the balance through each day.
+    /// By account and commodity, the balance through each day, and on each day what is added through each entry.
     pub own: DaySums,
     /// The same with subaccounts, for each account and those above it.
     pub inside: DaySums,
     /// The turnover of each commodity, in smallest units, by the commodity's number.
     pub moved: Vec<u64>,
-    /// The numbers of the entries of each day.
-    pub days: DayNumbers,
 }
 
 impl Sums {
@@ -39,11 +37,10 @@ impl Sums {
             own: DaySums::empty(alloc),
             inside: DaySums::empty(alloc),
             moved: Vec::new(alloc),
-            days: DayNumbers::empty(alloc),
         }
     }
 
-    /// The balance that is asked. Costs a search, and at a place one pass over the legs of the place's day.
+    /// The balance that is asked. Costs a search, and at a place one more and the legs of the place's own entry.
     pub fn balance(&self, entries: &[Entry], query: &Query<'_>) -> i64
         requires sums { AreSumsOf self.now entries.now }
         requires room { HasRoom entries.now }
@@ -54,14 +51,16 @@ impl Sums {
             Reach::Inside => &self.inside,
         };
         match query.limit {
-            Until::At(place) => balance_at(rows, &self.days, entries, query, place),
-            Until::Through(day) => rows.sum_in(query.account.as_bytes(), query.unit, day),
+            Until::At(place) => balance_at(rows, entries, query, place),
+            Until::Through(day) => {
+                rows.sum(query.account.as_bytes(), query.unit, Period::Through(day))
+            }
         }
     }
 
     /// Adds the entry, which comes behind the entries. On 40 they are the sums of the entries alone.
     ///
-    /// All room is made before a sum changes: an opened day holds the sum before it.
+    /// All room is made before a sum changes: what is opened holds the sum before it.
     pub fn add(&mut self, entries: &[Entry], entry: &Entry) -> Result<(), Cause>
         requires sums { AreSumsOf self.old entries.now }
         requires room { IsWithin (entries.now ++ entry.now ∷ []) }
@@ -70,21 +69,19 @@ impl Sums {
     {
         let legs = entry.legs.items();
         let day = entry.day;
-        if open_legs(&mut self.own, Reach::Own, legs, day).is_err() {
+        let number = (entries.len() + 1) as u32;
+        if open_legs(&mut self.own, Reach::Own, legs, day, number).is_err() {
             return Err(Cause::OutOfMemory);
         }
-        if open_legs(&mut self.inside, Reach::Inside, legs, day).is_err() {
+        if open_legs(&mut self.inside, Reach::Inside, legs, day, number).is_err() {
             return Err(Cause::OutOfMemory);
         }
         if list_units(&mut self.moved, legs).is_err() {
             return Err(Cause::OutOfMemory);
         }
-        if self.days.put_number(day, entries.len() + 1).is_err() {
-            return Err(Cause::OutOfMemory);
-        }
         add_legs(&mut self.moved, legs);
-        raise_legs(&mut self.own, Reach::Own, legs, day);
-        raise_legs(&mut self.inside, Reach::Inside, legs, day);
+        raise_legs(&mut self.own, Reach::Own, legs, day, number);
+        raise_legs(&mut self.inside, Reach::Inside, legs, day, number);
         Ok(())
     }
 

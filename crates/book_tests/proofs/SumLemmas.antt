@@ -5,12 +5,13 @@ use Rattle.std.proofs.lemmas.Int.{ints}
 use Rattle.money_core.specs.declared.unit.Unit.{Unit as Commodity}
 use Rattle.money_core.specs.declared.day.Day.{Day}
 use Rattle.day_sums.specs.declared.sums.DaySums.{DaySums}
+use Rattle.day_sums.specs.declared.period.Period.{Period}
 use Rattle.day_sums.specs.Points.{IsUpTo}
 use Rattle.day_sums.specs.Sums.{sum_of, share_of, SameSums, RaisedSums}
 
 -- every sum is at most m, up or down
 abbrev pub AreUpTo : ℕ → DaySums → Type 0
-AreUpTo m s = (a : List ℕ) (u : Commodity) (d : Day) → IsUpTo m (sum_of s a u d)
+AreUpTo m s = (a : List ℕ) (u : Commodity) (p : Period) → IsUpTo m (sum_of s a u p)
 
 pub zero_up_to : (m : ℕ) → IsUpTo m (pos 0)
 zero_up_to m = record { low = omega (arith, ints); high = omega (arith, ints) }
@@ -24,7 +25,7 @@ both_up_to : (m n : ℕ) (z q : ℤ) → IsUpTo m z → IsUpTo n q → IsUpTo (m
 both_up_to m n z q h k = let a = h.low in let b = h.high in let c = k.low in let d = k.high in record { low = omega (arith, ints); high = omega (arith, ints) }
 
 pub same_up_to : (m : ℕ) (old new : DaySums) → SameSums old new → AreUpTo m old → AreUpTo m new
-same_up_to m old new same h = λ a u d. subst (IsUpTo m) (sym (same.sums a u d)) (h a u d)
+same_up_to m old new same h = λ a u p. subst (IsUpTo m) (sym (same.sums a u p)) (h a u p)
 
-pub raised_up_to : (m n : ℕ) (account : List ℕ) (unit : Commodity) (day : Day) (q : ℤ) (old new : DaySums) → IsUpTo n q → RaisedSums account unit day q old new → AreUpTo m old → AreUpTo (m + n) new
-raised_up_to m n account unit day q old new small raised h = λ a u d. subst (IsUpTo (m + n)) (sym (raised.sums a u d)) (both_up_to m n (sum_of old a u d) (share_of account unit day q a u d) (h a u d) (share_up_to n q _ small))
+pub raised_up_to : (m n : ℕ) (account : List ℕ) (unit : Commodity) (day : Day) (number : ℕ) (q : ℤ) (old new : DaySums) → IsUpTo n q → RaisedSums account unit day number q old new → AreUpTo m old → AreUpTo (m + n) new
+raised_up_to m n account unit day number q old new small raised h = λ a u p. subst (IsUpTo (m + n)) (sym (raised.sums a u p)) (both_up_to m n (sum_of old a u p) (share_of account unit day number q a u p) (h a u p) (share_up_to n q _ small))

@@ -2,11 +2,11 @@
 
 ghost use Rattle.std.specs.Prelude.{ℕ, List, IfOk};
 ghost use Rattle.money_core.specs.declared.unit.Unit.{Unit as Commodity};
-ghost use Rattle.money_core.specs.declared.day.Day.{Day as Days};
+ghost use Rattle.day_sums.specs.declared.period.Period.{Period as Span};
 ghost use Rattle.day_sums.specs.Points.{IsUpTo};
 ghost use Rattle.day_sums.specs.Sums.{sum_of};
 
-use day_sums::{Cause, Day, DayNumbers, DaySums, NamedSpots, Spot, Unit};
+use day_sums::{Cause, Day, DaySums, NamedSpots, Period, Spot, Unit};
 use std::alloc::Global;
 use std::process::Abort;
 
@@ -14,34 +14,31 @@ const EUR: Unit = Unit(0);
 
 const USD: Unit = Unit(1);
 
+/// What an account has more in a commodity, on a day with a number.
+type Move = (&'static str, Unit, i32, u32, i16);
+
 /// Adds a quantity, where no sum is over `limit` yet, and answers what no sum is over then. It is `Full` well below the
 /// sums that `raise_row` takes.
-fn moved(
-    sums: &mut DaySums,
-    limit: u64,
-    account: &str,
-    unit: Unit,
-    day: i32,
-    qty: i16,
-) -> Result<u64, Cause>
-    requires { (a : List ℕ) (u : Commodity) (d : Days) → IsUpTo limit (sum_of sums.old a u d) }
-    ensures { IfOk result (λ (more : ℕ). (a : List ℕ) (u : Commodity) (d : Days) → IsUpTo more (sum_of sums.new a u d)) }
+fn moved(sums: &mut DaySums, limit: u64, more: &Move) -> Result<u64, Cause>
+    requires { (a : List ℕ) (u : Commodity) (p : Span) → IsUpTo limit (sum_of sums.old a u p) }
+    ensures { IfOk result (λ (most : ℕ). (a : List ℕ) (u : Commodity) (p : Span) → IsUpTo most (sum_of sums.new a u p)) }
 {
     if limit > 1_000_000_000_000_000 {
         return Err(Cause::Full);
     }
+    let (account, unit, day, number, qty) = *more;
     let account = account.as_bytes();
-    sums.open_row(account, unit, Day(day))?;
-    sums.raise_row(account, unit, Day(day), i64::from(qty));
+    sums.open_row(account, unit, Day(day), number)?;
+    sums.raise_row(account, unit, Day(day), number, i64::from(qty));
     Ok(limit + 32_768)
 }
 
-/// The sums of moves: account, commodity, day, quantity.
-fn sums_of(alloc: Global, moves: &[(&str, Unit, i32, i16)]) -> Result<DaySums, Cause> {
+/// The sums of moves.
+fn sums_of(alloc: Global, moves: &[Move]) -> Result<DaySums, Cause> {
     let mut sums = DaySums::empty(alloc);
     let mut limit = 0;
-    for (account, unit, day, qty) in moves {
-        limit = moved(&mut sums, limit, *account, *unit, *day, *qty)?;
+    for more in moves {
+        limit = moved(&mut sums, limit, more)?;
     }
     Ok(sums)
 }
@@ -50,27 +47,36 @@ fn sums_of(alloc: Global, moves: &[(&str, Unit, i32, i16)]) -> Result<DaySums, C
 fn assert_sums(rt: &impl Abort, sums: &DaySums, rows: &[(&str, Unit, i32, i64, i64)]) {
     for (account, unit, day, through, before) in rows {
         let account = account.as_bytes();
-        assert_eq!(rt; sums.sum_in(account, *unit, Day(*day)), *through, "{day}");
-        assert_eq!(rt;
-            sums.sum_before_day(account, *unit, Day(*day)),
-            *before,
-            "{day}"
-        );
+        let found = sums.sum(account, *unit, Period::Through(Day(*day)));
+        assert_eq!(rt; found, *through, "{day}");
+        let found = sums.sum(account, *unit, Period::Before(Day(*day)));
+        assert_eq!(rt; found, *before, "{day}");
+    }
+}
+
+/// Asserts of each row the sum of an account in euros on the day alone, through the number.
+fn assert_within(rt: &impl Abort, sums: &DaySums, rows: &[(&str, i32, u32, i64)]) {
+    for (account, day, number, within) in rows {
+        let found = sums.sum(account.as_bytes(), EUR, Period::Within(Day(*day), *number));
+        assert_eq!(rt; found, *within, "{day} {number}");
     }
 }
 
 // Most moves are late.
+const MOVES: &[Move] = &[
+    ("assets:bank", EUR, 10, 1, 1_000),
+    ("assets:bank", EUR, 12, 2, 500),
+    ("assets:bank", EUR, 5, 3, -300),
+    ("assets:bank", EUR, 10, 4, 20),
+    ("assets:bank2", EUR, 10, 4, 7),
+    ("assets:bank", USD, 11, 5, 4),
+    ("assets:bank", EUR, -3_000, 6, 1),
+    ("assets:bank", EUR, 10, 9, -1),
+    ("assets:bank", EUR, 10, 9, -2),
+];
+
 #[test]
 fn a_late_quantity_counts_from_its_day_on(rt: HostRuntime) {
-    const MOVES: &[(&str, Unit, i32, i16)] = &[
-        ("assets:bank", EUR, 10, 1_000),
-        ("assets:bank", EUR, 12, 500),
-        ("assets:bank", EUR, 5, -300),
-        ("assets:bank", EUR, 10, 20),
-        ("assets:bank2", EUR, 10, 7),
-        ("assets:bank", USD, 11, 4),
-        ("assets:bank", EUR, -3_000, 1),
-    ];
     const ROWS: &[(&str, Unit, i32, i64, i64)] = &[
         ("assets:bank", EUR, i32::MIN, 0, 0),
         ("assets:bank", EUR, -3_001, 0, 0),
@@ -78,10 +84,10 @@ fn a_late_quantity_counts_from_its_day_on(rt: HostRuntime) {
         ("assets:bank", EUR, 0, 1, 1),
         ("assets:bank", EUR, 5, -299, 1),
         ("assets:bank", EUR, 9, -299, -299),
-        ("assets:bank", EUR, 10, 721, -299),
-        ("assets:bank", EUR, 11, 721, 721),
-        ("assets:bank", EUR, 12, 1_221, 721),
-        ("assets:bank", EUR, i32::MAX, 1_221, 1_221),
+        ("assets:bank", EUR, 10, 718, -299),
+        ("assets:bank", EUR, 11, 718, 718),
+        ("assets:bank", EUR, 12, 1_218, 718),
+        ("assets:bank", EUR, i32::MAX, 1_218, 1_218),
         ("assets:bank", USD, 10, 0, 0),
         ("assets:bank", USD, 11, 4, 0),
         ("assets:bank2", EUR, 10, 7, 0),
@@ -93,16 +99,39 @@ fn a_late_quantity_counts_from_its_day_on(rt: HostRuntime) {
     assert_sums(&rt, &sums, ROWS);
 }
 
+#[test]
+fn a_quantity_counts_on_its_day_from_its_number_on(rt: HostRuntime) {
+    const ROWS: &[(&str, i32, u32, i64)] = &[
+        ("assets:bank", 10, 0, 0),
+        ("assets:bank", 10, 1, 1_000),
+        ("assets:bank", 10, 3, 1_000),
+        ("assets:bank", 10, 4, 1_020),
+        ("assets:bank", 10, 8, 1_020),
+        ("assets:bank", 10, 9, 1_017),
+        ("assets:bank", 10, u32::MAX, 1_017),
+        ("assets:bank", 5, 2, 0),
+        ("assets:bank", 5, 3, -300),
+        ("assets:bank", 11, 9, 0),
+        ("assets:bank", 12, 1, 0),
+        ("assets:bank", 12, 2, 500),
+        ("assets:bank2", 10, 4, 7),
+        ("assets", 10, 9, 0),
+    ];
+    let sums = sums_of(rt.alloc(), MOVES).expect(&rt, "memory");
+    assert_within(&rt, &sums, ROWS);
+}
+
 /// Asserts of each row the sum of `a` in euros through the day.
 fn assert_through(rt: &impl Abort, sums: &DaySums, rows: &[(i32, i64)]) {
     for (day, through) in rows {
-        assert_eq!(rt; sums.sum_in(b"a", EUR, Day(*day)), *through, "{day}");
+        let found = sums.sum(b"a", EUR, Period::Through(Day(*day)));
+        assert_eq!(rt; found, *through, "{day}");
     }
 }
 
-// One more on each of 6,000 days, from the last to the first, over four spans.
+// One more on each of 6,000 days, from the last to the first.
 #[test]
-fn days_may_fall_over_many_spans(rt: HostRuntime) {
+fn days_may_fall(rt: HostRuntime) {
     const ROWS: &[(i32, i64)] = &[
         (-3_000, 0),
         (-2_999, 1),
@@ -117,46 +146,32 @@ fn days_may_fall_over_many_spans(rt: HostRuntime) {
     ];
     let mut moves = Vec::new(rt.alloc());
     for day in (-2_999..=3_000).rev() {
-        moves.push(("a", EUR, day, 1)).expect(&rt, "memory");
+        moves.push(("a", EUR, day, 1, 1)).expect(&rt, "memory");
     }
     let sums = sums_of(rt.alloc(), &moves).expect(&rt, "memory");
     assert_through(&rt, &sums, ROWS);
 }
 
 #[test]
-fn a_day_that_is_opened_changes_no_sum(rt: HostRuntime) {
-    let mut sums = sums_of(rt.alloc(), &[("a", EUR, 10, 5)]).expect(&rt, "memory");
-    for day in [-5_000, 9, 10, 11, 5_000] {
-        sums.open_row(b"a", EUR, Day(day)).expect(&rt, "memory");
-        sums.open_row(b"b", USD, Day(day)).expect(&rt, "memory");
+fn what_is_opened_changes_no_sum(rt: HostRuntime) {
+    let mut sums = sums_of(rt.alloc(), &[("a", EUR, 10, 3, 5)]).expect(&rt, "memory");
+    for (day, number) in [(-5_000, 1), (9, 4), (10, 2), (10, 3), (10, 9), (5_000, 7)] {
+        sums.open_row(b"a", EUR, Day(day), number)
+            .expect(&rt, "memory");
+        sums.open_row(b"b", USD, Day(day), number)
+            .expect(&rt, "memory");
     }
-    for (day, through) in [(-5_000, 0), (9, 0), (10, 5), (11, 5), (5_000, 5)] {
-        assert_eq!(rt; sums.sum_in(b"a", EUR, Day(day)), through, "{day}");
-        assert_eq!(rt; sums.sum_in(b"b", USD, Day(day)), 0, "{day}");
-    }
-}
-
-/// Asserts of each day its numbers.
-fn assert_numbers(rt: &impl Abort, days: &DayNumbers, rows: &[(i32, &[usize])]) {
-    for (day, numbers) in rows {
-        assert_eq!(rt; days.numbers_of(Day(*day)), *numbers, "{day}");
-    }
-}
-
-#[test]
-fn numbers_stand_under_their_day_in_order(rt: HostRuntime) {
-    const ROWS: &[(i32, &[usize])] = &[
-        (10, &[1, 3, 5]),
-        (12, &[2]),
-        (-4, &[4]),
-        (11, &[]),
-        (i32::MAX, &[]),
-    ];
-    let mut days = DayNumbers::empty(rt.alloc());
-    for (day, number) in [(10, 1), (12, 2), (10, 3), (-4, 4), (10, 5)] {
-        days.put_number(Day(day), number).expect(&rt, "memory");
-    }
-    assert_numbers(&rt, &days, ROWS);
+    assert_through(
+        &rt,
+        &sums,
+        &[(-5_000, 0), (9, 0), (10, 5), (11, 5), (5_000, 5)],
+    );
+    assert_within(
+        &rt,
+        &sums,
+        &[("a", 10, 2, 0), ("a", 10, 3, 5), ("a", 10, 9, 5)],
+    );
+    assert_sums(&rt, &sums, &[("b", USD, 10, 0, 0)]);
 }
 
 /// Asserts of each row the numbers of the account's spots behind the day.

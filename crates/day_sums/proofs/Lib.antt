@@ -1,9 +1,7 @@
 pub mod SearchLemmas
 pub mod OpenLemmas
 pub mod RaiseLemmas
-pub mod SpanLemmas
 pub mod RowLemmas
-pub mod RaisedRow
 pub mod NameLemmas
 pub mod SumLemmas
 pub mod SpotLemmas

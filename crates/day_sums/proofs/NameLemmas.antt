@@ -1,5 +1,5 @@
 -- Rows by the bytes of a name, once one of them is another.
-use Rattle.std.proofs.Common.{◌≡◌, ℕ, Bool, true, false, List, [], refl, ap, ◌∙◌, sym, subst, ℤ, pos, Vec, Global}
+use Rattle.std.proofs.Common.{◌≡◌, ℕ, Bool, true, false, List, [], refl, ap, ◌∙◌, sym, subst, Vec, Global}
 use Rattle.std.specs.Prelude.{Option, Some}
 use Rattle.std.specs.Option.{unwrap_or}
 use Rattle.std.specs.declared.cmp.Ordering.{Ordering}
@@ -12,8 +12,9 @@ use Rattle.std.specs.HashMap as hash
 use Rattle.std.specs.Map.{lookup, IsKeyTest, AreApart, KeepsOthers}
 use Rattle.std.proofs.lemmas.Map.Text.{is_eq-slice_cmp}
 use Rattle.std.proofs.lemmas.Slice.Eq.{bytes_eq-Decides}
-use Rattle.day_sums.specs.Row.{Kept, SameRow, row_sum}
+use Rattle.day_sums.specs.Row.{Kept, SameRow}
 use Rattle.day_sums.specs.Sums.{Names, row_at}
+use Rattle.day_sums.proofs.RowLemmas.{same_none}
 
 other_entries : {K X : Type 0} (eq : K → K → Bool) (test : K → Bool) (old new : List (K × X)) → KeepsOthers eq test old new → (other : K → Bool) → IsKeyTest eq other → AreApart test other → lookup other new ≡ lookup other old
 unfolding KeepsOthers
@@ -62,8 +63,4 @@ same_rows name m n r h same a = by_test (bytes_eq name a) refl
   where
     by_test : (t : Bool) → bytes_eq name a ≡ t → SameRow (row_at m a) (row_at n a)
     by_test true e = subst (λ (b : List ℕ). SameRow (row_at m b) (row_at n b)) ((bytes_eq-Decides name a).0 e) (subst (SameRow (row_at m name)) (sym (row_own name m n r h)) same)
-    by_test false e = subst (SameRow (row_at m a)) (sym (row_other name m n r h a e)) (record { sums = λ d. refl; days = λ d k. k })
-
--- a row that was made and opened, where there was none
-pub blank_same : (r s : Kept) → ((d : ℤ) → row_sum r d ≡ pos 0) → SameRow r s → SameRow ([], []) s
-blank_same r s zero same = record { sums = λ d. same.sums d ∙ zero d; days = λ d h. absurd (cc) }
+    by_test false e = subst (SameRow (row_at m a)) (sym (row_other name m n r h a e)) (same_none _)

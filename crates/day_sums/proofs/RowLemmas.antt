@@ -1,81 +1,120 @@
--- A row in spans: what opening and raising its parts does to its sums.
-use Rattle.std.proofs.Common.{◌≡◌, Bool, true, false, ◌&&◌, List, [], refl, ap, ◌∙◌, sym, subst, arith, ℤ, pos, negsuc, ◌+ℤ◌, ◌<ℤ◌, ◌⊎◌, inl, inr, FitsSigned, w64}
-use Rattle.std.specs.Prelude.{None, Option}
+-- A row: what opening and raising its parts does to its sums.
+use Rattle.std.proofs.Common.{◌≡◌, ℕ, Bool, true, false, ◌&&◌, List, [], refl, ap, ◌∙◌, sym, subst, arith, ℤ, pos, negsuc, ◌+ℤ◌}
+use Rattle.std.specs.Prelude.{None, Option, if◌then◌else◌, int_le}
 use Rattle.std.specs.Option.{unwrap_or}
 use Rattle.std.specs.Map.{lookup}
 use Rattle.std.specs.BTreeMap.{is_at}
-use Rattle.std.specs.Ordering.{int_cmp}
+use Rattle.std.specs.Ordering.{int_cmp, int_eq}
 use Rattle.std.proofs.lemmas.Int.{ints}
+use Rattle.std.proofs.lemmas.Bool.Decides.{Decides-int_eq}
+use Rattle.money_core.specs.declared.day.Day.{Day}
 use Rattle.day_sums.specs.declared.points.Point.{Point}
-use Rattle.day_sums.specs.Points.{sum_at, has, IsUpTo, SamePoints}
-use Rattle.day_sums.specs.Row.{Kept, span, last_day, days_of, through_span, within, row_sum, has_day, IsRow, SameRow}
-use Rattle.day_sums.proofs.SpanLemmas.{span_last, order, behind}
+use Rattle.day_sums.specs.Points.{sum_at, has, IsUpTo, SamePoints, RaisedPoints}
+use Rattle.day_sums.specs.declared.period.Period.{Period}
+use Rattle.day_sums.specs.declared.period.Period.TheVariants.{Before, Through, Within}
+use Rattle.day_sums.specs.Period.{is_in}
+use Rattle.day_sums.specs.Row.{Kept, points_at, row_sum, has_number, IsRow, SameRow, RaisedRow}
+use Rattle.day_sums.proofs.SearchLemmas.{lt_le}
 
-pub both_true : (s t u v : Bool) → (s ≡ true → u ≡ true) → (t ≡ true → v ≡ true) → (s && t) ≡ true → (u && v) ≡ true
+both_true : (s t u v : Bool) → (s ≡ true → u ≡ true) → (t ≡ true → v ≡ true) → (s && t) ≡ true → (u && v) ≡ true
 both_true true true u v f g h = rw (f refl, g refl) refl
 both_true true false u v f g h = absurd (cc)
 both_true false t u v f g h = absurd (cc)
 
--- each part is as before in what it sums
-pub same_row : (r s : Kept) → SamePoints r.0 s.0 → ((k : ℤ) → SamePoints (days_of r k) (days_of s k)) → SameRow r s
-same_row r s spans days = record {
-  sums = λ d. ap (λ (z : ℤ). z +ℤ within s (span d) d) (spans.sums (span d +ℤ negsuc 0)) ∙ ap (λ (z : ℤ). through_span r (span d +ℤ negsuc 0) +ℤ z) ((days (span d)).sums d);
-  days = λ d. both_true _ _ _ _ (spans.points (span d)) ((days (span d)).points d);
-}
-
-pub kept_row : (r s : Kept) → SamePoints r.0 s.0 → ((k : ℤ) → SamePoints (days_of r k) (days_of s k)) → IsRow r → IsRow s
-kept_row r s spans days row = record {
-  before = λ k d h. (days k).sums d ∙ row.before k d h;
-  whole = λ k d h. spans.sums k ∙ row.whole k d h ∙ ap (λ (z : ℤ). z +ℤ within r k d) (sym (spans.sums (k +ℤ negsuc 0))) ∙ ap (λ (z : ℤ). through_span s (k +ℤ negsuc 0) +ℤ z) (sym ((days k).sums d));
-  limit = λ d. subst (IsUpTo 20000000000000000) (sym ((same_row r s spans days).sums d)) (row.limit d);
-}
-
 pub same_points : (ps : List Point) → SamePoints ps ps
 same_points ps = record { sums = λ d. refl; points = λ d h. h }
 
--- ---- the parts' sums, where those of the days are small
+pub same_none : (r : Kept) → SameRow r r
+same_none r = record { sums = λ p. refl; opened = λ d n h. h }
 
--- the sum through a span is that through its last day
-through_is : (r : Kept) → IsRow r → (k : ℤ) → through_span r k ≡ row_sum r (last_day k)
-through_is r row k = row.whole k (last_day k) (omega (arith, ints)) ∙ ap (λ (j : ℤ). through_span r (j +ℤ negsuc 0) +ℤ within r j (last_day k)) (sym (span_last k))
+-- ---- a number that is opened
+module _ (r s : Kept) (days : SamePoints r.0 s.0) (own : (k : ℤ) → SamePoints (points_at r.1 k) (points_at s.1 k)) where
+  sums_same : (p : Period) → row_sum s p ≡ row_sum r p
+  sums_same (Before d) = days.sums (d.0 +ℤ negsuc 0)
+  sums_same (Through d) = days.sums d.0
+  sums_same (Within d n) = (own d.0).sums (pos n)
 
-pub small_spans : (r : Kept) → IsRow r → ((d : ℤ) → IsUpTo 10000000000000000 (row_sum r d)) → (k : ℤ) → IsUpTo 40000000000000000 (through_span r k)
-small_spans r row small k = let s = small (last_day k) in let l = s.low in let h = s.high in subst (IsUpTo 40000000000000000) (sym (through_is r row k)) (record { low = omega (arith, ints); high = omega (arith, ints) })
+  pub same_row : SameRow r s
+  same_row = record { sums = sums_same; opened = λ d n. both_true _ _ _ _ (days.points d.0) ((own d.0).points (pos n)) }
 
-difference : (a b c : ℤ) → IsUpTo 10000000000000000 a → IsUpTo 10000000000000000 b → a ≡ b +ℤ c → IsUpTo 40000000000000000 c
-difference a b c x y e = let l = x.low in let h = x.high in let m = y.low in let n = y.high in record { low = omega (arith, ints); high = omega (arith, ints) }
+  pub kept_row : IsRow r → IsRow s
+  kept_row row k j = (own k).sums (negsuc j) ∙ row k j
 
-pub small_days : (r : Kept) → IsRow r → ((d : ℤ) → IsUpTo 10000000000000000 (row_sum r d)) → (k d : ℤ) → IsUpTo 40000000000000000 (within r k d)
-small_days r row small k d = by_order (order (span d) k)
+-- ---- a number that is raised
+abbrev share : ℤ → Bool → ℤ
+share q t = if t then q else pos 0
+
+none_more : (z : ℤ) → z ≡ z +ℤ pos 0
+none_more z = omega (arith, ints)
+
+module _ (r s : Kept) (day : Day) (n : ℕ) (q : ℤ) (days : RaisedPoints day.0 q r.0 s.0) (own : RaisedPoints (pos n) q (points_at r.1 day.0) (points_at s.1 day.0))
+    (others : (k : ℤ) → int_eq day.0 k ≡ false → points_at s.1 k ≡ points_at r.1 k) where
+  -- the sums of a day's own
+  within_raised : (k z : ℤ) → sum_at (pos 0) (points_at s.1 k) z ≡ sum_at (pos 0) (points_at r.1 k) z +ℤ share q (int_eq day.0 k && int_le (pos n) z)
+  within_raised k z = by_day (int_eq day.0 k) refl
+    where
+      by_day : (t : Bool) → int_eq day.0 k ≡ t → sum_at (pos 0) (points_at s.1 k) z ≡ sum_at (pos 0) (points_at r.1 k) z +ℤ share q (t && int_le (pos n) z)
+      by_day true e = subst (λ (j : ℤ). sum_at (pos 0) (points_at s.1 j) z ≡ sum_at (pos 0) (points_at r.1 j) z +ℤ share q (int_le (pos n) z)) ((Decides-int_eq day.0 k).0 e) (own.sums z)
+      by_day false e = ap (λ (ps : List Point). sum_at (pos 0) ps z) (others k e) ∙ none_more (sum_at (pos 0) (points_at r.1 k) z)
+
+  sums_raised : (p : Period) → row_sum s p ≡ row_sum r p +ℤ share q (is_in p day n)
+  sums_raised (Before d) = days.sums (d.0 +ℤ negsuc 0) ∙ ap (λ (t : Bool). sum_at (pos 0) r.0 (d.0 +ℤ negsuc 0) +ℤ share q t) (sym (lt_le day.0 d.0))
+  sums_raised (Through d) = days.sums d.0
+  sums_raised (Within d k) = within_raised d.0 (pos k)
+
+  points_kept : (k z : ℤ) → has z (points_at r.1 k) ≡ true → has z (points_at s.1 k) ≡ true
+  points_kept k z h = by_day (int_eq day.0 k) refl
+    where
+      by_day : (t : Bool) → int_eq day.0 k ≡ t → has z (points_at s.1 k) ≡ true
+      by_day true e = let f = (Decides-int_eq day.0 k).0 e in subst (λ (j : ℤ). has z (points_at s.1 j) ≡ true) f (own.points z (subst (λ (j : ℤ). has z (points_at r.1 j) ≡ true) (sym f) h))
+      by_day false e = ap (has z) (others k e) ∙ h
+
+  pub raised_row : RaisedRow day n q r s
+  raised_row = record { sums = sums_raised; opened = λ d k. both_true _ _ _ _ (days.points d.0) (points_kept d.0 (pos k)) }
+
+  pub kept_raised : IsRow r → IsRow s
+  kept_raised row k j = within_raised k (negsuc j) ∙ by_day (int_eq day.0 k) (row k j)
+    where
+      by_day : (t : Bool) → sum_at (pos 0) (points_at r.1 k) (negsuc j) ≡ pos 0 → sum_at (pos 0) (points_at r.1 k) (negsuc j) +ℤ share q (t && int_le (pos n) (negsuc j)) ≡ pos 0
+      by_day true e = sym (none_more _) ∙ e
+      by_day false e = sym (none_more _) ∙ e
+
+-- the same, as the parts' calls say it
+pub raised_parts : (r s : Kept) (day : Day) (n : ℕ) (q k j p : ℤ) → k ≡ day.0 → j ≡ pos n → p ≡ q → RaisedPoints k p r.0 s.0 → RaisedPoints j p (points_at r.1 k) (points_at s.1 k) → ((i : ℤ) → int_eq k i ≡ false → points_at s.1 i ≡ points_at r.1 i) →
+    IsRow r → IsRow s × RaisedRow day n q r s
+raised_parts r s day n q k j p at_day at_number by days own others row = (kept_raised r s day n q days' own' others' row, raised_row r s day n q days' own' others')
   where
-    through : (j : ℤ) → IsUpTo 10000000000000000 (through_span r j)
-    through j = subst (IsUpTo 10000000000000000) (sym (through_is r row j)) (small (last_day j))
+    days' : RaisedPoints day.0 q r.0 s.0
+    days' = subst (λ (z : ℤ). RaisedPoints day.0 z r.0 s.0) by (subst (λ (i : ℤ). RaisedPoints i p r.0 s.0) at_day days)
 
-    by_order : (span d <ℤ k) ⊎ ((span d ≡ k) ⊎ (k <ℤ span d)) → IsUpTo 40000000000000000 (within r k d)
-    by_order (inl h) = subst (IsUpTo 40000000000000000) (sym (row.before k d h)) (record { low = omega (arith, ints); high = omega (arith, ints) })
-    by_order (inr (inl h)) = difference (row_sum r d) (through_span r (k +ℤ negsuc 0)) (within r k d) (small d) (through (k +ℤ negsuc 0)) (ap (λ (j : ℤ). through_span r (j +ℤ negsuc 0) +ℤ within r j d) h)
-    by_order (inr (inr h)) = difference (through_span r k) (through_span r (k +ℤ negsuc 0)) (within r k d) (through k) (through (k +ℤ negsuc 0)) (row.whole k d (behind k d h))
+    own' : RaisedPoints (pos n) q (points_at r.1 day.0) (points_at s.1 day.0)
+    own' = subst (λ (z : ℤ). RaisedPoints (pos n) z (points_at r.1 day.0) (points_at s.1 day.0)) by (subst (λ (i : ℤ). RaisedPoints i p (points_at r.1 day.0) (points_at s.1 day.0)) at_number (subst (λ (i : ℤ). RaisedPoints j p (points_at r.1 i) (points_at s.1 i)) at_day own))
 
--- an open day has its point in its span
-pub is_open_within : (r : Kept) (d : ℤ) → has_day r d ≡ true → (has (span d) r.0 ≡ true) × (has d (days_of r (span d)) ≡ true)
-is_open_within r d h = parts (has (span d) r.0) (has d (days_of r (span d))) h
+    others' : (i : ℤ) → int_eq day.0 i ≡ false → points_at s.1 i ≡ points_at r.1 i
+    others' i h = others i (subst (λ (z : ℤ). int_eq z i ≡ false) (sym at_day) h)
+
+-- ---- an open number has its points, and small sums
+pub is_open_within : (r : Kept) (d : Day) (n : ℕ) → has_number r d n ≡ true → (has d.0 r.0 ≡ true) × (has (pos n) (points_at r.1 d.0) ≡ true)
+is_open_within r d n h = parts (has d.0 r.0) (has (pos n) (points_at r.1 d.0)) h
   where
     parts : (s t : Bool) → (s && t) ≡ true → (s ≡ true) × (t ≡ true)
     parts true t e = (refl, e)
     parts false t e = absurd (cc)
 
-pub small_view : (r v : Kept) → r ≡ v → ((d : ℤ) → IsUpTo 10000000000000000 (row_sum v d)) → (d : ℤ) → IsUpTo 10000000000000000 (row_sum r d)
-small_view r v e small d = subst (λ (x : Kept). IsUpTo 10000000000000000 (row_sum x d)) (sym e) (small d)
+four : (z : ℤ) → IsUpTo 10000000000000000 z → IsUpTo 40000000000000000 z
+four z h = let l = h.low in let m = h.high in record { low = omega (arith, ints); high = omega (arith, ints) }
 
--- a span with no days of its own adds nothing
-pub none_within : (r v : Kept) → r ≡ v → (k l d : ℤ) → k ≡ l → None ≡ lookup (is_at (int_cmp k)) r.1 → pos 0 ≡ within v l d
-none_within r v e k l d f h = ap (λ (o : Option (List Point)). sum_at (pos 0) (unwrap_or o []) d) h ∙ ap (λ (j : ℤ). within r j d) f ∙ ap (λ (x : Kept). within x l d) e
+pub small_days : (r : Kept) → ((p : Period) → IsUpTo 10000000000000000 (row_sum r p)) → (k : ℤ) → IsUpTo 40000000000000000 (sum_at (pos 0) r.0 k)
+small_days r small k = four _ (small (Through (record { 0 = k })))
 
--- the two parts of a sum
-pub total : (r v : Kept) → r ≡ v → (d k j a b : ℤ) → k ≡ span d → j ≡ k +ℤ negsuc 0 → a ≡ through_span r j → b ≡ within v k d → a +ℤ b ≡ row_sum v d
-total r v e d k j a b f g h i =
-    ap (λ (z : ℤ). z +ℤ b) (h ∙ ap (λ (x : Kept). through_span x j) e ∙ ap (through_span v) (g ∙ ap (λ (z : ℤ). z +ℤ negsuc 0) f))
-    ∙ ap (λ (z : ℤ). through_span v (span d +ℤ negsuc 0) +ℤ z) (i ∙ ap (λ (z : ℤ). within v z d) f)
+pub small_numbers : (r : Kept) → IsRow r → ((p : Period) → IsUpTo 10000000000000000 (row_sum r p)) → (k z : ℤ) → IsUpTo 40000000000000000 (sum_at (pos 0) (points_at r.1 k) z)
+small_numbers r row small k (pos n) = four _ (small (Within (record { 0 = k }) n))
+small_numbers r row small k (negsuc j) = subst (IsUpTo 40000000000000000) (sym (row k j)) (record { low = omega (arith, ints); high = omega (arith, ints) })
 
-pub limit_view : (r v : Kept) → r ≡ v → IsRow r → (d : ℤ) → FitsSigned w64 (row_sum v d)
-limit_view r v e row d = subst (λ (x : Kept). FitsSigned w64 (row_sum x d)) e (let x = row.limit d in let l = x.low in let h = x.high in omega (arith, ints))
+pub small_view : (r v : Kept) → r ≡ v → ((p : Period) → IsUpTo 10000000000000000 (row_sum v p)) → (p : Period) → IsUpTo 10000000000000000 (row_sum r p)
+small_view r v e small p = subst (λ (x : Kept). IsUpTo 10000000000000000 (row_sum x p)) (sym e) (small p)
+
+-- a day with no numbers adds nothing
+pub none_within : (r v : Kept) → r ≡ v → (k l z : ℤ) → k ≡ l → None ≡ lookup (is_at (int_cmp k)) r.1 → pos 0 ≡ sum_at (pos 0) (points_at v.1 l) z
+none_within r v e k l z f h =
+    ap (λ (o : Option (List Point)). sum_at (pos 0) (unwrap_or o []) z) h ∙ ap (λ (j : ℤ). sum_at (pos 0) (points_at r.1 j) z) f ∙ ap (λ (x : Kept). sum_at (pos 0) (points_at x.1 l) z) e

@@ -1,5 +1,5 @@
 -- Running sums by day, of accounts in commodities (own rule).
-use Rattle.std.specs.Prelude.{◌≡◌, true, Bool, ◌&&◌, nat_eq, ℕ, List, [], ℤ, pos, negsuc, ◌+ℤ◌, if◌then◌else◌, int_le, Vec}
+use Rattle.std.specs.Prelude.{◌≡◌, true, Bool, ◌&&◌, nat_eq, ℕ, List, [], ℤ, pos, ◌+ℤ◌, if◌then◌else◌, Vec}
 use Rattle.std.specs.Global.{Global}
 use Rattle.std.specs.Option.{unwrap_or, option_map_or}
 use Rattle.std.specs.Ordering.{nat_cmp}
@@ -12,7 +12,9 @@ use Rattle.money_core.specs.declared.unit.Unit.{Unit as Commodity}
 use Rattle.money_core.specs.declared.day.Day.{Day}
 use Rattle.day_sums.specs.declared.sums.DaySums.{DaySums}
 use Rattle.day_sums.specs.Points.{IsUpTo}
-use Rattle.day_sums.specs.Row.{Kept, row_sum, has_day}
+use Rattle.day_sums.specs.declared.period.Period.{Period}
+use Rattle.day_sums.specs.Period.{is_in}
+use Rattle.day_sums.specs.Row.{Kept, row_sum, has_number}
 
 -- the rows of the accounts in one commodity
 abbrev pub Names : Type 0
@@ -25,17 +27,13 @@ row_at names a = unwrap_or (get_by (λ k. bytes_eq a k.items) names) ([], [])
 abbrev pub look : DaySums → List ℕ → Commodity → Kept
 look rows a u = option_map_or (λ names. row_at names a) (get nat_cmp rows.units u.0) ([], [])
 
--- the sum of an account in a commodity through a day, in smallest units
-abbrev pub sum_of : DaySums → List ℕ → Commodity → Day → ℤ
-sum_of rows a u d = row_sum (look rows a u) d.0
+-- the sum of an account in a commodity over a period, in smallest units
+abbrev pub sum_of : DaySums → List ℕ → Commodity → Period → ℤ
+sum_of rows a u p = row_sum (look rows a u) p
 
--- whether an account's day is open in a commodity: raising from it needs no memory
-abbrev pub is_open : DaySums → List ℕ → Commodity → Day → Bool
-is_open rows a u d = has_day (look rows a u) d.0
-
--- the day before
-abbrev pub day_before : Day → Day
-day_before d = record { 0 = d.0 +ℤ negsuc 0 }
+-- whether a day's number is open for an account in a commodity: raising from it needs no memory
+abbrev pub is_open : DaySums → List ℕ → Commodity → Day → ℕ → Bool
+is_open rows a u d n = has_number (look rows a u) d n
 
 -- no more than the limit on the turnover, up or down
 abbrev pub IsSmall : ℤ → Type 0
@@ -43,14 +41,15 @@ IsSmall z = IsUpTo 10000000000000000 z
 
 -- every sum is as before, and what was open is open
 pub record SameSums (old new : DaySums) : Type 0 where
-  pub sums : (a : List ℕ) (u : Commodity) (d : Day) → sum_of new a u d ≡ sum_of old a u d
-  pub days : (a : List ℕ) (u : Commodity) (d : Day) → is_open old a u d ≡ true → is_open new a u d ≡ true
+  pub sums : (a : List ℕ) (u : Commodity) (p : Period) → sum_of new a u p ≡ sum_of old a u p
+  pub opened : (a : List ℕ) (u : Commodity) (d : Day) (n : ℕ) → is_open old a u d n ≡ true → is_open new a u d n ≡ true
 
--- what a sum is more by where one account has q more in one commodity from a day on
-abbrev pub share_of : List ℕ → Commodity → Day → ℤ → List ℕ → Commodity → Day → ℤ
-share_of account unit day q a u d = if (nat_eq unit.0 u.0 && bytes_eq account a) && int_le day.0 d.0 then q else pos 0
+-- what a sum is more by where one account has q more in one commodity, on a day with number n
+abbrev pub share_of : List ℕ → Commodity → Day → ℕ → ℤ → List ℕ → Commodity → Period → ℤ
+share_of account unit day n q a u p = if (nat_eq unit.0 u.0 && bytes_eq account a) && is_in p day n then q else pos 0
 
--- that account's sums in that commodity are more by q from the day on, every other sum is as before, and what was open is open
-pub record RaisedSums (account : List ℕ) (unit : Commodity) (day : Day) (q : ℤ) (old new : DaySums) : Type 0 where
-  pub sums : (a : List ℕ) (u : Commodity) (d : Day) → sum_of new a u d ≡ sum_of old a u d +ℤ share_of account unit day q a u d
-  pub days : (a : List ℕ) (u : Commodity) (d : Day) → is_open old a u d ≡ true → is_open new a u d ≡ true
+-- that account's sums in that commodity over the periods that it is in are more by q, every other sum is as before, and
+-- what was open is open
+pub record RaisedSums (account : List ℕ) (unit : Commodity) (day : Day) (n : ℕ) (q : ℤ) (old new : DaySums) : Type 0 where
+  pub sums : (a : List ℕ) (u : Commodity) (p : Period) → sum_of new a u p ≡ sum_of old a u p +ℤ share_of account unit day n q a u p
+  pub opened : (a : List ℕ) (u : Commodity) (d : Day) (k : ℕ) → is_open old a u d k ≡ true → is_open new a u d k ≡ true

@@ -1,9 +1,9 @@
-//! Running sums by day, of accounts in commodities, numbers by day, and spots by account and day.
+//! Running sums by day, of accounts in commodities, and spots by account and day.
 #![tactic(auto)]
 
 mod named_spots;
 mod names;
-mod numbers;
+mod period;
 mod points;
 mod row;
 mod spots;
@@ -11,6 +11,6 @@ mod sums;
 
 pub use money_core::{Cause, Day, Unit};
 pub use named_spots::NamedSpots;
-pub use numbers::DayNumbers;
+pub use period::Period;
 pub use spots::Spot;
 pub use sums::DaySums;

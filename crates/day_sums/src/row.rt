@@ -1,27 +1,29 @@
-//! The running sums of one account in one commodity, in spans of days.
+//! The running sums of one account in one commodity.
 
-ghost use Rattle.std.specs.Prelude.{◌≡◌, pos, ℤ, true, false, OnOk};
+ghost use Rattle.std.specs.Prelude.{◌≡◌, pos, ℤ, [], true, false, OnOk};
 ghost use Rattle.std.specs.Result.{IsOkUnless};
 ghost use Rattle.std.specs.Ordering.{int_eq};
 ghost use Rattle.day_sums.specs.Points.{IsUpTo, has, sum_at, SamePoints, RaisedPoints};
-ghost use Rattle.day_sums.specs.Row.{row_sum, has_day, span, within, points_at, SameRow, RaisedRow};
+ghost use Rattle.day_sums.specs.declared.period.Period.{Period as Span};
+ghost use Rattle.day_sums.specs.Row.{row_sum, has_number, points_at, SameRow, RaisedRow};
 
+use crate::period::Period;
 use crate::points::Points;
-use money_core::Cause;
+use money_core::{Cause, Day};
 use std::alloc::Global;
 use std::collections::BTreeMap;
 use std::marker::Model;
 
-/// The sum through a day is that of the spans before its own, and of its own span's days.
+/// The sums through the days, and beside them those of each day's own.
 ///
-/// So a late day moves and raises the days of its own span, and one sum for each later span.
+/// So what is added late, on an earlier day but with a later number, raises the sums of later days and no other day's own.
 #[derive(Drop)]
 pub struct Row {
     alloc: Global,
-    /// For each span the sum through it.
-    spans: Points,
-    /// For each span the sums of its days, without what comes before it.
-    days: BTreeMap<i64, Points>,
+    /// The sum through each day.
+    days: Points,
+    /// For each day the sums of its own, through each number.
+    numbers: BTreeMap<i64, Points>,
 }
 
 impl Model for Row {
@@ -31,108 +33,116 @@ impl Model for Row {
 
     ghost use Rattle.day_sums.specs.Row.{IsRow};
 
-    ghost view = { λ r. (r.spans, r.days.entries) };
+    ghost view = { λ r. (r.days, r.numbers.entries) };
 
-    ghost invariant = { λ r. IsRow (r.spans, r.days.entries) };
+    ghost invariant = { λ r. IsRow (r.days, r.numbers.entries) };
 }
 
-/// The span of a day: 2,048 days each, the first from the day 0 on.
-fn span_of(day: i64) -> i64
-    requires { IsUpTo 4294967296 day }
-    ensures value { result ≡ span day }
-    ensures small { IsUpTo 2097152 result }
+/// The number of a day.
+fn number_of(day: Day) -> i64
+    ensures value { result ≡ day.0 }
+    ensures small { IsUpTo 4294967296 result }
 {
-    day.div_euclid(2048)
+    i64::from(day.0)
 }
 
-/// Opens a day in the points of its span.
-fn open_day(
+/// A number in the width of days.
+fn wide(number: u32) -> i64
+    ensures value { result ≡ pos number }
+    ensures small { IsUpTo 4294967296 result }
+{
+    i64::from(number)
+}
+
+/// Opens a number in the points of a day.
+fn open_number(
     alloc: Global,
-    days: &mut BTreeMap<i64, Points>,
-    span: i64,
+    numbers: &mut BTreeMap<i64, Points>,
     day: i64,
+    number: i64,
 ) -> Result<(), Cause>
-    requires { IsUpTo 4294967296 day }
-    ensures same { (k : ℤ) → SamePoints (points_at days.old.entries k) (points_at days.new.entries k) }
-    ensures open { OnOk result (has day (points_at days.new.entries span) ≡ true) }
+    requires { IsUpTo 4294967296 number }
+    ensures same { (k : ℤ) → SamePoints (points_at numbers.old.entries k) (points_at numbers.new.entries k) }
+    ensures open { OnOk result (has number (points_at numbers.new.entries day) ≡ true) }
     ensures memory { IsOkUnless result Cause.OutOfMemory }
 {
-    if let Some(points) = days.get_mut(&span) {
-        return points.open(day);
+    if let Some(points) = numbers.get_mut(&day) {
+        return points.open(number);
     }
     let mut points = Points::empty(alloc);
-    points.open(day)?;
-    days.insert(span, points)?;
+    points.open(number)?;
+    numbers.insert(day, points)?;
     Ok(())
 }
 
-/// Adds to the sums of a span from a day on, which is open.
-fn raise_day(days: &mut BTreeMap<i64, Points>, span: i64, day: i64, qty: i64)
-    requires small { IsUpTo 4294967296 day }
-    requires open { has day (points_at days.old.entries span) ≡ true }
-    requires sums { (d : ℤ) → IsUpTo 40000000000000000 (sum_at (pos 0) (points_at days.old.entries span) d) }
+/// Adds to the sums of a day's own from a number on, which is open.
+fn raise_number(numbers: &mut BTreeMap<i64, Points>, day: i64, number: i64, qty: i64)
+    requires small { IsUpTo 4294967296 number }
+    requires open { has number (points_at numbers.old.entries day) ≡ true }
+    requires sums { (n : ℤ) → IsUpTo 40000000000000000 (sum_at (pos 0) (points_at numbers.old.entries day) n) }
     requires qty { IsUpTo 10000000000000000 qty }
-    ensures own { RaisedPoints day qty (points_at days.old.entries span) (points_at days.new.entries span) }
-    ensures others { (k : ℤ) → int_eq span k ≡ false → points_at days.new.entries k ≡ points_at days.old.entries k }
+    ensures own { RaisedPoints number qty (points_at numbers.old.entries day) (points_at numbers.new.entries day) }
+    ensures others { (k : ℤ) → int_eq day k ≡ false → points_at numbers.new.entries k ≡ points_at numbers.old.entries k }
 {
-    if let Some(points) = days.get_mut(&span) {
-        points.raise(day, qty);
+    if let Some(points) = numbers.get_mut(&day) {
+        points.raise(number, qty);
     }
 }
 
 impl Row {
     pub fn empty(alloc: Global) -> Self
-        ensures { (d : ℤ) → row_sum result d ≡ pos 0 }
+        ensures { result ≡ ([], []) }
     {
         Row {
             alloc,
-            spans: Points::empty(alloc),
-            days: BTreeMap::new(alloc),
+            days: Points::empty(alloc),
+            numbers: BTreeMap::new(alloc),
         }
     }
 
-    /// What the days of a span add, up to a day.
-    fn within(&self, span: i64, day: i64) -> i64
-        ensures { result ≡ within self.now span day }
+    /// What the numbers of a day add, up to one of them.
+    fn sum_within(&self, day: i64, number: i64) -> i64
+        ensures { result ≡ sum_at (pos 0) (points_at self.now.1 day) number }
     {
-        match self.days.get(&span) {
-            Some(points) => points.sum_through(day),
+        match self.numbers.get(&day) {
+            Some(points) => points.sum_through(number),
             None => 0,
         }
     }
 
-    /// The sum through a day.
-    pub fn sum_through(&self, day: i64) -> i64
-        requires { IsUpTo 4294967296 day }
-        ensures { result ≡ row_sum self.now day }
+    /// The sum over a period.
+    pub fn sum(&self, period: Period) -> i64
+        ensures { result ≡ row_sum self.now period }
     {
-        let span = span_of(day);
-        let before = self.spans.sum_through(span - 1);
-        before + self.within(span, day)
+        match period {
+            Period::Before(day) => self.days.sum_through(number_of(day) - 1),
+            Period::Through(day) => self.days.sum_through(number_of(day)),
+            Period::Within(day, number) => self.sum_within(number_of(day), wide(number)),
+        }
     }
 
-    /// Opens a day, which changes no sum.
-    pub fn open(&mut self, day: i64) -> Result<(), Cause>
-        requires { IsUpTo 4294967296 day }
+    /// Opens a day's number, which changes no sum.
+    pub fn open(&mut self, day: Day, number: u32) -> Result<(), Cause>
         ensures same { SameRow self.old self.new }
-        ensures open { OnOk result (has_day self.new day ≡ true) }
+        ensures open { OnOk result (has_number self.new day number ≡ true) }
         ensures memory { IsOkUnless result Cause.OutOfMemory }
     {
-        let span = span_of(day);
-        self.spans.open(span)?;
-        open_day(self.alloc, &mut self.days, span, day)
+        let at = number_of(day);
+        let number = wide(number);
+        self.days.open(at)?;
+        open_number(self.alloc, &mut self.numbers, at, number)
     }
 
-    /// Adds to each sum from a day on, which is open.
-    pub fn raise(&mut self, day: i64, qty: i64)
-        requires small { IsUpTo 4294967296 day }
-        requires open { has_day self.old day ≡ true }
-        requires sums { (d : ℤ) → IsUpTo 10000000000000000 (row_sum self.old d) }
+    /// Adds to the sums of the periods that a day's number is in, which is open.
+    pub fn raise(&mut self, day: Day, number: u32, qty: i64)
+        requires open { has_number self.old day number ≡ true }
+        requires sums { (p : Span) → IsUpTo 10000000000000000 (row_sum self.old p) }
         requires qty { IsUpTo 10000000000000000 qty }
-        ensures { RaisedRow day qty self.old self.new }
+        ensures { RaisedRow day number qty self.old self.new }
     {
-        let span = span_of(day);
-        self.spans.raise(span, qty);
-        raise_day(&mut self.days, span, day, qty);
+        let at = number_of(day);
+        let number = wide(number);
+        self.days.raise(at, qty);
+        raise_number(&mut self.numbers, at, number, qty);
     }
 }

@@ -35,8 +35,11 @@ fn draw_account(state: &mut u64) -> &'static str {
     ACCOUNTS[draw(state, 6) as usize]
 }
 
-fn draw_day(state: &mut u64) -> Day {
-    Day(draw(state, 9) as i32)
+/// A day below the bound.
+fn draw_day(state: &mut u64, days: u64) -> Day
+    requires { (0 < days) × (days < 10) }
+{
+    Day(draw(state, days) as i32)
 }
 
 /// A quantity of -2 to 2 from one account to another.
@@ -62,8 +65,16 @@ fn draw_claim(state: &mut u64, ledger: &PlainLedger, first: &Leg, day: Day) -> C
 
 /// An entry of one to three quantities from one account to another; every other one asserts what the ledger has on
 /// its first leg, or what is drawn.
-fn draw_entry(rt: &impl Abort, alloc: Global, state: &mut u64, ledger: &PlainLedger) -> Entry {
-    let day = draw_day(state);
+fn draw_entry(
+    rt: &impl Abort,
+    alloc: Global,
+    state: &mut u64,
+    days: u64,
+    ledger: &PlainLedger,
+) -> Entry
+    requires { (0 < days) × (days < 10) }
+{
+    let day = draw_day(state, days);
     let mut legs = Items::empty(alloc);
     for _ in 0..draw(state, 3) + 1 {
         draw_legs(rt, alloc, state, &mut legs);
@@ -107,7 +118,7 @@ fn agree<L: Ledger, M: Ledger>(
 fn agree_on_drawn<L: Ledger, M: Ledger>(rt: &impl Abort, state: &mut u64, one: &L, other: &M) {
     let account = draw_account(state);
     let unit = Unit(draw(state, 3) as u16);
-    let day = draw_day(state);
+    let day = draw_day(state, 9);
     agree(rt, one, other, account, unit, day);
 }
 
@@ -116,15 +127,17 @@ fn step(
     rt: &impl Abort,
     alloc: Global,
     state: &mut u64,
+    days: u64,
     plain: &mut PlainLedger,
     by_day: &mut DayLedger,
 )
+    requires days { (0 < days) × (days < 10) }
     requires plain { IsGoodBook plain.old }
     requires by_day { IsGoodBook by_day.old }
     ensures plain { IsGoodBook plain.new }
     ensures by_day { IsGoodBook by_day.new }
 {
-    let one = draw_entry(rt, alloc, state, plain);
+    let one = draw_entry(rt, alloc, state, days, plain);
     let copy = one.copy().expect(rt, "memory");
     let mut examined = Count { claims: 0 };
     let mut reached = Count { claims: 0 };
@@ -134,15 +147,28 @@ fn step(
     agree_on_drawn(rt, state, plain, by_day);
 }
 
-#[test]
-fn both_ledgers_give_the_same_answers(rt: HostRuntime) {
-    let alloc = rt.alloc();
-    let mut state = 20_240_115;
-    for _ in 0..2_000 {
+/// Draws lists of twelve entries, of so many days.
+fn draw_lists(rt: &impl Abort, alloc: Global, seed: u64, days: u64)
+    requires { (0 < days) × (days < 10) }
+{
+    let mut state = seed;
+    for _ in 0..1_000 {
         let mut plain = PlainLedger::empty(alloc);
         let mut by_day = DayLedger::empty(alloc);
         for _ in 0..12 {
-            step(&rt, alloc, &mut state, &mut plain, &mut by_day);
+            step(rt, alloc, &mut state, days, &mut plain, &mut by_day);
         }
     }
+}
+
+#[test]
+fn both_ledgers_give_the_same_answers(rt: HostRuntime) {
+    draw_lists(&rt, rt.alloc(), 20_240_115, 9);
+}
+
+// So each assertion stands behind others of its day.
+#[test]
+fn both_ledgers_judge_alike_on_one_day_or_two(rt: HostRuntime) {
+    draw_lists(&rt, rt.alloc(), 20_240_116, 1);
+    draw_lists(&rt, rt.alloc(), 20_240_117, 2);
 }

@@ -190,6 +190,45 @@ fn kinds_are_reached_by_other_commodities_and_subaccounts(rt: HostRuntime) {
     assert_kinds(&rt, rt.alloc(), ROWS);
 }
 
+fn assert_on_one_day(
+    rt: &impl Abort,
+    alloc: Global,
+    rows: &[(ClaimKind, i64, (Option<Failing>, u64))],
+) {
+    for (kind, asserted, want) in rows {
+        let mut old = Vec::new(alloc);
+        for (account, qty) in [(BANK, 1000), (SAVINGS, 100)] {
+            let one = transfer(rt, alloc, 10, (account, EUR, qty), "income", None);
+            old.push(one).expect(rt, "memory");
+        }
+        let claim = Some((*kind, *asserted));
+        let new = transfer(rt, alloc, 10, (BANK, EUR, 1), "income", claim);
+        assert_answers(rt, alloc, &old, from_ref(&new), *want);
+    }
+}
+
+// Ten euros and one more on a subaccount on the 10th; then a cent with an assertion of the same day.
+#[test]
+fn an_assertion_looks_at_what_was_entered_before_it_on_its_day(rt: HostRuntime) {
+    const ROWS: &[(ClaimKind, i64, (Option<Failing>, u64))] = &[
+        (ClaimKind::Exact, 1001, (None, 1)),
+        (
+            ClaimKind::Exact,
+            1101,
+            (Some((10, 3, EUR, 1101, 1001)), 1),
+        ),
+        (ClaimKind::Sole, 1001, (None, 1)),
+        (ClaimKind::ExactIn, 1101, (None, 1)),
+        (
+            ClaimKind::ExactIn,
+            1001,
+            (Some((10, 3, EUR, 1001, 1101)), 1),
+        ),
+        (ClaimKind::SoleIn, 1101, (None, 1)),
+    ];
+    assert_on_one_day(&rt, rt.alloc(), ROWS);
+}
+
 /// The balances of a ledger after two assertions and a late entry, and those of accounts above others.
 const BALANCES: &[(&str, u16, i32, i64, i64)] = &[
     ("income:dues", EUR, 9, 0, 0),

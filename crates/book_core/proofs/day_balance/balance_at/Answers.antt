@@ -1,74 +1,95 @@
-use Rattle.std.proofs.Common.{◌≡◌, ◌∙◌, List, ℕ, ℤ, length, arith, ap, sym, subst, ◌+ℤ◌}
+use Rattle.std.proofs.Common.{◌≡◌, ◌∙◌, ◌-◌, ℕ, ℤ, ◌+ℤ◌, List, length, min, ap, sym, subst, arith, to_z, of_z, w64, FitsSigned}
 use Rattle.std.proofs.lemmas.Int.{ints}
-use Rattle.day_sums.specs.Sums.{day_before, sum_of}
+use Rattle.day_sums.specs.declared.period.Period.{Period}
+use Rattle.day_sums.specs.declared.period.Period.TheVariants.{Before, Within}
+use Rattle.day_sums.specs.Period.{is_in}
+use Rattle.day_sums.specs.Sums.{sum_of}
 use Rattle.book_core.specs.declared.place.Until.{Until}
-use Rattle.book_core.specs.declared.place.Until.TheVariants.{At, Through}
-use Rattle.book_core.specs.Balance.{balance, counts}
+use Rattle.book_core.specs.declared.place.Until.TheVariants.{At}
+use Rattle.book_core.specs.Book.{posted}
+use Rattle.book_core.specs.Balance.{balance, counts, total}
 use Rattle.book_core.specs.Query.{balance_for}
-use Rattle.book_core.specs.DayPlace.{AreNumbers, sum_numbers}
+use Rattle.book_core.specs.DayRows.{counts_in}
+use Rattle.book_core.specs.DayPlace.{is_own}
+use Rattle.book_core.specs.GoodBook.{most_turnover}
+use Rattle.book_core.proofs.SumLemmas.{Within as IsWithin, within_meant}
 use Rattle.book_core.proofs.BalanceLemmas.{small_within}
-use Rattle.book_core.proofs.DayPlaceLemmas.{numbers_in, balance_place}
+use Rattle.book_core.proofs.DayPlaceLemmas.{balance_place}
 use Rattle.book_core.proofs.day_balance.balance_at.Goals as goal
 
-pub sum_of_numbers-on_day-requires-clause-numbers : goal.sum_of_numbers-on_day-requires-clause-numbers
-sum_of_numbers-on_day-requires-clause-numbers c =
-    subst (AreNumbers c.args.entries.now) (sym (c.numbers_of.ensures ∙ c.requires.numbers c.args.place.day)) (numbers_in c.args.place.day 1 (length c.args.entries.now) c.args.entries.now (omega arith) (omega arith))
+-- what the book has over a period
+over : (c : goal.After-own_share-own) → Period → ℤ
+over c p = total (counts_in c.args.query.now.reach c.args.query.now.account.now c.args.query.now.unit p) (posted c.args.entries.now)
 
--- the sum before the day
-before : (c : goal.After-from) → c.sum_before_day-before.result ≡ balance c.args.query.now.reach c.args.entries.now c.args.query.now.account.now c.args.query.now.unit (Through (day_before c.args.place.day))
+over_within : (c : goal.After-own_share-own) (p : Period) → IsWithin most_turnover (over c p)
+unfolding over
+over_within c p =
+    let w = within_meant c.args.query.now.reach c.args.query.now.account.now c.args.query.now.unit (λ x. is_in p x.place.day x.place.entry) 1 c.args.entries.now in
+    let l = w.low in
+    let h = w.high in
+    let r = c.requires.room c.args.query.now.unit in
+    record { low = omega (arith, ints); high = omega (arith, ints) }
+
+-- the number of the last earlier entry
+earlier : (c : goal.After-own_share-own) → c.min-earlier.result ≡ min (c.args.place.entry - 1) (length c.args.entries.now)
+earlier c = c.min-earlier.ensures ∙ ap (λ (n : ℕ). min n (length c.args.entries.now)) c.saturating_sub.ensures
+
+before : (c : goal.After-own_share-own) → c.sum-before.result ≡ over c (Before c.args.place.day)
+unfolding over
 before c =
-    c.sum_before_day-before.ensures ∙ ap (λ (a : List ℕ). sum_of c.args.rows.now a c.args.query.now.unit (day_before c.args.place.day)) c.as_bytes.ensures.value
-    ∙ c.requires.sums c.args.query.now.account.now c.args.query.now.unit (day_before c.args.place.day)
+    c.sum-before.ensures ∙ ap (λ (a : List ℕ). sum_of c.args.rows.now a c.args.query.now.unit (Before c.args.place.day)) c.as_bytes-account.ensures.value ∙ c.requires.sums c.args.query.now.account.now c.args.query.now.unit (Before c.args.place.day)
 
--- both parts are the balance
-parts : (c : goal.After-from) → c.sum_before_day-before.result +ℤ c.sum_of_numbers-on_day.result ≡ balance_for c.args.query.now c.args.entries.now
+on_day : (c : goal.After-own_share-own) → c.sum-on_day.result ≡ over c (Within c.args.place.day (min (c.args.place.entry - 1) (length c.args.entries.now)))
+unfolding over
+on_day c =
+    c.sum-on_day.ensures ∙ ap (λ (a : List ℕ). sum_of c.args.rows.now a c.args.query.now.unit (Within c.args.place.day c.min-earlier.result)) c.as_bytes-account.ensures.value ∙ c.requires.sums c.args.query.now.account.now c.args.query.now.unit (Within c.args.place.day c.min-earlier.result)
+    ∙ ap (λ (n : ℕ). over c (Within c.args.place.day n)) (earlier c)
+
+-- the three parts are the balance
+parts : (c : goal.After-own_share-own) → balance_for c.args.query.now c.args.entries.now ≡ (c.sum-before.result +ℤ c.sum-on_day.result) +ℤ c.own_share-own.result
+unfolding over
 parts c =
-    let reach = c.args.query.now.reach in
-    let name = c.args.query.now.account.now in
-    let unit = c.args.query.now.unit in
+    let q = c.args.query.now in
     let b = c.args.entries.now in
-    let at : c.args.query.now.limit ≡ At c.args.place = c.requires.at in
-    ap (λ (z : ℤ). z +ℤ c.sum_of_numbers-on_day.result) (before c)
-    ∙ ap (λ (z : ℤ). balance reach b name unit (Through (day_before c.args.place.day)) +ℤ z)
-    (c.sum_of_numbers-on_day.ensures ∙ ap (λ (l : Until). sum_numbers (counts reach name unit l) b c.numbers_of.result.now) at ∙ ap (sum_numbers (counts reach name unit (At c.args.place)) b) (c.numbers_of.ensures ∙ c.requires.numbers c.args.place.day))
-    ∙ sym (balance_place reach b name unit c.args.place)
-    ∙ sym (ap (balance reach b name unit) at)
+    let p = c.args.place in
+    let at : q.limit ≡ At p = c.requires.at in
+    ap (balance q.reach b q.account.now q.unit) at ∙ balance_place q.reach b q.account.now q.unit p
+    ∙ ap (λ (z : ℤ). (z +ℤ over c (Within p.day (min (p.entry - 1) (length b)))) +ℤ total (is_own (counts q.reach q.account.now q.unit (At p)) p) (posted b)) (sym (before c))
+    ∙ ap (λ (z : ℤ). (c.sum-before.result +ℤ z) +ℤ total (is_own (counts q.reach q.account.now q.unit (At p)) p) (posted b)) (sym (on_day c))
+    ∙ ap (λ (z : ℤ). (c.sum-before.result +ℤ c.sum-on_day.result) +ℤ z) (sym (c.own_share-own.ensures ∙ ap (λ (l : Until). total (is_own (counts q.reach q.account.now q.unit l) p) (posted b)) at))
 
-pub overflow_add-sum : goal.overflow_add-sum
-overflow_add-sum c =
-    let b = small_within c.args.entries.now c.requires.room c.args.query.now.reach c.args.query.now.account.now c.args.query.now.unit c.args.query.now.limit in
-    let t = small_within c.args.entries.now c.requires.room c.args.query.now.reach c.args.query.now.account.now c.args.query.now.unit (Through (day_before c.args.place.day)) in
-    let bl = b.low in
-    let bh = b.high in
-    let tl = t.low in
-    let th = t.high in
-    let e = before c in
-    let p = parts c in
-    let f = c.from.ensures in
+small : (c : goal.After-own_share-own) → IsWithin most_turnover c.sum-before.result × IsWithin most_turnover c.sum-on_day.result × IsWithin most_turnover (balance_for c.args.query.now c.args.entries.now)
+small c = (
+  subst (IsWithin most_turnover) (sym (before c)) (over_within c _),
+  subst (IsWithin most_turnover) (sym (on_day c)) (over_within c _),
+  small_within c.args.entries.now c.requires.room c.args.query.now.reach c.args.query.now.account.now c.args.query.now.unit c.args.query.now.limit,
+)
+
+pub overflow_add-result : goal.overflow_add-result
+overflow_add-result c =
+    let w = small c in
+    let a = w.0.low in
+    let b = w.0.high in
+    let d = w.1.low in
+    let e = w.1.high in
     omega (arith, ints)
 
-pub overflow_cast-result : goal.overflow_cast-result
-overflow_cast-result c =
-    let b = small_within c.args.entries.now c.requires.room c.args.query.now.reach c.args.query.now.account.now c.args.query.now.unit c.args.query.now.limit in
-    let t = small_within c.args.entries.now c.requires.room c.args.query.now.reach c.args.query.now.account.now c.args.query.now.unit (Through (day_before c.args.place.day)) in
-    let bl = b.low in
-    let bh = b.high in
-    let tl = t.low in
-    let th = t.high in
-    let e = before c in
+pub overflow_add-result-2 : goal.overflow_add-result-2
+overflow_add-result-2 c =
+    let w = small c in
+    let a = w.0.low in
+    let b = w.0.high in
+    let d = w.1.low in
+    let e = w.1.high in
+    let f = w.2.low in
+    let g = w.2.high in
+    let h : FitsSigned w64 (to_z w64 (of_z w64 c.sum-before.result) +ℤ to_z w64 (of_z w64 c.sum-on_day.result)) = overflow_add-result c in
     let p = parts c in
-    let f = c.from.ensures in
     omega (arith, ints)
 
 pub returns : goal.returns
 returns c =
-    let b = small_within c.args.entries.now c.requires.room c.args.query.now.reach c.args.query.now.account.now c.args.query.now.unit c.args.query.now.limit in
-    let t = small_within c.args.entries.now c.requires.room c.args.query.now.reach c.args.query.now.account.now c.args.query.now.unit (Through (day_before c.args.place.day)) in
-    let bl = b.low in
-    let bh = b.high in
-    let tl = t.low in
-    let th = t.high in
-    let e = before c in
+    let h : FitsSigned w64 (to_z w64 (of_z w64 c.sum-before.result) +ℤ to_z w64 (of_z w64 c.sum-on_day.result)) = overflow_add-result c in
+    let k : FitsSigned w64 (to_z w64 (of_z w64 (to_z w64 (of_z w64 c.sum-before.result) +ℤ to_z w64 (of_z w64 c.sum-on_day.result))) +ℤ to_z w64 (of_z w64 c.own_share-own.result)) = overflow_add-result-2 c in
     let p = parts c in
-    let f = c.from.ensures in
     omega (arith, ints)

@@ -6,5 +6,5 @@ use Rattle.book_core.proofs.day_rows.open_legs.Given as goal
 abbrev pub invariant-loop-leg : goal.invariant-loop-leg
 invariant-loop-leg l = record {
   same : SameSums l.fn.rows l.rows;
-  opened : AreOpen l.fn.reach l.rows (take l.leg-index l.legs) l.day;
+  opened : AreOpen l.fn.reach l.rows (take l.leg-index l.legs) l.day l.number;
 }

@@ -4,6 +4,6 @@ use Rattle.book_core.proofs.day_rows.raise_legs.Given as goal
 
 abbrev pub invariant-loop-leg : goal.invariant-loop-leg
 invariant-loop-leg l = record {
-  opened : AreOpen l.fn.reach l.rows l.legs l.day;
-  adding : Adding l.fn.reach l.legs l.day l.leg-index l.fn.rows l.rows;
+  opened : AreOpen l.fn.reach l.rows l.legs l.day l.number;
+  adding : Adding l.fn.reach l.legs l.day l.number l.leg-index l.fn.rows l.rows;
 }

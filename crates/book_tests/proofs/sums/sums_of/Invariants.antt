@@ -1,5 +1,5 @@
 use Rattle.book_tests.proofs.SumLemmas.{AreUpTo}
 use Rattle.book_tests.proofs.sums.sums_of.Given as goal
 
-abbrev pub invariant-loop-account : goal.invariant-loop-account
-invariant-loop-account l = AreUpTo l.limit l.sums
+abbrev pub invariant-loop-more : goal.invariant-loop-more
+invariant-loop-more l = AreUpTo l.limit l.sums

@@ -1,8 +1,7 @@
-use Rattle.std.proofs.Common.{◌≡◌, ◌∙◌, sym, ap, subst, ℤ, List, [], ℕ, rules, w64}
-use Rattle.std.proofs.lemmas.Int.{to_z-of_z}
-use Rattle.day_sums.specs.Row.{Kept, SameRow, has_day}
+use Rattle.std.proofs.Common.{◌≡◌, ◌∙◌, sym, ap, subst, List, [], ℕ, rules}
+use Rattle.day_sums.specs.Row.{Kept, SameRow, has_number}
 use Rattle.day_sums.specs.Sums.{Names, row_at}
-use Rattle.day_sums.proofs.NameLemmas.{Writes, same_rows, row_own, in_row, blank_same}
+use Rattle.day_sums.proofs.NameLemmas.{Writes, same_rows, row_own, in_row}
 use Rattle.day_sums.proofs.names.open_name.Goals as goal
 
 pub returns-in-Some-clause-same : goal.returns-in-Some-clause-same
@@ -18,10 +17,10 @@ returns-in-Ok-clause-same c =
     let put : Writes c.args.account.now old c.insert.new.self c.open-2.new.self = subst (λ (name : List ℕ). Writes name old c.insert.new.self c.open-2.new.self) c.in_ok-name.ensures.items c.in-Ok.ensures.updates in
     let was : ([], []) ≡ row_at old c.args.account.now = none ∙ ap (λ (m : Names). row_at m c.args.account.now) (sym kept) in
     subst (λ (m : Names). (a : List ℕ) → SameRow (row_at m a) (row_at c.insert.new.self a)) kept
-    (same_rows c.args.account.now old c.insert.new.self c.open-2.new.self put (subst (λ (r : Kept). SameRow r c.open-2.new.self) was (blank_same _ c.open-2.new.self c.empty-row.ensures c.in_ok-open.ensures.same)))
+    (same_rows c.args.account.now old c.insert.new.self c.open-2.new.self put (subst (λ (r : Kept). SameRow r c.open-2.new.self) was (subst (λ (r : Kept). SameRow r c.open-2.new.self) c.empty-row.ensures c.in_ok-open.ensures.same)))
 
 pub returns-in-Ok-clause-open : goal.returns-in-Ok-clause-open
 returns-in-Ok-clause-open c =
     let old = c.get_mut.follows.lender-at-none in
     let put : Writes c.args.account.now old c.insert.new.self c.open-2.new.self = subst (λ (name : List ℕ). Writes name old c.insert.new.self c.open-2.new.self) c.in_ok-name.ensures.items c.in-Ok.ensures.updates in
-    ap (λ (r : Kept). has_day r c.args.day) (row_own c.args.account.now old c.insert.new.self c.open-2.new.self put) ∙ ap (λ (d : ℤ). has_day c.open-2.new.self d) (sym (to_z-of_z w64 c.args.day (search rules))) ∙ c.in_ok-open.ensures.open
+    ap (λ (r : Kept). has_number r c.args.day c.args.number) (row_own c.args.account.now old c.insert.new.self c.open-2.new.self put) ∙ c.in_ok-open.ensures.open

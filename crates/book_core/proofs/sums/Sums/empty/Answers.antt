@@ -1,7 +1,6 @@
 use Rattle.std.proofs.Common.{List, ℕ, ap, arith, length}
 use Rattle.book_core.specs.declared.account.Reach.TheVariants.{Own, Inside}
 use Rattle.book_core.proofs.DayLemmas.{sums_none, moved_none}
-use Rattle.book_core.proofs.DayPlaceLemmas.{days_none}
 use Rattle.book_core.proofs.sums.Sums.empty.Goals as goal
 
 pub returns : goal.returns
@@ -10,5 +9,5 @@ returns c = record {
   inside = sums_none Inside c.empty-2.result c.empty-2.ensures;
   moved = moved_none c.new.result.items c.new.ensures.items;
   few_units = omega (arith, ap (λ (t : List ℕ). length t) c.new.ensures.items);
-  days = days_none c.empty-3.result c.empty-3.ensures;
+  few = omega arith;
 }

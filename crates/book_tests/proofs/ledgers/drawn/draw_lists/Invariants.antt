@@ -1,5 +1,5 @@
 use Rattle.book_core.specs.GoodBook.{IsGoodBook}
-use Rattle.book_tests.proofs.ledgers.drawn.both_ledgers_give_the_same_answers.Given as goal
+use Rattle.book_tests.proofs.ledgers.drawn.draw_lists.Given as goal
 
 abbrev pub invariant-loop-2 : goal.invariant-loop-2
 invariant-loop-2 g l = record {
