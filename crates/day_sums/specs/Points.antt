@@ -1,5 +1,5 @@
 -- A row of numbers that rise, each with the sum through it.
-use Rattle.std.specs.Prelude.{◌≡◌, Bool, true, ℕ, nat_eq, nat_lt, ◌-◌, ◌&&◌, if◌then◌else◌, List, [], ◌∷◌, ◌++◌, length, take, drop, map, slice_index_or, ℤ, pos, ◌+ℤ◌, ◌<ℤ◌, ◌≤ℤ◌, neg_ℤ, ⊤, int_le, int_lt}
+use Rattle.std.specs.Prelude.{◌≡◌, Bool, true, false, ℕ, nat_eq, nat_lt, ◌-◌, ◌&&◌, if◌then◌else◌, List, [], ◌∷◌, ◌++◌, length, take, drop, map, slice_index_or, ℤ, pos, ◌+ℤ◌, ◌<ℤ◌, ◌≤ℤ◌, neg_ℤ, ⊤, int_le, int_lt}
 use Rattle.std.specs.List.{AllByRecursion, list_any}
 use Rattle.std.specs.Ordering.{int_eq}
 use Rattle.day_sums.specs.declared.points.Point.{Point}
@@ -12,6 +12,11 @@ sum_at z (p ∷ ps) d = if int_le p.at d then sum_at p.sum ps d else z
 -- whether a number has its point
 abbrev pub has : ℤ → List Point → Bool
 has d ps = list_any (λ (p : Point). int_eq p.at d) ps
+
+-- whether there is no point
+abbrev pub is_none : List Point → Bool
+is_none [] = true
+is_none (p ∷ ps) = false
 
 -- the numbers rise
 abbrev pub Ascends : List Point → Type 0

@@ -1,12 +1,12 @@
 -- The running sums of one row: through each day, and on each day through each of its numbers.
-use Rattle.std.specs.Prelude.{◌≡◌, true, Bool, ◌&&◌, List, [], ℕ, ℤ, pos, negsuc, ◌+ℤ◌, if◌then◌else◌}
+use Rattle.std.specs.Prelude.{◌≡◌, true, Bool, ◌&&◌, List, [], ◌∷◌, ℕ, ℤ, pos, negsuc, ◌+ℤ◌, if◌then◌else◌}
 use Rattle.std.specs.Option.{unwrap_or}
 use Rattle.std.specs.Ordering.{int_cmp}
 use Rattle.std.specs.BTreeMap.{is_at}
 use Rattle.std.specs.Map.{lookup}
 use Rattle.money_core.specs.declared.day.Day.{Day}
 use Rattle.day_sums.specs.declared.points.Point.{Point}
-use Rattle.day_sums.specs.Points.{sum_at, has}
+use Rattle.day_sums.specs.Points.{is_none, sum_at, has}
 use Rattle.day_sums.specs.declared.period.Period.{Period}
 use Rattle.day_sums.specs.declared.period.Period.TheVariants.{Before, Through, Within}
 use Rattle.day_sums.specs.Period.{is_in}
@@ -24,6 +24,14 @@ abbrev pub row_sum : Kept → Period → ℤ
 row_sum r (Before d) = sum_at (pos 0) r.0 (d.0 +ℤ negsuc 0)
 row_sum r (Through d) = sum_at (pos 0) r.0 d.0
 row_sum r (Within d n) = sum_at (pos 0) (points_at r.1 d.0) (pos n)
+
+-- the row of one quantity
+abbrev pub one : Day → ℕ → ℤ → Kept
+one day n q = (record { at = day.0; sum = q } ∷ [], (day.0, record { at = pos n; sum = q } ∷ []) ∷ [])
+
+-- a row that has no day yet has its first quantity alone
+abbrev pub whole : Day → ℕ → ℤ → Kept → Kept
+whole day n q r = if is_none r.0 then one day n q else r
 
 -- whether a day's number is open
 abbrev pub has_number : Kept → Day → ℕ → Bool

@@ -1,6 +1,7 @@
 //! Running sums by day, of accounts in commodities, and spots by account and day.
 #![tactic(auto)]
 
+mod days;
 mod named_spots;
 mod names;
 mod period;

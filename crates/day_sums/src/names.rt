@@ -39,8 +39,7 @@ pub fn open_name(
     if let Some(row) = names.get_mut(account) {
         return row.open(day, number);
     }
-    let mut row = Row::empty(alloc);
-    row.open(day, number)?;
+    let row = Row::of(alloc, day, number);
     let name = Vec::from_slice(alloc, account)?;
     match names.insert(name, row) {
         Ok(_) => Ok(()),

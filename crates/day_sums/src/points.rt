@@ -1,10 +1,10 @@
 //! A row of numbers that rise, each with the sum through it.
 
-ghost use Rattle.std.specs.Prelude.{◌≡◌, ◌≤◌, [], length, pos, ℤ, true, OnOk, OnErr};
+ghost use Rattle.std.specs.Prelude.{◌≡◌, ◌≤◌, [], ◌∷◌, length, pos, ℤ, true, IfOk, OnOk, OnErr};
 ghost use Rattle.std.specs.List.{prefix_len, AllByRecursion};
 ghost use Rattle.std.specs.Result.{IsOkUnless};
 ghost use Rattle.day_sums.specs.declared.points.Point.{Point as Spot};
-ghost use Rattle.day_sums.specs.Points.{sum_at, has, Ascends, IsUpTo, SamePoints, RaisedPoints, is_before, is_through, base_at, is_there, raised_from};
+ghost use Rattle.day_sums.specs.Points.{is_none, sum_at, has, Ascends, IsUpTo, SamePoints, RaisedPoints, is_before, is_through, base_at, is_there, raised_from};
 
 use money_core::Cause;
 use std::alloc::Global;
@@ -103,6 +103,23 @@ impl Points {
         Points {
             points: Vec::new(alloc),
         }
+    }
+
+    /// One point. Takes no more room than it needs.
+    pub fn one(alloc: Global, at: i64, sum: i64) -> Result<Self, Cause>
+        ensures value { IfOk result (λ points. points ≡ record { at = at; sum = sum } ∷ []) }
+        ensures memory { IsOkUnless result Cause.OutOfMemory }
+    {
+        let mut points = Vec::with_capacity(alloc, 1)?;
+        points.push(Point { at, sum })?;
+        Ok(Points { points })
+    }
+
+    /// Whether there is no point.
+    pub fn is_empty(&self) -> bool
+        ensures { result ≡ is_none self.now }
+    {
+        self.points.is_empty()
     }
 
     /// The sum through a number.

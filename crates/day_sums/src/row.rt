@@ -1,29 +1,26 @@
 //! The running sums of one account in one commodity.
 
-ghost use Rattle.std.specs.Prelude.{◌≡◌, pos, ℤ, [], true, false, OnOk};
+ghost use Rattle.std.specs.Prelude.{◌≡◌, [], true, OnOk};
 ghost use Rattle.std.specs.Result.{IsOkUnless};
-ghost use Rattle.std.specs.Ordering.{int_eq};
-ghost use Rattle.day_sums.specs.Points.{IsUpTo, has, sum_at, SamePoints, RaisedPoints};
 ghost use Rattle.day_sums.specs.declared.period.Period.{Period as Span};
-ghost use Rattle.day_sums.specs.Row.{row_sum, has_number, points_at, SameRow, RaisedRow};
+ghost use Rattle.day_sums.specs.Points.{IsUpTo};
+ghost use Rattle.day_sums.specs.Row.{row_sum, has_number, SameRow, RaisedRow};
 
-use crate::period::Period;
-use crate::points::Points;
+use crate::days::Days;
+use crate::period::{Period, is_in};
 use money_core::{Cause, Day};
 use std::alloc::Global;
-use std::collections::BTreeMap;
 use std::marker::Model;
 
-/// The sums through the days, and beside them those of each day's own.
-///
-/// So what is added late, on an earlier day but with a later number, raises the sums of later days and no other day's own.
+/// A row's first quantity stands in the row itself, and takes no room of its own, until there is another day or number.
 #[derive(Drop)]
 pub struct Row {
     alloc: Global,
-    /// The sum through each day.
-    days: Points,
-    /// For each day the sums of its own, through each number.
-    numbers: BTreeMap<i64, Points>,
+    day: Day,
+    number: u32,
+    qty: i64,
+    /// All sums, once there is another day or number; none till then.
+    days: Days,
 }
 
 impl Model for Row {
@@ -31,82 +28,23 @@ impl Model for Row {
 
     ghost Value = { Kept };
 
-    ghost use Rattle.day_sums.specs.Row.{IsRow};
+    ghost use Rattle.day_sums.specs.Row.{whole};
 
-    ghost view = { λ r. (r.days, r.numbers.entries) };
-
-    ghost invariant = { λ r. IsRow (r.days, r.numbers.entries) };
-}
-
-/// The number of a day.
-fn number_of(day: Day) -> i64
-    ensures value { result ≡ day.0 }
-    ensures small { IsUpTo 4294967296 result }
-{
-    i64::from(day.0)
-}
-
-/// A number in the width of days.
-fn wide(number: u32) -> i64
-    ensures value { result ≡ pos number }
-    ensures small { IsUpTo 4294967296 result }
-{
-    i64::from(number)
-}
-
-/// Opens a number in the points of a day.
-fn open_number(
-    alloc: Global,
-    numbers: &mut BTreeMap<i64, Points>,
-    day: i64,
-    number: i64,
-) -> Result<(), Cause>
-    requires { IsUpTo 4294967296 number }
-    ensures same { (k : ℤ) → SamePoints (points_at numbers.old.entries k) (points_at numbers.new.entries k) }
-    ensures open { OnOk result (has number (points_at numbers.new.entries day) ≡ true) }
-    ensures memory { IsOkUnless result Cause.OutOfMemory }
-{
-    if let Some(points) = numbers.get_mut(&day) {
-        return points.open(number);
-    }
-    let mut points = Points::empty(alloc);
-    points.open(number)?;
-    numbers.insert(day, points)?;
-    Ok(())
-}
-
-/// Adds to the sums of a day's own from a number on, which is open.
-fn raise_number(numbers: &mut BTreeMap<i64, Points>, day: i64, number: i64, qty: i64)
-    requires small { IsUpTo 4294967296 number }
-    requires open { has number (points_at numbers.old.entries day) ≡ true }
-    requires sums { (n : ℤ) → IsUpTo 40000000000000000 (sum_at (pos 0) (points_at numbers.old.entries day) n) }
-    requires qty { IsUpTo 10000000000000000 qty }
-    ensures own { RaisedPoints number qty (points_at numbers.old.entries day) (points_at numbers.new.entries day) }
-    ensures others { (k : ℤ) → int_eq day k ≡ false → points_at numbers.new.entries k ≡ points_at numbers.old.entries k }
-{
-    if let Some(points) = numbers.get_mut(&day) {
-        points.raise(number, qty);
-    }
+    ghost view = { λ r. whole r.day r.number r.qty r.days };
 }
 
 impl Row {
-    pub fn empty(alloc: Global) -> Self
-        ensures { result ≡ ([], []) }
+    /// A row in which a day's number is open.
+    pub fn of(alloc: Global, day: Day, number: u32) -> Self
+        ensures same { SameRow ([], []) result }
+        ensures open { has_number result day number ≡ true }
     {
         Row {
             alloc,
-            days: Points::empty(alloc),
-            numbers: BTreeMap::new(alloc),
-        }
-    }
-
-    /// What the numbers of a day add, up to one of them.
-    fn sum_within(&self, day: i64, number: i64) -> i64
-        ensures { result ≡ sum_at (pos 0) (points_at self.now.1 day) number }
-    {
-        match self.numbers.get(&day) {
-            Some(points) => points.sum_through(number),
-            None => 0,
+            day,
+            number,
+            qty: 0,
+            days: Days::empty(alloc),
         }
     }
 
@@ -114,10 +52,13 @@ impl Row {
     pub fn sum(&self, period: Period) -> i64
         ensures { result ≡ row_sum self.now period }
     {
-        match period {
-            Period::Before(day) => self.days.sum_through(number_of(day) - 1),
-            Period::Through(day) => self.days.sum_through(number_of(day)),
-            Period::Within(day, number) => self.sum_within(number_of(day), wide(number)),
+        if !self.days.is_empty() {
+            return self.days.sum(period);
+        }
+        if is_in(period, self.day, self.number) {
+            self.qty
+        } else {
+            0
         }
     }
 
@@ -127,10 +68,16 @@ impl Row {
         ensures open { OnOk result (has_number self.new day number ≡ true) }
         ensures memory { IsOkUnless result Cause.OutOfMemory }
     {
-        let at = number_of(day);
-        let number = wide(number);
-        self.days.open(at)?;
-        open_number(self.alloc, &mut self.numbers, at, number)
+        if !self.days.is_empty() {
+            return self.days.open(day, number);
+        }
+        if self.day == day && self.number == number {
+            return Ok(());
+        }
+        let mut days = Days::of(self.alloc, self.day, self.number, self.qty)?;
+        days.open(day, number)?;
+        self.days = days;
+        Ok(())
     }
 
     /// Adds to the sums of the periods that a day's number is in, which is open.
@@ -140,9 +87,10 @@ impl Row {
         requires qty { IsUpTo 10000000000000000 qty }
         ensures { RaisedRow day number qty self.old self.new }
     {
-        let at = number_of(day);
-        let number = wide(number);
-        self.days.raise(at, qty);
-        raise_number(&mut self.numbers, at, number, qty);
+        if self.days.is_empty() {
+            self.qty += qty;
+        } else {
+            self.days.raise(day, number, qty);
+        }
     }
 }

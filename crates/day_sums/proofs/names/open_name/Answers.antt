@@ -14,13 +14,13 @@ returns-in-Ok-clause-same c =
     let old = c.get_mut.follows.lender-at-none in
     let kept = c.get_mut.follows.holds-at-none in
     let none : ([], []) ≡ row_at c.args.names.now c.args.account.now = ap in_row c.in_default.ensures.value in
-    let put : Writes c.args.account.now old c.insert.new.self c.open-2.new.self = subst (λ (name : List ℕ). Writes name old c.insert.new.self c.open-2.new.self) c.in_ok-name.ensures.items c.in-Ok.ensures.updates in
+    let put : Writes c.args.account.now old c.insert.new.self c.of-row.result = subst (λ (name : List ℕ). Writes name old c.insert.new.self c.of-row.result) c.in_ok-name.ensures.items c.in-Ok.ensures.updates in
     let was : ([], []) ≡ row_at old c.args.account.now = none ∙ ap (λ (m : Names). row_at m c.args.account.now) (sym kept) in
     subst (λ (m : Names). (a : List ℕ) → SameRow (row_at m a) (row_at c.insert.new.self a)) kept
-    (same_rows c.args.account.now old c.insert.new.self c.open-2.new.self put (subst (λ (r : Kept). SameRow r c.open-2.new.self) was (subst (λ (r : Kept). SameRow r c.open-2.new.self) c.empty-row.ensures c.in_ok-open.ensures.same)))
+    (same_rows c.args.account.now old c.insert.new.self c.of-row.result put (subst (λ (r : Kept). SameRow r c.of-row.result) was c.of-row.ensures.same))
 
 pub returns-in-Ok-clause-open : goal.returns-in-Ok-clause-open
 returns-in-Ok-clause-open c =
     let old = c.get_mut.follows.lender-at-none in
-    let put : Writes c.args.account.now old c.insert.new.self c.open-2.new.self = subst (λ (name : List ℕ). Writes name old c.insert.new.self c.open-2.new.self) c.in_ok-name.ensures.items c.in-Ok.ensures.updates in
-    ap (λ (r : Kept). has_number r c.args.day c.args.number) (row_own c.args.account.now old c.insert.new.self c.open-2.new.self put) ∙ c.in_ok-open.ensures.open
+    let put : Writes c.args.account.now old c.insert.new.self c.of-row.result = subst (λ (name : List ℕ). Writes name old c.insert.new.self c.of-row.result) c.in_ok-name.ensures.items c.in-Ok.ensures.updates in
+    ap (λ (r : Kept). has_number r c.args.day c.args.number) (row_own c.args.account.now old c.insert.new.self c.of-row.result put) ∙ c.of-row.ensures.open

@@ -1,33 +1,23 @@
-use Rattle.std.proofs.Common.{◌∙◌, ap, subst, ℤ, pos, rules, w64, to_z, of_z}
-use Rattle.std.proofs.lemmas.Int.{to_z-of_z}
-use Rattle.day_sums.specs.Points.{has}
-use Rattle.day_sums.specs.Row.{Kept, IsRow, RaisedRow, has_number, points_at}
-use Rattle.day_sums.proofs.RowLemmas.{small_days, small_numbers, small_view, is_open_within, raised_parts}
+use Rattle.std.proofs.Common.{◌∙◌, sym, arith}
+use Rattle.std.proofs.lemmas.Int.{ints}
+use Rattle.day_sums.proofs.FirstLemmas.{first_small, raised_first}
 use Rattle.day_sums.proofs.row.Row.raise.Goals as goal
 
-pub raise-requires-clause-sums : goal.raise-requires-clause-sums
-raise-requires-clause-sums c = small_days (c.self.inside.days, c.self.inside.numbers.entries) (small_view _ _ c.self.view_is c.requires.sums)
+pub overflow_add-self : goal.overflow_add-self
+overflow_add-self c =
+    let h = first_small c.args.self.now c.self.inside.day c.self.inside.number c.self.inside.qty c.self.inside.days c.self.view_is (sym c.is_empty.ensures ∙ c.if-is_empty.true) c.requires.sums in
+    let a = h.low in
+    let b = h.high in
+    let d = c.requires.qty.low in
+    let e = c.requires.qty.high in
+    omega (arith, ints)
 
-pub raise_number-requires-clause-open : goal.raise_number-requires-clause-open
-raise_number-requires-clause-open c =
-    let es = c.self.inside.numbers.entries in
-    let at = to_z-of_z w64 c.number_of-at.result (search rules) ∙ c.number_of-at.ensures.value in
-    let number = to_z-of_z w64 c.wide-number.result (search rules) ∙ c.wide-number.ensures.value in
-    ap (λ (n : ℤ). has n (points_at es (to_z w64 (of_z w64 c.number_of-at.result)))) number ∙ ap (λ (k : ℤ). has (pos c.args.number) (points_at es k)) at
-    ∙ (is_open_within (c.self.inside.days, es) c.args.day c.args.number (ap (λ (r : Kept). has_number r c.args.day c.args.number) c.self.view_is ∙ c.requires.open)).1
-
-pub raise_number-requires-clause-sums : goal.raise_number-requires-clause-sums
-raise_number-requires-clause-sums c = small_numbers (c.self.inside.days, c.self.inside.numbers.entries) c.self.invariant (small_view _ _ c.self.view_is c.requires.sums) _
-
-both : (c : goal.After-raise_number) → (let s : Kept = (c.raise.new.self, c.raise_number.new.numbers.entries) in IsRow s × RaisedRow c.args.day c.args.number c.args.qty (c.self.inside.days, c.self.inside.numbers.entries) s)
-both c =
-    let r : Kept = (c.self.inside.days, c.self.inside.numbers.entries) in
-    let s : Kept = (c.raise.new.self, c.raise_number.new.numbers.entries) in
-    raised_parts r s c.args.day c.args.number c.args.qty _ _ _ (to_z-of_z w64 c.number_of-at.result (search rules) ∙ c.number_of-at.ensures.value) (to_z-of_z w64 c.wide-number.result (search rules) ∙ c.wide-number.ensures.value) (to_z-of_z w64 c.args.qty (search rules))
-    c.raise.ensures c.raise_number.ensures.own c.raise_number.ensures.others c.self.invariant
-
-pub invariant_of-self : goal.invariant_of-self
-invariant_of-self c = (both c).0
-
-pub returns : goal.returns
-returns c = subst (λ (r : Kept). RaisedRow c.args.day c.args.number c.args.qty r (c.raise.new.self, c.raise_number.new.numbers.entries)) c.self.view_is (both c).1
+pub returns-then-is_empty : goal.returns-then-is_empty
+returns-then-is_empty c =
+    let none = sym c.is_empty.ensures ∙ c.if-is_empty.true in
+    let h = first_small c.args.self.now c.self.inside.day c.self.inside.number c.self.inside.qty c.self.inside.days c.self.view_is none c.requires.sums in
+    let a = h.low in
+    let b = h.high in
+    let d = c.requires.qty.low in
+    let e = c.requires.qty.high in
+    raised_first c.args.self.now c.self.inside.day c.self.inside.number c.self.inside.qty c.args.qty _ c.self.inside.days c.args.day c.args.number c.self.view_is none c.requires.open (omega (arith, ints))
