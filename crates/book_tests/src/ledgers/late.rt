@@ -212,11 +212,7 @@ fn assert_on_one_day(
 fn an_assertion_looks_at_what_was_entered_before_it_on_its_day(rt: HostRuntime) {
     const ROWS: &[(ClaimKind, i64, (Option<Failing>, u64))] = &[
         (ClaimKind::Exact, 1001, (None, 1)),
-        (
-            ClaimKind::Exact,
-            1101,
-            (Some((10, 3, EUR, 1101, 1001)), 1),
-        ),
+        (ClaimKind::Exact, 1101, (Some((10, 3, EUR, 1101, 1001)), 1)),
         (ClaimKind::Sole, 1001, (None, 1)),
         (ClaimKind::ExactIn, 1101, (None, 1)),
         (
