@@ -1,5 +1,5 @@
 -- How far the sums of a test may go, from one move to the next.
-use Rattle.std.proofs.Common.{ℕ, ◌+◌, Bool, true, false, List, arith, subst, sym, ℤ, pos, ◌+ℤ◌}
+use Rattle.std.proofs.Common.{ℕ, ◌+◌, ◌≤◌, Bool, true, false, List, arith, subst, sym, ℤ, pos, ◌+ℤ◌}
 use Rattle.std.specs.Prelude.{if◌then◌else◌}
 use Rattle.std.proofs.lemmas.Int.{ints}
 use Rattle.money_core.specs.declared.unit.Unit.{Unit as Commodity}
@@ -15,6 +15,9 @@ AreUpTo m s = (a : List ℕ) (u : Commodity) (p : Period) → IsUpTo m (sum_of s
 
 pub zero_up_to : (m : ℕ) → IsUpTo m (pos 0)
 zero_up_to m = record { low = omega (arith, ints); high = omega (arith, ints) }
+
+pub small_up_to : (m : ℕ) (z : ℤ) → m ≤ 10000000000000000 → IsUpTo m z → IsUpTo 10000000000000000 z
+small_up_to m z l h = let a = h.low in let b = h.high in record { low = omega (arith, ints); high = omega (arith, ints) }
 
 -- a quantity that may count or not
 share_up_to : (m : ℕ) (q : ℤ) (t : Bool) → IsUpTo m q → IsUpTo m (if t then q else pos 0)

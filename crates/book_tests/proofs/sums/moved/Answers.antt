@@ -1,7 +1,12 @@
-use Rattle.std.proofs.Common.{rules, w64, to_z, of_z}
+use Rattle.std.proofs.Common.{rules, w64, to_z, of_z, arith}
 use Rattle.day_sums.specs.Points.{IsUpTo}
-use Rattle.book_tests.proofs.SumLemmas.{same_up_to, raised_up_to}
+use Rattle.book_tests.proofs.SumLemmas.{small_up_to, same_up_to, raised_up_to}
 use Rattle.book_tests.proofs.sums.moved.Goals as goal
+
+pub raise_row-requires-clause-small : goal.raise_row-requires-clause-small
+raise_row-requires-clause-small c = λ p.
+    let l = c.if-limit-gt1000000000000000.false in
+    small_up_to c.args.limit _ (omega arith) (same_up_to c.args.limit _ _ c.open_row.ensures.same c.requires _ _ p)
 
 pub returns : goal.returns
 returns c =
