@@ -8,7 +8,6 @@ use std::process::Abort;
 use treasury_core::{Addition, Answer, Command, Delta, State, apply, decide};
 
 mod ledgers;
-mod marks;
 
 const HALL: &str = "2024-01-05 hall\n    expenses:hall  120.00 EUR\n    assets:bank  -120.00 EUR\n";
 
