@@ -17,8 +17,7 @@ use Rattle.treasury_api.specs.Asked.{AsksOf}
 use Rattle.treasury_api.specs.Answer.{answer_text}
 use Rattle.treasury_api.specs.Step.{MayReply, after, is_failure}
 use Rattle.treasury.specs.Word.{AnswersWord, SaysTo, word_text}
-use Rattle.treasury_api.specs.Replied.{standing, body_of}
-use Rattle.treasury_api.specs.Serving.{IsLineOf}
+use Rattle.treasury_api.specs.Replied.{standing, body_of, IsLineOf}
 use Rattle.treasury_api.proofs.AnswerLemmas.{IsAnswered}
 use Rattle.treasury_api.proofs.ServeLemmas.{after_plain, leads, refused_only, data_line}
 

@@ -27,8 +27,8 @@ use Rattle.treasury_api.specs.Asked.{AsksOf, Asks, asked_by_sample, asked_by_amo
 use Rattle.treasury_api.specs.Report.{report_text, has_its_branch}
 use Rattle.treasury_api.specs.Answer.{answer_text, IsPlainAnswer}
 use Rattle.treasury_api.specs.Step.{Standing, Answers, MayReply, after, next, reply_text, is_failure}
-use Rattle.treasury_api.specs.Replied.{standing, body_of}
-use Rattle.treasury_api.specs.Serving.{IsLineOf, IsLineIn, Serves, end_of_report}
+use Rattle.treasury_api.specs.Replied.{standing, body_of, IsLineOf, IsLineIn, Serves}
+use Rattle.treasury_api.specs.Serving.{end_of_report}
 use Rattle.treasury_api.specs.RunEnd.{Ends}
 use Rattle.treasury_api.proofs.LiftLemmas.{ends_lifted}
 use Rattle.treasury_api.proofs.AnswerLemmas.{ReadsAll, IsAnswered, request_asks}

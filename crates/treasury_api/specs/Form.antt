@@ -1,4 +1,4 @@
--- Mirrors code: the request that a form is.
+-- The request that a form is, whose texts lie elsewhere.
 use Rattle.std.specs.Option.{option_copied}
 use Rattle.treasury_api.specs.declared.request.Request.{Request}
 use Rattle.treasury_api.specs.declared.request.Request.TheVariants.{Branch, Commodity, Import, Dispatch, Receive, Lock, Close, Balance, Register, Transit, Journal}

@@ -1,5 +1,6 @@
 -- What a reader has to believe, in reading order
 pub mod Request
+pub mod Form
 pub mod Transcript
 pub mod RunEnd
 pub mod Asked
@@ -11,5 +12,4 @@ pub mod History
 pub mod Kept
 -- What mirrors code, for private clauses: nobody has to believe it
 pub mod Serving
-pub mod Form
 pub mod Served

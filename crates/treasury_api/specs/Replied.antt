@@ -1,6 +1,10 @@
 -- What a treasury answers to what is asked of it (own rules; docs/RULES.md, "Runs").
-use Rattle.std.specs.Prelude.{◌≡◌, ⊤, ℕ, Bool, ◌||◌, List, [], ◌++◌, Some, Result, Ok, Err, MatchResult}
+use Rattle.std.specs.Prelude.{◌≡◌, ◌⊎◌, ⊤, ℕ, Bool, ◌||◌, List, [], ◌++◌, Some, Result, Ok, Err, MatchResult}
 use Rattle.sqlite.specs.Store.{Ghosts}
+use Rattle.sqlite.specs.State.{HasCleanDisk}
+use Rattle.sqlite.specs.Held.{state}
+use Rattle.money_core.specs.declared.style.Style.{Style}
+use Rattle.money_core.specs.declared.cause.Cause.TheVariants.{OutOfMemory}
 use Rattle.book_core.specs.declared.refusal.Refusal.{Refusal}
 use Rattle.book_core.specs.declared.refusal.Refusal.TheVariants.{Plain}
 use Rattle.treasury_core.specs.declared.command.Answer.{Answer}
@@ -10,7 +14,7 @@ use Rattle.treasury_api.specs.declared.asking.Asked.{Asked}
 use Rattle.treasury_api.specs.declared.asking.Asked.TheVariants.{Command, Report}
 use Rattle.treasury_api.specs.Report.{report_text}
 use Rattle.treasury_api.specs.Answer.{answer_text, IsPrintableRefusal}
-use Rattle.treasury_api.specs.Step.{Standing, MayReply, after, is_failure}
+use Rattle.treasury_api.specs.Step.{Standing, MayReply, Answers, after, is_failure}
 
 -- where a run on a treasury stands
 abbrev pub standing : {S : Type 0} → Treasury S → Federation → Standing
@@ -37,3 +41,21 @@ pub record IsReplied {S T : Type 0} (g : Ghosts S) (failed : Bool) (new : Treasu
 abbrev pub IsPrintableIn : {S : Type 0} → Treasury S → Refusal → Type 0
 IsPrintableIn t (Plain cause) = ⊤
 IsPrintableIn t refusal = (s : Federation) × ((t.held ≡ Some s) × IsPrintableRefusal s.styles refusal)
+
+-- the line of a refusal, or that of 40 in place of one that is not plain
+abbrev pub IsLineIn : List Style → Refusal → List ℕ → Type 0
+IsLineIn styles (Plain cause) text = text ≡ answer_text [] (Err (Plain cause))
+IsLineIn styles refusal text =
+    (text ≡ answer_text [] (Err (Plain OutOfMemory))) ⊎ (text ≡ answer_text styles (Err refusal))
+
+-- the same on a treasury: under the commodities of the state in memory
+abbrev pub IsLineOf : {S : Type 0} → Treasury S → Refusal → List ℕ → Type 0
+IsLineOf t (Plain cause) text = text ≡ answer_text [] (Err (Plain cause))
+IsLineOf t refusal text = (s : Federation) × ((t.held ≡ Some s) × IsLineIn s.styles refusal text)
+
+-- What a line makes of a treasury: of whichever state it is, it is answered as a run's line is, and the treasury is of the state where the run
+-- then stands.
+pub record Serves {S : Type 0} (g : Ghosts S) (old : Treasury S) (line text : List ℕ) (new : Treasury S) : Type 0 where
+  pub clean : HasCleanDisk (state g new.store.conn) → HasCleanDisk (state g old.store.conn)
+  pub answers : HasCleanDisk (state g new.store.conn) → (f : Federation) → IsTreasuryOf g old f
+      → (end : Federation) × (IsTreasuryOf g new end × Answers (standing old f) line text (standing new end))

@@ -8,8 +8,8 @@ ghost use Rattle.treasury_store.specs.Treasury.{IsTreasuryOf};
 ghost use Rattle.treasury_api.specs.Request.{is_report};
 ghost use Rattle.treasury_api.specs.Answer.{IsPrintableRefusal};
 ghost use Rattle.treasury_api.specs.Kept.{Runs};
-ghost use Rattle.treasury_api.specs.Replied.{IsPrintableIn, standing};
-ghost use Rattle.treasury_api.specs.Serving.{Serves, IsLineIn, IsLineOf, end_of_report};
+ghost use Rattle.treasury_api.specs.Replied.{IsPrintableIn, IsLineIn, IsLineOf, Serves, standing};
+ghost use Rattle.treasury_api.specs.Serving.{end_of_report};
 
 use crate::answering::answer;
 use crate::answers::{MOST_PLAIN, answer_line};
