@@ -2,6 +2,5 @@
 pub mod Period
 pub mod Sums
 pub mod Spots
--- What mirrors code, for private clauses: nobody has to believe it
 pub mod Points
 pub mod Row
