@@ -6,8 +6,13 @@ pub mod InsideLemmas
 pub mod QueryLemmas
 pub mod KeyedLemmas
 pub mod AddLemmas
+pub mod ManyLemmas
+pub mod BoundLemmas
 pub mod RowsLemmas
 pub mod LockLemmas
+pub mod EightTexts
+pub mod EightLemmas
+pub mod KindLemmas
 pub mod ReceiptLemmas
 pub mod CreateLemmas
 pub mod BesideLemmas

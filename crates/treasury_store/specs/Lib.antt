@@ -10,3 +10,4 @@ pub mod Store
 pub mod Treasury
 -- What mirrors code, for private clauses: nobody has to believe it
 pub mod Changes
+pub mod Kinds

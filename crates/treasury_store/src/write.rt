@@ -1,20 +1,29 @@
 //! The writes of one command, in one transaction.
 
-ghost use Rattle.std.specs.Prelude.{◌≡◌, OnOk, OnErr, IsTrue};
+mod claims;
+mod eight;
+mod entries;
+mod legs;
+
+ghost use Rattle.std.specs.Prelude.{◌≡◌, ◌<◌, ◌∷◌, [], length, filter, IfSome, IfNone, OnOk, OnErr, IsTrue};
 ghost use Rattle.sqlite_value.specs.Value.{owned};
 ghost use Rattle.sqlite.specs.declared.types.Value.TheVariants.{Text as Words};
 ghost use Rattle.sqlite.specs.Values.{or_null};
 ghost use Rattle.sqlite.specs.State.{HasCleanDisk, KeepsCommit, Survives};
 ghost use Rattle.sqlite.specs.Held.{state};
 ghost use Rattle.sqlite.specs.Effect.{Database};
-ghost use Rattle.treasury_store.specs.Rows.{Tables, Holds, with_unit, with_branch, with_entry, with_leg, with_claim, with_transfer, with_lock, with_receipt, changed, joined};
+ghost use Rattle.treasury_store.specs.Rows.{Tables, Holds, with_unit, with_branch, with_transfer, with_lock, with_receipt, changed, joined};
 ghost use Rattle.treasury_store.specs.Kept.{Writes};
+ghost use Rattle.treasury_store.specs.Kinds.{is_single};
 
 use crate::change::Change;
+use crate::write::claims::{put_claim, put_claims};
+use crate::write::entries::{put_entries, put_entry};
+use crate::write::legs::{put_leg, put_legs};
 use money_core::Text;
 use sqlite::types::{ToSql, ValueRef};
 use sqlite::{Alter, Connection, Error, ErrorCode, Transaction};
-use treasury_core::{BranchRow, ClaimRow, EntryRow, LegRow, TransferRow, UnitRow};
+use treasury_core::{BranchRow, TransferRow, UnitRow};
 
 /// A text as a value; NULL where there is none.
 fn text_or_null(text: &Option<Text>) -> ValueRef<'_>
@@ -55,56 +64,6 @@ fn put_branch<S: Alter>(tx: &mut Transaction<'_, S>, row: &BranchRow) -> Result<
     tx.execute(
         "INSERT INTO branch (nr, name, locked) VALUES (?1, ?2, ?3)",
         &[nr, name, locked],
-    )
-}
-
-/// Inserts an entry.
-fn put_entry<S: Alter>(tx: &mut Transaction<'_, S>, row: &EntryRow) -> Result<usize, Error>
-    ensures same_reference { tx.new.conn.ghost_name ≡ tx.old.conn.ghost_name }
-    ensures writes { Writes S.Store tx.old.conn.now tx.new.conn.now result (with_entry row.now) }
-{
-    let branch = row.branch.to_sql();
-    let nr = row.nr.to_sql();
-    let day = row.day.to_sql();
-    let mark = row.mark.as_str().to_sql();
-    let body = row.body.as_str().to_sql();
-    tx.execute(
-        "INSERT INTO entry (branch, nr, day, mark, body) VALUES (?1, ?2, ?3, ?4, ?5)",
-        &[branch, nr, day, mark, body],
-    )
-}
-
-/// Inserts a leg.
-fn put_leg<S: Alter>(tx: &mut Transaction<'_, S>, row: &LegRow) -> Result<usize, Error>
-    ensures same_reference { tx.new.conn.ghost_name ≡ tx.old.conn.ghost_name }
-    ensures writes { Writes S.Store tx.old.conn.now tx.new.conn.now result (with_leg row.now) }
-{
-    let branch = row.branch.to_sql();
-    let entry = row.entry.to_sql();
-    let nr = row.nr.to_sql();
-    let account = row.account.as_str().to_sql();
-    let unit = row.unit.to_sql();
-    let qty = row.qty.to_sql();
-    tx.execute(
-        "INSERT INTO leg (branch, entry, nr, account, unit, qty) VALUES (?1, ?2, ?3, ?4, ?5, ?6)",
-        &[branch, entry, nr, account, unit, qty],
-    )
-}
-
-/// Inserts a claim.
-fn put_claim<S: Alter>(tx: &mut Transaction<'_, S>, row: &ClaimRow) -> Result<usize, Error>
-    ensures same_reference { tx.new.conn.ghost_name ≡ tx.old.conn.ghost_name }
-    ensures writes { Writes S.Store tx.old.conn.now tx.new.conn.now result (with_claim row.now) }
-{
-    let branch = row.branch.to_sql();
-    let entry = row.entry.to_sql();
-    let leg = row.leg.to_sql();
-    let kind = row.kind.to_sql();
-    let unit = row.unit.to_sql();
-    let qty = row.qty.to_sql();
-    tx.execute(
-        "INSERT INTO claim (branch, entry, leg, kind, unit, qty) VALUES (?1, ?2, ?3, ?4, ?5, ?6)",
-        &[branch, entry, leg, kind, unit, qty],
     )
 }
 
@@ -176,7 +135,44 @@ fn put<S: Alter>(tx: &mut Transaction<'_, S>, change: &Change) -> Result<usize, 
     }
 }
 
-/// Writes the changes, one after another.
+/// Whether the change is written by a statement of its own.
+fn is_single(change: &Change) -> bool
+    ensures { result ≡ is_single change.now }
+{
+    !matches!(change, Change::Entry(_) | Change::Leg(_) | Change::Claim(_))
+}
+
+/// The first such change, and the changes behind it.
+fn next_single(changes: &[Change]) -> Option<(&Change, &[Change])>
+    ensures found { IfSome result (λ p. filter is_single changes.now ≡ p.0.now ∷ filter is_single p.1.now) }
+    ensures fewer { IfSome result (λ p. length p.1.now < length changes.now) }
+    ensures none { IfNone result (filter is_single changes.now ≡ []) }
+{
+    for (at, change) in changes.iter().enumerate() {
+        if is_single(change) {
+            return Some((change, &changes[at + 1..]));
+        }
+    }
+    None
+}
+
+/// Writes each other change by a statement of its own.
+fn put_singles<S: Alter>(tx: &mut Transaction<'_, S>, changes: &[Change]) -> Result<(), Error>
+    ensures same_reference { tx.new.conn.ghost_name ≡ tx.old.conn.ghost_name }
+    ensures rows { HasCleanDisk (state S.Store tx.new.conn.now) → OnOk result ((t : Tables) → Holds (state S.Store tx.old.conn.now).now t → Holds (state S.Store tx.new.conn.now).now (joined (filter is_single changes.now) t)) }
+    ensures inside { HasCleanDisk (state S.Store tx.new.conn.now) → OnOk result (IsTrue (state S.Store tx.old.conn.now).in_transaction → IsTrue (state S.Store tx.new.conn.now).in_transaction) }
+    ensures kept { HasCleanDisk (state S.Store tx.new.conn.now) → KeepsCommit (state S.Store tx.old.conn.now) (state S.Store tx.new.conn.now) }
+    ensures survives { Survives (state S.Store tx.old.conn.now) (state S.Store tx.new.conn.now) (λ _. ⊥) }
+{
+    let mut rest = changes;
+    'ones: while let Some((change, more)) = next_single(rest) {
+        put(tx, change)?;
+        rest = more;
+    }
+    Ok(())
+}
+
+/// Writes the changes: entries, legs and claims by eights, and then the others.
 fn put_all<S: Alter>(tx: &mut Transaction<'_, S>, changes: &[Change]) -> Result<(), Error>
     ensures same_reference { tx.new.conn.ghost_name ≡ tx.old.conn.ghost_name }
     ensures rows { HasCleanDisk (state S.Store tx.new.conn.now) → OnOk result ((t : Tables) → Holds (state S.Store tx.old.conn.now).now t → Holds (state S.Store tx.new.conn.now).now (joined changes.now t)) }
@@ -184,10 +180,10 @@ fn put_all<S: Alter>(tx: &mut Transaction<'_, S>, changes: &[Change]) -> Result<
     ensures kept { HasCleanDisk (state S.Store tx.new.conn.now) → KeepsCommit (state S.Store tx.old.conn.now) (state S.Store tx.new.conn.now) }
     ensures survives { Survives (state S.Store tx.old.conn.now) (state S.Store tx.new.conn.now) (λ _. ⊥) }
 {
-    'change: for change in changes {
-        put(tx, change)?;
-    }
-    Ok(())
+    put_entries(tx, changes)?;
+    put_legs(tx, changes)?;
+    put_claims(tx, changes)?;
+    put_singles(tx, changes)
 }
 
 /// Writes the changes in one transaction, all or none. It asks that none is open, and answers an error where one is.
