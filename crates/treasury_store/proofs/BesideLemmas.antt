@@ -14,11 +14,14 @@ use Rattle.sqlite.specs.Tree.{Trees, put_row}
 use Rattle.sqlite.specs.Edit.{edit_of, next_rowid}
 use Rattle.sqlite.specs.Rowids.TheVariants.{Chosen}
 use Rattle.sqlite.specs.declared.types.Value.TheVariants.{Int}
-use Rattle.sqlite.specs.State.{State, Executes}
+use Rattle.sqlite.specs.Store.{Ghosts}
+use Rattle.sqlite.specs.State.{State, HasCleanDisk, Survives, Executes}
+use Rattle.sqlite.specs.Held.{Held, state}
+use Rattle.sqlite.proofs.StateLemmas.{survives_then}
 use Rattle.treasury_store.specs.Tables.{format, state_tables, made_all, new_tables, no_schema}
 use Rattle.treasury_store.specs.Rows.{Holds, no_rows, format_row}
-use Rattle.treasury_store.specs.Creating.{Makes, MakesAll, GivesRow, Beside, is_ours, has_one}
-use Rattle.treasury_store.proofs.CreateLemmas.{kept_twice, kept_front, kept_back}
+use Rattle.treasury_store.specs.Creating.{Makes, MakesAll, GivesRow, Beside, is_ours, has_one, has_counter}
+use Rattle.treasury_store.proofs.CreateLemmas.{kept_twice, kept_front, kept_back, stays_uncounted}
 use Rattle.treasury_store.proofs.Texts.{add_format_text, format_terms}
 use Rattle.treasury_store.proofs.AnySchema.{adds_format}
 use Rattle.treasury_store.proofs.AddLemmas.{adds}
@@ -132,3 +135,25 @@ holds_none a d none made =
       transfers = subst (λ rows. IsPermutation [] (map (drop 1) rows)) (sym empty.1.1.1.1.1.0) (IsPermutation-refl []);
       keyed = subst (IsShaped shape.Table) (sym empty.1.1.1.1.1.0) (tt, tt);
     }
+
+-- the tables, the row of `format` and the tables of the state, one after another inside a transaction
+pub made_beside : {S : Type 0} (g : Ghosts S) (old first mid last : Held S) → has_one (state g old).now.schema ≡ false
+    → (HasCleanDisk (state g first) → has_counter (state g old).now.schema ≡ false → Makes format (state g old).now (state g first).now)
+    → (HasCleanDisk (state g mid) → (s : Schema) → (state g first).now.schema ≡ created s format → list_any (λ t. same_name t.name (codes "format")) s.tables ≡ false
+    → (state g first).now.trees (next_tree s) ≡ [] → GivesRow s (state g first).now (state g mid).now)
+    → (HasCleanDisk (state g last) → has_counter (state g mid).now.schema ≡ false → MakesAll state_tables (state g mid).now (state g last).now)
+    → Survives (state g first) (state g mid) (λ _. ⊥) → Survives (state g mid) (state g last) (λ _. ⊥)
+    → HasCleanDisk (state g last) → has_counter (state g old).now.schema ≡ false → Beside (state g old).now (state g last).now
+made_beside g old first mid last free makes gives rest one two clean_last none =
+    let clean_mid : HasCleanDisk (state g mid) = omega (arith, two.clean, clean_last) in
+    let clean_first : HasCleanDisk (state g first) = omega (arith, one.clean, clean_mid) in
+    let made = makes clean_first none in
+    let row = gives clean_mid (state g old).now.schema made.schema (no_format_in (state g old).now.schema free) made.empty in
+    whole_beside _ _ _ _ made row (rest clean_last (ap has_counter row.schema ∙ stays_uncounted (state g old).now.schema format refl none))
+
+-- and nothing is committed meanwhile
+pub made_in : {S : Type 0} (g : Ghosts S) (old first mid last : Held S) → Survives (state g (record old { in_transaction = true })) (state g first) (λ _. ⊥)
+    → Survives (state g first) (state g mid) (λ _. ⊥) → Survives (state g mid) (state g last) (λ _. ⊥) → Survives (state g (record old { in_transaction = true })) (state g last) (λ _. ⊥)
+made_in g old first mid last one two three =
+    survives_then (state g (record old { in_transaction = true })) (state g mid) (state g last) _ _ _ (λ _ db none. none) (λ _ db none. none)
+    (survives_then (state g (record old { in_transaction = true })) (state g first) (state g mid) _ _ _ (λ _ db none. none) (λ _ db none. none) one two) three

@@ -32,4 +32,5 @@ pub mod StoreLemmas
 pub mod StateLoadLemmas
 pub mod OwnRefusalLemmas
 pub mod TreasuryLemmas
+pub mod LeftLemmas
 pub mod PushLemmas

@@ -1,11 +1,11 @@
--- no step is refused with 41
-use Rattle.std.proofs.Common.{◌≡◌, ◌⊎◌, ◌∙◌, inl, inr, ℕ, Bool, true, false, not, List, [], ◌∷◌, ◌++◌, refl, Some, None, Ok, Err, nat_le, nat_lt, length, slice_get, subst}
+-- a step is refused by the rules of commands alone
+use Rattle.std.proofs.Common.{◌≡◌, ◌⊎◌, ◌∙◌, inl, inr, ℕ, Bool, true, false, not, List, [], ◌∷◌, ◌++◌, refl, sym, ap, IsTrue, Some, None, Ok, Err, nat_le, nat_lt, length, slice_get, subst}
 use Rattle.std.specs.Prelude.{if◌then◌else◌, Result, Option, IfSome, IfErr, is_some, int_le, int_lt, pos}
 use Rattle.std.specs.List.{list_any}
 use Rattle.std.specs.Str.{bytes_eq}
 use Rattle.std.specs.Option.{option_or, option_map}
 use Rattle.money_core.specs.declared.cause.Cause.{Cause}
-use Rattle.money_core.specs.declared.cause.Cause.TheVariants.{Full, CommodityExists, UnknownBranch, BranchName, MarkClash, ReservedMark, ReservedAccount, Locked, SameBranch, WrongBranch, AlreadyReceived, TooEarly, LockBack, BadAccount, BadAmount, BadId, Limit, OutOfMemory, Store as Failed}
+use Rattle.money_core.specs.declared.cause.Cause.TheVariants.{Full, CommodityExists, UnknownBranch, BranchName, MarkClash, ReservedMark, ReservedAccount, Locked, SameBranch, WrongBranch, AlreadyReceived, TooEarly, LockBack, BadAccount, BadAmount, BadId, Limit, OutOfMemory, Store as Failed, Damaged}
 use Rattle.money_core.specs.declared.style.Style.{Style}
 use Rattle.money_core.specs.declared.day.Day.{Day}
 use Rattle.money_core.specs.declared.unit.Declared.TheVariants.{New, Same}
@@ -32,15 +32,11 @@ use Rattle.treasury_core.specs.Mark.{is_held, is_repeat, is_product_mark}
 use Rattle.treasury_core.specs.Transfer.{is_id, is_account_text, is_reserved, is_transit}
 use Rattle.treasury_core.specs.Closing.{close_mark, closing_record, closing_answer, closing_in}
 use Rattle.treasury_core.specs.Step.{unless, reply, commodity_reply, fault_on, unbalanced, barred, refused_in, file_refusal, dispatch_refusal, receipt_refusal, receipt_reply, transfer_at, is_dispatched_so, is_received_so, entering_refusal, close_refusal, is_lock, is_locked, goes_back}
-use Rattle.treasury_store.specs.Treasury.{FailsBy}
-
--- the refusal is 41
-abbrev is_failed : Refusal → Bool
-is_failed (Plain Failed) = true
-is_failed _ = false
+use Rattle.treasury_store.specs.Store.{AnswersState}
+use Rattle.treasury_store.specs.Treasury.{FailsBy, MayReply, is_by_rules, IsListed}
 
 abbrev IsOwn : Refusal → Type 0
-IsOwn e = is_failed e ≡ false
+IsOwn e = is_by_rules e ≡ true
 
 IsOwnReply : Result Answer Refusal → Type 0
 IsOwnReply r = IfErr r IsOwn
@@ -199,7 +195,7 @@ own_reply f (cmd.Close name day) =
 
 own_is : (r : Result Answer Refusal) → IsOwnReply r → r ≡ Err (Plain Failed) → ⊥
 unfolding IsOwnReply
-own_is r own is = let failed : true ≡ false = subst (λ (x : Result Answer Refusal). IsOwnReply x) is own in absurd cc
+own_is r own is = let failed : false ≡ true = subst (λ (x : Result Answer Refusal). IsOwnReply x) is own in absurd cc
 
 -- no step is refused with 41
 pub reply_not_failed : (f : Federation) (c : Command) → reply f c ≡ Err (Plain Failed) → ⊥
@@ -209,3 +205,23 @@ reply_not_failed f c is = own_is (reply f c) (own_reply f c) is
 pub refused_unfailed : (f : Federation) (c : Command) (e : Refusal) (failed : Bool) → failed ≡ false → (e ≡ Plain OutOfMemory) ⊎ (reply f c ≡ Err e) → FailsBy (Err e) failed
 refused_unfailed f c e failed unfailed (inl memory) = ((λ is. absurd cc), (λ is. absurd cc))
 refused_unfailed f c e failed unfailed (inr refused) = ((λ is. absurd cc), (λ is. absurd (reply_not_failed f c (refused ∙ is))))
+
+own_err : (r : Result Answer Refusal) → IsOwnReply r → IfErr r (λ e. IsTrue (is_by_rules e))
+unfolding IsOwnReply
+own_err r own = own
+
+-- what may be replied to a command is refused by the rules, or by 41
+pub listed_reply : (f : Federation) (c : Command) (r : Result Answer Refusal) → MayReply f c r → IfErr r IsListed
+listed_reply f c (Ok answer) replies = tt
+listed_reply f c (Err e) (inl (inl step)) = inl (subst (λ (r : Result Answer Refusal). IfErr r (λ x. IsTrue (is_by_rules x))) (sym step) (own_err (reply f c) (own_reply f c)))
+listed_reply f c (Err e) (inl (inr memory)) = let k : e ≡ Plain OutOfMemory = cc in inl (subst (λ (x : Refusal). IsTrue (is_by_rules x)) (sym k) refl)
+listed_reply f c (Err e) (inr failed) = let k : e ≡ Plain Failed = cc in inr (inl k)
+
+-- and so is a command on a state that could not be had
+pub listed_unheld : {T : Type 0} (cause : Cause) (failed : Bool) → AnswersState {T = T} (Err cause) failed → IsListed (Plain cause)
+listed_unheld cause failed (inl (inl memory)) = inl (subst (λ (x : Cause). IsTrue (is_by_rules (Plain x))) (sym memory.0) refl)
+listed_unheld cause failed (inl (inr failure)) = inr (inl (ap Plain failure.0))
+listed_unheld {T = T} cause failed (inr damaged) = inr (inr (ap Plain (same {T = T} damaged.0)))
+  where
+    same : {T : Type 0} → ◌≡◌ {A = Result T Cause} (Err cause) (Err Damaged) → cause ≡ Damaged
+    same e = cc

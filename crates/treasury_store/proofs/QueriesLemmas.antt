@@ -1,5 +1,5 @@
 -- What queries of our tables leave, whatever they answer.
-use Rattle.std.proofs.Common.{◌≡◌, ◌∙◌, ◌⊎◌, inl, inr, ℕ, List, Option, Some, None, Ok, Err, Result, IfOk, IfErr, IsSome, IsTrue, true≢false, sym, ap, subst, arith}
+use Rattle.std.proofs.Common.{◌≡◌, ◌∙◌, ◌⊎◌, inl, inr, ℕ, List, Option, Some, None, Ok, Err, Result, IfOk, IfErr, OnErr, IsSome, IsTrue, true≢false, sym, ap, subst, arith}
 use Rattle.std.specs.Prelude.{IsErrAnd}
 use Rattle.std.proofs.lemmas.Result.{err_from_is_err_and}
 use Rattle.sqlite.specs.Order.{Row}
@@ -15,8 +15,7 @@ use Rattle.sqlite_schema.specs.declared.command.Returning.{Returning}
 use Rattle.sqlite.specs.Given.{IsPlain}
 use Rattle.sqlite.proofs.StateLemmas.{survives_then, survives_weaker}
 use Rattle.treasury_store.specs.Tables.{store_schema}
-use Rattle.treasury_store.specs.Rows.{Tables, Holds}
-use Rattle.treasury_store.specs.Kept.{Queries}
+use Rattle.treasury_store.specs.Kept.{KeepsTables, Queries}
 
 module _ (sql : List ℕ) (params : Row) (old new : State) where
   -- a query that answers is of a connection that is open
@@ -29,7 +28,7 @@ module _ (sql : List ℕ) (params : Row) (old new : State) where
       opens (Some what) k = (k.1.shown.was_open, k.1.shown.is_open)
 
   -- one that fails changes nothing, or undoes the transaction
-  failed_back : (e : Error) → FailsToQuery sql params old new e → IsUnchanged old new ⊎ IsRolledBack old new
+  pub failed_back : (e : Error) → FailsToQuery sql params old new e → IsUnchanged old new ⊎ IsRolledBack old new
   unfolding FailsToQuery IsNotRun
   failed_back e (inl (inl h)) = inl h.1
   failed_back e (inl (inr h)) = inr h.3
@@ -40,12 +39,12 @@ module _ (sql : List ℕ) (params : Row) (old new : State) where
       fails (Some what) (inl k) = inl k.1
       fails (Some what) (inr k) = inr k.3
 
-  -- a crash leaves what it would have left before
-  shows_no_commit : IsPlain (understood store_schema sql) → (trees : Trees) → CommitsShowing sql params old trees → (t : Tables) → Holds old.now t → ⊥
-  unfolding CommitsShowing
-  shows_no_commit plain trees h t holds =
-      let bare = (subst IsPlain (ap (λ s. understood s sql) (sym holds.schema) ∙ h.1.is) plain).0 in
-      true≢false (sym (subst IsSome bare h.2))
+-- of a schema that is ours a query commits nothing
+pub ours_shows_no_commit : (sql : List ℕ) (params : Row) (old : State) → IsPlain (understood store_schema sql) → (trees : Trees) → CommitsShowing sql params old trees → old.now.schema ≡ store_schema → ⊥
+unfolding CommitsShowing
+ours_shows_no_commit sql params old plain trees h has =
+    let bare = (subst IsPlain (ap (λ s. understood s sql) (sym has) ∙ h.1.is) plain).0 in
+    true≢false (sym (subst IsSome bare h.2))
 
 was_back : (old new : State) → IsUnchanged old new ⊎ IsRolledBack old new → IsTrue new.is_open → IsTrue old.is_open
 was_back old new (inl h) is = h.0.was_open
@@ -54,6 +53,12 @@ was_back old new (inr h) is = h.was_open is
 same_back : (old new : State) → IsUnchanged old new ⊎ IsRolledBack old new → IsTrue new.is_open → old.committed ≡ old.now → (new.now ≡ old.now) × (new.committed ≡ old.committed)
 same_back old new (inl h) is all = (h.0.now_is, h.0.committed_is)
 same_back old new (inr h) is all = ((h.undone is).0 ∙ all, (h.undone is).1)
+
+-- a query that fails outside a transaction changes nothing, while the connection is open
+pub fails_alone : {X : Type 0} (sql : List ℕ) (params : Row) (old new : State) (r : Result X Error) → IfErr r (FailsToQuery sql params old new) → (IsTrue old.is_open → old.now ≡ old.committed) → IsTrue new.is_open
+    → OnErr r ((new.now ≡ old.now) × (new.committed ≡ old.committed))
+fails_alone sql params old new (Ok x) err alone is = tt
+fails_alone sql params old new (Err e) err alone is = let back = failed_back sql params old new e err in same_back old new back is (sym (alone (was_back old new back is)))
 
 -- the same error of another answer
 of_error : {S Y : Type 0} (g : Ghosts S) (old new : Held S) (e : Error) (r : Result Y Error) → IsErrAnd r (λ y. y ≡ e) → Queries {X = Y} g old new (Err e) → Queries g old new r
@@ -72,13 +77,13 @@ module _ {S : Type 0} (g : Ghosts S) where
     opened = λ clean. shown_open sql params (state g old) (state g new) (rows x) (ok clean);
     was_open = λ clean is. (shown_open sql params (state g old) (state g new) (rows x) (ok clean)).0;
     undone = λ clean is. tt;
-    survives = survives_weaker (state g old) (state g new) _ _ (λ clean trees h. shows_no_commit sql params (state g old) (state g new) plain trees h) left;
+    survives = survives_weaker (state g old) (state g new) _ _ (λ clean trees h. ours_shows_no_commit sql params (state g old) plain trees h) left;
   }
   one_query old new sql params rows (Err e) plain ok err left = record {
     opened = λ clean. tt;
     was_open = λ clean is. was_back (state g old) (state g new) (failed_back sql params (state g old) (state g new) e (err clean)) is;
-    undone = λ clean is t holds all. same_back (state g old) (state g new) (failed_back sql params (state g old) (state g new) e (err clean)) is all;
-    survives = survives_weaker (state g old) (state g new) _ _ (λ clean trees h. shows_no_commit sql params (state g old) (state g new) plain trees h) left;
+    undone = λ clean is has all. same_back (state g old) (state g new) (failed_back sql params (state g old) (state g new) e (err clean)) is all;
+    survives = survives_weaker (state g old) (state g new) _ _ (λ clean trees h. ours_shows_no_commit sql params (state g old) plain trees h) left;
   }
 
   -- what is made of the rows of a query that changed nothing
@@ -88,7 +93,7 @@ module _ {S : Type 0} (g : Ghosts S) where
   then_made old new x q same (Err e) = record {
     opened = λ clean. tt;
     was_open = q.was_open;
-    undone = λ clean is t holds all. let kept = same clean holds.schema in (kept.0.now_is, kept.0.committed_is);
+    undone = λ clean is has all. let kept = same clean has in (kept.0.now_is, kept.0.committed_is);
     survives = q.survives;
   }
 
@@ -96,23 +101,20 @@ module _ {S : Type 0} (g : Ghosts S) where
 pub record Quiet {S : Type 0} (g : Ghosts S) (a b : Held S) : Type 0 where
   pub opened : HasCleanDisk (state g b) → IsTrue (state g a).is_open × IsTrue (state g b).is_open
   pub same : HasCleanDisk (state g b) → (state g a).now.schema ≡ store_schema → ((state g b).now ≡ (state g a).now) × ((state g b).committed ≡ (state g a).committed)
-  pub survives : Survives (state g a) (state g b) (λ _. (t : Tables) → Holds (state g a).now t → ⊥)
+  pub survives : KeepsTables g a b
 
 pub quiet : {S X : Type 0} {g : Ghosts S} {a b : Held S} {x : X} → Queries g a b (Ok x) → (HasCleanDisk (state g b) → (state g a).now.schema ≡ store_schema → IsUnchanged (state g a) (state g b)) → Quiet g a b
 quiet q same = record { opened = q.opened; same = λ clean has. let kept = (same clean has).0 in (kept.now_is, kept.committed_is); survives = q.survives }
 
-module _ {S : Type 0} (g : Ghosts S) (a b c : Held S) (one : Quiet g a b) (two : Survives (state g b) (state g c) (λ _. (t : Tables) → Holds (state g b).now t → ⊥)) where
+module _ {S : Type 0} (g : Ghosts S) (a b c : Held S) (one : Quiet g a b) (two : KeepsTables g b c) where
   cleaner : HasCleanDisk (state g c) → HasCleanDisk (state g b)
   cleaner clean = omega (arith, two.clean, clean)
-
-  still : HasCleanDisk (state g c) → (t : Tables) → Holds (state g a).now t → Holds (state g b).now t
-  still clean t holds = subst (λ (d : Database). Holds d t) (sym (one.same (cleaner clean) holds.schema).0) holds
 
   ours : HasCleanDisk (state g c) → (state g a).now.schema ≡ store_schema → (state g b).now.schema ≡ store_schema
   ours clean has = ap (λ (d : Database). d.schema) (one.same (cleaner clean) has).0 ∙ has
 
-  left : Survives (state g a) (state g c) (λ _. (t : Tables) → Holds (state g a).now t → ⊥)
-  left = survives_then (state g a) (state g b) (state g c) _ _ _ (λ clean trees h. h) (λ clean trees h t holds. h t (still clean t holds)) one.survives two
+  left : KeepsTables g a c
+  left = survives_then (state g a) (state g b) (state g c) _ _ _ (λ clean trees h. h) (λ clean trees h has. h (ours clean has)) one.survives two
 
 pub quiet_more : {S X : Type 0} {g : Ghosts S} {a b c : Held S} {x : X} → Quiet g a b → Queries g b c (Ok x)
     → (HasCleanDisk (state g c) → (state g b).now.schema ≡ store_schema → IsUnchanged (state g b) (state g c)) → Quiet g a c
@@ -130,9 +132,9 @@ pub quiet_error : {S X Y : Type 0} {g : Ghosts S} {a b c : Held S} (e : Error) (
 quiet_error {g = g} {a = a} {b = b} {c = c} e r is one two = of_error g a c e r is (record {
   opened = λ clean. tt;
   was_open = λ clean is. (one.opened (cleaner g a b c one two.survives clean)).0;
-  undone = λ clean is t holds all.
-      let first = one.same (cleaner g a b c one two.survives clean) holds.schema in
-      let back = two.undone clean is t (still g a b c one two.survives clean t holds) (first.1 ∙ all ∙ sym first.0) in
+  undone = λ clean is has all.
+      let first = one.same (cleaner g a b c one two.survives clean) has in
+      let back = two.undone clean is (ours g a b c one two.survives clean has) (first.1 ∙ all ∙ sym first.0) in
       (back.0 ∙ first.0, back.1 ∙ first.1);
   survives = left g a b c one two.survives;
 })
@@ -142,7 +144,7 @@ pub quiet_ok : {S Y : Type 0} {g : Ghosts S} {a b : Held S} {y : Y} → Quiet g 
 quiet_ok one = record { opened = one.opened; was_open = λ clean is. (one.opened clean).0; undone = λ clean is. tt; survives = one.survives }
 
 -- what a query answers of the tables, it answers of those before the queries ahead of it
-pub seen_before : {S : Type 0} {g : Ghosts S} {a b : Held S} (c : Held S) (P : Database → Type 0) → Quiet g a b → Survives (state g b) (state g c) (λ _. (t : Tables) → Holds (state g b).now t → ⊥)
+pub seen_before : {S : Type 0} {g : Ghosts S} {a b : Held S} (c : Held S) (P : Database → Type 0) → Quiet g a b → KeepsTables g b c
     → (HasCleanDisk (state g c) → (state g b).now.schema ≡ store_schema → P (state g b).now) → HasCleanDisk (state g c) → (state g a).now.schema ≡ store_schema → P (state g a).now
 seen_before {g = g} {a = a} {b = b} c P one two shown clean has =
     subst P (one.same (cleaner g a b c one two clean) has).0 (shown clean (ours g a b c one two clean has))

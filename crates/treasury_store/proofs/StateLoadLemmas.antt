@@ -67,7 +67,7 @@ module _ {S X : Type 0} (g : Ghosts S) (old new : Store S) (f : Federation) wher
   pub failed_of : (e : Error) → Queries {X = X} g old.conn new.conn (Err e) → new.numbers ≡ old.numbers → IsOf g old f → IsOf g new f
   failed_of e q numbers of = record {
     good = of.good;
-    tables = tables_stay g old.conn new.conn (λ clean. omega (arith, q.survives.clean, clean)) (rows f) q.was_open (λ clean is holds all. q.undone clean is (rows f) holds all) of.tables;
+    tables = tables_stay g old.conn new.conn (λ clean. omega (arith, q.survives.clean, clean)) (rows f) q.was_open (λ clean is holds all. q.undone clean is holds.schema all) of.tables;
     numbers = numbers ∙ of.numbers;
   }
 

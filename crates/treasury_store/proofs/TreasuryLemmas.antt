@@ -35,8 +35,8 @@ use Rattle.treasury_core.proofs.ChangeLemmas.{all-append}
 use Rattle.treasury_store.specs.declared.store.Store.{Store}
 use Rattle.treasury_store.specs.Rows.{Holds, AreTreesOf}
 use Rattle.treasury_store.specs.Kept.{KeepsTables}
-use Rattle.treasury_store.specs.Store.{IsOf, AnswersState}
-use Rattle.treasury_store.specs.Treasury.{Treasury, IsTreasuryOf, MayReply, Performs, is_failure, turn_if, SurvivesCommand}
+use Rattle.treasury_store.specs.Store.{IsOf, AnswersState, FailsAs}
+use Rattle.treasury_store.specs.Treasury.{Treasury, IsTreasuryOf, MayReply, Performs, is_failure, turn_if, SurvivesCommand, IsUnfit}
 
 -- ---- lock days that a table takes
 
@@ -123,6 +123,19 @@ pub ok_unfailed : {T : Type 0} (x : T) (failed : Bool) → AnswersState (Ok x) f
 ok_unfailed x failed (inl unfailed) = unfailed
 ok_unfailed x failed (inr damaged) = damaged.1
 
+-- why a call that reads the rows of a state is refused
+pub fails_as : {T : Type 0} (e : Cause) (failed : Bool) → AnswersState {T = T} (Err e) failed → FailsAs e failed
+fails_as e failed (inl (inl memory)) = inl memory
+fails_as e failed (inl (inr failure)) = inr (inl failure)
+fails_as {T = T} e failed (inr damaged) = inr (inr (err_is {T = T} e Damaged damaged.0, damaged.1))
+  where
+    cause_in : {T : Type 0} → Cause → Result T Cause → Cause
+    cause_in e (Ok x) = e
+    cause_in e (Err d) = d
+
+    err_is : {T : Type 0} (e d : Cause) → ◌≡◌ {A = Result T Cause} (Err e) (Err d) → e ≡ d
+    err_is {T = T} e d same = ap (cause_in {T = T} e) same
+
 -- ---- the headline
 
 -- a reply of the step, or 40, is a turn of a run; 41 is none
@@ -149,6 +162,15 @@ pub performs_unheld : {S T : Type 0} (g : Ghosts S) (new : Treasury S) (f : Fede
 performs_unheld g new f c cause failed (inl (inl memory)) sound of = record { replies = inl (inr (ap (λ (x : Cause). Err (Plain x)) memory.0)); next = of }
 performs_unheld g new f c cause failed (inl (inr failure)) sound of = record { replies = inr (ap (λ (x : Cause). Err (Plain x)) failure.0); next = of }
 performs_unheld g new f c cause failed (inr damaged) sound of = absurd (sound damaged.0)
+
+-- it is answered so too where no state could be had
+pub unfit_unheld : {T : Type 0} (cause : Cause) (failed : Bool) → AnswersState {T = T} (Err cause) failed → IsUnfit (Err (Plain cause))
+unfit_unheld cause failed (inl (inl memory)) = inr (inl (ap (λ (x : Cause). Err (Plain x)) memory.0))
+unfit_unheld cause failed (inl (inr failure)) = inr (inr (ap (λ (x : Cause). Err (Plain x)) failure.0))
+unfit_unheld {T = T} cause failed (inr damaged) = inl (same {T = T} damaged.0)
+  where
+    same : {T : Type 0} → ◌≡◌ {A = Result T Cause} (Err cause) (Err Damaged) → ◌≡◌ {A = Result Answer Refusal} (Err (Plain cause)) (Err (Plain Damaged))
+    same e = let k : cause ≡ Damaged = cc in ap (λ (x : Cause). Err (Plain x)) k
 
 -- what is performed keeps the books
 pub headline_of : {S : Type 0} (g : Ghosts S) (new : Treasury S) (f : Federation) (c : Command) (r : Result Answer Refusal) → IsGoodState f → Fits f.styles c → Performs g new f c r
@@ -177,7 +199,7 @@ rows_loaded g new s f of same clean is_open = subst (λ (x : Federation). Holds 
 module _ {S : Type 0} (g : Ghosts S) (old new : Treasury S) (c : Command) where
   -- a state that is loaded at most
   pub survives_load : KeepsTables g old.store.conn new.store.conn → SurvivesCommand g old new c
-  survives_load left = survives_weaker (state g old.store.conn) (state g new.store.conn) _ _ (λ clean trees none f of fits h. absurd (none (rows f) h)) left
+  survives_load left = survives_weaker (state g old.store.conn) (state g new.store.conn) _ _ (λ clean trees none f of fits h. absurd (none h.schema)) left
 
   -- a command that is settled on the state in memory, behind that
   pub survives_settle : (mid : Treasury S) (s : Federation) → (HasCleanDisk (state g new.store.conn) → HasCleanDisk (state g mid.store.conn)) → KeepsTables g old.store.conn mid.store.conn
@@ -187,7 +209,7 @@ module _ {S : Type 0} (g : Ghosts S) (old new : Treasury S) (c : Command) where
       → SurvivesChange g mid.store new.store.conn s (step s c).next → SurvivesCommand g old new c
   survives_settle mid s cleaner held of_mid rows_mid is settled =
       survives_then (state g old.store.conn) (state g mid.store.conn) (state g new.store.conn) _ _ _
-      (λ clean trees none f of fits h. absurd (none (rows f) h))
+      (λ clean trees none f of fits h. absurd (none h.schema))
       (λ clean trees made f of fits h.
       let there = of_mid (cleaner clean) f of in
       let same : s ≡ f = subst (λ (o : Option Federation). IfSome o (λ x. x ≡ f)) is there.held in

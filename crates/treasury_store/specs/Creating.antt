@@ -58,6 +58,11 @@ pub record Beside (old new : Database) : Type 0 where
   pub empty : AllByRecursion (λ (t : Table). new.trees t.tree ≡ []) (new_tables state_tables (created old.schema format))
   pub others : KeepsRows old.schema.tables old.trees new.trees
 
+-- a crash leaves what it could leave before, or, where no table has AUTOINCREMENT, the tables of a new treasury beside those that were there
+abbrev pub SurvivesMaking : {S : Type 0} → Ghosts S → Held S → Held S → Type 0
+SurvivesMaking g old new =
+    Survives (state g old) (state g new) (λ trees. (db : Database) × (trees ≡ db.trees) × (has_counter (state g old).now.schema ≡ false → Beside (state g old).now db))
+
 -- one CREATE inside a transaction, where no table has AUTOINCREMENT
 pub record Creates {S : Type 0} (g : Ghosts S) (old new : Held S) (r : Result ℕ Error) (table : Table) : Type 0 where
   pub makes : HasCleanDisk (state g new) → OnOk r (has_counter (state g old).now.schema ≡ false → Makes table (state g old).now (state g new).now)

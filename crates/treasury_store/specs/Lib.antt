@@ -8,6 +8,7 @@ pub mod Order
 pub mod Numbers
 pub mod Store
 pub mod Treasury
+pub mod Left
 -- What mirrors code, for private clauses: nobody has to believe it
 pub mod Changes
 pub mod Kinds

@@ -2,6 +2,9 @@
 use Rattle.std.specs.Prelude.{◌≡◌, [], ◌∷◌, map, IsPermutation}
 use Rattle.sqlite.specs.Order.{Row, column}
 use Rattle.sqlite.specs.Effect.{Database}
+use Rattle.treasury_core.specs.Federation.{Federation}
+use Rattle.treasury_core.specs.Good.{IsGoodState}
+use Rattle.treasury_core.specs.Rows.{rows}
 use Rattle.treasury_store.specs.Tables.{store_schema}
 use Rattle.treasury_store.specs.Rows.{Tables, unit_row, branch_row, entry_row, leg_row, claim_row, transfer_row}
 
@@ -33,3 +36,7 @@ pub record ShowsTables (db : Database) (t : Tables) : Type 0 where
   pub legs : IsPermutation (map leg_row t.legs) (map shown_leg (db.trees 8))
   pub claims : IsPermutation (map claim_row t.claims) (map shown_claim (db.trees 10))
   pub transfers : IsPermutation (map transfer_row t.transfers) (map shown_transfer (db.trees 12))
+
+-- The database is our tables, and their rows are those of no good state.
+abbrev pub ShowsNoState : Database → Type 0
+ShowsNoState db = (db.schema ≡ store_schema) × ((f : Federation) → IsGoodState f → ShowsTables db (rows f) → ⊥)

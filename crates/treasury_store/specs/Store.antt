@@ -37,3 +37,7 @@ Answers r failed = MatchResult r (λ _. failed ≡ false) (λ e. ((e ≡ OutOfMe
 -- the same of a call that reads the rows of a state, which also answers 43, and has not failed then
 abbrev pub AnswersState : {T : Type 0} → Result T Cause → Bool → Type 0
 AnswersState r failed = Answers r failed ⊎ ((r ≡ Err Damaged) × (failed ≡ false))
+
+-- by which cause a call on a store that no call has failed refuses, and whether it has failed then
+abbrev pub FailsAs : Cause → Bool → Type 0
+FailsAs e failed = ((e ≡ OutOfMemory) × (failed ≡ false)) ⊎ (((e ≡ Failed) × (failed ≡ true)) ⊎ ((e ≡ Damaged) × (failed ≡ false)))

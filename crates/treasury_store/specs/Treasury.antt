@@ -1,6 +1,6 @@
 -- What a treasury is of, and what a command makes of it.
 use Rattle.std.specs.Prelude.{◌≡◌, ◌⊎◌, ◌↔◌, Bool, true, false, if◌then◌else◌, List, [], ◌∷◌, Option, Result, Err, IfSome, IsTrue}
-use Rattle.money_core.specs.declared.cause.Cause.TheVariants.{Damaged, OutOfMemory, Store as Failed}
+use Rattle.money_core.specs.declared.cause.Cause.TheVariants.{Damaged, OutOfMemory, Store as Failed, Closed, Request, ReadFault, WriteFault}
 use Rattle.book_core.specs.declared.refusal.Refusal.{Refusal}
 use Rattle.book_core.specs.declared.refusal.Refusal.TheVariants.{Plain}
 use Rattle.sqlite.specs.Store.{Ghosts}
@@ -64,3 +64,17 @@ AddsNothing f c = delta f c (reply f c) ≡ []
 -- a command on a treasury on which no call has failed: it fails just where it is answered 41
 abbrev pub FailsBy : Result Answer Refusal → Bool → Type 0
 FailsBy r failed = IsTrue failed ↔ (r ≡ Err (Plain Failed))
+
+-- a refusal by the rules of commands, or for want of memory: not one of the database, of a request, or of an input or output
+abbrev pub is_by_rules : Refusal → Bool
+is_by_rules (Plain Failed) = false
+is_by_rules (Plain Closed) = false
+is_by_rules (Plain Damaged) = false
+is_by_rules (Plain Request) = false
+is_by_rules (Plain ReadFault) = false
+is_by_rules (Plain WriteFault) = false
+is_by_rules _ = true
+
+-- why a command is refused on a treasury on which no call has failed: by the rules or want of memory, by 41, or by 43
+abbrev pub IsListed : Refusal → Type 0
+IsListed e = IsTrue (is_by_rules e) ⊎ ((e ≡ Plain Failed) ⊎ (e ≡ Plain Damaged))

@@ -10,7 +10,7 @@ ghost use Rattle.sqlite.specs.State.{HasCleanDisk, KeepsCommit, Survives};
 ghost use Rattle.sqlite.specs.Held.{state};
 ghost use Rattle.treasury_store.specs.Rows.{Holds, no_rows};
 ghost use Rattle.treasury_store.specs.Tables.{no_schema, format, unit, branch, entry, leg, claim, transfer, state_tables};
-ghost use Rattle.treasury_store.specs.Creating.{is_ours, has_one, has_counter, Creates, MakesAll, GivesRow, Beside};
+ghost use Rattle.treasury_store.specs.Creating.{is_ours, has_one, has_counter, Creates, MakesAll, GivesRow, Beside, SurvivesMaking};
 
 use sqlite::types::ToSql;
 use sqlite::{Alter, Connection, Error, ErrorCode, Transaction};
@@ -148,6 +148,7 @@ pub fn create_tables<S: Alter>(conn: &mut Connection<S>) -> Result<bool, Error>
     ensures beside { HasCleanDisk (state S.Store conn.new) → IfOk result (λ made. IsTrue made → has_counter (state S.Store conn.old).now.schema ≡ false → Beside (state S.Store conn.old).now (state S.Store conn.new).now) }
     ensures still_open { HasCleanDisk (state S.Store conn.new) → IfOk result (λ made. IsTrue made → IsTrue (state S.Store conn.new).is_open) }
     ensures clean { OnOk result (doubt (state S.Store conn.old).is_clean ≤ doubt (state S.Store conn.new).is_clean) }
+    ensures crash { SurvivesMaking S.Store conn.old conn.new }
     ensures taken { IsTrue (has_one (state S.Store conn.old).now.schema) → (result ≡ Ok false) × (conn.new ≡ conn.old) }
     ensures free { IfOk result (λ made. IsTrue made → has_one (state S.Store conn.old).now.schema ≡ false) }
     ensures refused { IfOk result (λ made. made ≡ false → IsTrue (has_one (state S.Store conn.old).now.schema) × (conn.new ≡ conn.old)) }

@@ -4,6 +4,7 @@
 mod change;
 mod changes;
 mod create;
+mod laws;
 mod load;
 mod numbers;
 mod open;
@@ -13,6 +14,7 @@ mod write;
 
 pub use change::Change;
 pub use create::create_tables;
+pub use laws::left_law;
 pub use load::load_parts;
 pub use open::are_tables_there;
 pub use store::{Refused, Store};

@@ -1,16 +1,16 @@
 //! Whether the tables are there.
 
-ghost use Rattle.std.specs.Prelude.{◌≡◌, ◌∷◌, [], pos, map, ◌≤◌, false, Ok, IfOk, OnOk, IsTrue, IsPermutation, ◌↔◌};
+ghost use Rattle.std.specs.Prelude.{◌≡◌, ◌∷◌, [], pos, map, ◌≤◌, false, Ok, IfOk, OnOk, OnErr, IsTrue, IsPermutation, ◌↔◌};
 ghost use Rattle.std.specs.List.{list_any};
 ghost use Rattle.sqlite.specs.Order.{column};
 ghost use Rattle.sqlite.specs.declared.types.Value.TheVariants.{Int};
-ghost use Rattle.sqlite.specs.State.{HasCleanDisk, IsUnchanged};
+ghost use Rattle.sqlite.specs.State.{HasCleanDisk, IsUnchanged, Survives};
 ghost use Rattle.sqlite.specs.Held.{state};
 ghost use Rattle.sqlite_trees.specs.View.{doubt};
 ghost use Rattle.sqlite_schema.specs.Names.{same_name};
 ghost use Rattle.treasury_store.specs.Tables.{store_schema};
 ghost use Rattle.treasury_store.specs.Creating.{has_all};
-ghost use Rattle.treasury_store.specs.Opening.{MadeHere, IsTreasury};
+ghost use Rattle.treasury_store.specs.Opening.{MadeHere, KeepsMade, IsTreasury};
 
 use sqlite::types::ValueRef;
 use sqlite::{Alter, Connection, Error, Row};
@@ -59,7 +59,11 @@ fn format_rows<S: Alter>(conn: &mut Connection<S>) -> Result<Vec<Row>, Error>
     ensures rows { HasCleanDisk (state S.Store conn.new) → IfOk result (λ rows. (state S.Store conn.old).now.schema ≡ store_schema → IsPermutation (map (λ r. column r 1 ∷ []) ((state S.Store conn.old).now.trees 0)) rows.items) }
     ensures same { HasCleanDisk (state S.Store conn.new) → OnOk result ((state S.Store conn.old).now.schema ≡ store_schema → IsUnchanged (state S.Store conn.old) (state S.Store conn.new)) }
     ensures clean { doubt (state S.Store conn.old).is_clean ≤ doubt (state S.Store conn.new).is_clean }
+    ensures undone { HasCleanDisk (state S.Store conn.new) → IsTrue (state S.Store conn.new).is_open → conn.old.in_transaction ≡ false → OnErr result (((state S.Store conn.new).now ≡ (state S.Store conn.old).now) × ((state S.Store conn.new).committed ≡ (state S.Store conn.old).committed)) }
+    ensures crash { Survives (state S.Store conn.old) (state S.Store conn.new) (λ _. (state S.Store conn.old).now.schema ≡ store_schema → ⊥) }
 {
+    // With no transaction open what it shows is committed, by this call's contract.
+    let _ = conn.is_autocommit();
     conn.query_all("SELECT version FROM format ORDER BY version", &[])
 }
 
@@ -87,6 +91,9 @@ pub fn are_tables_there<S: Alter>(conn: &mut Connection<S>) -> Result<bool, Erro
     ensures none { has_all (state S.Store conn.old).now.schema ≡ false → (result ≡ Ok false) × (conn.new ≡ conn.old) }
     ensures same { HasCleanDisk (state S.Store conn.new) → OnOk result (MadeHere (state S.Store conn.old).now.schema → ((state S.Store conn.new).now ≡ (state S.Store conn.old).now) × ((state S.Store conn.new).committed ≡ (state S.Store conn.old).committed)) }
     ensures clean { doubt (state S.Store conn.old).is_clean ≤ doubt (state S.Store conn.new).is_clean }
+    ensures crash { KeepsMade S.Store conn.old conn.new }
+    // An error of a connection that is still open changes nothing, where no transaction was open.
+    ensures undone { HasCleanDisk (state S.Store conn.new) → IsTrue (state S.Store conn.new).is_open → conn.old.in_transaction ≡ false → OnErr result (((state S.Store conn.new).now ≡ (state S.Store conn.old).now) × ((state S.Store conn.new).committed ≡ (state S.Store conn.old).committed)) }
 {
     if !has_all(conn) {
         return Ok(false);

@@ -1,6 +1,6 @@
 //! The store of a treasury: a connection whose tables are the rows of a state.
 
-ghost use Rattle.std.specs.Prelude.{◌≡◌, ◌≤◌, ◌⊎◌, ◌↔◌, [], false, None, Some, Err, OnOk, OnErr, IfOk, IfErr, IsTrue};
+ghost use Rattle.std.specs.Prelude.{◌≡◌, ◌≤◌, ◌⊎◌, ◌↔◌, [], false, None, Some, Err, OnOk, OnErr, IfOk, IfErr, MatchResult, IsTrue};
 ghost use Rattle.sqlite.specs.State.{HasCleanDisk, Survives};
 ghost use Rattle.sqlite.specs.Held.{state};
 ghost use Rattle.sqlite.specs.Effect.{Database};
@@ -10,12 +10,13 @@ ghost use Rattle.treasury_core.specs.Good.{IsGoodState};
 ghost use Rattle.treasury_core.specs.Joined.{joined};
 ghost use Rattle.treasury_core.specs.Rows.{rows, HasShortLocks};
 ghost use Rattle.treasury_store.specs.Rows.{Tables, Holds};
-ghost use Rattle.treasury_store.specs.Kept.{KeepsTables};
+ghost use Rattle.treasury_store.specs.Kept.{KeepsTables, StaysAsIs};
 ghost use Rattle.treasury_store.specs.Shown.{ShowsTables};
 ghost use Rattle.treasury_store.specs.Tables.{no_schema, store_schema};
-ghost use Rattle.treasury_store.specs.Creating.{has_one, has_all, has_counter, Beside};
-ghost use Rattle.treasury_store.specs.Opening.{MadeHere, IsTreasury};
+ghost use Rattle.treasury_store.specs.Creating.{has_one, has_all, has_counter, Beside, SurvivesMaking};
+ghost use Rattle.treasury_store.specs.Opening.{MadeHere, KeepsMade, IsTreasury};
 ghost use Rattle.treasury_store.specs.Store.{empty_state, TablesAre, Knows, IsOf, Answers, AnswersState};
+ghost use Rattle.treasury_store.specs.Left.{LeavesSame, LeavesJoined};
 
 use crate::changes::changes_of;
 use crate::create::create_tables;
@@ -76,6 +77,7 @@ impl<S: Alter> Store<S> {
         ensures taken { IsTrue (has_one (state S.Store conn).now.schema) → result ≡ Err (record { conn = conn; cause = Cause.Damaged }) }
         ensures refused { IfErr result (λ r. ((r.cause ≡ Cause.Damaged) × IsTrue (has_one (state S.Store conn).now.schema)) ⊎ ((r.cause ≡ Cause.OutOfMemory) ⊎ (r.cause ≡ Cause.Store))) }
         ensures unchanged { IfErr result (λ r. HasCleanDisk (state S.Store r.conn) → IsTrue (state S.Store r.conn).is_open → ((state S.Store r.conn).now ≡ (state S.Store conn).now) × ((state S.Store r.conn).committed ≡ (state S.Store conn).committed)) }
+        ensures crash { MatchResult result (λ s. SurvivesMaking S.Store conn s.conn) (λ r. SurvivesMaking S.Store conn r.conn) }
     {
         match create_tables(&mut conn) {
             Ok(true) => Ok(Store {
@@ -109,6 +111,12 @@ impl<S: Alter> Store<S> {
         ensures refused { IfErr result (λ r. (r.cause ≡ Cause.Damaged) ⊎ ((r.cause ≡ Cause.OutOfMemory) ⊎ (r.cause ≡ Cause.Store))) }
         ensures damaged { IfErr result (λ r. r.cause ≡ Cause.Damaged → HasCleanDisk (state S.Store r.conn) → MadeHere (state S.Store conn).now.schema → (IsTreasury (state S.Store conn).now → ⊥)
             × ((state S.Store r.conn).now ≡ (state S.Store conn).now) × ((state S.Store r.conn).committed ≡ (state S.Store conn).committed)) }
+        // After 40, and while the connection is open after 41, its tables are as they were.
+        ensures unchanged { IfErr result (λ r. (r.cause ≡ Cause.Damaged → ⊥) → HasCleanDisk (state S.Store r.conn) → IsTrue (state S.Store r.conn).is_open
+            → ((state S.Store r.conn).now ≡ (state S.Store conn).now) × ((state S.Store r.conn).committed ≡ (state S.Store conn).committed)) }
+        ensures crash { MatchResult result (λ s. KeepsMade S.Store conn s.conn) (λ r. KeepsMade S.Store conn r.conn) }
+        // Whatever is left, also behind 41 where the connection is shut, are the rows that were there.
+        ensures left { MatchResult result (λ s. LeavesSame S.Store conn s.conn) (λ r. LeavesSame S.Store conn r.conn) }
     {
         match are_tables_there(&mut conn) {
             Ok(true) => Ok(Store {
@@ -156,6 +164,7 @@ impl<S: Alter> Store<S> {
         // Of whichever good state the tables are the rows, also those that were opened.
         ensures ok { IfOk result (λ s. (f : Federation) → IsGoodState f → TablesAre S.Store self.old.conn (rows f) → IsOf S.Store self.new s × (HasCleanDisk (state S.Store self.new.conn) → s ≡ f)) }
         ensures known { IfOk result (λ s. Knows self.new s) }
+        ensures good { IfOk result IsGoodState }
         ensures still_open { OnOk result (HasCleanDisk (state S.Store self.new.conn) → IsTrue (state S.Store self.new.conn).is_open) }
         // No state in memory has a lock day that is not in 32 bits.
         ensures damaged { result ≡ Err Cause.Damaged → HasCleanDisk (state S.Store self.new.conn) → (f : Federation) → IsGoodState f → HasShortLocks f → TablesAre S.Store self.old.conn (rows f) → ⊥ }
@@ -164,10 +173,13 @@ impl<S: Alter> Store<S> {
         ensures unfit { result ≡ Err Cause.Damaged → HasCleanDisk (state S.Store self.new.conn) → (f : Federation) → IsGoodState f → HasShortLocks f → ShowsTables (state S.Store self.old.conn).now (rows f) → ⊥ }
         ensures err { OnErr result ((f : Federation) → IsOf S.Store self.old f → IsOf S.Store self.new f) }
         ensures tables { OnErr result ((t : Tables) → TablesAre S.Store self.old.conn t → TablesAre S.Store self.new.conn t) }
+        // Whatever is in our tables.
+        ensures unchanged { HasCleanDisk (state S.Store self.new.conn) → IsTrue (state S.Store self.new.conn).is_open → StaysAsIs (state S.Store self.old.conn) (state S.Store self.new.conn) }
         ensures unknown { OnErr result (self.new.numbers ≡ self.old.numbers) }
         ensures answers { self.old.failed ≡ false → AnswersState result self.new.failed }
         ensures closed { IsTrue self.old.failed → (result ≡ Err Cause.Closed) × (self.new ≡ self.old) }
         ensures crash { KeepsTables S.Store self.old.conn self.new.conn }
+        ensures left { LeavesSame S.Store self.old.conn self.new.conn }
     {
         if self.failed {
             return Err(Cause::Closed);
@@ -203,6 +215,7 @@ impl<S: Alter> Store<S> {
         ensures closed { IsTrue self.old.failed → (result ≡ Err Cause.Closed) × (self.new ≡ self.old) }
         ensures crash { Survives (state S.Store self.old.conn) (state S.Store self.new.conn) (λ trees. (db : Database) × (trees ≡ db.trees)
             × ((f : Federation) → IsOf S.Store self.old f → IsGoodState (joined f delta.now) → Holds (state S.Store self.old.conn).now (rows f) → Holds db (rows (joined f delta.now)))) }
+        ensures left { LeavesJoined S.Store self.old self.new delta.now }
     {
         if self.failed {
             return Err(Cause::Closed);

@@ -3,9 +3,11 @@ use Rattle.sqlite_trees.specs.View.{doubt}
 use Rattle.sqlite.specs.State.{HasCleanDisk}
 use Rattle.sqlite.specs.Held.{state}
 use Rattle.treasury_store.specs.Tables.{format}
-use Rattle.treasury_store.specs.Creating.{has_one, has_counter, Makes, Beside}
+use Rattle.sqlite.specs.Effect.{Database}
+use Rattle.treasury_store.specs.Creating.{has_one, has_counter, Makes, Beside, SurvivesMaking}
+use Rattle.treasury_store.proofs.InsideLemmas.{crashes}
 use Rattle.treasury_store.proofs.CreateLemmas.{stays_uncounted}
-use Rattle.treasury_store.proofs.BesideLemmas.{no_format_in, whole_beside, holds_none}
+use Rattle.treasury_store.proofs.BesideLemmas.{no_format_in, whole_beside, holds_none, made_beside, made_in}
 use Rattle.treasury_store.proofs.create.create_tables.Goals as goal
 
 pub returns-clause-beside : goal.returns-clause-beside
@@ -47,3 +49,37 @@ returns-clause-clean g c =
     let made = subst (λ h. doubt (state g.S.Store h).is_clean ≤ doubt (state g.S.Store first).is_clean) c.transaction-tx.ensures.begun c.create_format.ensures.creates.survives.clean in
     subst (λ h. doubt (state g.S.Store old).is_clean ≤ doubt (state g.S.Store h).is_clean) same
     (omega (arith, made, c.put_format.ensures.survives.clean, c.create_state.ensures.survives.clean, c.commit.ensures.survives.clean))
+
+pub returns-clause-crash : goal.returns-clause-crash
+returns-clause-crash g c =
+    let old = c.args.conn.now in
+    let first = c.create_format.new.tx.conn.now in
+    let mid = c.put_format.new.tx.conn.now in
+    let last = c.create_state.new.tx.conn.now in
+    let begun = c.transaction-tx.ensures.begun in
+    let same : c.commit.new.self.0 ≡ c.conn-2-1.given.0 = search rules in
+    let P = λ (db : Database). has_counter (state g.S.Store old).now.schema ≡ false → Beside (state g.S.Store old).now db in
+    let makes = c.in_ok-create_format.ensures.creates.makes in
+    let inside = made_in g.S.Store old first mid last (rw begun at c.create_format.ensures.creates.survives) c.put_format.ensures.survives c.create_state.ensures.survives in
+    let whole = crashes g.S.Store old last c.commit.new.self.0 P inside c.commit.ensures.survives
+    (made_beside g.S.Store old first mid last (search rules)
+    (subst (λ h. HasCleanDisk (state g.S.Store first) → has_counter (state g.S.Store h).now.schema ≡ false → Makes format (state g.S.Store h).now (state g.S.Store first).now) begun makes)
+    c.in_ok-put_format.ensures.gives c.in_ok-create_state.ensures.makes c.put_format.ensures.survives c.create_state.ensures.survives) in
+    subst (λ h. SurvivesMaking g.S.Store old h) same whole
+
+pub returns-in_err-commit-clause-crash : goal.returns-in_err-commit-clause-crash
+returns-in_err-commit-clause-crash g c =
+    let old = c.args.conn.now in
+    let first = c.create_format.new.tx.conn.now in
+    let mid = c.put_format.new.tx.conn.now in
+    let last = c.create_state.new.tx.conn.now in
+    let begun = c.transaction-tx.ensures.begun in
+    let same : c.commit.new.self.0 ≡ c.conn-2-1.given.0 = search rules in
+    let P = λ (db : Database). has_counter (state g.S.Store old).now.schema ≡ false → Beside (state g.S.Store old).now db in
+    let makes = c.in_ok-create_format.ensures.creates.makes in
+    let inside = made_in g.S.Store old first mid last (rw begun at c.create_format.ensures.creates.survives) c.put_format.ensures.survives c.create_state.ensures.survives in
+    let whole = crashes g.S.Store old last c.commit.new.self.0 P inside c.commit.ensures.survives
+    (made_beside g.S.Store old first mid last (search rules)
+    (subst (λ h. HasCleanDisk (state g.S.Store first) → has_counter (state g.S.Store h).now.schema ≡ false → Makes format (state g.S.Store h).now (state g.S.Store first).now) begun makes)
+    c.in_ok-put_format.ensures.gives c.in_ok-create_state.ensures.makes c.put_format.ensures.survives c.create_state.ensures.survives) in
+    subst (λ h. SurvivesMaking g.S.Store old h) same whole

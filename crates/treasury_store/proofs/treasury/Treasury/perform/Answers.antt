@@ -12,7 +12,9 @@ use Rattle.treasury_store.specs.Rows.{Holds}
 use Rattle.treasury_store.specs.Kept.{KeepsTables}
 use Rattle.treasury_store.specs.Store.{IsOf}
 use Rattle.treasury_store.specs.Treasury.{Treasury, IsTreasuryOf}
-use Rattle.treasury_store.proofs.TreasuryLemmas.{fits_held, fits_of, performs_held, ok_unfailed, performs_unheld, headline_of, SurvivesChange, survives_load, survives_settle}
+use Rattle.treasury_store.proofs.TreasuryLemmas.{fits_held, fits_of, performs_held, ok_unfailed, performs_unheld, headline_of, SurvivesChange, survives_load, survives_settle, unfit_unheld}
+use Rattle.treasury_store.proofs.LeftLemmas.{leaves_step, shuts_by}
+use Rattle.treasury_store.proofs.OwnRefusalLemmas.{listed_reply, listed_unheld}
 use Rattle.treasury_store.proofs.treasury.Treasury.perform.Goals.{else-not-was_held-via-then-not-was_held+else-not-fits, else-not-was_held-via-else-not-was_held}
 use Rattle.treasury_store.proofs.treasury.Treasury.perform.Goals as goal
 
@@ -76,3 +78,39 @@ returns-clause-crash g c =
     (subst (λ (t : Treasury _). HasCleanDisk (state g.S.Store t.store.conn) → (f : Federation) → IsTreasuryOf g.S.Store c.args.self.now f → Holds (state g.S.Store c.args.self.now.store.conn).now (rows f) → Holds (state g.S.Store t.store.conn).now (rows f)) back c.in-Ok.ensures.rows)
     (search rules)
     (subst (λ (s : Store _). SurvivesChange g.S.Store s c.settle.new.self.store.conn c.in-Some.now (step c.in-Some.now c.args.command).next) here c.settle.ensures.crash)
+
+pub returns-in-Err-clause-left : goal.returns-in-Err-clause-left
+returns-in-Err-clause-left g c = leaves_step g.S.Store g.met.S.Store.settled c.args.self.now c.hold.new.self c.args.command (returns-in-Err-clause-crash g c)
+
+pub returns-clause-left : goal.returns-clause-left
+returns-clause-left g c = leaves_step g.S.Store g.met.S.Store.settled c.args.self.now c.settle.new.self c.args.command (returns-clause-crash g c)
+
+pub returns-in-Err-clause-shuts : goal.returns-in-Err-clause-shuts
+returns-in-Err-clause-shuts g c = shuts_by g.S.Store c.args.self.now.store.conn c.hold.new.self.store.conn _ c.hold.ensures.crash
+
+pub returns-clause-shuts : goal.returns-clause-shuts
+returns-clause-shuts g c = shuts_by g.S.Store c.args.self.now.store.conn c.settle.new.self.store.conn _ (returns-clause-crash g c)
+
+pub returns-in-Err-clause-listed : goal.returns-in-Err-clause-listed
+returns-in-Err-clause-listed g c unfailed = listed_unheld c.in-Err.cause _ (c.in-Err.ensures.answers unfailed)
+
+pub returns-clause-listed : goal.returns-clause-listed
+returns-clause-listed g c unfailed =
+    let here : c.else-not-was_held.self.store ≡ c.self-2.inside.store = elim c.else-not-was_held.branch [
+      | else-not-was_held-via-then-not-was_held+else-not-fits w ↦ ap (λ (t : Treasury _). t.store) w.self-is
+      | else-not-was_held-via-else-not-was_held w ↦ ap (λ (t : Treasury _). t.store) w.self-is
+    ] in
+    let still = subst (λ (t : Treasury _). t.store.failed ≡ false) (sym c.self-2.view_is) (ok_unfailed c.in-Ok.field-0 _ (c.in-Ok.ensures.answers unfailed)) in
+    listed_reply c.in-Some.now c.args.command c.settle.result (c.settle.ensures.replies (ap (λ (s : Store _). s.failed) here ∙ still))
+
+pub returns-in-Err-clause-strange : goal.returns-in-Err-clause-strange
+returns-in-Err-clause-strange g c clean unfailed unheld none = (unfit_unheld c.in-Err.cause _ (c.in-Err.ensures.answers unfailed), c.hold.ensures.unchanged clean)
+
+pub returns-clause-strange : goal.returns-clause-strange
+returns-clause-strange g c clean unfailed unheld none =
+    let here : c.else-not-was_held.self.store ≡ c.self-2.inside.store = elim c.else-not-was_held.branch [
+      | else-not-was_held-via-then-not-was_held+else-not-fits w ↦ ap (λ (t : Treasury _). t.store) w.self-is
+      | else-not-was_held-via-else-not-was_held w ↦ ap (λ (t : Treasury _). t.store) w.self-is
+    ] in
+    let at_hold = subst (λ (t : Treasury _). HasCleanDisk (state g.S.Store t.store.conn)) c.self-2.view_is (subst (λ (s : Store _). HasCleanDisk (state g.S.Store s.conn)) here (c.settle.ensures.clean clean)) in
+    absurd (c.in-Ok.ensures.shown at_hold unheld none)

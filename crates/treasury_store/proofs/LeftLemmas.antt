@@ -1,0 +1,83 @@
+-- What a connection leaves that was open: what it had committed, or what a call commits.
+use Rattle.std.proofs.Common.{◌≡◌, ◌≤◌, ◌⊎◌, List, IsTrue, ap, ◌∙◌, inl, inr, arith}
+use Rattle.sqlite.specs.Store.{Ghosts}
+use Rattle.sqlite.specs.Tree.{Trees}
+use Rattle.sqlite.specs.Effect.{Database}
+use Rattle.sqlite.specs.State.{HasCleanDisk, Survives}
+use Rattle.sqlite.specs.Held.{Held, state}
+use Rattle.sqlite.proofs.StateLemmas.{survives_weaker}
+use Rattle.treasury_core.specs.declared.command.Command.{Command}
+use Rattle.treasury_core.specs.declared.delta.Addition.{Addition}
+use Rattle.treasury_core.specs.Federation.{Federation}
+use Rattle.treasury_core.specs.Good.{IsGoodState}
+use Rattle.treasury_core.specs.Joined.{joined}
+use Rattle.treasury_core.specs.Rows.{rows}
+use Rattle.treasury_core.specs.Step.{step}
+use Rattle.treasury_store.specs.declared.store.Store.{Store}
+use Rattle.treasury_store.specs.Rows.{Tables, Holds, AreTreesOf}
+use Rattle.treasury_store.specs.Kept.{KeepsTables, ShutsByFault}
+use Rattle.treasury_store.specs.Opening.{KeepsMade}
+use Rattle.treasury_store.specs.Store.{TablesAre, IsOf}
+use Rattle.treasury_store.specs.Treasury.{Treasury, SurvivesCommand}
+use Rattle.treasury_store.specs.Left.{LeavesRows, LeavesEither, LeavesSame, LeavesJoined, LeavesStep}
+
+module _ {S : Type 0} (g : Ghosts S) (settled : (s : S) (db : Trees) → IsTrue (g.view s).is_open → g.recovers s db → db ≡ (g.view s).committed) where
+  pub leaves_rows : (h : Held S) (t : Tables) → TablesAre g h t → IsTrue (state g h).is_open → LeavesRows g h t
+  leaves_rows h t are is_open clean trees may =
+      let held = are clean is_open in
+      ((state g h).now, settled h.store trees is_open may ∙ ap (λ (d : Database). d.trees) held.1, held.0)
+
+  -- what a call leaves that commits these trees at most
+  pub leaves_more : (old new : Held S) (t : Tables) (Commits : Trees → Type 0) → Survives (state g old) (state g new) Commits → IsTrue (state g old).is_open → TablesAre g old t
+      → HasCleanDisk (state g new) → (trees : Trees) → (state g new).may_leave trees → AreTreesOf trees t ⊎ (Holds (state g old).now t × Commits trees)
+  leaves_more old new t Commits left is_open are clean trees may =
+      let before : HasCleanDisk (state g old) = omega (arith, left.clean, clean) in
+      elim (left.crash clean trees may) [
+        | inl was ↦ inl (leaves_rows old t are is_open before trees was)
+        | inr made ↦ inr ((are before is_open).0, made)
+      ]
+
+  pub leaves_same : (old new : Held S) → KeepsTables g old new → LeavesSame g old new
+  leaves_same old new left is_open t are clean trees may = elim (leaves_more old new t _ left is_open are clean trees may) [
+    | inl was ↦ was
+    | inr made ↦ absurd (made.1 made.0.schema)
+  ]
+
+  pub leaves_made : (old new : Held S) → KeepsMade g old new → LeavesSame g old new
+  leaves_made old new left = leaves_same old new (survives_weaker (state g old) (state g new) _ _ (λ clean trees none has. none (λ _. has)) left)
+
+  pub leaves_joined : (old new : Store S) (xs : List Addition)
+      → Survives (state g old.conn) (state g new.conn) (λ trees. (db : Database) × (trees ≡ db.trees) × ((f : Federation) → IsOf g old f → IsGoodState (joined f xs) → Holds (state g old.conn).now (rows f) → Holds db (rows (joined f xs))))
+      → LeavesJoined g old new xs
+  leaves_joined old new xs left is_open f of next clean trees may = elim (leaves_more old.conn new.conn (rows f) _ left is_open of.tables clean trees may) [
+    | inl was ↦ inl was
+    | inr made ↦ inr (made.1.0, made.1.1, made.1.2 f of next made.0)
+  ]
+
+  pub leaves_step : (old new : Treasury S) (c : Command) → SurvivesCommand g old new c → LeavesStep g old new c
+  leaves_step old new c left is_open f of fits clean trees may = elim (leaves_more old.store.conn new.store.conn (rows f) _ left is_open of.store.tables clean trees may) [
+    | inl was ↦ inl was
+    | inr made ↦ inr (made.1 f of fits made.0)
+  ]
+
+-- what a call leaves of a connection
+pub shuts_by : {S : Type 0} (g : Ghosts S) (old new : Held S) (Commits : Trees → Type 0) → Survives (state g old) (state g new) Commits → ShutsByFault g old new
+shuts_by g old new Commits left = record { clean = λ clean. omega (arith, left.clean, clean); counts = left.counts; closes = left.closes }
+
+-- and one that does nothing
+pub shuts_same : {S : Type 0} (g : Ghosts S) (h : Held S) → ShutsByFault g h h
+shuts_same g h = record { clean = λ clean. clean; counts = omega arith; closes = λ clean is_open. inl is_open }
+
+-- one call behind another
+pub shuts_then : {S : Type 0} (g : Ghosts S) (a b c : Held S) → ShutsByFault g a b → ShutsByFault g b c → ShutsByFault g a c
+shuts_then g a b c one two = record {
+  clean = λ clean. one.clean (two.clean clean);
+  counts = omega (arith, one.counts, two.counts);
+  closes = λ clean is_open. elim (one.closes (two.clean clean) is_open) [
+    | inl still ↦ elim (two.closes clean still) [
+      | inl last ↦ inl last
+      | inr more ↦ inr (omega (arith, one.counts, more))
+    ]
+    | inr more ↦ inr (omega (arith, two.counts, more))
+  ];
+}

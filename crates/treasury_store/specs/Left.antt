@@ -1,0 +1,40 @@
+-- What a connection may leave of the tables: at a crash, at a stop, or where a failure shuts it. The next opening finds one of these
+-- (own rules; docs/RULES.md, "Runs").
+use Rattle.std.specs.Prelude.{◌⊎◌, List, IsTrue}
+use Rattle.sqlite.specs.Store.{Ghosts}
+use Rattle.sqlite.specs.Tree.{Trees}
+use Rattle.sqlite.specs.State.{HasCleanDisk}
+use Rattle.sqlite.specs.Held.{Held, state}
+use Rattle.treasury_core.specs.declared.command.Command.{Command}
+use Rattle.treasury_core.specs.declared.delta.Addition.{Addition}
+use Rattle.treasury_core.specs.Federation.{Federation}
+use Rattle.treasury_core.specs.Good.{IsGoodState, Fits}
+use Rattle.treasury_core.specs.Joined.{joined}
+use Rattle.treasury_core.specs.Rows.{rows}
+use Rattle.treasury_core.specs.Step.{step}
+use Rattle.treasury_store.specs.declared.store.Store.{Store}
+use Rattle.treasury_store.specs.Rows.{Tables, AreTreesOf}
+use Rattle.treasury_store.specs.Store.{TablesAre, IsOf}
+use Rattle.treasury_store.specs.Treasury.{Treasury, IsTreasuryOf}
+
+-- whatever is left are these rows
+abbrev pub LeavesRows : {S : Type 0} → Ghosts S → Held S → Tables → Type 0
+LeavesRows g h t = HasCleanDisk (state g h) → (trees : Trees) → (state g h).may_leave trees → AreTreesOf trees t
+
+-- whatever is left are the ones or the others
+abbrev pub LeavesEither : {S : Type 0} → Ghosts S → Held S → Tables → Tables → Type 0
+LeavesEither g h t u = HasCleanDisk (state g h) → (trees : Trees) → (state g h).may_leave trees → AreTreesOf trees t ⊎ AreTreesOf trees u
+
+-- a call on a connection that was open, and whose tables held rows: whatever is left behind it are these
+abbrev pub LeavesSame : {S : Type 0} → Ghosts S → Held S → Held S → Type 0
+LeavesSame g old new = IsTrue (state g old).is_open → (t : Tables) → TablesAre g old t → LeavesRows g new t
+
+-- what a command adds is written to an open store of a state: whatever is left are the rows of that state, or of the one with it
+abbrev pub LeavesJoined : {S : Type 0} → Ghosts S → Store S → Store S → List Addition → Type 0
+LeavesJoined g old new xs =
+    IsTrue (state g old.conn).is_open → (f : Federation) → IsOf g old f → IsGoodState (joined f xs) → LeavesEither g new.conn (rows f) (rows (joined f xs))
+
+-- a command on an open treasury of a state which it fits: whatever is left are the rows of the state before it, or of the one after it
+abbrev pub LeavesStep : {S : Type 0} → Ghosts S → Treasury S → Treasury S → Command → Type 0
+LeavesStep g old new c =
+    IsTrue (state g old.store.conn).is_open → (f : Federation) → IsTreasuryOf g old f → Fits f.styles c → LeavesEither g new.store.conn (rows f) (rows (step f c).next)
