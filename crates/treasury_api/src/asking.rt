@@ -140,8 +140,15 @@ pub fn asked_by(alloc: Global, styles: &Styles, request: &Request) -> Result<Ask
     ensures asks { OrMemory (RequestAsks styles.now request.now) result }
     ensures ready { IsReady styles.now result }
 {
-    match request.copy() {
-        Ok(request) => asked_by_request(alloc, styles, request),
-        Err(_) => Err(NO_MEMORY),
+    match request {
+        // A journal is read where it stands, since its text may be most of what memory holds.
+        Request::Import { branch, journal } => match branch.copy() {
+            Ok(branch) => asked_by_journal(alloc, styles, branch, journal.as_bytes()),
+            Err(_) => Err(NO_MEMORY),
+        },
+        _ => match request.copy() {
+            Ok(request) => asked_by_request(alloc, styles, request),
+            Err(_) => Err(NO_MEMORY),
+        },
     }
 }
