@@ -1,11 +1,11 @@
 //! The run of a treasury over the lines of a reader.
 
-ghost use Rattle.std.specs.Prelude.{◌≡◌, ◌≤◌, ◌++◌, [], vec_capacity, IsTrue, OnOk, OnErr};
+ghost use Rattle.std.specs.Prelude.{◌≡◌, ◌≤◌, ◌⊎◌, ◌++◌, [], None, Some, Err, vec_capacity, IsTrue, IfOk, IfErr, OnOk, OnErr};
 ghost use Rattle.sqlite.specs.State.{HasCleanDisk};
 ghost use Rattle.sqlite.specs.Held.{state};
 ghost use Rattle.treasury_core.specs.Federation.{Federation};
 ghost use Rattle.treasury_store.specs.Treasury.{IsTreasuryOf};
-ghost use Rattle.treasury_api.specs.Request.{is_report};
+ghost use Rattle.treasury_api.specs.Request.{HasDayNumbers, is_report, spelled};
 ghost use Rattle.treasury_api.specs.Answer.{IsPrintableRefusal};
 ghost use Rattle.treasury_api.specs.Kept.{Runs};
 ghost use Rattle.treasury_api.specs.Replied.{IsPrintableIn, IsLineIn, IsLineOf, Serves, standing};
@@ -75,6 +75,33 @@ pub fn refuse<S: Alter>(
     }
 }
 
+/// What has to be left of memory before a command, in bytes: more than its rows take in a database in memory, and more than
+/// any block that is kept for later, so that the system is asked.
+const LEFT: usize = 0x200_0000;
+
+/// Whether so much memory is left. It is given back at once.
+fn is_memory_left(alloc: Global) -> bool {
+    Vec::<u8>::with_capacity(alloc, LEFT).is_ok()
+}
+
+/// The request that a line spells, as `read_line` reads it. Answers 40 for a command where too little memory is left for what
+/// it may write: while rows are written want of memory could only end the database.
+fn read_within_memory(alloc: Global, line: &[u8]) -> Result<Request, Cause>
+    ensures ok { IfOk result (λ request. spelled line.now ≡ Some request) }
+    ensures days { IfOk result HasDayNumbers }
+    ensures refused { result ≡ Err Cause.Request → spelled line.now ≡ None }
+    ensures causes { IfErr result (λ cause. (cause ≡ Cause.Request) ⊎ (cause ≡ Cause.OutOfMemory)) }
+{
+    let request = match read_line(alloc, line) {
+        Ok(request) => request,
+        Err(cause) => return Err(cause),
+    };
+    if !request.is_report() && !is_memory_left(alloc) {
+        return Err(Cause::OutOfMemory);
+    }
+    Ok(request)
+}
+
 impl<S: Alter> Machine for Treasury<S> {
     ghost step = { Serves S.Store };
 
@@ -84,7 +111,7 @@ impl<S: Alter> Machine for Treasury<S> {
             Ok(room) => room,
             Err(error) => return Err(error),
         };
-        let request = match read_line(alloc, line) {
+        let request = match read_within_memory(alloc, line) {
             Ok(request) => request,
             Err(cause) => return Ok(refuse(alloc, self, Refusal::Plain(cause), room)),
         };
