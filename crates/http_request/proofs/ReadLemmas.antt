@@ -1,0 +1,177 @@
+-- A request is read, part by part.
+use Rattle.std.proofs.Common.{◌≡◌, ◌≤◌, ◌<◌, ◌+◌, ◌-◌, ◌++◌, ℕ, List, length, take, drop, max, map, Option, Some, None, Result, Ok, Err, IfOk, codes, refl, ap, ◌∙◌, sym, subst, inl, inr, arith}
+use Rattle.std.specs.Prelude.{IfSome, MatchOption}
+use Rattle.std.proofs.lemmas.Grind.{common_steps}
+use Rattle.std.proofs.lemmas.List.{length-append, drop_at}
+use Rattle.std.proofs.lemmas.List.Sums.{AllPass-from_list_all}
+use Rattle.std.proofs.KnownBytes.{Consumes-trans}
+use Rattle.std.specs.Io.KnownBytes.{Consumes}
+use Rattle.http_header.specs.Token.{IsToken, is_token_byte}
+use Rattle.httparse.specs.Grammar.{RequestHead, print_request}
+use Rattle.httparse.specs.Spans.{header_bytes, span_bytes}
+use Rattle.httparse.specs.declared.spans.HeaderSpan.{HeaderSpan}
+use Rattle.httparse.specs.declared.spans.RequestSpans.{RequestSpans}
+use Rattle.httparse.proofs.GrammarLemmas.{ReadsRequest-append}
+use Rattle.http_request.specs.Head.{IsHead}
+use Rattle.http_request.specs.Found.{HasHead, IsBad, EndsEarly}
+use Rattle.http_request.specs.Path.{path_of}
+use Rattle.http_request.specs.Routes.{Routed, commands, balance, journal, transit, LeadsTo, HasNoRoute}
+use Rattle.http_request.specs.declared.routes.Route.{Route}
+use Rattle.http_request.specs.Length.{body_length}
+use Rattle.http_request.specs.Call.{Reads, IsStopped, length_of, Leads, most_read}
+use Rattle.http_request.specs.Calling.{shown, call_at, CallsFor, CallsBy, LacksBytes}
+use Rattle.http_request.specs.declared.call.Call.{Call}
+use Rattle.http_request.specs.declared.call.Call.TheVariants.{Unreadable, Nowhere, Command, Balance, Journal, Transit}
+use Rattle.http_request.proofs.LengthLemmas.{body_bound}
+
+-- ---- routes
+
+-- no route for what is no method
+get_token : IsToken (codes "GET")
+unfolding is_token_byte
+get_token = (omega arith, AllPass-from_list_all is_token_byte (codes "GET") refl)
+
+post_token : IsToken (codes "POST")
+unfolding is_token_byte
+post_token = (omega arith, AllPass-from_list_all is_token_byte (codes "POST") refl)
+
+pub no_method : (method path : List ℕ) → (IsToken method → ⊥) → HasNoRoute method path
+no_method method path none commands leads = none (subst IsToken (sym leads.0) post_token)
+no_method method path none (balance branch date) leads = none (subst IsToken (sym leads.0) get_token)
+no_method method path none (journal branch) leads = none (subst IsToken (sym leads.0) get_token)
+no_method method path none (transit date) leads = none (subst IsToken (sym leads.0) get_token)
+
+-- what needs its body is a command
+pub is_command : (method path : List ℕ) → CallsFor method path None → LeadsTo method path commands
+is_command method path (inl (is, none)) = absurd cc
+is_command method path (inr (commands, leads, is)) = leads
+is_command method path (inr (balance branch date, leads, is)) = absurd cc
+is_command method path (inr (journal branch, leads, is)) = absurd cc
+is_command method path (inr (transit date, leads, is)) = absurd cc
+
+-- ---- heads
+
+-- what a slice holds from a place on
+pub whole_rest : (n : ℕ) (xs : List ℕ) → take (length xs - n) (drop n xs) ≡ drop n xs
+whole_rest n xs = grind (arith, common_steps)
+
+-- a head stays one behind which more is read
+head_more : (text : List ℕ) (head : RequestHead) (rest more : List ℕ) → IsHead text head rest → IsHead (text ++ more) head (rest ++ more)
+head_more text head rest more is = record { reads = ReadsRequest-append text head rest more is.reads; small = is.small; few = is.few }
+
+-- the bytes behind a head
+behind : (text : List ℕ) (head : RequestHead) (rest : List ℕ) (n : ℕ) → IsHead text head rest → n ≡ length (print_request head) → (drop n text ≡ rest) × (length text ≡ n + length rest)
+behind text head rest n is len =
+    let e : text ≡ print_request head ++ rest = is.reads.1 in (
+      ap (drop n) e ∙ drop_at (print_request head) rest n (sym len),
+      ap length e ∙ (length-append (print_request head) rest ∙ ap (λ (m : ℕ). m + length rest) (sym len)),
+    )
+
+-- where the input ends before the head does
+pub stopped_early : (r0 r1 : Option (List ℕ)) (text : List ℕ) → EndsEarly r0 r1 text → IsStopped r0 r1
+stopped_early r0 r1 text ends = record { seen = text; read = ends.read; bounded = (let b = ends.bounded in omega arith); cut = inl (ends.none, ends.may) }
+
+pub read_bad : (r0 r1 : Option (List ℕ)) (text : List ℕ) → IsBad r0 r1 text → Reads r0 r1 Unreadable
+read_bad r0 r1 text bad = record { seen = text; read = bad.read; bounded = (let b = bad.bounded in omega arith); calls = inl bad.never }
+
+module _ (r0 r1 : Option (List ℕ)) (text : List ℕ) (headers : List HeaderSpan) (spans : RequestSpans) (h : HasHead r0 r1 text headers spans) where
+  there : (P : List ℕ → List ℕ → Type 0) → P (span_bytes text spans.method) (path_of (span_bytes text spans.path)) → P h.head.method (path_of h.head.target)
+  there P leads = subst (λ (t : List ℕ). P h.head.method (path_of t)) h.at.path (subst (λ (m : List ℕ). P m (path_of (span_bytes text spans.path))) h.at.method leads)
+
+  -- a head that leads to no route, or to that of a report
+  pub head_calls : (call : Call) → CallsFor (span_bytes text spans.method) (path_of (span_bytes text spans.path)) (Some call) → Reads r0 r1 call
+  head_calls call (inl (is, none)) = subst (Reads r0 r1) (let same : Nowhere ≡ call = cc in same)
+      (record { seen = text; read = h.read; bounded = (let b = h.bounded in omega arith); calls = (h.head, h.rest, h.is_head, there HasNoRoute none) })
+  head_calls call (inr (route, leads, is)) = by_route route leads is
+    where
+      leading : (route : Routed) → LeadsTo (span_bytes text spans.method) (path_of (span_bytes text spans.path)) route → Leads text h.head h.rest route
+      leading route leads = record { is_head = h.is_head; leads = there (λ (m p : List ℕ). LeadsTo m p route) leads }
+
+      by_route : (route : Routed) → LeadsTo (span_bytes text spans.method) (path_of (span_bytes text spans.path)) route → Some call ≡ call_at route → Reads r0 r1 call
+      by_route commands leads is = absurd cc
+      by_route (balance branch date) leads is = subst (Reads r0 r1) (let same : Balance branch date ≡ call = cc in same)
+          (record { seen = text; read = h.read; bounded = (let b = h.bounded in omega arith); calls = (h.head, h.rest, leading (balance branch date) leads) })
+      by_route (journal branch) leads is = subst (Reads r0 r1) (let same : Journal branch ≡ call = cc in same)
+          (record { seen = text; read = h.read; bounded = (let b = h.bounded in omega arith); calls = (h.head, h.rest, leading (journal branch) leads) })
+      by_route (transit date) leads is = subst (Reads r0 r1) (let same : Transit date ≡ call = cc in same)
+          (record { seen = text; read = h.read; bounded = (let b = h.bounded in omega arith); calls = (h.head, h.rest, leading (transit date) leads) })
+
+  module _ (r2 : Option (List ℕ)) (leads : LeadsTo (span_bytes text spans.method) (path_of (span_bytes text spans.path)) commands) where
+    leads_there : LeadsTo h.head.method (path_of h.head.target) commands
+    leads_there = there (λ (m p : List ℕ). LeadsTo m p commands) leads
+
+    size_is : (o : Option ℕ) → body_length (map (header_bytes text) (take spans.headers headers)) ≡ o → length_of h.head ≡ o
+    size_is o e = sym (ap body_length h.at.fields) ∙ e
+
+    still : (more : List ℕ) → Leads (text ++ more) h.head (h.rest ++ more) commands
+    still more = record { is_head = head_more text h.head h.rest more h.is_head; leads = leads_there }
+
+    rest_is : drop spans.len text ≡ h.rest
+    rest_is = (behind text h.head h.rest spans.len h.is_head h.at.len).0
+
+    -- a whole head and a whole body
+    most : (n : ℕ) → body_length (map (header_bytes text) (take spans.headers headers)) ≡ Some n → spans.len + n ≤ most_read
+    most n size = (let s = h.is_head.small in let k = h.at.len in let b = body_bound (map (header_bytes text) (take spans.headers headers)) n size in omega arith)
+
+    whole_length : (more : List ℕ) → length (text ++ more) ≡ spans.len + length (h.rest ++ more)
+    whole_length more =
+        (let a = length-append text more in let b = length-append h.rest more in let t = (behind text h.head h.rest spans.len h.is_head h.at.len).1 in omega arith)
+
+    pub command_calls : (o : Option ℕ) (call : Call) → body_length (map (header_bytes text) (take spans.headers headers)) ≡ o → CallsBy o r1 r2 (drop spans.len text) call → Reads r0 r2 call
+    command_calls None call size (kept, is) = subst (Reads r0 r2) (sym is) (record {
+      seen = text;
+      read = subst (λ (r : Option (List ℕ)). Consumes r0 r text) (sym kept) h.read;
+      bounded = (let b = h.bounded in omega arith);
+      calls = inr (h.head, h.rest, record { is_head = h.is_head; leads = leads_there }, size_is None size);
+    })
+    command_calls (Some n) call size (body, has, is) = subst (Reads r0 r2) (sym is) (record {
+      seen = text ++ has.more;
+      read = Consumes-trans r0 r1 r2 text has.more h.read has.read;
+      bounded = (
+          let l = whole_length has.more in
+          let b = subst (λ (t : List ℕ). length (t ++ has.more) ≤ max n (length t)) rest_is has.bounded in
+          let t = (behind text h.head h.rest spans.len h.is_head h.at.len).1 in
+          let w = h.bounded in
+          let m = most n size in
+          grind (arith, common_steps)
+          );
+      calls = (
+        h.head,
+        h.rest ++ has.more,
+        n,
+        still has.more,
+        size_is (Some n) size,
+        subst (λ (t : List ℕ). n ≤ length (t ++ has.more)) rest_is has.long,
+        has.is ∙ ap (λ (t : List ℕ). take n (t ++ has.more)) rest_is,
+      );
+    })
+
+    pub command_stops : (o : Option ℕ) → body_length (map (header_bytes text) (take spans.headers headers)) ≡ o → LacksBytes o r1 r2 (drop spans.len text) → IsStopped r0 r2
+    command_stops None size lacks = absurd lacks
+    command_stops (Some n) size lacks =
+        let short = subst (λ (t : List ℕ). length (t ++ lacks.more) < n) rest_is lacks.short in
+        record {
+          seen = text ++ lacks.more;
+          read = Consumes-trans r0 r1 r2 text lacks.more h.read lacks.read;
+          bounded = (let l = whole_length lacks.more in let m = most n size in omega arith);
+          cut = inr (h.head, h.rest ++ lacks.more, n, still lacks.more, size_is (Some n) size, short);
+        }
+
+    -- the same of a result
+    pub command_told : {E : Type 0} (result : Result Call E) (o : Option ℕ) (begun : List ℕ) → o ≡ body_length (map (header_bytes text) (take spans.headers headers)) → begun ≡ drop spans.len text
+        → IfOk result (CallsBy o r1 r2 begun) → IfOk result (Reads r0 r2)
+    command_told (Ok call) o begun size rest calls = command_calls o call (sym size) (subst (λ (t : List ℕ). CallsBy o r1 r2 t call) rest calls)
+    command_told (Err e) o begun size rest calls = tt
+
+    pub stop_told : (o : Option ℕ) (begun : List ℕ) → o ≡ body_length (map (header_bytes text) (take spans.headers headers)) → begun ≡ drop spans.len text → LacksBytes o r1 r2 begun → IsStopped r0 r2
+    stop_told o begun size rest lacks = command_stops o (sym size) (subst (λ (t : List ℕ). LacksBytes o r1 r2 t) rest lacks)
+
+-- what was found by an equal method
+pub route_told : (found : Option Route) (m n path : List ℕ) → n ≡ m → IfSome found (λ route. LeadsTo n path (shown route)) → (found ≡ None → HasNoRoute n path)
+    → MatchOption found (HasNoRoute m path) (λ route. LeadsTo m path (shown route))
+route_told (Some route) m n path same leads none = subst (λ (t : List ℕ). LeadsTo t path (shown route)) same leads
+route_told None m n path same leads none = subst (λ (t : List ℕ). HasNoRoute t path) same (none refl)
+
+-- what a method and an equal path call for
+pub call_told : (call : Option Call) (m n p q : List ℕ) → m ≡ n → p ≡ q → CallsFor m (path_of p) call → CallsFor n (path_of q) call
+call_told call m n p q same alike calls = subst (λ (t : List ℕ). CallsFor n (path_of t) call) alike (subst (λ (t : List ℕ). CallsFor t (path_of p) call) same calls)

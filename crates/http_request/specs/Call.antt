@@ -1,0 +1,60 @@
+-- What the bytes of a connection call for (own rule; docs/FORMATS.md, "HTTP").
+use Rattle.std.specs.Prelude.{◌≡◌, ◌⊎◌, ◌≤◌, ◌<◌, ◌+◌, ℕ, List, length, take, map, Option, Some, None}
+use Rattle.std.specs.Io.KnownBytes.{Consumes}
+use Rattle.httparse.specs.Grammar.{RequestHead, HasNoRequest, MayBecomeRequest}
+use Rattle.httparse.specs.Spans.{name_and_value}
+use Rattle.http_request.specs.Head.{IsHead, NeverHead, CanEnd}
+use Rattle.http_request.specs.Spaces.{spaces}
+use Rattle.http_request.specs.Path.{path_of}
+use Rattle.http_request.specs.Routes.{Routed, commands, balance, journal, transit, LeadsTo, HasNoRoute}
+use Rattle.http_request.specs.Length.{body_length}
+use Rattle.http_request.specs.declared.call.Call.{Call}
+use Rattle.http_request.specs.declared.call.Call.TheVariants.{Unreadable, Nowhere, Command, Balance, Journal, Transit}
+
+-- how long the body of a command is
+abbrev pub length_of : RequestHead → Option ℕ
+length_of head = body_length (map name_and_value head.fields)
+
+-- the bytes begin with a head within the limits, which leads to this route
+pub record Leads (seen : List ℕ) (head : RequestHead) (rest : List ℕ) (route : Routed) : Type 0 where
+  pub is_head : IsHead seen head rest
+  pub leads : LeadsTo head.method (path_of head.target) route
+
+abbrev pub LeadTo : List ℕ → Routed → Type 0
+LeadTo seen route = (head : RequestHead) × (rest : List ℕ) × Leads seen head rest route
+
+-- What the bytes call for. Nothing where they begin no head, or where the length of a command's body is not stated as it has to
+-- be; a command has its whole body, and what stands behind it is not looked at.
+abbrev pub Calls : List ℕ → Call → Type 0
+Calls seen Unreadable = NeverHead seen ⊎ ((head : RequestHead) × (rest : List ℕ) × Leads seen head rest commands × (length_of head ≡ None))
+Calls seen Nowhere = (head : RequestHead) × (rest : List ℕ) × IsHead seen head rest × HasNoRoute head.method (path_of head.target)
+Calls seen (Command body) =
+    (head : RequestHead) × (rest : List ℕ) × (n : ℕ) × Leads seen head rest commands × (length_of head ≡ Some n) × (n ≤ length rest) × (body ≡ take n rest)
+Calls seen (Balance branch date) = LeadTo seen (balance branch date)
+Calls seen (Journal branch) = LeadTo seen (journal branch)
+Calls seen (Transit date) = LeadTo seen (transit date)
+
+-- the most bytes that are read of a connection: those of a head, and those of a body
+abbrev pub most_read : ℕ
+most_read = 16_384 + 8_388_608
+
+-- what was read calls for this
+pub record Reads (r0 r1 : Option (List ℕ)) (call : Call) : Type 0 where
+  pub seen : List ℕ
+  pub read : Consumes r0 r1 seen
+  pub bounded : length seen ≤ most_read
+  pub calls : Calls seen call
+
+-- The bytes are a first part of a request: of its head, which some bytes could still end within the limits (inside its target that
+-- is not asked), or of its body.
+abbrev pub IsCutOff : List ℕ → Type 0
+IsCutOff seen =
+    (HasNoRequest seen × (CanEnd seen ⊎ ((spaces seen ≡ 1) × MayBecomeRequest seen)))
+    ⊎ ((head : RequestHead) × (rest : List ℕ) × (n : ℕ) × Leads seen head rest commands × (length_of head ≡ Some n) × (length rest < n))
+
+-- a first part of a request was read
+pub record IsStopped (r0 r1 : Option (List ℕ)) : Type 0 where
+  pub seen : List ℕ
+  pub read : Consumes r0 r1 seen
+  pub bounded : length seen ≤ most_read
+  pub cut : IsCutOff seen

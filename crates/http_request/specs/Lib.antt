@@ -1,0 +1,13 @@
+-- What a reader has to believe, in reading order
+pub mod Head
+pub mod Path
+pub mod Routes
+pub mod Length
+pub mod Spaces
+pub mod Call
+-- What mirrors code, for private clauses: nobody has to believe it
+pub mod Found
+pub mod Body
+pub mod Rows
+pub mod Calling
+pub mod Ending

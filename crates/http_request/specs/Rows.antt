@@ -1,0 +1,30 @@
+-- Mirrors code: the rows of the router.
+use Rattle.std.specs.Prelude.{◌≡◌, ℕ, List, [], ◌∷◌, ◌++◌, codes}
+use Rattle.matchit.specs.Rows.{RowsOf, param_token}
+use Rattle.matchit.specs.Router.{RouteOf}
+use Rattle.http_request.specs.declared.routes.Place.{Place}
+use Rattle.http_request.specs.declared.routes.Place.TheVariants as at
+use Rattle.http_request.specs.Routes.{Routed, commands, balance, journal, transit, LeadsTo}
+
+abbrev pub row : List ℕ → List ℕ → List (ℕ × ℕ) → Place → List ℕ × RouteOf Place
+row pattern text names value = (pattern, record { pattern = pattern; text = text; names = names; value = value })
+
+-- the rows of the router, in its order
+abbrev pub route_rows : RowsOf (RouteOf Place)
+route_rows =
+    row (codes "/balance/" ++ param_token ∷ 47 ∷ param_token ∷ []) (codes "/balance/{branch}/{date}") ((10, 16) ∷ (19, 23) ∷ []) at.Balance
+    ∷ row (codes "/commands") (codes "/commands") [] at.Commands
+    ∷ row (codes "/journal/" ++ param_token ∷ []) (codes "/journal/{branch}") ((10, 16) ∷ []) at.Journal
+    ∷ row (codes "/transit/" ++ param_token ∷ []) (codes "/transit/{date}") ((10, 14) ∷ []) at.Transit
+    ∷ []
+
+-- the place of a route
+abbrev pub place_of : Routed → Place
+place_of commands = at.Commands
+place_of (balance branch date) = at.Balance
+place_of (journal branch) = at.Journal
+place_of (transit date) = at.Transit
+
+-- the method and the path lead to no route of that place
+abbrev pub HasNoRouteAt : Place → List ℕ → List ℕ → Type 0
+HasNoRouteAt place method path = (route : Routed) → place_of route ≡ place → ¬ (LeadsTo method path route)
