@@ -21,7 +21,7 @@ pub const KINDS: [ClaimKind; 4] = [
 ];
 
 /// A number below the bound, by a linear congruence.
-pub(crate) fn draw(state: &mut u64, bound: u64) -> u64
+pub fn draw(state: &mut u64, bound: u64) -> u64
     requires { 0 < bound }
     ensures { result < bound }
 {
