@@ -14,6 +14,7 @@ use Rattle.treasury_core.specs.declared.rows.EntryRow.{EntryRow}
 use Rattle.treasury_core.specs.declared.rows.LegRow.{LegRow}
 use Rattle.treasury_core.specs.declared.rows.ClaimRow.{ClaimRow}
 use Rattle.treasury_core.specs.declared.rows.TransferRow.{TransferRow}
+use Rattle.treasury_core.specs.declared.rows.PartRow.{PartRow}
 use Rattle.treasury_core.specs.declared.rows.Parts.{Parts}
 use Rattle.treasury_core.specs.Rows.{unit_rows, branch_rows_from, entry_row, entry_rows_from, entry_rows_in, leg_rows_in, claim_rows_in, transfer_row, rows}
 use Rattle.treasury_core.proofs.BranchRowLemmas.{AreGood}
@@ -159,14 +160,15 @@ single_in styles b (x ∷ bs) =
     ap (λ xs. xs ++ record_rows_in (λ k n r. entry_row styles k n r ∷ []) (b + 1) bs) (single_from styles b 1 x.records)
     ∙ ap (λ xs. entry_rows_from styles b 1 x.records ++ xs) (single_in styles (b + 1) bs)
 
-pub same_parts : (p q : Parts) → p.units ≡ q.units → p.branches ≡ q.branches → p.entries ≡ q.entries → p.legs ≡ q.legs → p.claims ≡ q.claims → p.transfers ≡ q.transfers → p ≡ q
-same_parts p q a b c d e f =
+pub same_parts : (p q : Parts) → p.units ≡ q.units → p.branches ≡ q.branches → p.entries ≡ q.entries → p.legs ≡ q.legs → p.claims ≡ q.claims → p.transfers ≡ q.transfers → p.receipts ≡ q.receipts → p ≡ q
+same_parts p q a b c d e f g =
     ap (λ (x : List UnitRow). let y : Parts = record p { units = x } in y) a
     ∙ ap (λ (x : List BranchRow). let y : Parts = record p { units = q.units; branches = x } in y) b
     ∙ ap (λ (x : List EntryRow). let y : Parts = record p { units = q.units; branches = q.branches; entries = x } in y) c
-    ∙ ap (λ (x : List LegRow). let y : Parts = record q { legs = x; claims = p.claims; transfers = p.transfers } in y) d
-    ∙ ap (λ (x : List ClaimRow). let y : Parts = record q { claims = x; transfers = p.transfers } in y) e
-    ∙ ap (λ (x : List TransferRow). let y : Parts = record q { transfers = x } in y) f
+    ∙ ap (λ (x : List LegRow). let y : Parts = record q { legs = x; claims = p.claims; transfers = p.transfers; receipts = p.receipts } in y) d
+    ∙ ap (λ (x : List ClaimRow). let y : Parts = record q { claims = x; transfers = p.transfers; receipts = p.receipts } in y) e
+    ∙ ap (λ (x : List TransferRow). let y : Parts = record q { transfers = x; receipts = p.receipts } in y) f
+    ∙ ap (λ (x : List PartRow). let y : Parts = record q { receipts = x } in y) g
 
 -- nothing stands past the end
 pub none_past : {X : Type 0} (xs : List X) (i : ℕ) → slice_get xs i ≡ None → length xs ≤ i
@@ -226,9 +228,10 @@ pub claims_of_rows : (f : Federation) (parts : Parts) (styles : List Style) (xs 
 claims_of_rows f parts styles xs ts h e = ap (claim_rows_in 0) h.branched ∙ ap (λ (p : Parts). p.claims) e
 
 pub all_rows : (f : Federation) (parts : Parts) (styles : List Style) (xs : List Branch) (ts : List Transfer) → Seen f styles xs ts → unit_rows styles ≡ parts.units → branch_rows_from 0 xs ≡ parts.branches
-    → rows_of_entries styles xs ≡ parts.entries → leg_rows_in 0 xs ≡ parts.legs → claim_rows_in 0 xs ≡ parts.claims → map (transfer_row xs) ts ≡ parts.transfers → rows f ≡ parts
-all_rows f parts styles xs ts h u b e l c t =
+    → rows_of_entries styles xs ≡ parts.entries → leg_rows_in 0 xs ≡ parts.legs → claim_rows_in 0 xs ≡ parts.claims → map (transfer_row xs) ts ≡ parts.transfers → parts.receipts ≡ [] → rows f ≡ parts
+all_rows f parts styles xs ts h u b e l c t none =
     same_parts (rows f) parts (ap unit_rows (sym h.styled) ∙ u) (ap (branch_rows_from 0) (sym h.branched) ∙ b)
     (ap (λ (ss : List Style). entry_rows_in ss 0 f.branches) (sym h.styled) ∙ (ap (entry_rows_in styles 0) (sym h.branched) ∙ (sym (single_in styles 0 xs) ∙ e)))
     (ap (leg_rows_in 0) (sym h.branched) ∙ l) (ap (claim_rows_in 0) (sym h.branched) ∙ c)
     (ap (λ (us : List Transfer). map (transfer_row f.branches) us) (sym h.sent) ∙ (ap (λ (ys : List Branch). map (transfer_row ys) ts) (sym h.branched) ∙ t))
+    (sym none)

@@ -107,7 +107,8 @@ transfer_row bs t = record {
   payee = option_map (λ r. r.payee) t.receipt;
 }
 
--- the rows of a state, each list in the order of its key: commodities and branches are numbered from 0, entries and legs from 1
+-- the rows of a state, each list in the order of its key: commodities and branches are numbered from 0, entries and legs from 1;
+-- no transfer is received in parts
 abbrev pub rows : Federation → Parts
 rows f = record {
   units = unit_rows f.styles;
@@ -116,6 +117,7 @@ rows f = record {
   legs = leg_rows_in 0 f.branches;
   claims = claim_rows_in 0 f.branches;
   transfers = map (transfer_row f.branches) f.transfers;
+  receipts = [];
 }
 
 -- a day that the state in memory can have: in 32 bits

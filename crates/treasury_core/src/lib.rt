@@ -40,7 +40,7 @@ pub use law::{
 };
 pub use mark::mark_of;
 pub use record::Record;
-pub use rows::{BranchRow, ClaimRow, EntryRow, LegRow, Parts, TransferRow, UnitRow};
+pub use rows::{BranchRow, ClaimRow, EntryRow, LegRow, PartRow, Parts, TransferRow, UnitRow};
 pub use state::{Branch, State};
 pub use transfer::{Receipt, Transfer};
 pub use transit::open_amount;

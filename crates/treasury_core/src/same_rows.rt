@@ -396,6 +396,10 @@ pub(crate) fn has_rows(alloc: Global, draft: &Draft, parts: &Parts) -> Result<bo
     ensures memory { IsOkUnless result Cause.OutOfMemory }
 {
     let branches = draft.branches.items();
+    let receipts = parts.receipts.items();
+    if !receipts.is_empty() {
+        return Ok(false);
+    }
     if !are_unit_rows(&draft.styles, parts.units.items()) {
         return Ok(false);
     }

@@ -1,4 +1,6 @@
-use Rattle.std.proofs.Common.{◌≡◌, ◌∙◌, List, true, false, ap, sym, map}
+use Rattle.std.proofs.Common.{◌≡◌, ◌∙◌, List, length, true, false, ap, sym, map}
+use Rattle.std.proofs.lemmas.Bool.Decides.{Decides-eqb}
+use Rattle.std.proofs.lemmas.List.{nil_from_length}
 use Rattle.std.proofs.lemmas.Result.{IfOk-weaker}
 use Rattle.treasury_core.specs.declared.transfer.Transfer.{Transfer}
 use Rattle.treasury_core.specs.Federation.{Federation}
@@ -62,5 +64,5 @@ returns-clause-value c =
     let entries = c.in_ok-entries.ensures.value.0 c.if-not-entries.false ∙ c.items-5.ensures in
     let legs = c.in_ok-legs.ensures.value.0 c.if-not-legs.false ∙ c.items-6.ensures in
     IfOk-weaker c.are_record_rows-3.result _ _
-    (λ is p. (λ h. all_rows f parts styles xs ts seen units branches entries legs (p.0 h ∙ c.items-7.ensures) sent, λ e. p.1 (claims_of_rows f parts styles xs ts seen e ∙ sym c.items-7.ensures)))
+    (λ is p. (λ h. all_rows f parts styles xs ts seen units branches entries legs (p.0 h ∙ c.items-7.ensures) sent (sym c.items-receipts.ensures ∙ nil_from_length _ ((Decides-eqb (length c.items-receipts.result.now) 0).0 (sym c.is_empty.ensures ∙ c.if-not-is_empty.false))), λ e. p.1 (claims_of_rows f parts styles xs ts seen e ∙ sym c.items-7.ensures)))
     c.are_record_rows-3.ensures.value
