@@ -47,6 +47,7 @@ rows_under S N f = record {
   legs = rows_from leg_rows 0 f.branches;
   claims = rows_from claim_rows 0 f.branches;
   transfers = map (transfer_row (named N)) f.transfers;
+  receipts = [];
 }
 
 same_rows : {X : Type 0} (xs ys : List X) → xs ≡ ys → IsPermutation xs ys
@@ -127,6 +128,7 @@ module _ (S : List Style) (N : List (List ℕ)) (f : Federation) (more : List (L
   branch_step name = record {
     units = IsPermutation-refl (rows_under S N f).units;
     transfers = IsPermutation-refl (rows_under S N f).transfers;
+    receipts = IsPermutation-refl [];
     branches = subst (λ (n : ℕ). IsPermutation (branch_row n (new_branch name) ∷ branch_rows 0 bs) (branch_rows 0 (bs ++ new_branch name ∷ []))) (sym count_of) (one_more branch_row bs (new_branch name));
     entries = same_rows _ _ (sym (sym (alone S (bs ++ new_branch name ∷ [])) ∙ (none_more (entry_alone S) bs name ∙ alone S bs)));
     legs = same_rows _ _ (sym (none_more leg_rows bs name));
@@ -151,6 +153,7 @@ module _ (S : List Style) (N : List (List ℕ)) (f : Federation) (more : List (L
         legs = record_in leg_rows 0 p k r name bs at low count;
         claims = record_in claim_rows 0 p k r name bs at low count;
         transfers = IsPermutation-refl t.transfers;
+        receipts = IsPermutation-refl t.receipts;
       })
 
   nowhere : (name : List ℕ) (r : Record) → length bs ≤ place_in N name → with_entered f name (r ∷ []) ≡ f
@@ -173,6 +176,7 @@ module _ (S : List Style) (N : List (List ℕ)) (f : Federation) (more : List (L
   lock_step name day = record {
     units = IsPermutation-refl (rows_under S N f).units;
     transfers = IsPermutation-refl (rows_under S N f).transfers;
+    receipts = IsPermutation-refl [];
     branches = same_rows _ _ (lock_rows name day);
     entries = same_rows _ _ (sym (sym (alone S (changed (with_lock day) name bs)) ∙ (rows-locked (entry_alone S) 0 day name bs ∙ alone S bs)));
     legs = same_rows _ _ (sym (rows-locked leg_rows 0 day name bs));

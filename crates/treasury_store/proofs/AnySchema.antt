@@ -21,7 +21,7 @@ use Rattle.std.proofs.Common.{slice_get}
 use Rattle.sqlite.proofs.Callers.{IsPlain, command_of}
 use Rattle.sqlite.specs.Source.TheVariants.{Values}
 use Rattle.treasury_store.specs.Tables.{format}
-use Rattle.treasury_store.proofs.Texts.{add_format_text, format_terms, create_format_text, create_unit_text, create_branch_text, create_entry_text, create_leg_text, create_claim_text, create_transfer_text}
+use Rattle.treasury_store.proofs.Texts.{add_format_text, format_terms, create_format_text, create_unit_text, create_branch_text, create_entry_text, create_leg_text, create_claim_text, create_transfer_text, create_receipt_text}
 
 -- what CREATE TABLE asks of a schema: whether an index or trigger that is kept aside has the name, and what has it
 abbrev made_by : Bool → Option ℕ → Option ℕ → List Name → Statement → Checked Command
@@ -115,6 +115,16 @@ creates_transfer s = go (is_attached s (codes "transfer")) (option_or (table_nam
     go false same (Some at) c e = absurd (cc)
     go false (Some at) None c e = absurd (cc)
     go false None None c e = subst (IsCreation create_transfer_text) (same_value e) (record { command = refl; whole = refl; returns = refl; untimed = refl })
+
+pub creates_receipt : (s : Schema) (c : Compiled) → understood s create_receipt_text ≡ Ok c → IsCreation create_receipt_text c
+unfolding understood everything
+creates_receipt s = go (is_attached s (codes "receipt")) (option_or (table_named s (codes "receipt")) (view_named s (codes "receipt"))) (index_named s (codes "receipt"))
+  where
+    go : (aside : Bool) (same other : Option ℕ) (c : Compiled) → told create_receipt_text (makes create_receipt_text aside same other) ≡ Ok c → IsCreation create_receipt_text c
+    go true same other c e = absurd (cc)
+    go false same (Some at) c e = absurd (cc)
+    go false (Some at) None c e = absurd (cc)
+    go false None None c e = subst (IsCreation create_receipt_text) (same_value e) (record { command = refl; whole = refl; returns = refl; untimed = refl })
 
 pub adds_format : (s : Schema) (at n : ℕ) → table_named s (codes "format") ≡ Some at → slice_get s.tables at ≡ Some (record format { tree = n })
     → (command_of (understood s add_format_text) ≡ Insert at (Values format_terms 2)) × IsPlain (understood s add_format_text)

@@ -5,6 +5,7 @@ use Rattle.std.proofs.lemmas.List.Sorted.{IsPermutation-refl}
 use Rattle.sqlite_schema.specs.Names.{same_name, table_named}
 use Rattle.sqlite_trees.specs.View.{IsShaped}
 use Rattle.sqlite_trees.specs.declared.store.Shape.TheVariants as shape
+use Rattle.sqlite_trees.proofs.TreeLemmas.{IsShaped-put_row}
 use Rattle.sqlite.specs.Order.{column}
 use Rattle.sqlite.specs.Table.{Table}
 use Rattle.sqlite.specs.Schema.{Schema}
@@ -82,10 +83,12 @@ gives_row s old new count has free bare h =
     let got : slice_get whole.tables at ≡ Some (here s) = last_got s.tables (here s) in
     let is = adds_format whole at n named got in
     let a = adds whole format.name n format.columns format.key format.primary format.uniques format.orders add_format_text at format_terms 2 format_row (λ db. Int (next_rowid (db n)) ∷ format_row) is.0 is.1 got (news_is n) old new count has h in
-    let only : new.now.trees n ≡ (Int (pos 1) ∷ format_row) ∷ [] = a.rows ∙ ap (λ rs. put_row (Int (next_rowid rs) ∷ format_row) rs) bare in
+    let put : new.now.trees n ≡ put_row (Int (pos 1) ∷ format_row) [] = a.rows ∙ ap (λ rs. put_row (Int (next_rowid rs) ∷ format_row) rs) bare in
+    let only : new.now.trees n ≡ (Int (pos 1) ∷ format_row) ∷ [] = put in
     record {
       schema = a.schema_is;
       row = ap (map (λ r. column r 1)) only;
+      numbered = subst (IsShaped shape.Table) (sym put) (IsShaped-put_row (Int (pos 1) ∷ format_row) [] refl (tt, tt));
       others = kept_below (above (λ (t : Table). t.tree) (past_views s) s.tables) n s.tables old.now.trees new.now.trees (grows (λ i. i.tree) s.indexes _) (low_all (λ (t : Table). t.tree) s.tables (past_views s)) (front _ s.tables _ a.others);
     }
 
@@ -113,6 +116,7 @@ whole_beside a b c d p row q =
     record {
       schema = q.schema ∙ ap (made_all state_tables) row.schema;
       version = ap (map (λ r. column r 1)) (kept_back (λ (t : Table). d.trees t.tree ≡ c.trees t.tree) a.schema.tables (f ∷ []) all).0 ∙ row.row;
+      numbered = subst (IsShaped shape.Table) (sym (kept_back (λ (t : Table). d.trees t.tree ≡ c.trees t.tree) a.schema.tables (f ∷ []) all).0) row.numbered;
       empty = subst (λ s. AllByRecursion (λ (t : Table). d.trees t.tree ≡ []) (new_tables state_tables s)) row.schema q.empty;
       others =
           kept_twice a.schema.tables a.trees c.trees d.trees (kept_twice a.schema.tables a.trees b.trees c.trees p.others row.others)
@@ -126,13 +130,15 @@ holds_none a d none made =
     subst (λ s. AllByRecursion (λ (t : Table). d.trees t.tree ≡ []) (new_tables state_tables (created s format))) none made.empty in
     record {
       schema = made.schema ∙ ap (made_all (format ∷ state_tables)) none;
-      format = subst (λ s. map (λ r. column r 1) (d.trees (next_tree s)) ≡ Int (pos 1) ∷ []) none made.version;
+      format = subst (λ s. map (λ r. column r 1) (d.trees (next_tree s)) ≡ Int (pos 2) ∷ []) none made.version;
+      numbered = subst (λ s. IsShaped shape.Table (d.trees (next_tree s))) none made.numbered;
       units = subst (IsPermutation []) (sym empty.0) (IsPermutation-refl []);
       branches = subst (IsPermutation []) (sym empty.1.0) (IsPermutation-refl []);
       entries = subst (λ rows. IsPermutation [] (map (drop 1) rows)) (sym empty.1.1.0) (IsPermutation-refl []);
       legs = subst (λ rows. IsPermutation [] (map (drop 1) rows)) (sym empty.1.1.1.0) (IsPermutation-refl []);
       claims = subst (λ rows. IsPermutation [] (map (drop 1) rows)) (sym empty.1.1.1.1.0) (IsPermutation-refl []);
       transfers = subst (λ rows. IsPermutation [] (map (drop 1) rows)) (sym empty.1.1.1.1.1.0) (IsPermutation-refl []);
+      receipts = subst (λ rows. IsPermutation [] (map (drop 1) rows)) (sym empty.1.1.1.1.1.1.0) (IsPermutation-refl []);
       keyed = subst (IsShaped shape.Table) (sym empty.1.1.1.1.1.0) (tt, tt);
     }
 

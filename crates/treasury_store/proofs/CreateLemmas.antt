@@ -9,10 +9,10 @@ use Rattle.sqlite.specs.Rows.{sequence}
 use Rattle.sqlite.specs.Effect.{Database}
 use Rattle.sqlite.specs.Tree.{Trees}
 use Rattle.sqlite.specs.State.{State, Executes}
-use Rattle.treasury_store.specs.Tables.{format, unit, branch, entry, leg, claim, transfer, state_tables, made_all, new_tables}
+use Rattle.treasury_store.specs.Tables.{format, unit, branch, entry, leg, claim, transfer, receipt, state_tables, made_all, new_tables}
 use Rattle.treasury_store.specs.Creating.{has_counter, Makes, MakesAll}
-use Rattle.treasury_store.proofs.Texts.{create_format_text, create_unit_text, create_branch_text, create_entry_text, create_leg_text, create_claim_text, create_transfer_text, format_is, unit_is, branch_is, entry_is, leg_is, claim_is, transfer_is}
-use Rattle.treasury_store.proofs.AnySchema.{creates_format, creates_unit, creates_branch, creates_entry, creates_leg, creates_claim, creates_transfer}
+use Rattle.treasury_store.proofs.Texts.{create_format_text, create_unit_text, create_branch_text, create_entry_text, create_leg_text, create_claim_text, create_transfer_text, create_receipt_text, format_is, unit_is, branch_is, entry_is, leg_is, claim_is, transfer_is, receipt_is}
+use Rattle.treasury_store.proofs.AnySchema.{creates_format, creates_unit, creates_branch, creates_entry, creates_leg, creates_claim, creates_transfer, creates_receipt}
 use Rattle.treasury_store.proofs.Steps.{creates}
 
 -- ---- under any schema with no AUTOINCREMENT
@@ -59,6 +59,10 @@ module _ (old new : State) (count : ℕ) (none : has_counter old.now.schema ≡ 
   makes_transfer h = let m = creates old new create_transfer_text (record transfer { tree = 0 }) (creates_transfer old.now.schema) transfer_is (lacks_none (created old.now.schema transfer) (stays_uncounted old.now.schema transfer refl none)) count h in
       record { schema = m.schema; empty = m.empty; others = m.others }
 
+  pub makes_receipt : Executes create_receipt_text [] old new (Ok count) → Makes receipt old.now new.now
+  makes_receipt h = let m = creates old new create_receipt_text (record receipt { tree = 0 }) (creates_receipt old.now.schema) receipt_is (lacks_none (created old.now.schema receipt) (stays_uncounted old.now.schema receipt refl none)) count h in
+      record { schema = m.schema; empty = m.empty; others = m.others }
+
 -- ---- one after another
 pub kept_front : {X : Type 0} (P : X → Type 0) (xs ys : List X) → AllByRecursion P (xs ++ ys) → AllByRecursion P xs
 kept_front P [] ys all = tt
@@ -92,9 +96,10 @@ makes_more t ts a b c p q =
 pub still_uncounted : (t : Table) (a b : Database) → t.is_counted ≡ false → has_counter a.schema ≡ false → Makes t a b → has_counter b.schema ≡ false
 still_uncounted t a b e none p = ap has_counter p.schema ∙ stays_uncounted a.schema t e none
 
-pub makes_state : (a b c d e f g : Database) → has_counter a.schema ≡ false → (has_counter a.schema ≡ false → Makes unit a b) → (has_counter b.schema ≡ false → Makes branch b c)
-    → (has_counter c.schema ≡ false → Makes entry c d) → (has_counter d.schema ≡ false → Makes leg d e) → (has_counter e.schema ≡ false → Makes claim e f) → (has_counter f.schema ≡ false → Makes transfer f g) → MakesAll state_tables a g
-makes_state a b c d e f g none one two three four five six =
+pub makes_state : (a b c d e f g h : Database) → has_counter a.schema ≡ false → (has_counter a.schema ≡ false → Makes unit a b) → (has_counter b.schema ≡ false → Makes branch b c)
+    → (has_counter c.schema ≡ false → Makes entry c d) → (has_counter d.schema ≡ false → Makes leg d e) → (has_counter e.schema ≡ false → Makes claim e f) → (has_counter f.schema ≡ false → Makes transfer f g)
+    → (has_counter g.schema ≡ false → Makes receipt g h) → MakesAll state_tables a h
+makes_state a b c d e f g h none one two three four five six seven =
     let p = one none in
     let none_b = still_uncounted unit a b refl none p in
     let q = two none_b in
@@ -106,4 +111,6 @@ makes_state a b c d e f g none one two three four five six =
     let t = five none_e in
     let none_f = still_uncounted claim e f refl none_e t in
     let u = six none_f in
-    makes_more unit _ a b g p (makes_more branch _ b c g q (makes_more entry _ c d g r (makes_more leg _ d e g s (makes_more claim _ e f g t (makes_more transfer [] f g g u (makes_none g))))))
+    let none_g = still_uncounted transfer f g refl none_f u in
+    let v = seven none_g in
+    makes_more unit _ a b h p (makes_more branch _ b c h q (makes_more entry _ c d h r (makes_more leg _ d e h s (makes_more claim _ e f h t (makes_more transfer _ f g h u (makes_more receipt [] g h h v (makes_none h)))))))

@@ -11,7 +11,7 @@ use Rattle.treasury_core.specs.declared.rows.EntryRow.{EntryRow}
 use Rattle.treasury_core.specs.declared.rows.LegRow.{LegRow}
 use Rattle.treasury_core.specs.declared.rows.ClaimRow.{ClaimRow}
 use Rattle.treasury_store.specs.Tables.{entry, leg, claim, store_schema}
-use Rattle.treasury_store.specs.Rows.{Tables, Holds, entry_row, leg_row, claim_row, transfer_row}
+use Rattle.treasury_store.specs.Rows.{Tables, Holds, entry_row, leg_row, claim_row, transfer_row, part_row}
 use Rattle.treasury_store.proofs.EightTexts.{add_entry_eights_text, add_entry_eights_is, entry_eights_terms, add_leg_eights_text, add_leg_eights_is, leg_eights_terms, add_claim_eights_text, add_claim_eights_is, claim_eights_terms}
 use Rattle.treasury_store.proofs.RowLemmas.{cast_int, cast_null}
 use Rattle.treasury_store.proofs.ManyLemmas.{adds_all}
@@ -48,6 +48,8 @@ module _ (e1 e2 e3 e4 e5 e6 e7 e8 : EntryRow) where
         legs = subst (λ rs. IsPermutation (map leg_row t.legs) (map (drop 1) rs)) (sym (a.others.1.1.1.1.0 (omega arith))) holds.legs;
         claims = subst (λ rs. IsPermutation (map claim_row t.claims) (map (drop 1) rs)) (sym (a.others.1.1.1.1.1.0 (omega arith))) holds.claims;
         transfers = subst (λ rs. IsPermutation (map transfer_row t.transfers) (map (drop 1) rs)) (sym (a.others.1.1.1.1.1.1.0 (omega arith))) holds.transfers;
+        numbered = subst (IsShaped shape.Table) (sym (a.others.0 (omega arith))) holds.numbered;
+        receipts = subst (λ rs. IsPermutation (map part_row t.receipts) (map (drop 1) rs)) (sym (a.others.1.1.1.1.1.1.1.0 (omega arith))) holds.receipts;
         keyed = subst (IsShaped shape.Table) (sym (a.others.1.1.1.1.1.1.0 (omega arith))) holds.keyed;
       }
 
@@ -75,6 +77,8 @@ module _ (l1 l2 l3 l4 l5 l6 l7 l8 : LegRow) where
         legs = turned (map leg_row leg_eights) (map leg_row t.legs) _ _ holds.legs a.moved;
         claims = subst (λ rs. IsPermutation (map claim_row t.claims) (map (drop 1) rs)) (sym (a.others.1.1.1.1.1.0 (omega arith))) holds.claims;
         transfers = subst (λ rs. IsPermutation (map transfer_row t.transfers) (map (drop 1) rs)) (sym (a.others.1.1.1.1.1.1.0 (omega arith))) holds.transfers;
+        numbered = subst (IsShaped shape.Table) (sym (a.others.0 (omega arith))) holds.numbered;
+        receipts = subst (λ rs. IsPermutation (map part_row t.receipts) (map (drop 1) rs)) (sym (a.others.1.1.1.1.1.1.1.0 (omega arith))) holds.receipts;
         keyed = subst (IsShaped shape.Table) (sym (a.others.1.1.1.1.1.1.0 (omega arith))) holds.keyed;
       }
 
@@ -102,5 +106,7 @@ module _ (c1 c2 c3 c4 c5 c6 c7 c8 : ClaimRow) where
         legs = subst (λ rs. IsPermutation (map leg_row t.legs) (map (drop 1) rs)) (sym (a.others.1.1.1.1.0 (omega arith))) holds.legs;
         claims = turned (map claim_row claim_eights) (map claim_row t.claims) _ _ holds.claims a.moved;
         transfers = subst (λ rs. IsPermutation (map transfer_row t.transfers) (map (drop 1) rs)) (sym (a.others.1.1.1.1.1.1.0 (omega arith))) holds.transfers;
+        numbered = subst (IsShaped shape.Table) (sym (a.others.0 (omega arith))) holds.numbered;
+        receipts = subst (λ rs. IsPermutation (map part_row t.receipts) (map (drop 1) rs)) (sym (a.others.1.1.1.1.1.1.1.0 (omega arith))) holds.receipts;
         keyed = subst (IsShaped shape.Table) (sym (a.others.1.1.1.1.1.1.0 (omega arith))) holds.keyed;
       }

@@ -5,7 +5,6 @@ use Rattle.sqlite.specs.Tree.{Trees}
 use Rattle.sqlite.specs.Effect.{Database}
 use Rattle.sqlite.specs.State.{HasCleanDisk, Survives}
 use Rattle.sqlite.specs.Held.{Held, state}
-use Rattle.sqlite.proofs.StateLemmas.{survives_weaker}
 use Rattle.treasury_core.specs.declared.command.Command.{Command}
 use Rattle.treasury_core.specs.declared.delta.Addition.{Addition}
 use Rattle.treasury_core.specs.Federation.{Federation}
@@ -14,12 +13,15 @@ use Rattle.treasury_core.specs.Joined.{joined}
 use Rattle.treasury_core.specs.Rows.{rows}
 use Rattle.treasury_core.specs.Step.{step}
 use Rattle.treasury_store.specs.declared.store.Store.{Store}
-use Rattle.treasury_store.specs.Rows.{Tables, Holds, AreTreesOf}
+use Rattle.treasury_store.specs.Rows.{Tables, Holds, HoldsFirst, AreTreesOf, AreFirstTreesOf}
 use Rattle.treasury_store.specs.Kept.{KeepsTables, ShutsByFault}
-use Rattle.treasury_store.specs.Opening.{KeepsMade}
+use Rattle.treasury_store.specs.Creating.{has_receipt}
+use Rattle.treasury_store.specs.Upgrading.{KeepsOurs}
+use Rattle.treasury_store.proofs.OpenLemmas.{ours_first, ours_second, not_first, second_more}
+use Rattle.treasury_store.proofs.UpgradeLemmas.{upgraded_holds}
 use Rattle.treasury_store.specs.Store.{TablesAre, IsOf}
 use Rattle.treasury_store.specs.Treasury.{Treasury, SurvivesCommand}
-use Rattle.treasury_store.specs.Left.{LeavesRows, LeavesEither, LeavesSame, LeavesJoined, LeavesStep}
+use Rattle.treasury_store.specs.Left.{LeavesRows, LeavesEither, LeavesSame, FirstTablesAre, LeavesEitherVersion, LeavesJoined, LeavesStep}
 
 module _ {S : Type 0} (g : Ghosts S) (settled : (s : S) (db : Trees) → IsTrue (g.view s).is_open → g.recovers s db → db ≡ (g.view s).committed) where
   pub leaves_rows : (h : Held S) (t : Tables) → TablesAre g h t → IsTrue (state g h).is_open → LeavesRows g h t
@@ -43,8 +45,24 @@ module _ {S : Type 0} (g : Ghosts S) (settled : (s : S) (db : Trees) → IsTrue 
     | inr made ↦ absurd (made.1 made.0.schema)
   ]
 
-  pub leaves_made : (old new : Held S) → KeepsMade g old new → LeavesSame g old new
-  leaves_made old new left = leaves_same old new (survives_weaker (state g old) (state g new) _ _ (λ clean trees none has. none (λ _. has)) left)
+  -- an opening leaves the rows of version 2 as they are
+  pub leaves_opened : (old new : Held S) → KeepsOurs g old new → LeavesSame g old new
+  leaves_opened old new left is_open t are clean trees may = elim (leaves_more old new t _ left is_open are clean trees may) [
+    | inl was ↦ was
+    | inr made ↦ absurd (not_first (state g old).now (ap has_receipt made.0.schema ∙ second_more) (made.1 (ours_second (state g old).now.schema made.0.schema)).first)
+  ]
+
+  -- and makes those of version 1 into version 2
+  pub leaves_either_version : (old new : Held S) → KeepsOurs g old new → LeavesEitherVersion g old new
+  leaves_either_version old new left is_open t are clean trees may =
+      let before : HasCleanDisk (state g old) = omega (arith, left.clean, clean) in
+      let held = are before is_open in
+      elim (left.crash clean trees may) [
+        | inl was ↦ inl ((state g old).now, settled old.store trees is_open was ∙ ap (λ (d : Database). d.trees) held.1, held.0)
+        | inr made ↦ (
+            let second = made (ours_first (state g old).now.schema held.0.schema) in
+            inr (second.db, second.is, upgraded_holds (state g old).now second.db t held.0 (second.upgrades held.0.numbered)))
+      ]
 
   pub leaves_joined : (old new : Store S) (xs : List Addition)
       → Survives (state g old.conn) (state g new.conn) (λ trees. (db : Database) × (trees ≡ db.trees) × ((f : Federation) → IsOf g old f → IsGoodState (joined f xs) → Holds (state g old.conn).now (rows f) → Holds db (rows (joined f xs))))

@@ -16,8 +16,10 @@ pub mod KindLemmas
 pub mod ReceiptLemmas
 pub mod CreateLemmas
 pub mod BesideLemmas
-pub mod OpenLemmas
 pub mod QueriedLemmas
+pub mod SelectLemmas
+pub mod OpenLemmas
+pub mod UpgradeLemmas
 pub mod ShownLemmas
 pub mod QueriesLemmas
 pub mod LoadLemmas

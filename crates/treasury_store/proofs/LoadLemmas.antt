@@ -18,16 +18,17 @@ use Rattle.sqlite.specs.State.{State, Shown}
 use Rattle.sqlite.specs.Listing.{understood, reads_listing}
 use Rattle.sqlite.proofs.Callers.{IsPlain, command_of, reads_as}
 use Rattle.treasury_store.specs.Tables.{store_schema}
-use Rattle.treasury_store.specs.Rows.{Tables, unit_row, branch_row, entry_row, leg_row, claim_row, transfer_row}
-use Rattle.treasury_store.specs.Shown.{ShowsTables, shown_unit, shown_branch, shown_entry, shown_leg, shown_claim, shown_transfer}
-use Rattle.treasury_store.specs.Order.{unit_cmp, branch_cmp, entry_cmp, leg_cmp, claim_cmp, transfer_cmp}
+use Rattle.treasury_store.specs.Rows.{Tables, unit_row, branch_row, entry_row, leg_row, claim_row, transfer_row, part_row}
+use Rattle.treasury_store.specs.Shown.{ShowsTables, shown_unit, shown_branch, shown_entry, shown_leg, shown_claim, shown_transfer, shown_part}
+use Rattle.treasury_store.specs.Order.{unit_cmp, branch_cmp, entry_cmp, leg_cmp, claim_cmp, transfer_cmp, part_cmp}
 use Rattle.treasury_core.specs.declared.rows.UnitRow.{UnitRow}
 use Rattle.treasury_core.specs.declared.rows.BranchRow.{BranchRow}
 use Rattle.treasury_core.specs.declared.rows.EntryRow.{EntryRow}
 use Rattle.treasury_core.specs.declared.rows.LegRow.{LegRow}
 use Rattle.treasury_core.specs.declared.rows.ClaimRow.{ClaimRow}
 use Rattle.treasury_core.specs.declared.rows.TransferRow.{TransferRow}
-use Rattle.treasury_store.proofs.Texts.{table_query, unit_rows_text, unit_rows_is, unit_columns, unit_order, unit_query, branch_rows_text, branch_rows_is, branch_columns, branch_order, branch_query, entry_rows_text, entry_rows_is, entry_columns, entry_order, entry_query, leg_rows_text, leg_rows_is, leg_columns, leg_order, leg_query, claim_rows_text, claim_rows_is, claim_columns, claim_order, claim_query, transfer_rows_text, transfer_rows_is, transfer_columns, transfer_order, transfer_query}
+use Rattle.treasury_core.specs.declared.rows.PartRow.{PartRow}
+use Rattle.treasury_store.proofs.Texts.{table_query, unit_rows_text, unit_rows_is, unit_columns, unit_order, unit_query, branch_rows_text, branch_rows_is, branch_columns, branch_order, branch_query, entry_rows_text, entry_rows_is, entry_columns, entry_order, entry_query, leg_rows_text, leg_rows_is, leg_columns, leg_order, leg_query, claim_rows_text, claim_rows_is, claim_columns, claim_order, claim_query, transfer_rows_text, transfer_rows_is, transfer_columns, transfer_order, transfer_query, part_rows_text, part_rows_is, part_columns, part_order, part_query}
 use Rattle.treasury_store.proofs.QueryLemmas.{at, answer_is}
 use Rattle.treasury_store.proofs.QueriedLemmas.{all_chosen}
 use Rattle.treasury_store.proofs.ShownLemmas.{whole}
@@ -207,6 +208,28 @@ pub transfers_shown : (old new : State) (given rows : List Row) (xs : List Trans
     → IsPermutation (map transfer_row xs) (map shown_transfer (old.now.trees 12))
 transfers_shown old new given rows xs is read has h =
     read_shown transfer_row shown_transfer transfer_front (λ _. refl) (old.now.trees 12) given rows xs is read (as_shown 12 (λ _. refl) transfer_rows_text transfer_columns transfer_order _ transfer_rows_is.0 transfer_rows_is.1 transfer_rows_is.2 shown_transfer transfer_keyed transfer_shows (λ _. refl) old new rows has h)
+
+-- ---- receipt
+abbrev part_keyed : Row → Output
+part_keyed s = (column s 0 ∷ column s 1 ∷ [], s)
+
+abbrev part_front : Row → Row
+part_front r = column r 0 ∷ column r 1 ∷ column r 2 ∷ column r 3 ∷ column r 4 ∷ []
+
+part_shows : (r : Row) → output part_query (at [] r) ≡ part_keyed (shown_part r)
+part_shows r = refl
+
+part_sorted : (x y : PartRow) → output_cmp part_query (part_keyed (part_row x)) (part_keyed (part_row y)) ≡ part_cmp x y
+part_sorted x y = simp (value_cmp-Text, then-Equal)
+
+pub parts_are : (old new : State) (t : Tables) (rows : List Row) → ShowsTables old.now t → IsAscending (λ x y. part_cmp x y ≡ Less) t.receipts → Shown part_rows_text [] old new rows → rows ≡ map part_row t.receipts
+parts_are old new t rows shows up h =
+    in_order 14 (λ _. refl) part_rows_text part_columns part_order _ part_rows_is.0 part_rows_is.1 part_rows_is.2 shown_part part_keyed part_shows (λ _. refl) part_row part_cmp part_sorted old new t.receipts rows shows.schema shows.receipts up h
+
+pub parts_shown : (old new : State) (given rows : List Row) (xs : List PartRow) → given ≡ rows → map part_row xs ≡ map part_front given → old.now.schema ≡ store_schema → Shown part_rows_text [] old new rows
+    → IsPermutation (map part_row xs) (map shown_part (old.now.trees 14))
+parts_shown old new given rows xs is read has h =
+    read_shown part_row shown_part part_front (λ _. refl) (old.now.trees 14) given rows xs is read (as_shown 14 (λ _. refl) part_rows_text part_columns part_order _ part_rows_is.0 part_rows_is.1 part_rows_is.2 shown_part part_keyed part_shows (λ _. refl) old new rows has h)
 
 -- ---- one more row is read
 pub more_read : {X : Type 0} (columns : X → Row) (ys done : List X) (i : ℕ) (x : X) (row : Row) → i < length ys → row ≡ get_or (map columns ys) i row → done ≡ take i ys → ((y : X) → row ≡ columns y → x ≡ y) → done ++ x ∷ [] ≡ take (i + 1) ys

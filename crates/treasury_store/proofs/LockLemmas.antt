@@ -32,7 +32,7 @@ use Rattle.sqlite.specs.State.{State, mode_of, Executes}
 use Rattle.sqlite.proofs.Callers.{statement_of, runs_as}
 use Rattle.treasury_store.specs.Tables.{branch, store_schema}
 use Rattle.treasury_core.specs.declared.rows.BranchRow.{BranchRow}
-use Rattle.treasury_store.specs.Rows.{Tables, Holds, entry_row, leg_row, claim_row, transfer_row, stored_branch, locked, with_lock}
+use Rattle.treasury_store.specs.Rows.{Tables, Holds, entry_row, leg_row, claim_row, transfer_row, part_row, stored_branch, locked, with_lock}
 use Rattle.treasury_store.proofs.Steps.{updates}
 use Rattle.treasury_store.proofs.Texts.{lock_text, lock_is, lock_filter, lock_terms, lock_query}
 use Rattle.treasury_store.proofs.RowLemmas.{puts_permute, cast_int, cast_null, map_chosen, none_chosen, without_same, numbered_given}
@@ -138,5 +138,7 @@ module _ (nr day : ℤ) where
         legs = subst (λ rs. IsPermutation (map leg_row t.legs) (map (drop 1) rs)) (sym (a.tables.1.1.1.1.0 (omega arith))) holds.legs;
         claims = subst (λ rs. IsPermutation (map claim_row t.claims) (map (drop 1) rs)) (sym (a.tables.1.1.1.1.1.0 (omega arith))) holds.claims;
         transfers = subst (λ rs. IsPermutation (map transfer_row t.transfers) (map (drop 1) rs)) (sym (a.tables.1.1.1.1.1.1.0 (omega arith))) holds.transfers;
+        numbered = subst (IsShaped shape.Table) (sym (a.tables.0 (omega arith))) holds.numbered;
+        receipts = subst (λ rs. IsPermutation (map part_row t.receipts) (map (drop 1) rs)) (sym (a.tables.1.1.1.1.1.1.1.0 (omega arith))) holds.receipts;
         keyed = subst (IsShaped shape.Table) (sym (a.tables.1.1.1.1.1.1.0 (omega arith))) holds.keyed;
       }

@@ -227,4 +227,5 @@ rows_in_order f good = record {
   legs = legs_rise f.branches;
   claims = claims_rise f.branches (all_weaker (IsGoodBranch f.styles) (λ (b : Branch). AllByRecursion AreInPlace b.records) f.branches (λ b h. all_in_place f.styles b.records h.records h.book.fit) good.branches);
   transfers = transfers_rise f.branches f.transfers good.ids;
+  receipts = tt;
 }

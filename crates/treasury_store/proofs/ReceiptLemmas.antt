@@ -26,7 +26,7 @@ use Rattle.sqlite.specs.State.{State, mode_of, Executes}
 use Rattle.sqlite.proofs.Callers.{statement_of, runs_as}
 use Rattle.treasury_store.specs.Tables.{transfer, store_schema}
 use Rattle.treasury_core.specs.declared.rows.TransferRow.{TransferRow}
-use Rattle.treasury_store.specs.Rows.{Tables, Holds, entry_row, leg_row, claim_row, transfer_row, received, with_receipt}
+use Rattle.treasury_store.specs.Rows.{Tables, Holds, entry_row, leg_row, claim_row, transfer_row, part_row, received, with_receipt}
 use Rattle.treasury_store.proofs.Steps.{updates}
 use Rattle.treasury_store.proofs.Texts.{receive_text, receive_is, receive_filter, receive_terms, receive_query}
 use Rattle.treasury_store.proofs.RowLemmas.{puts_permute, cast_int, cast_null, map_chosen, numbered_given}
@@ -120,5 +120,7 @@ module _ (id : List ℕ) (day : ℤ) (payee : List ℕ) where
         legs = subst (λ rs. IsPermutation (map leg_row t.legs) (map (drop 1) rs)) (sym (a.tables.1.1.1.1.0 (omega arith))) holds.legs;
         claims = subst (λ rs. IsPermutation (map claim_row t.claims) (map (drop 1) rs)) (sym (a.tables.1.1.1.1.1.0 (omega arith))) holds.claims;
         transfers = IsPermutation-trans _ _ _ (IsPermutation-map transfer_row _ _ (IsPermutation-map (received id day payee) _ _ list.1)) (subst (λ l. IsPermutation l (map (drop 1) (new.now.trees 12))) columns (IsPermutation-map (drop 1) _ _ now));
+        numbered = subst (IsShaped shape.Table) (sym (a.tables.0 (omega arith))) holds.numbered;
+        receipts = subst (λ rs. IsPermutation (map part_row t.receipts) (map (drop 1) rs)) (sym (a.tables.1.1.1.1.1.1.1.0 (omega arith))) holds.receipts;
         keyed = subst (IsShaped shape.Table) (sym a.rows) (shaped_puts edit.news (left_by db edit) a.keyed (subst (IsShaped shape.Table) (sym left) (IsShaped-filter shape.Table (λ r. not (has_id r)) (db 12) holds.keyed)));
       }

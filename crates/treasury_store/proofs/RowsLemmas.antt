@@ -21,7 +21,7 @@ use Rattle.treasury_core.specs.declared.rows.LegRow.{LegRow}
 use Rattle.treasury_core.specs.declared.rows.ClaimRow.{ClaimRow}
 use Rattle.treasury_core.specs.declared.rows.TransferRow.{TransferRow}
 use Rattle.treasury_store.specs.Tables.{unit, branch, entry, leg, claim, transfer, store_schema}
-use Rattle.treasury_store.specs.Rows.{Tables, Holds, unit_row, branch_row, entry_row, leg_row, claim_row, transfer_row, stored_unit, stored_branch, with_unit, with_branch, with_entry, with_leg, with_claim, with_transfer}
+use Rattle.treasury_store.specs.Rows.{Tables, Holds, unit_row, branch_row, entry_row, leg_row, claim_row, transfer_row, part_row, stored_unit, stored_branch, with_unit, with_branch, with_entry, with_leg, with_claim, with_transfer}
 use Rattle.treasury_store.proofs.Texts.{add_unit_text, add_unit_is, unit_terms, add_branch_text, add_branch_is, branch_terms, add_entry_text, add_entry_is, entry_terms, add_leg_text, add_leg_is, leg_terms, add_claim_text, add_claim_is, claim_terms, add_transfer_text, add_transfer_is, transfer_terms}
 use Rattle.treasury_store.proofs.RowLemmas.{cast_int, cast_null}
 use Rattle.treasury_store.proofs.AddLemmas.{adds}
@@ -59,6 +59,8 @@ module _ (u : UnitRow) where
         legs = subst (λ rs. IsPermutation (map leg_row t.legs) (map (drop 1) rs)) (sym (a.others.1.1.1.1.0 (omega arith))) holds.legs;
         claims = subst (λ rs. IsPermutation (map claim_row t.claims) (map (drop 1) rs)) (sym (a.others.1.1.1.1.1.0 (omega arith))) holds.claims;
         transfers = subst (λ rs. IsPermutation (map transfer_row t.transfers) (map (drop 1) rs)) (sym (a.others.1.1.1.1.1.1.0 (omega arith))) holds.transfers;
+        numbered = subst (IsShaped shape.Table) (sym (a.others.0 (omega arith))) holds.numbered;
+        receipts = subst (λ rs. IsPermutation (map part_row t.receipts) (map (drop 1) rs)) (sym (a.others.1.1.1.1.1.1.1.0 (omega arith))) holds.receipts;
         keyed = subst (IsShaped shape.Table) (sym (a.others.1.1.1.1.1.1.0 (omega arith))) holds.keyed;
       }
 
@@ -79,6 +81,8 @@ module _ (b : BranchRow) where
         legs = subst (λ rs. IsPermutation (map leg_row t.legs) (map (drop 1) rs)) (sym (a.others.1.1.1.1.0 (omega arith))) holds.legs;
         claims = subst (λ rs. IsPermutation (map claim_row t.claims) (map (drop 1) rs)) (sym (a.others.1.1.1.1.1.0 (omega arith))) holds.claims;
         transfers = subst (λ rs. IsPermutation (map transfer_row t.transfers) (map (drop 1) rs)) (sym (a.others.1.1.1.1.1.1.0 (omega arith))) holds.transfers;
+        numbered = subst (IsShaped shape.Table) (sym (a.others.0 (omega arith))) holds.numbered;
+        receipts = subst (λ rs. IsPermutation (map part_row t.receipts) (map (drop 1) rs)) (sym (a.others.1.1.1.1.1.1.1.0 (omega arith))) holds.receipts;
         keyed = subst (IsShaped shape.Table) (sym (a.others.1.1.1.1.1.1.0 (omega arith))) holds.keyed;
       }
 
@@ -99,6 +103,8 @@ module _ (e : EntryRow) where
         legs = subst (λ rs. IsPermutation (map leg_row t.legs) (map (drop 1) rs)) (sym (a.others.1.1.1.1.0 (omega arith))) holds.legs;
         claims = subst (λ rs. IsPermutation (map claim_row t.claims) (map (drop 1) rs)) (sym (a.others.1.1.1.1.1.0 (omega arith))) holds.claims;
         transfers = subst (λ rs. IsPermutation (map transfer_row t.transfers) (map (drop 1) rs)) (sym (a.others.1.1.1.1.1.1.0 (omega arith))) holds.transfers;
+        numbered = subst (IsShaped shape.Table) (sym (a.others.0 (omega arith))) holds.numbered;
+        receipts = subst (λ rs. IsPermutation (map part_row t.receipts) (map (drop 1) rs)) (sym (a.others.1.1.1.1.1.1.1.0 (omega arith))) holds.receipts;
         keyed = subst (IsShaped shape.Table) (sym (a.others.1.1.1.1.1.1.0 (omega arith))) holds.keyed;
       }
 
@@ -119,6 +125,8 @@ module _ (l : LegRow) where
         legs = IsPermutation-trans _ _ _ (IsPermutation-cons (leg_row l) _ _ holds.legs) (IsPermutation-map (drop 1) _ _ a.moved);
         claims = subst (λ rs. IsPermutation (map claim_row t.claims) (map (drop 1) rs)) (sym (a.others.1.1.1.1.1.0 (omega arith))) holds.claims;
         transfers = subst (λ rs. IsPermutation (map transfer_row t.transfers) (map (drop 1) rs)) (sym (a.others.1.1.1.1.1.1.0 (omega arith))) holds.transfers;
+        numbered = subst (IsShaped shape.Table) (sym (a.others.0 (omega arith))) holds.numbered;
+        receipts = subst (λ rs. IsPermutation (map part_row t.receipts) (map (drop 1) rs)) (sym (a.others.1.1.1.1.1.1.1.0 (omega arith))) holds.receipts;
         keyed = subst (IsShaped shape.Table) (sym (a.others.1.1.1.1.1.1.0 (omega arith))) holds.keyed;
       }
 
@@ -139,6 +147,8 @@ module _ (c : ClaimRow) where
         legs = subst (λ rs. IsPermutation (map leg_row t.legs) (map (drop 1) rs)) (sym (a.others.1.1.1.1.0 (omega arith))) holds.legs;
         claims = IsPermutation-trans _ _ _ (IsPermutation-cons (claim_row c) _ _ holds.claims) (IsPermutation-map (drop 1) _ _ a.moved);
         transfers = subst (λ rs. IsPermutation (map transfer_row t.transfers) (map (drop 1) rs)) (sym (a.others.1.1.1.1.1.1.0 (omega arith))) holds.transfers;
+        numbered = subst (IsShaped shape.Table) (sym (a.others.0 (omega arith))) holds.numbered;
+        receipts = subst (λ rs. IsPermutation (map part_row t.receipts) (map (drop 1) rs)) (sym (a.others.1.1.1.1.1.1.1.0 (omega arith))) holds.receipts;
         keyed = subst (IsShaped shape.Table) (sym (a.others.1.1.1.1.1.1.0 (omega arith))) holds.keyed;
       }
 
@@ -159,5 +169,7 @@ module _ (x : TransferRow) where
         legs = subst (λ rs. IsPermutation (map leg_row t.legs) (map (drop 1) rs)) (sym (a.others.1.1.1.1.0 (omega arith))) holds.legs;
         claims = subst (λ rs. IsPermutation (map claim_row t.claims) (map (drop 1) rs)) (sym (a.others.1.1.1.1.1.0 (omega arith))) holds.claims;
         transfers = IsPermutation-trans _ _ _ (IsPermutation-cons (transfer_row x) _ _ holds.transfers) (IsPermutation-map (drop 1) _ _ a.moved);
+        numbered = subst (IsShaped shape.Table) (sym (a.others.0 (omega arith))) holds.numbered;
+        receipts = subst (λ rs. IsPermutation (map part_row t.receipts) (map (drop 1) rs)) (sym (a.others.1.1.1.1.1.1.1.0 (omega arith))) holds.receipts;
         keyed = subst (IsShaped shape.Table) (sym a.rows) (IsShaped-put_row _ (old.now.trees 12) refl holds.keyed);
       }

@@ -1,5 +1,5 @@
 -- Tables that have the same rows, in any order.
-use Rattle.std.proofs.Common.{◌≡◌, List, [], ◌∷◌, ◌++◌, map, refl, subst, IsPermutation}
+use Rattle.std.proofs.Common.{◌≡◌, ◌∙◌, List, [], ◌∷◌, ◌++◌, map, refl, sym, ap, subst, IsPermutation}
 use Rattle.std.proofs.lemmas.List.Sorted.{IsPermutation-refl, IsPermutation-sym, IsPermutation-cons, IsPermutation-trans, IsPermutation-map, IsPermutation-append_comm, IsPermutation-append_left}
 use Rattle.std.proofs.lemmas.List.{append_assoc}
 use Rattle.sqlite.specs.Effect.{Database}
@@ -11,7 +11,7 @@ use Rattle.treasury_core.specs.declared.rows.ClaimRow.{ClaimRow}
 use Rattle.treasury_core.specs.declared.rows.TransferRow.{TransferRow}
 use Rattle.treasury_store.specs.declared.change.Change.{Change}
 use Rattle.treasury_store.specs.declared.change.Change.TheVariants as change
-use Rattle.treasury_store.specs.Rows.{Tables, Holds, stored_unit, stored_branch, entry_row, leg_row, claim_row, transfer_row, locked, received, changed, joined}
+use Rattle.treasury_store.specs.Rows.{Tables, Holds, stored_unit, stored_branch, entry_row, leg_row, claim_row, transfer_row, part_row, locked, received, changed, joined}
 
 pub record Same (t u : Tables) : Type 0 where
   pub units : IsPermutation t.units u.units
@@ -20,6 +20,7 @@ pub record Same (t u : Tables) : Type 0 where
   pub legs : IsPermutation t.legs u.legs
   pub claims : IsPermutation t.claims u.claims
   pub transfers : IsPermutation t.transfers u.transfers
+  pub receipts : IsPermutation t.receipts u.receipts
 
 pub same_refl : (t : Tables) → Same t t
 same_refl t = record {
@@ -29,6 +30,7 @@ same_refl t = record {
   legs = IsPermutation-refl t.legs;
   claims = IsPermutation-refl t.claims;
   transfers = IsPermutation-refl t.transfers;
+  receipts = IsPermutation-refl t.receipts;
 }
 
 pub same_trans : (t u v : Tables) → Same t u → Same u v → Same t v
@@ -39,26 +41,27 @@ same_trans t u v a b = record {
   legs = IsPermutation-trans t.legs u.legs v.legs a.legs b.legs;
   claims = IsPermutation-trans t.claims u.claims v.claims a.claims b.claims;
   transfers = IsPermutation-trans t.transfers u.transfers v.transfers a.transfers b.transfers;
+  receipts = IsPermutation-trans t.receipts u.receipts v.receipts a.receipts b.receipts;
 }
 
 -- one of the tables is another
 pub other_units : (t u : Tables) (xs ys : List UnitRow) → Same t u → IsPermutation xs ys → Same (record t { units = xs }) (record u { units = ys })
-other_units t u xs ys h moved = record { units = moved; branches = h.branches; entries = h.entries; legs = h.legs; claims = h.claims; transfers = h.transfers }
+other_units t u xs ys h moved = record { units = moved; branches = h.branches; entries = h.entries; legs = h.legs; claims = h.claims; transfers = h.transfers; receipts = h.receipts }
 
 pub other_branches : (t u : Tables) (xs ys : List BranchRow) → Same t u → IsPermutation xs ys → Same (record t { branches = xs }) (record u { branches = ys })
-other_branches t u xs ys h moved = record { units = h.units; branches = moved; entries = h.entries; legs = h.legs; claims = h.claims; transfers = h.transfers }
+other_branches t u xs ys h moved = record { units = h.units; branches = moved; entries = h.entries; legs = h.legs; claims = h.claims; transfers = h.transfers; receipts = h.receipts }
 
 pub other_entries : (t u : Tables) (xs ys : List EntryRow) → Same t u → IsPermutation xs ys → Same (record t { entries = xs }) (record u { entries = ys })
-other_entries t u xs ys h moved = record { units = h.units; branches = h.branches; entries = moved; legs = h.legs; claims = h.claims; transfers = h.transfers }
+other_entries t u xs ys h moved = record { units = h.units; branches = h.branches; entries = moved; legs = h.legs; claims = h.claims; transfers = h.transfers; receipts = h.receipts }
 
 pub other_legs : (t u : Tables) (xs ys : List LegRow) → Same t u → IsPermutation xs ys → Same (record t { legs = xs }) (record u { legs = ys })
-other_legs t u xs ys h moved = record { units = h.units; branches = h.branches; entries = h.entries; legs = moved; claims = h.claims; transfers = h.transfers }
+other_legs t u xs ys h moved = record { units = h.units; branches = h.branches; entries = h.entries; legs = moved; claims = h.claims; transfers = h.transfers; receipts = h.receipts }
 
 pub other_claims : (t u : Tables) (xs ys : List ClaimRow) → Same t u → IsPermutation xs ys → Same (record t { claims = xs }) (record u { claims = ys })
-other_claims t u xs ys h moved = record { units = h.units; branches = h.branches; entries = h.entries; legs = h.legs; claims = moved; transfers = h.transfers }
+other_claims t u xs ys h moved = record { units = h.units; branches = h.branches; entries = h.entries; legs = h.legs; claims = moved; transfers = h.transfers; receipts = h.receipts }
 
 pub other_transfers : (t u : Tables) (xs ys : List TransferRow) → Same t u → IsPermutation xs ys → Same (record t { transfers = xs }) (record u { transfers = ys })
-other_transfers t u xs ys h moved = record { units = h.units; branches = h.branches; entries = h.entries; legs = h.legs; claims = h.claims; transfers = moved }
+other_transfers t u xs ys h moved = record { units = h.units; branches = h.branches; entries = h.entries; legs = h.legs; claims = h.claims; transfers = moved; receipts = h.receipts }
 
 pub same_changed : (c : Change) (t u : Tables) → Same t u → Same (changed c t) (changed c u)
 same_changed (change.Unit x) t u h = other_units t u (x ∷ t.units) (x ∷ u.units) h (IsPermutation-cons x t.units u.units h.units)
@@ -83,14 +86,20 @@ pub holds_same : (db : Database) (t u : Tables) → Same t u → Holds db t → 
 holds_same db t u h k = record {
   schema = k.schema;
   format = k.format;
+  numbered = k.numbered;
   units = IsPermutation-trans _ _ _ (IsPermutation-map stored_unit u.units t.units (IsPermutation-sym t.units u.units h.units)) k.units;
   branches = IsPermutation-trans _ _ _ (IsPermutation-map stored_branch u.branches t.branches (IsPermutation-sym t.branches u.branches h.branches)) k.branches;
   entries = IsPermutation-trans _ _ _ (IsPermutation-map entry_row u.entries t.entries (IsPermutation-sym t.entries u.entries h.entries)) k.entries;
   legs = IsPermutation-trans _ _ _ (IsPermutation-map leg_row u.legs t.legs (IsPermutation-sym t.legs u.legs h.legs)) k.legs;
   claims = IsPermutation-trans _ _ _ (IsPermutation-map claim_row u.claims t.claims (IsPermutation-sym t.claims u.claims h.claims)) k.claims;
   transfers = IsPermutation-trans _ _ _ (IsPermutation-map transfer_row u.transfers t.transfers (IsPermutation-sym t.transfers u.transfers h.transfers)) k.transfers;
+  receipts = IsPermutation-trans _ _ _ (IsPermutation-map part_row u.receipts t.receipts (IsPermutation-sym t.receipts u.receipts h.receipts)) k.receipts;
   keyed = k.keyed;
 }
+
+-- once no change is left, the tables hold all of them
+pub all_written : (db : Database) (left all : List Change) (t : Tables) → left ≡ [] → (u : Tables) × Holds db u × (joined left u ≡ joined all t) → Holds db (joined all t)
+all_written db left all t none kept = subst (Holds db) (ap (λ (cs : List Change). joined cs kept.0) (sym none) ∙ kept.2) kept.1
 
 -- ---- orders
 pub last_first : {X : Type 0} (x : X) (xs : List X) → IsPermutation (x ∷ xs) (xs ++ x ∷ [])

@@ -4,8 +4,8 @@ use Rattle.std.proofs.lemmas.List.Sorted.{IsPermutation-map}
 use Rattle.sqlite_keyed.proofs.ListLemmas.{map-map}
 use Rattle.sqlite.specs.Order.{Row, column}
 use Rattle.sqlite.specs.Effect.{Database}
-use Rattle.treasury_store.specs.Rows.{Tables, Holds, unit_row, branch_row, entry_row, leg_row, claim_row, transfer_row, stored_unit, stored_branch}
-use Rattle.treasury_store.specs.Shown.{ShowsTables, shown_unit, shown_branch, shown_entry, shown_leg, shown_claim, shown_transfer}
+use Rattle.treasury_store.specs.Rows.{Tables, Holds, unit_row, branch_row, entry_row, leg_row, claim_row, transfer_row, part_row, stored_unit, stored_branch}
+use Rattle.treasury_store.specs.Shown.{ShowsTables, shown_unit, shown_branch, shown_entry, shown_leg, shown_claim, shown_transfer, shown_part}
 
 pub whole : (rows : List Row) → rows ≡ map (λ r. r) rows
 whole [] = refl
@@ -43,6 +43,10 @@ transfer_cut : (r : Row) → front9 (drop 1 r) ≡ shown_transfer r
 transfer_cut [] = refl
 transfer_cut (x ∷ r) = refl
 
+part_cut : (r : Row) → front5 (drop 1 r) ≡ shown_part r
+part_cut [] = refl
+part_cut (x ∷ r) = refl
+
 pub holds_shows : (db : Database) (t : Tables) → Holds db t → ShowsTables db t
 holds_shows db t holds = record {
   schema = holds.schema;
@@ -52,4 +56,5 @@ holds_shows db t holds = record {
   legs = columns_same leg_row leg_row (drop 1) front6 shown_leg (λ _. refl) leg_cut t.legs (db.trees 8) holds.legs;
   claims = columns_same claim_row claim_row (drop 1) front6 shown_claim (λ _. refl) claim_cut t.claims (db.trees 10) holds.claims;
   transfers = columns_same transfer_row transfer_row (drop 1) front9 shown_transfer (λ _. refl) transfer_cut t.transfers (db.trees 12) holds.transfers;
+  receipts = columns_same part_row part_row (drop 1) front5 shown_part (λ _. refl) part_cut t.receipts (db.trees 14) holds.receipts;
 }

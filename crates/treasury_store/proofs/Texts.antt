@@ -13,7 +13,7 @@ use Rattle.sqlite.specs.Query.{Query, inner, end}
 use Rattle.sqlite.specs.Listing.{understood, reads_listing}
 use Rattle.sqlite_tied.specs.Compute.{everything}
 use Rattle.sqlite.proofs.Callers.{IsPlain, command_of}
-use Rattle.treasury_store.specs.Tables.{format, unit, branch, entry, leg, claim, transfer, store_schema}
+use Rattle.treasury_store.specs.Tables.{format, unit, branch, entry, leg, claim, transfer, receipt, store_schema, first_schema}
 
 abbrev pub table_query : ℕ → List Term → List Term → List (Term × Key) → Query
 table_query tree filter project order = record { from = inner tree end; filter = filter; group = None; project = project; distinct = false; collations = []; order = order; limit = lit (Int (negsuc 0)); offset = lit (Int (pos 0)) }
@@ -49,6 +49,10 @@ format_order = (col 1 1, up) ∷ []
 
 abbrev pub format_query : Query
 format_query = table_query 0 [] format_columns format_order
+
+pub first_format_rows_is : (command_of (understood first_schema format_rows_text) ≡ Select (record { lets = []; body = format_query }) (codes "version" ∷ [])) × (reads_listing first_schema format_rows_text ≡ false) × IsPlain (understood first_schema format_rows_text)
+unfolding understood everything
+first_format_rows_is = (refl, refl, (refl, refl))
 
 pub format_rows_is : (command_of (understood store_schema format_rows_text) ≡ Select (record { lets = []; body = format_query }) (codes "version" ∷ [])) × (reads_listing store_schema format_rows_text ≡ false) × IsPlain (understood store_schema format_rows_text)
 unfolding understood everything
@@ -251,6 +255,42 @@ transfer_query = table_query 12 [] transfer_columns transfer_order
 pub transfer_rows_is : (command_of (understood store_schema transfer_rows_text) ≡ Select (record { lets = []; body = transfer_query }) (codes "id" ∷ codes "source" ∷ codes "target" ∷ codes "unit" ∷ codes "qty" ∷ codes "dispatched" ∷ codes "payer" ∷ codes "received" ∷ codes "payee" ∷ [])) × (reads_listing store_schema transfer_rows_text ≡ false) × IsPlain (understood store_schema transfer_rows_text)
 unfolding understood everything
 transfer_rows_is = (refl, refl, (refl, refl))
+
+abbrev pub create_receipt_text : List ℕ
+create_receipt_text = codes "CREATE TABLE receipt (transfer TEXT NOT NULL, part TEXT NOT NULL, qty INTEGER NOT NULL, received INTEGER NOT NULL, payee TEXT NOT NULL, PRIMARY KEY (transfer, part)) STRICT"
+
+pub receipt_is : table_defined_by create_receipt_text ≡ Ok (record receipt { tree = 0 })
+unfolding understood everything
+receipt_is = refl
+
+abbrev pub part_rows_text : List ℕ
+part_rows_text = codes "SELECT transfer, part, qty, received, payee FROM receipt ORDER BY transfer, part"
+
+abbrev pub part_columns : List Term
+part_columns = col 1 1 ∷ col 1 2 ∷ col 1 3 ∷ col 1 4 ∷ col 1 5 ∷ []
+
+abbrev pub part_order : List (Term × Key)
+part_order = (col 1 1, up) ∷ (col 1 2, up) ∷ []
+
+abbrev pub part_query : Query
+part_query = table_query 14 [] part_columns part_order
+
+pub part_rows_is : (command_of (understood store_schema part_rows_text) ≡ Select (record { lets = []; body = part_query }) (codes "transfer" ∷ codes "part" ∷ codes "qty" ∷ codes "received" ∷ codes "payee" ∷ [])) × (reads_listing store_schema part_rows_text ≡ false) × IsPlain (understood store_schema part_rows_text)
+unfolding understood everything
+part_rows_is = (refl, refl, (refl, refl))
+
+abbrev pub second_text : List ℕ
+second_text = codes "UPDATE format SET version = 2"
+
+abbrev pub second_terms : List Term
+second_terms = col 1 0 ∷ col 1 0 ∷ lit (Int (pos 2)) ∷ []
+
+abbrev pub second_query : Query
+second_query = table_query 0 [] second_terms []
+
+pub second_is : (command_of (understood store_schema second_text) ≡ Update 0 (record { lets = []; body = second_query })) × IsPlain (understood store_schema second_text)
+unfolding understood everything
+second_is = (refl, (refl, refl))
 
 abbrev pub lock_text : List ℕ
 lock_text = codes "UPDATE branch SET locked = ?2 WHERE nr = ?1"

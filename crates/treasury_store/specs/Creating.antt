@@ -12,10 +12,16 @@ use Rattle.sqlite.specs.Store.{Ghosts}
 use Rattle.sqlite.specs.State.{HasCleanDisk, KeepsCommit, Survives}
 use Rattle.sqlite.specs.Held.{Held, state}
 use Rattle.sqlite_schema.specs.Names.{same_name}
+use Rattle.sqlite_trees.specs.View.{IsShaped}
+use Rattle.sqlite_trees.specs.declared.store.Shape.TheVariants as shape
 use Rattle.treasury_store.specs.Tables.{format, state_tables, made_all, new_tables}
 
 abbrev pub our_names : List (List ℕ)
-our_names = codes "format" ∷ codes "unit" ∷ codes "branch" ∷ codes "entry" ∷ codes "leg" ∷ codes "claim" ∷ codes "transfer" ∷ []
+our_names = codes "format" ∷ codes "unit" ∷ codes "branch" ∷ codes "entry" ∷ codes "leg" ∷ codes "claim" ∷ codes "transfer" ∷ codes "receipt" ∷ []
+
+-- those of version 1
+abbrev pub first_names : List (List ℕ)
+first_names = codes "format" ∷ codes "unit" ∷ codes "branch" ∷ codes "entry" ∷ codes "leg" ∷ codes "claim" ∷ codes "transfer" ∷ []
 
 -- as SQLite compares names: the case of ASCII letters is nothing
 abbrev pub is_ours : List ℕ → Bool
@@ -25,9 +31,13 @@ is_ours name = list_any (same_name name) our_names
 abbrev pub has_one : Schema → Bool
 has_one s = list_any (λ t. is_ours t.name) s.tables
 
--- each of our names is that of a table
+-- each name of version 1 is that of a table
 abbrev pub has_all : Schema → Bool
-has_all s = list_all (λ name. list_any (λ t. same_name t.name name) s.tables) our_names
+has_all s = list_all (λ name. list_any (λ t. same_name t.name name) s.tables) first_names
+
+-- a table has the name that version 2 adds
+abbrev pub has_receipt : Schema → Bool
+has_receipt s = list_any (λ t. same_name t.name (codes "receipt")) s.tables
 
 -- a table has AUTOINCREMENT
 abbrev pub has_counter : Schema → Bool
@@ -45,16 +55,19 @@ pub record MakesAll (ts : List Table) (old new : Database) : Type 0 where
   pub empty : AllByRecursion (λ (t : Table). new.trees t.tree ≡ []) (new_tables ts old.schema)
   pub others : KeepsRows old.schema.tables old.trees new.trees
 
--- `format`, which is the last table, gets its row, and each other table has the rows that it had
+-- `format`, which is the last table, gets its row, whose rowid is an integer, and each other table has the rows that it had
 pub record GivesRow (s : Schema) (old new : Database) : Type 0 where
   pub schema : new.schema ≡ created s format
-  pub row : map (λ r. column r 1) (new.trees (next_tree s)) ≡ Int (pos 1) ∷ []
+  pub row : map (λ r. column r 1) (new.trees (next_tree s)) ≡ Int (pos 2) ∷ []
+  pub numbered : IsShaped shape.Table (new.trees (next_tree s))
   pub others : KeepsRows s.tables old.trees new.trees
 
--- The tables of a new treasury stand beside the tables that were there, which have the rows that they had: `format` has its row, the others none.
+-- The tables of a new treasury stand beside the tables that were there, which have the rows that they had: `format` has its row, whose rowid is an integer, the
+-- others none.
 pub record Beside (old new : Database) : Type 0 where
   pub schema : new.schema ≡ made_all (format ∷ state_tables) old.schema
-  pub version : map (λ r. column r 1) (new.trees (next_tree old.schema)) ≡ Int (pos 1) ∷ []
+  pub version : map (λ r. column r 1) (new.trees (next_tree old.schema)) ≡ Int (pos 2) ∷ []
+  pub numbered : IsShaped shape.Table (new.trees (next_tree old.schema))
   pub empty : AllByRecursion (λ (t : Table). new.trees t.tree ≡ []) (new_tables state_tables (created old.schema format))
   pub others : KeepsRows old.schema.tables old.trees new.trees
 

@@ -1,6 +1,6 @@
 -- What a connection may leave of the tables: at a crash, at a stop, or where a failure shuts it. The next opening finds one of these
 -- (own rules; docs/RULES.md, "Runs").
-use Rattle.std.specs.Prelude.{◌⊎◌, List, IsTrue}
+use Rattle.std.specs.Prelude.{◌≡◌, ◌⊎◌, List, IsTrue}
 use Rattle.sqlite.specs.Store.{Ghosts}
 use Rattle.sqlite.specs.Tree.{Trees}
 use Rattle.sqlite.specs.State.{HasCleanDisk}
@@ -13,7 +13,7 @@ use Rattle.treasury_core.specs.Joined.{joined}
 use Rattle.treasury_core.specs.Rows.{rows}
 use Rattle.treasury_core.specs.Step.{step}
 use Rattle.treasury_store.specs.declared.store.Store.{Store}
-use Rattle.treasury_store.specs.Rows.{Tables, AreTreesOf}
+use Rattle.treasury_store.specs.Rows.{Tables, HoldsFirst, AreTreesOf, AreFirstTreesOf}
 use Rattle.treasury_store.specs.Store.{TablesAre, IsOf}
 use Rattle.treasury_store.specs.Treasury.{Treasury, IsTreasuryOf}
 
@@ -28,6 +28,16 @@ LeavesEither g h t u = HasCleanDisk (state g h) → (trees : Trees) → (state g
 -- a call on a connection that was open, and whose tables held rows: whatever is left behind it are these
 abbrev pub LeavesSame : {S : Type 0} → Ghosts S → Held S → Held S → Type 0
 LeavesSame g old new = IsTrue (state g old).is_open → (t : Tables) → TablesAre g old t → LeavesRows g new t
+
+-- while the disk returned what was written and the connection is open, the tables hold these rows as version 1, and so does what is committed
+abbrev pub FirstTablesAre : {S : Type 0} → Ghosts S → Held S → Tables → Type 0
+FirstTablesAre g h t = HasCleanDisk (state g h) → IsTrue (state g h).is_open → HoldsFirst (state g h).now t × ((state g h).committed ≡ (state g h).now)
+
+-- the opening of version 1 on a connection that was open: whatever is left behind it are the same rows, as version 1 or as version 2
+abbrev pub LeavesEitherVersion : {S : Type 0} → Ghosts S → Held S → Held S → Type 0
+LeavesEitherVersion g old new =
+    IsTrue (state g old).is_open → (t : Tables) → FirstTablesAre g old t → HasCleanDisk (state g new) → (trees : Trees) → (state g new).may_leave trees
+    → AreFirstTreesOf trees t ⊎ AreTreesOf trees t
 
 -- what a command adds is written to an open store of a state: whatever is left are the rows of that state, or of the one with it
 abbrev pub LeavesJoined : {S : Type 0} → Ghosts S → Store S → Store S → List Addition → Type 0

@@ -4,6 +4,7 @@ pub mod Shown
 pub mod Kept
 pub mod Creating
 pub mod Opening
+pub mod Upgrading
 pub mod Order
 pub mod Numbers
 pub mod Store

@@ -11,6 +11,7 @@ use Rattle.treasury_core.specs.declared.rows.EntryRow.{EntryRow}
 use Rattle.treasury_core.specs.declared.rows.LegRow.{LegRow}
 use Rattle.treasury_core.specs.declared.rows.ClaimRow.{ClaimRow}
 use Rattle.treasury_core.specs.declared.rows.TransferRow.{TransferRow}
+use Rattle.treasury_core.specs.declared.rows.PartRow.{PartRow}
 use Rattle.treasury_store.specs.Rows.{Tables}
 
 abbrev pub unit_cmp : UnitRow → UnitRow → Ordering
@@ -31,6 +32,9 @@ claim_cmp = then_cmp (on (λ c. c.branch) int_cmp) (then_cmp (on (λ c. c.entry)
 abbrev pub transfer_cmp : TransferRow → TransferRow → Ordering
 transfer_cmp = on (λ x. x.id) (slice_cmp nat_cmp)
 
+abbrev pub part_cmp : PartRow → PartRow → Ordering
+part_cmp = then_cmp (on (λ p. p.transfer) (slice_cmp nat_cmp)) (on (λ p. p.part) (slice_cmp nat_cmp))
+
 -- by their keys, of which none comes twice
 pub record InOrder (t : Tables) : Type 0 where
   pub units : IsAscending (λ a b. unit_cmp a b ≡ Less) t.units
@@ -39,3 +43,4 @@ pub record InOrder (t : Tables) : Type 0 where
   pub legs : IsAscending (λ a b. leg_cmp a b ≡ Less) t.legs
   pub claims : IsAscending (λ a b. claim_cmp a b ≡ Less) t.claims
   pub transfers : IsAscending (λ a b. transfer_cmp a b ≡ Less) t.transfers
+  pub receipts : IsAscending (λ a b. part_cmp a b ≡ Less) t.receipts

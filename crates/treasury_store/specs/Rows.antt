@@ -1,5 +1,5 @@
 -- What the tables hold (docs/FORMATS.md, "Tables").
-use Rattle.std.specs.Prelude.{◌≡◌, ℕ, ℤ, pos, Some, List, [], ◌∷◌, map, drop, fold, if◌then◌else◌, IsPermutation}
+use Rattle.std.specs.Prelude.{◌≡◌, ◌⊎◌, ℕ, ℤ, pos, Some, List, [], ◌∷◌, map, drop, fold, if◌then◌else◌, IsPermutation}
 use Rattle.std.specs.Ordering.{int_eq}
 use Rattle.std.specs.Str.{bytes_eq}
 use Rattle.sqlite.specs.declared.types.Value.TheVariants.{Null, Int, Text}
@@ -10,20 +10,21 @@ use Rattle.sqlite.specs.Effect.{Database}
 use Rattle.sqlite.specs.Tree.{Trees}
 use Rattle.sqlite_trees.specs.View.{IsShaped}
 use Rattle.sqlite_trees.specs.declared.store.Shape.TheVariants as shape
-use Rattle.treasury_store.specs.Tables.{store_schema}
+use Rattle.treasury_store.specs.Tables.{store_schema, first_schema}
 use Rattle.treasury_core.specs.declared.rows.UnitRow.{UnitRow}
 use Rattle.treasury_core.specs.declared.rows.BranchRow.{BranchRow}
 use Rattle.treasury_core.specs.declared.rows.EntryRow.{EntryRow}
 use Rattle.treasury_core.specs.declared.rows.LegRow.{LegRow}
 use Rattle.treasury_core.specs.declared.rows.ClaimRow.{ClaimRow}
 use Rattle.treasury_core.specs.declared.rows.TransferRow.{TransferRow}
+use Rattle.treasury_core.specs.declared.rows.PartRow.{PartRow}
 use Rattle.treasury_core.specs.declared.rows.Parts.{Parts}
 use Rattle.treasury_store.specs.declared.change.Change.{Change}
 use Rattle.treasury_store.specs.declared.change.Change.TheVariants as change
 
 -- ---- the columns of each row
 abbrev pub format_row : Row
-format_row = Int (pos 1) ∷ []
+format_row = Int (pos 2) ∷ []
 
 abbrev pub unit_row : UnitRow → Row
 unit_row u = Int u.nr ∷ Text u.symbol ∷ Int u.decimals ∷ Text u.mark ∷ Int u.grouped ∷ Int u.leftside ∷ Int u.spaced ∷ []
@@ -44,6 +45,9 @@ abbrev pub transfer_row : TransferRow → Row
 transfer_row x =
     Text x.id ∷ Int x.source ∷ Int x.target ∷ Int x.unit ∷ Int x.qty ∷ Int x.dispatched ∷ Text x.payer ∷ or_null Int x.received ∷ or_null Text x.payee ∷ []
 
+abbrev pub part_row : PartRow → Row
+part_row p = Text p.transfer ∷ Text p.part ∷ Int p.qty ∷ Int p.received ∷ Text p.payee ∷ []
+
 -- a commodity and a branch as their trees have them: the number is the rowid, and stands as NULL in its own column
 abbrev pub stored_unit : UnitRow → Row
 stored_unit u = Int u.nr ∷ Null ∷ Text u.symbol ∷ Int u.decimals ∷ Text u.mark ∷ Int u.grouped ∷ Int u.leftside ∷ Int u.spaced ∷ []
@@ -60,24 +64,47 @@ abbrev pub Tables : Type 0
 Tables = Parts
 
 abbrev pub no_rows : Tables
-no_rows = record { units = []; branches = []; entries = []; legs = []; claims = []; transfers = [] }
+no_rows = record { units = []; branches = []; entries = []; legs = []; claims = []; transfers = []; receipts = [] }
 
--- The database is these tables, and no other, and `format` has the one row 1. Rowids that are no column are not looked at, but those of transfers
--- rise, as an UPDATE goes by them.
+-- The database is these tables, and no other, and `format` has the one row 2. Rowids that are no column are not looked at, but those of `format`
+-- and of transfers are integers that rise, as SQLite has no others: an UPDATE goes by them.
 pub record Holds (db : Database) (t : Tables) : Type 0 where
   pub schema : db.schema ≡ store_schema
-  pub format : versions db ≡ Int (pos 1) ∷ []
+  pub format : versions db ≡ Int (pos 2) ∷ []
+  pub numbered : IsShaped shape.Table (db.trees 0)
   pub units : IsPermutation (map stored_unit t.units) (db.trees 1)
   pub branches : IsPermutation (map stored_branch t.branches) (db.trees 3)
   pub entries : IsPermutation (map entry_row t.entries) (map (drop 1) (db.trees 5))
   pub legs : IsPermutation (map leg_row t.legs) (map (drop 1) (db.trees 8))
   pub claims : IsPermutation (map claim_row t.claims) (map (drop 1) (db.trees 10))
   pub transfers : IsPermutation (map transfer_row t.transfers) (map (drop 1) (db.trees 12))
+  pub receipts : IsPermutation (map part_row t.receipts) (map (drop 1) (db.trees 14))
   pub keyed : IsShaped shape.Table (db.trees 12)
 
--- the trees of a database that holds these rows
+-- The same of version 1, which has seven tables and the row 1, and no receipts in parts.
+pub record HoldsFirst (db : Database) (t : Tables) : Type 0 where
+  pub schema : db.schema ≡ first_schema
+  pub format : versions db ≡ Int (pos 1) ∷ []
+  pub numbered : IsShaped shape.Table (db.trees 0)
+  pub units : IsPermutation (map stored_unit t.units) (db.trees 1)
+  pub branches : IsPermutation (map stored_branch t.branches) (db.trees 3)
+  pub entries : IsPermutation (map entry_row t.entries) (map (drop 1) (db.trees 5))
+  pub legs : IsPermutation (map leg_row t.legs) (map (drop 1) (db.trees 8))
+  pub claims : IsPermutation (map claim_row t.claims) (map (drop 1) (db.trees 10))
+  pub transfers : IsPermutation (map transfer_row t.transfers) (map (drop 1) (db.trees 12))
+  pub receipts : t.receipts ≡ []
+  pub keyed : IsShaped shape.Table (db.trees 12)
+
+-- in either version
+abbrev pub HoldsEither : Database → Tables → Type 0
+HoldsEither db t = Holds db t ⊎ HoldsFirst db t
+
+-- the trees of a database that holds these rows, in version 2 or in version 1
 abbrev pub AreTreesOf : Trees → Tables → Type 0
 AreTreesOf trees t = (db : Database) × (trees ≡ db.trees) × Holds db t
+
+abbrev pub AreFirstTreesOf : Trees → Tables → Type 0
+AreFirstTreesOf trees t = (db : Database) × (trees ≡ db.trees) × HoldsFirst db t
 
 -- ---- changes
 abbrev pub with_unit : UnitRow → Tables → Tables

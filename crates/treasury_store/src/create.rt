@@ -9,7 +9,7 @@ ghost use Rattle.sqlite.specs.Change.{created, next_tree};
 ghost use Rattle.sqlite.specs.State.{HasCleanDisk, KeepsCommit, Survives};
 ghost use Rattle.sqlite.specs.Held.{state};
 ghost use Rattle.treasury_store.specs.Rows.{Holds, no_rows};
-ghost use Rattle.treasury_store.specs.Tables.{no_schema, format, unit, branch, entry, leg, claim, transfer, state_tables};
+ghost use Rattle.treasury_store.specs.Tables.{no_schema, format, unit, branch, entry, leg, claim, transfer, receipt, state_tables};
 ghost use Rattle.treasury_store.specs.Creating.{is_ours, has_one, has_counter, Creates, MakesAll, GivesRow, Beside, SurvivesMaking};
 
 use sqlite::types::ToSql;
@@ -83,7 +83,18 @@ fn create_transfer<S: Alter>(tx: &mut Transaction<'_, S>) -> Result<usize, Error
     )
 }
 
-/// Puts the one row of `format`, which is the last table.
+/// Makes the table of receipts in parts, which version 2 adds.
+pub(crate) fn create_receipt<S: Alter>(tx: &mut Transaction<'_, S>) -> Result<usize, Error>
+    ensures same_reference { tx.new.conn.ghost_name ≡ tx.old.conn.ghost_name }
+    ensures creates { Creates S.Store tx.old.conn.now tx.new.conn.now result receipt }
+{
+    tx.execute(
+        "CREATE TABLE receipt (transfer TEXT NOT NULL, part TEXT NOT NULL, qty INTEGER NOT NULL, received INTEGER NOT NULL, payee TEXT NOT NULL, PRIMARY KEY (transfer, part)) STRICT",
+        &[],
+    )
+}
+
+/// Puts the one row of `format`, which is the last table: the version.
 fn put_format<S: Alter>(tx: &mut Transaction<'_, S>) -> Result<usize, Error>
     ensures same_reference { tx.new.conn.ghost_name ≡ tx.old.conn.ghost_name }
     ensures gives { HasCleanDisk (state S.Store tx.new.conn.now) → OnOk result ((s : Schema) → (state S.Store tx.old.conn.now).now.schema ≡ created s format
@@ -92,7 +103,7 @@ fn put_format<S: Alter>(tx: &mut Transaction<'_, S>) -> Result<usize, Error>
     ensures kept { HasCleanDisk (state S.Store tx.new.conn.now) → KeepsCommit (state S.Store tx.old.conn.now) (state S.Store tx.new.conn.now) }
     ensures survives { Survives (state S.Store tx.old.conn.now) (state S.Store tx.new.conn.now) (λ _. ⊥) }
 {
-    let version = 1i64.to_sql();
+    let version = 2i64.to_sql();
     tx.execute("INSERT INTO format (version) VALUES (?1)", &[version])
 }
 
@@ -109,7 +120,8 @@ fn create_state<S: Alter>(tx: &mut Transaction<'_, S>) -> Result<usize, Error>
     create_entry(tx)?;
     create_leg(tx)?;
     create_claim(tx)?;
-    create_transfer(tx)
+    create_transfer(tx)?;
+    create_receipt(tx)
 }
 
 /// Whether the name is one of our tables', but for the case of ASCII letters.
@@ -123,6 +135,7 @@ fn is_ours(name: &[u8]) -> bool
         || same_name(name, b"leg".as_slice())
         || same_name(name, b"claim".as_slice())
         || same_name(name, b"transfer".as_slice())
+        || same_name(name, b"receipt".as_slice())
 }
 
 /// Whether one of our tables is there.

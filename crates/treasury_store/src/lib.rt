@@ -10,13 +10,14 @@ mod numbers;
 mod open;
 mod store;
 mod treasury;
+mod upgrading;
 mod write;
 
 pub use change::Change;
 pub use create::create_tables;
 pub use laws::left_law;
 pub use load::load_parts;
-pub use open::are_tables_there;
+pub use open::{found_version, open_tables};
 pub use store::{Refused, Store};
 pub use treasury::{Treasury, Unstarted};
 pub use write::write_all;

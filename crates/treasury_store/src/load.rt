@@ -10,15 +10,15 @@ ghost use Rattle.sqlite.specs.Given.{IsPlain};
 ghost use Rattle.sqlite.specs.Listing.{understood};
 ghost use Rattle.sqlite.specs.Held.{state};
 ghost use Rattle.treasury_store.specs.Tables.{store_schema};
-ghost use Rattle.treasury_store.specs.Rows.{Tables, unit_row, branch_row, entry_row, leg_row, claim_row, transfer_row};
-ghost use Rattle.treasury_store.specs.Shown.{ShowsTables, shown_unit, shown_branch, shown_entry, shown_leg, shown_claim, shown_transfer};
+ghost use Rattle.treasury_store.specs.Rows.{Tables, unit_row, branch_row, entry_row, leg_row, claim_row, transfer_row, part_row};
+ghost use Rattle.treasury_store.specs.Shown.{ShowsTables, shown_unit, shown_branch, shown_entry, shown_leg, shown_claim, shown_transfer, shown_part};
 ghost use Rattle.treasury_store.specs.Kept.{Queries};
 ghost use Rattle.treasury_store.specs.Order.{InOrder};
 
 use money_core::{Items, Text};
 use sqlite::{Alter, Connection, Error, Row};
 use std::alloc::Global;
-use treasury_core::{BranchRow, ClaimRow, EntryRow, LegRow, Parts, TransferRow, UnitRow};
+use treasury_core::{BranchRow, ClaimRow, EntryRow, LegRow, PartRow, Parts, TransferRow, UnitRow};
 
 /// A row of one of the tables, read from its columns.
 trait FromRow: Drop {
@@ -187,6 +187,27 @@ impl FromRow for TransferRow {
     }
 }
 
+impl FromRow for PartRow {
+    ghost columns = { part_row };
+
+    ghost front = { λ r. column r 0 ∷ column r 1 ∷ column r 2 ∷ column r 3 ∷ column r 4 ∷ [] };
+
+    fn read(row: &Row) -> Result<Self, Error> {
+        let transfer = text_at(row, 0)?;
+        let part = text_at(row, 1)?;
+        let qty = row.get(2)?;
+        let received = row.get(3)?;
+        let payee = text_at(row, 4)?;
+        Ok(PartRow {
+            transfer,
+            part,
+            qty,
+            received,
+            payee,
+        })
+    }
+}
+
 /// The rows, in order.
 fn read_all<T: FromRow>(alloc: Global, rows: &[Row]) -> Result<Items<T>, Error>
     ensures same { IfOk result (λ xs. (ys : List T) → rows.now ≡ map T.columns ys → xs ≡ ys) }
@@ -290,6 +311,19 @@ fn load_transfers<S: Alter>(
     read_all(alloc, &rows)
 }
 
+fn load_receipts<S: Alter>(alloc: Global, conn: &mut Connection<S>) -> Result<Items<PartRow>, Error>
+    ensures rows { HasCleanDisk (state S.Store conn.new) → IfOk result (λ rows. (t : Tables) → InOrder t → ShowsTables (state S.Store conn.old).now t → rows ≡ t.receipts) }
+    ensures shown { HasCleanDisk (state S.Store conn.new) → IfOk result (λ rows. (state S.Store conn.old).now.schema ≡ store_schema → IsPermutation (map part_row rows) (map shown_part ((state S.Store conn.old).now.trees 14))) }
+    ensures same { HasCleanDisk (state S.Store conn.new) → OnOk result ((state S.Store conn.old).now.schema ≡ store_schema → IsUnchanged (state S.Store conn.old) (state S.Store conn.new)) }
+    ensures queries { Queries S.Store conn.old conn.new result }
+{
+    let rows = queried(
+        conn,
+        "SELECT transfer, part, qty, received, payee FROM receipt ORDER BY transfer, part",
+    )?;
+    read_all(alloc, &rows)
+}
+
 /// The rows of all tables, each list in the order of its key: one query a table.
 ///
 /// Where the tables are ours, a success answers just the rows that they show, and changes nothing; where they are committed,
@@ -306,6 +340,7 @@ pub fn load_parts<S: Alter>(alloc: Global, conn: &mut Connection<S>) -> Result<P
     let legs = load_legs(alloc, conn)?;
     let claims = load_claims(alloc, conn)?;
     let transfers = load_transfers(alloc, conn)?;
+    let receipts = load_receipts(alloc, conn)?;
     Ok(Parts {
         units,
         branches,
@@ -313,5 +348,6 @@ pub fn load_parts<S: Alter>(alloc: Global, conn: &mut Connection<S>) -> Result<P
         legs,
         claims,
         transfers,
+        receipts,
     })
 }

@@ -9,20 +9,21 @@ ghost use Rattle.treasury_core.specs.Federation.{Federation};
 ghost use Rattle.treasury_core.specs.Good.{IsGoodState};
 ghost use Rattle.treasury_core.specs.Joined.{joined};
 ghost use Rattle.treasury_core.specs.Rows.{rows, HasShortLocks};
-ghost use Rattle.treasury_store.specs.Rows.{Tables, Holds};
+ghost use Rattle.treasury_store.specs.Rows.{Tables, Holds, HoldsEither};
 ghost use Rattle.treasury_store.specs.Kept.{KeepsTables, StaysAsIs};
 ghost use Rattle.treasury_store.specs.Shown.{ShowsTables};
 ghost use Rattle.treasury_store.specs.Tables.{no_schema, store_schema};
 ghost use Rattle.treasury_store.specs.Creating.{has_one, has_all, has_counter, Beside, SurvivesMaking};
-ghost use Rattle.treasury_store.specs.Opening.{MadeHere, KeepsMade, IsTreasury};
+ghost use Rattle.treasury_store.specs.Opening.{AreOurs, IsFirst, IsFirstNumbered, IsSecond};
+ghost use Rattle.treasury_store.specs.Upgrading.{Upgrades, KeepsOurs};
 ghost use Rattle.treasury_store.specs.Store.{empty_state, TablesAre, Knows, IsOf, Answers, AnswersState};
-ghost use Rattle.treasury_store.specs.Left.{LeavesSame, LeavesJoined};
+ghost use Rattle.treasury_store.specs.Left.{LeavesSame, LeavesEitherVersion, LeavesJoined};
 
 use crate::changes::changes_of;
 use crate::create::create_tables;
 use crate::load::load_parts;
 use crate::numbers::{Numbers, numbers_of};
-use crate::open::are_tables_there;
+use crate::open::open_tables;
 use crate::write::write_all;
 use book_core::Ledger;
 use money_core::Cause;
@@ -97,28 +98,36 @@ impl<S: Alter> Store<S> {
         }
     }
 
-    /// A store of the state whose rows the tables are.
+    /// A store of the state whose rows the tables are. Tables of version 1 are made into those of version 2 first, in one
+    /// transaction, and hold the same rows then.
     ///
-    /// It asks that no transaction is open. Where the tables or the one row of `format` are not there, it answers 43.
+    /// It asks that no transaction is open. Where neither the tables of version 2 with their one row of `format` are there, nor
+    /// those of version 1 with theirs and without a table `receipt`, it answers 43.
     pub fn open(alloc: Global, mut conn: Connection<S>) -> Result<Self, Refused<S>>
         requires { conn.in_transaction ≡ false }
-        ensures there { IfOk result (λ s. HasCleanDisk (state S.Store s.conn) → MadeHere (state S.Store conn).now.schema → IsTreasury (state S.Store conn).now) }
+        ensures there { IfOk result (λ s. HasCleanDisk (state S.Store s.conn) → AreOurs (state S.Store conn).now.schema → IsFirst (state S.Store conn).now ⊎ IsSecond (state S.Store conn).now) }
         ensures tables { IfOk result (λ s. IsTrue (has_all (state S.Store conn).now.schema)) }
-        ensures same { IfOk result (λ s. HasCleanDisk (state S.Store s.conn) → MadeHere (state S.Store conn).now.schema → ((state S.Store s.conn).now ≡ (state S.Store conn).now) × ((state S.Store s.conn).committed ≡ (state S.Store conn).committed)) }
+        // Whichever rows the tables held, in either version: they are the store's.
+        ensures opened { IfOk result (λ s. (state S.Store conn).committed ≡ (state S.Store conn).now → (t : Tables) → HoldsEither (state S.Store conn).now t → TablesAre S.Store s.conn t) }
+        ensures first { IfOk result (λ s. HasCleanDisk (state S.Store s.conn) → IsFirstNumbered (state S.Store conn).now → Upgrades (state S.Store conn).now (state S.Store s.conn).now × ((state S.Store s.conn).committed ≡ (state S.Store s.conn).now)) }
+        ensures same { IfOk result (λ s. HasCleanDisk (state S.Store s.conn) → AreOurs (state S.Store conn).now.schema → (IsFirst (state S.Store conn).now → ⊥)
+            → ((state S.Store s.conn).now ≡ (state S.Store conn).now) × ((state S.Store s.conn).committed ≡ (state S.Store conn).committed)) }
         ensures fresh { IfOk result (λ s. (s.numbers ≡ None) × (s.failed ≡ false)) }
         ensures clean { IfOk result (λ s. doubt (state S.Store conn).is_clean ≤ doubt (state S.Store s.conn).is_clean) }
         ensures none { has_all (state S.Store conn).now.schema ≡ false → result ≡ Err (record { conn = conn; cause = Cause.Damaged }) }
         ensures refused { IfErr result (λ r. (r.cause ≡ Cause.Damaged) ⊎ ((r.cause ≡ Cause.OutOfMemory) ⊎ (r.cause ≡ Cause.Store))) }
-        ensures damaged { IfErr result (λ r. r.cause ≡ Cause.Damaged → HasCleanDisk (state S.Store r.conn) → MadeHere (state S.Store conn).now.schema → (IsTreasury (state S.Store conn).now → ⊥)
+        ensures damaged { IfErr result (λ r. r.cause ≡ Cause.Damaged → HasCleanDisk (state S.Store r.conn) → (AreOurs (state S.Store conn).now.schema → IsFirst (state S.Store conn).now ⊎ IsSecond (state S.Store conn).now → ⊥)
             × ((state S.Store r.conn).now ≡ (state S.Store conn).now) × ((state S.Store r.conn).committed ≡ (state S.Store conn).committed)) }
         // After 40, and while the connection is open after 41, its tables are as they were.
         ensures unchanged { IfErr result (λ r. (r.cause ≡ Cause.Damaged → ⊥) → HasCleanDisk (state S.Store r.conn) → IsTrue (state S.Store r.conn).is_open
             → ((state S.Store r.conn).now ≡ (state S.Store conn).now) × ((state S.Store r.conn).committed ≡ (state S.Store conn).committed)) }
-        ensures crash { MatchResult result (λ s. KeepsMade S.Store conn s.conn) (λ r. KeepsMade S.Store conn r.conn) }
+        ensures crash { MatchResult result (λ s. KeepsOurs S.Store conn s.conn) (λ r. KeepsOurs S.Store conn r.conn) }
         // Whatever is left, also behind 41 where the connection is shut, are the rows that were there.
         ensures left { MatchResult result (λ s. LeavesSame S.Store conn s.conn) (λ r. LeavesSame S.Store conn r.conn) }
+        // Where they were there as version 1, they are left as version 1 or as version 2.
+        ensures left_first { MatchResult result (λ s. LeavesEitherVersion S.Store conn s.conn) (λ r. LeavesEitherVersion S.Store conn r.conn) }
     {
-        match are_tables_there(&mut conn) {
+        match open_tables(&mut conn) {
             Ok(true) => Ok(Store {
                 alloc,
                 conn,

@@ -4,6 +4,8 @@
 #[cfg(test)]
 mod machine;
 #[cfg(test)]
+mod marks;
+#[cfg(test)]
 mod memory;
 #[cfg(test)]
 mod store;

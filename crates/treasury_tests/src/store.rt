@@ -12,6 +12,7 @@ use treasury_store::{Change, create_tables, write_all};
 
 mod commits;
 mod treasuries;
+mod versions;
 
 fn text(rt: &impl Abort, alloc: Global, of: &str) -> Text {
     Text::of(alloc, of).expect(rt, "memory")

@@ -2,8 +2,8 @@ use Rattle.std.proofs.Common.{map, arith, IsPermutation}
 use Rattle.sqlite.specs.State.{HasCleanDisk}
 use Rattle.sqlite.specs.Held.{state}
 use Rattle.sqlite.specs.Effect.{Database}
-use Rattle.treasury_store.specs.Rows.{branch_row, entry_row, leg_row, claim_row, transfer_row}
-use Rattle.treasury_store.specs.Shown.{shown_branch, shown_entry, shown_leg, shown_claim, shown_transfer}
+use Rattle.treasury_store.specs.Rows.{branch_row, entry_row, leg_row, claim_row, transfer_row, part_row}
+use Rattle.treasury_store.specs.Shown.{shown_branch, shown_entry, shown_leg, shown_claim, shown_transfer, shown_part}
 use Rattle.treasury_store.proofs.QueriesLemmas.{same_error, quiet, quiet_more, quiet_error, quiet_ok, seen_before}
 use Rattle.treasury_store.proofs.load.load_parts.Goals as goal
 
@@ -45,6 +45,16 @@ returns-in_err-transfers-clause-queries g c =
     let past5 = quiet_more past4 c.in_ok-claims.ensures.queries c.in_ok-claims.ensures.same in
     quiet_error _ c.from_residual-in_err-transfers.result c.from_residual-in_err-transfers.ensures.1 past5 c.in_err-transfers.ensures.queries
 
+pub returns-in_err-receipts-clause-queries : goal.returns-in_err-receipts-clause-queries
+returns-in_err-receipts-clause-queries g c =
+    let past1 = quiet c.in_ok-units.ensures.queries c.in_ok-units.ensures.same in
+    let past2 = quiet_more past1 c.in_ok-branches.ensures.queries c.in_ok-branches.ensures.same in
+    let past3 = quiet_more past2 c.in_ok-entries.ensures.queries c.in_ok-entries.ensures.same in
+    let past4 = quiet_more past3 c.in_ok-legs.ensures.queries c.in_ok-legs.ensures.same in
+    let past5 = quiet_more past4 c.in_ok-claims.ensures.queries c.in_ok-claims.ensures.same in
+    let past6 = quiet_more past5 c.in_ok-transfers.ensures.queries c.in_ok-transfers.ensures.same in
+    quiet_error _ c.from_residual-in_err-receipts.result c.from_residual-in_err-receipts.ensures.1 past6 c.in_err-receipts.ensures.queries
+
 pub returns-clause-queries : goal.returns-clause-queries
 returns-clause-queries g c =
     let past1 = quiet c.in_ok-units.ensures.queries c.in_ok-units.ensures.same in
@@ -53,11 +63,13 @@ returns-clause-queries g c =
     let past4 = quiet_more past3 c.in_ok-legs.ensures.queries c.in_ok-legs.ensures.same in
     let past5 = quiet_more past4 c.in_ok-claims.ensures.queries c.in_ok-claims.ensures.same in
     let past6 = quiet_more past5 c.in_ok-transfers.ensures.queries c.in_ok-transfers.ensures.same in
-    quiet_ok past6
+    let past7 = quiet_more past6 c.in_ok-receipts.ensures.queries c.in_ok-receipts.ensures.same in
+    quiet_ok past7
 
 pub returns-clause-shown : goal.returns-clause-shown
 returns-clause-shown g c clean has =
-    let clean5 : HasCleanDisk (state g.S.Store c.load_claims.new.conn) = omega (arith, c.in_ok-transfers.ensures.queries.survives.clean, clean) in
+    let clean6 : HasCleanDisk (state g.S.Store c.load_transfers.new.conn) = omega (arith, c.in_ok-receipts.ensures.queries.survives.clean, clean) in
+    let clean5 : HasCleanDisk (state g.S.Store c.load_claims.new.conn) = omega (arith, c.in_ok-transfers.ensures.queries.survives.clean, clean6) in
     let clean4 : HasCleanDisk (state g.S.Store c.load_legs.new.conn) = omega (arith, c.in_ok-claims.ensures.queries.survives.clean, clean5) in
     let clean3 : HasCleanDisk (state g.S.Store c.load_entries.new.conn) = omega (arith, c.in_ok-legs.ensures.queries.survives.clean, clean4) in
     let clean2 : HasCleanDisk (state g.S.Store c.load_branches.new.conn) = omega (arith, c.in_ok-entries.ensures.queries.survives.clean, clean3) in
@@ -67,6 +79,7 @@ returns-clause-shown g c clean has =
     let past3 = quiet_more past2 c.in_ok-entries.ensures.queries c.in_ok-entries.ensures.same in
     let past4 = quiet_more past3 c.in_ok-legs.ensures.queries c.in_ok-legs.ensures.same in
     let past5 = quiet_more past4 c.in_ok-claims.ensures.queries c.in_ok-claims.ensures.same in
+    let past6 = quiet_more past5 c.in_ok-transfers.ensures.queries c.in_ok-transfers.ensures.same in
     record {
       schema = has;
       units = c.in_ok-units.ensures.shown clean1 has;
@@ -74,5 +87,6 @@ returns-clause-shown g c clean has =
       entries = seen_before c.load_entries.new.conn (λ (d : Database). IsPermutation (map entry_row c.in_ok-entries.entries) (map shown_entry (d.trees 5))) past2 c.in_ok-entries.ensures.queries.survives c.in_ok-entries.ensures.shown clean3 has;
       legs = seen_before c.load_legs.new.conn (λ (d : Database). IsPermutation (map leg_row c.in_ok-legs.legs) (map shown_leg (d.trees 8))) past3 c.in_ok-legs.ensures.queries.survives c.in_ok-legs.ensures.shown clean4 has;
       claims = seen_before c.load_claims.new.conn (λ (d : Database). IsPermutation (map claim_row c.in_ok-claims.claims) (map shown_claim (d.trees 10))) past4 c.in_ok-claims.ensures.queries.survives c.in_ok-claims.ensures.shown clean5 has;
-      transfers = seen_before c.load_transfers.new.conn (λ (d : Database). IsPermutation (map transfer_row c.in_ok-transfers.transfers) (map shown_transfer (d.trees 12))) past5 c.in_ok-transfers.ensures.queries.survives c.in_ok-transfers.ensures.shown clean has;
+      transfers = seen_before c.load_transfers.new.conn (λ (d : Database). IsPermutation (map transfer_row c.in_ok-transfers.transfers) (map shown_transfer (d.trees 12))) past5 c.in_ok-transfers.ensures.queries.survives c.in_ok-transfers.ensures.shown clean6 has;
+      receipts = seen_before c.load_receipts.new.conn (λ (d : Database). IsPermutation (map part_row c.in_ok-receipts.receipts) (map shown_part (d.trees 14))) past6 c.in_ok-receipts.ensures.queries.survives c.in_ok-receipts.ensures.shown clean has;
     }
