@@ -21,11 +21,11 @@ use Rattle.treasury_api.proofs.AskedLemmas.{asked_fits}
 
 -- ---- a transcript has turns, and turns have a transcript
 
-record IsRunOf (start : Standing) (lines : List (List ℕ)) (output : List ℕ) (end : Standing) (turns : List Turn) : Type 0 where
-  requests : map (λ (t : Turn). t.line) turns ≡ lines
-  follow : AreTurns start turns
-  written : output ≡ texts_of start turns
-  left : end ≡ end_of start turns
+pub record IsRunOf (start : Standing) (lines : List (List ℕ)) (output : List ℕ) (end : Standing) (turns : List Turn) : Type 0 where
+  pub requests : map (λ (t : Turn). t.line) turns ≡ lines
+  pub follow : AreTurns start turns
+  pub written : output ≡ texts_of start turns
+  pub left : end ≡ end_of start turns
 
 run_of : (start : Standing) (requests : List (List ℕ)) (output : List ℕ) (end : Standing) → AnswersInTurn Answers start requests output end
     → (turns : List Turn) × IsRunOf start requests output end turns
@@ -68,7 +68,7 @@ transcript_of start input output end turns run =
 -- ---- the commands of turns are a run
 
 -- 41 is no reply of the step, and leaves the state
-failure_is : (r : Result Answer Refusal) → is_failure r ≡ true → r ≡ Err (Plain Failed)
+pub failure_is : (r : Result Answer Refusal) → is_failure r ≡ true → r ≡ Err (Plain Failed)
 failure_is (Ok answer) h = absurd cc
 failure_is (Err (Plain Failed)) h = refl
 failure_is (Err refusal) h = absurd cc

@@ -47,7 +47,7 @@ after_refusal f (Ok (Command c)) refusal = refl
 after_refusal f (Ok (Report report)) refusal = refl
 after_refusal f (Err e) refusal = refl
 
-refusal_is : {T : Type 0} (r : Result T Refusal) (refusal other : Refusal) → r ≡ Err refusal → r ≡ Err other → refusal ≡ other
+pub refusal_is : {T : Type 0} (r : Result T Refusal) (refusal other : Refusal) → r ≡ Err refusal → r ≡ Err other → refusal ≡ other
 refusal_is r refusal other h k = cc
 
 refusal_text : {T : Type 0} (f : Federation) (asked : Result Asked Refusal) (r : Result Answer Refusal) (refusal : Refusal) (result : Result T Refusal) (before written : List ℕ) → r ≡ Err refusal → result ≡ Err refusal
@@ -120,7 +120,7 @@ refusal_printable old new s c r refusal is held good fits (inl (inl step)) same 
 refusal_printable old new s c r refusal is held good fits (inl (inr memory)) same = subst (IsPrintableIn new) (refusal_is r (Plain OutOfMemory) refusal memory is) tt
 refusal_printable old new s c r refusal is held good fits (inr failed) same = subst (IsPrintableIn new) (refusal_is r (Plain Failed) refusal failed is) tt
 
-at_held : (o : Option Federation) (s : Federation) (P : Federation → Type 0) → o ≡ Some s → IfSome o P → P s
+pub at_held : (o : Option Federation) (s : Federation) (P : Federation → Type 0) → o ≡ Some s → IfSome o P → P s
 at_held o s P is h = subst (λ (x : Option Federation). IfSome x P) is h
 
 pub refusal_held : {S : Type 0} (old new : Treasury S) (c : AnyCommand) (r : Result Answer Refusal) (refusal : Refusal) → r ≡ Err refusal → IsHeldFor old c

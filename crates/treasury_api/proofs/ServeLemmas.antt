@@ -1,22 +1,25 @@
 -- A line is served on a treasury as a run answers it.
-use Rattle.std.proofs.Common.{◌≡◌, ◌++◌, ◌⊎◌, ◌||◌, ℕ, ℤ, List, [], Bool, true, false, not, if◌then◌else◌, Option, Some, None, Result, Ok, Err, IsSome, MatchResult, refl, ap, ◌∙◌, sym, subst, inl, inr, append-nil}
+use Rattle.std.proofs.Common.{◌≡◌, ◌++◌, ◌⊎◌, ◌||◌, ℕ, ℤ, List, [], Bool, true, false, not, if◌then◌else◌, Option, Some, None, Result, Ok, Err, IsSome, IsTrue, MatchResult, refl, ap, ◌∙◌, sym, subst, inl, inr, append-nil}
 use Rattle.sqlite.specs.Store.{Ghosts}
 use Rattle.sqlite.specs.State.{HasCleanDisk}
-use Rattle.sqlite.specs.Held.{state}
+use Rattle.sqlite.specs.Held.{Held, state}
 use Rattle.money_core.specs.declared.style.Style.{Style}
 use Rattle.money_core.specs.declared.unit.Unit.{Unit as Commodity}
 use Rattle.money_core.specs.declared.day.Day.{Day}
 use Rattle.money_core.specs.Sampling.{style_of}
 use Rattle.money_core.specs.Reading.{amount}
 use Rattle.money_core.specs.declared.cause.Cause.{Cause}
-use Rattle.money_core.specs.declared.cause.Cause.TheVariants.{OutOfMemory, UnknownBranch, Closed, Request as NoRequest}
+use Rattle.money_core.specs.declared.cause.Cause.TheVariants.{OutOfMemory, UnknownBranch, Closed, Request as NoRequest, Store as Failed}
 use Rattle.book_core.specs.declared.refusal.Refusal.{Refusal}
 use Rattle.book_core.specs.declared.refusal.Refusal.TheVariants.{Plain, Text, ClaimFailed}
 use Rattle.treasury_core.specs.declared.command.Answer.{Answer}
 use Rattle.treasury_core.specs.declared.command.Answer.TheVariants.{Done}
 use Rattle.treasury_core.specs.declared.command.Command.{Command as AnyCommand}
 use Rattle.treasury_core.specs.Federation.{Federation}
+use Rattle.treasury_core.specs.Rows.{rows}
+use Rattle.treasury_store.specs.Kept.{ShutsByFault}
 use Rattle.treasury_store.specs.Treasury.{Treasury, IsTreasuryOf}
+use Rattle.treasury_store.proofs.LeftLemmas.{shuts_same}
 use Rattle.treasury_api.specs.declared.request.Request.{Request}
 use Rattle.treasury_api.specs.declared.request.Request.TheVariants.{Branch as ForBranch, Commodity as ForCommodity, Import as ForImport, Dispatch as ForDispatch, Receive as ForReceive, Lock as ForLock, Close as ForClose, Balance as ForBalance, Register as ForRegister, Transit as ForTransit, Journal as ForJournal}
 use Rattle.treasury_api.specs.declared.asking.Asked.{Asked}
@@ -26,13 +29,15 @@ use Rattle.treasury_api.specs.Request.{spelled, is_report}
 use Rattle.treasury_api.specs.Asked.{AsksOf, Asks, asked_by_sample, asked_by_amount}
 use Rattle.treasury_api.specs.Report.{report_text, has_its_branch}
 use Rattle.treasury_api.specs.Answer.{answer_text, IsPlainAnswer}
-use Rattle.treasury_api.specs.Step.{Standing, Answers, MayReply, after, next, reply_text, is_failure}
+use Rattle.treasury_api.specs.Step.{Answers, MayReply, after, next, reply_text, is_failure}
+use Rattle.treasury_api.specs.Left.{IsOpenBut, LeavesRequest, LeavesReply}
 use Rattle.treasury_api.specs.Replied.{standing, body_of, IsLineOf, IsLineIn, Serves}
 use Rattle.treasury_api.specs.Serving.{end_of_report}
-use Rattle.treasury_api.specs.RunEnd.{Ends}
-use Rattle.treasury_api.proofs.LiftLemmas.{ends_lifted}
+use Rattle.treasury_api.specs.WebReply.{cause_of}
+use Rattle.treasury_api.specs.WebServing.{IsLineBy, IsToldBy}
 use Rattle.treasury_api.proofs.AnswerLemmas.{ReadsAll, IsAnswered, request_asks}
-use Rattle.treasury_api.proofs.ReplyLemmas.{state_is, same_line}
+use Rattle.treasury_api.proofs.ReplyLemmas.{state_is, same_line, refusal_is}
+use Rattle.treasury_api.proofs.LeftLemmas.{LeavesShown, leaves_first}
 
 -- every line asks something
 line_asks : ReadsAll → (failed : Bool) (styles : List Style) (line : List ℕ) → (asked : Result Asked Refusal) × Asks failed styles line asked
@@ -56,16 +61,29 @@ unfolding answer_text
 plain_line styles cause = refl
 
 -- the line of a refusal, on an empty vector
-pub refused_line : (styles : List Style) (refusal : Refusal) (empty text : List ℕ) → empty ≡ [] → text ≡ empty ++ answer_text styles (Err refusal) → IsLineIn styles refusal text
-refused_line styles (Plain cause) empty text none said = said ∙ (ap (λ (xs : List ℕ). xs ++ answer_text styles (Err (Plain cause))) none ∙ sym (plain_line styles cause))
-refused_line styles (Text fault) empty text none said = inr (said ∙ ap (λ (xs : List ℕ). xs ++ answer_text styles (Err (Text fault))) none)
-refused_line styles (ClaimFailed failure) empty text none said = inr (said ∙ ap (λ (xs : List ℕ). xs ++ answer_text styles (Err (ClaimFailed failure))) none)
+pub refused_line : (styles : List Style) (refusal : Refusal) (cause : Cause) (empty text : List ℕ) → empty ≡ [] → text ≡ empty ++ answer_text styles (Err refusal) → cause ≡ cause_of refusal → IsLineBy styles refusal cause text
+refused_line styles (Plain because) cause empty text none said is = (said ∙ (ap (λ (xs : List ℕ). xs ++ answer_text styles (Err (Plain because))) none ∙ sym (plain_line styles because)), is)
+refused_line styles (Text fault) cause empty text none said is = inr (said ∙ ap (λ (xs : List ℕ). xs ++ answer_text styles (Err (Text fault))) none, is)
+refused_line styles (ClaimFailed failure) cause empty text none said is = inr (said ∙ ap (λ (xs : List ℕ). xs ++ answer_text styles (Err (ClaimFailed failure))) none, is)
 
 -- that of want of memory in place of one that is not plain
-pub memory_line : (styles : List Style) (refusal : Refusal) (empty mid text : List ℕ) → empty ≡ [] → mid ≡ empty → text ≡ mid ++ answer_text styles (Err (Plain OutOfMemory)) → (IsPlainAnswer (Err refusal) → ⊥) → IsLineIn styles refusal text
-memory_line styles (Plain cause) empty mid text none same said other = absurd (other tt)
-memory_line styles (Text fault) empty mid text none same said other = inl (said ∙ (ap (λ (xs : List ℕ). xs ++ answer_text styles (Err (Plain OutOfMemory))) (same ∙ none) ∙ sym (plain_line styles OutOfMemory)))
-memory_line styles (ClaimFailed failure) empty mid text none same said other = inl (said ∙ (ap (λ (xs : List ℕ). xs ++ answer_text styles (Err (Plain OutOfMemory))) (same ∙ none) ∙ sym (plain_line styles OutOfMemory)))
+pub memory_line : (styles : List Style) (refusal : Refusal) (empty mid text : List ℕ) → empty ≡ [] → mid ≡ empty → text ≡ mid ++ answer_text styles (Err (Plain OutOfMemory)) → (IsPlainAnswer (Err refusal) → ⊥) → IsLineBy styles refusal OutOfMemory text
+memory_line styles (Plain because) empty mid text none same said other = absurd (other tt)
+memory_line styles (Text fault) empty mid text none same said other = inl (said ∙ (ap (λ (xs : List ℕ). xs ++ answer_text styles (Err (Plain OutOfMemory))) (same ∙ none) ∙ sym (plain_line styles OutOfMemory)), refl)
+memory_line styles (ClaimFailed failure) empty mid text none same said other = inl (said ∙ (ap (λ (xs : List ℕ). xs ++ answer_text styles (Err (Plain OutOfMemory))) (same ∙ none) ∙ sym (plain_line styles OutOfMemory)), refl)
+
+-- what is known of the line alone
+line_in : (styles : List Style) (refusal : Refusal) (cause : Cause) (text : List ℕ) → IsLineBy styles refusal cause text → IsLineIn styles refusal text
+line_in styles (Plain because) cause text by = by.0
+line_in styles (Text fault) cause text (inl memory) = inl memory.0
+line_in styles (Text fault) cause text (inr said) = inr said.0
+line_in styles (ClaimFailed failure) cause text (inl memory) = inl memory.0
+line_in styles (ClaimFailed failure) cause text (inr said) = inr said.0
+
+pub line_of : {S : Type 0} (t : Treasury S) (refusal : Refusal) (cause : Cause) (text : List ℕ) → IsToldBy t refusal cause text → IsLineOf t refusal text
+line_of t (Plain because) cause text by = by.0
+line_of t (Text fault) cause text (s, (held, by)) = (s, (held, line_in s.styles (Text fault) cause text by))
+line_of t (ClaimFailed failure) cause text (s, (held, by)) = (s, (held, line_in s.styles (ClaimFailed failure) cause text by))
 
 -- ---- a line that spells no request, or for which there was no memory
 
@@ -79,11 +97,12 @@ stays t f asked cause harmless =
     let same : t.store.failed ≡ (t.store.failed || is_failure (Err (Plain cause))) = or_false t.store.failed ∙ ap (λ (b : Bool). t.store.failed || b) (sym harmless) in
     ap (λ (now : Federation). record { now = now; failed = t.store.failed }) (after_plain f asked (Plain cause)) ∙ ap (λ (b : Bool). record { now = after f asked (Err (Plain cause)); failed = b }) same
 
-pub unread : {S : Type 0} → ReadsAll → (g : Ghosts S) (t : Treasury S) (line text : List ℕ) (cause : Cause) (read : Result Request Cause) → read ≡ Err cause → (read ≡ Err NoRequest → spelled line ≡ None)
+pub unread : {S : Type 0} → ReadsAll → (g : Ghosts S) → LeavesShown g → (t : Treasury S) (line text : List ℕ) (cause : Cause) (read : Result Request Cause) → read ≡ Err cause → (read ≡ Err NoRequest → spelled line ≡ None)
     → (cause ≡ NoRequest) ⊎ (cause ≡ OutOfMemory) → text ≡ answer_text [] (Err (Plain cause)) → Serves g t line text t
-unread law g t line text cause read is none causes said = record {
-  clean = λ k. k;
-  answers = λ clean f of. (f, (of, by_cause f causes));
+unread law g shown t line text cause read is none causes said = record {
+  answers = λ clean f of. (f, (of, (by_cause f causes, λ is_open unfailed. (leaves_first g t.store.conn (rows f) _ (shown t.store.conn (rows f) of.store.tables is_open), inl is_open))));
+  shuts = shuts_same g t.store.conn;
+  closed = λ failed. refl;
 }
   where
     by_cause : (f : Federation) → (cause ≡ NoRequest) ⊎ (cause ≡ OutOfMemory) → Answers (standing t f) line text (standing t f)
@@ -181,68 +200,104 @@ whole_text f failed request (Ok (Report report)) answer written text asks replie
     ∙ ap (λ (a : Answer). report_text f report ++ answer_text f.styles (Ok a)) (sym (done_only f failed report answer replies))))
 whole_text f failed request (Err refusal) answer written text asks replies said ended = refused_only f failed refusal answer _ replies
 
+-- what else a request makes of a treasury
+pub record Beside {S : Type 0} (g : Ghosts S) (old new : Treasury S) (request : Request) (made : Result (Unit {0}) Refusal) : Type 0 where
+  pub shuts : ShutsByFault g old.store.conn new.store.conn
+  pub closed : IsTrue old.store.failed → (made ≡ Err (Plain Closed)) × (new ≡ old)
+  pub open_but : HasCleanDisk (state g new.store.conn) → IsTrue (state g old.store.conn).is_open → (f : Federation) → IsTreasuryOf g old f → IsOpenBut g old.store.conn new.store.conn made
+  pub left : LeavesRequest g old new request
+
+-- where it is replied to so, the database is open, or not
+replied_open : {S T X : Type 0} (g : Ghosts S) (old new : Held S) (made : Result T Refusal) (reply : Result X Refusal) → (made ≡ Err (Plain Failed) → reply ≡ Err (Plain Failed)) → (made ≡ Err (Plain OutOfMemory) → reply ≡ Err (Plain OutOfMemory))
+    → IsOpenBut g old new made → IsOpenBut g old new reply
+replied_open g old new made reply failed memory (inl still) = inl still
+replied_open g old new made reply failed memory (inr (inl is)) = inr (inl (failed is))
+replied_open g old new made reply failed memory (inr (inr (is, more))) = inr (inr (memory is, more))
+
+done_not : (r : Result (Unit {0}) Refusal) (x : Unit {0}) (e : Refusal) → r ≡ Ok x → r ≡ Err e → ⊥
+done_not r x e h k = cc
+
 -- an answer with its end
 pub served : {S : Type 0} (g : Ghosts S) (old new : Treasury S) (line written text : List ℕ) (request : Request) (made : Result (Unit {0}) Refusal) (x : Unit {0}) → spelled line ≡ Some request → made ≡ Ok x
-    → (HasCleanDisk (state g new.store.conn) → HasCleanDisk (state g old.store.conn))
+    → Beside g old new request made
     → (HasCleanDisk (state g new.store.conn) → (f : Federation) → IsTreasuryOf g old f → IsAnswered g old.store.failed new f request made [] written)
     → text ≡ written ++ end_of_report request → Serves g old line text new
-served g old new line written text request made x is ok clean answers ended = record {
-  clean = clean;
-  answers = λ k f of. by_reply f (answers k f of);
+served g old new line written text request made x is ok beside answers ended = record {
+  answers = λ k f of. by_reply k f of (answers k f of);
+  shuts = beside.shuts;
+  closed = λ failed. (beside.closed failed).1;
 }
   where
-    by_reply : (f : Federation) → IsAnswered g old.store.failed new f request made [] written → (end : Federation) × (IsTreasuryOf g new end × Answers (standing old f) line text (standing new end))
-    by_reply f (asked, (asks, r)) =
+    by_reply : HasCleanDisk (state g new.store.conn) → (f : Federation) → IsTreasuryOf g old f → IsAnswered g old.store.failed new f request made [] written
+        → (end : Federation) × (IsTreasuryOf g new end × ((a : Answers (standing old f) line text (standing new end)) × LeavesReply g old new f a.asked a.reply))
+    by_reply clean f of (asked, (asks, r)) =
         let told = subst (λ (m : Result (Unit {0}) Refusal). MatchResult m (λ _. (answer : Answer) × ((r.reply ≡ Ok answer) × (written ≡ [] ++ body_of f asked answer))) (λ refusal. (r.reply ≡ Err refusal) × (written ≡ []))) ok r.text in (
           after f asked r.reply,
           (
             r.of,
-            record {
-              asked = asked;
-              reply = r.reply;
-              asks = inl (request, (is, asks));
-              replies = (r.replies, λ _. spelled_some line request is);
-              text = whole_text f old.store.failed request asked told.0 written text asks (subst (λ (y : Result Answer Refusal). MayReply (record { now = f; failed = old.store.failed }) asked y) told.1.0 r.replies) told.1.1 ended
-                  ∙ ap (λ (y : Result Answer Refusal). reply_text f asked y) (sym told.1.0);
-              left = leads old new f asked r.reply r.left;
-            },
+            (
+              record {
+                asked = asked;
+                reply = r.reply;
+                asks = inl (request, (is, asks));
+                replies = (r.replies, λ _. spelled_some line request is);
+                text = whole_text f old.store.failed request asked told.0 written text asks (subst (λ (y : Result Answer Refusal). MayReply (record { now = f; failed = old.store.failed }) asked y) told.1.0 r.replies) told.1.1 ended
+                    ∙ ap (λ (y : Result Answer Refusal). reply_text f asked y) (sym told.1.0);
+                left = leads old new f asked r.reply r.left;
+              },
+              λ is_open unfailed. (
+                beside.left clean is_open f of asked asks,
+                replied_open g old.store.conn new.store.conn made r.reply (λ e. absurd (done_not made x (Plain Failed) ok e)) (λ e. absurd (done_not made x (Plain OutOfMemory) ok e)) (beside.open_but clean is_open f of),
+              ),
+            ),
           ),
         )
 
 -- want of memory in place of the end of a report
 pub served_memory : {S : Type 0} (g : Ghosts S) (old new : Treasury S) (line written text : List ℕ) (request : Request) (made : Result (Unit {0}) Refusal) (x : Unit {0}) → spelled line ≡ Some request → made ≡ Ok x
-    → (HasCleanDisk (state g new.store.conn) → HasCleanDisk (state g old.store.conn))
+    → Beside g old new request made
     → (HasCleanDisk (state g new.store.conn) → (f : Federation) → IsTreasuryOf g old f → IsAnswered g old.store.failed new f request made [] written)
     → is_report request ≡ true → text ≡ answer_text [] (Err (Plain OutOfMemory)) → Serves g old line text new
-served_memory g old new line written text request made x is ok clean answers report said = record {
-  clean = clean;
-  answers = λ k f of. by_reply f (answers k f of);
+served_memory g old new line written text request made x is ok beside answers report said = record {
+  answers = λ k f of. by_reply k f of (answers k f of);
+  shuts = beside.shuts;
+  closed = λ failed. (beside.closed failed).1;
 }
   where
+    Told : Federation → Type 0
+    Told f = (end : Federation) × (IsTreasuryOf g new end × ((a : Answers (standing old f) line text (standing new end)) × LeavesReply g old new f a.asked a.reply))
+
     by_asked : (f : Federation) (asked : Result Asked Refusal) (answer : Answer) → AsksOf old.store.failed f.styles request asked → MayReply (record { now = f; failed = old.store.failed }) asked (Ok answer)
-        → IsTreasuryOf g new (after f asked (Ok answer)) → new.store.failed ≡ (old.store.failed || false) → (end : Federation) × (IsTreasuryOf g new end × Answers (standing old f) line text (standing new end))
-    by_asked f (Ok (Command c)) answer asks replies of left = absurd (let e : true ≡ false = sym report ∙ asks_report old.store.failed f.styles request c asks in cc)
-    by_asked f (Ok (Report asked)) answer asks replies of left = (
+        → IsTreasuryOf g new (after f asked (Ok answer)) → new.store.failed ≡ (old.store.failed || false) → LeavesReply g old new f asked (Err (Plain OutOfMemory)) → Told f
+    by_asked f (Ok (Command c)) answer asks replies of left leaves = absurd (let e : true ≡ false = sym report ∙ asks_report old.store.failed f.styles request c asks in cc)
+    by_asked f (Ok (Report asked)) answer asks replies of left leaves = (
       f,
       (
         of,
-        record {
-          asked = Ok (Report asked);
-          reply = Err (Plain OutOfMemory);
-          asks = inl (request, (is, asks));
-          replies = (inr (inl refl), λ e. absurd cc);
-          text = said ∙ plain_line f.styles OutOfMemory;
-          left = leads old new f (Ok (Report asked)) (Err (Plain OutOfMemory)) left;
-        },
+        (
+          record {
+            asked = Ok (Report asked);
+            reply = Err (Plain OutOfMemory);
+            asks = inl (request, (is, asks));
+            replies = (inr (inl refl), λ e. absurd cc);
+            text = said ∙ plain_line f.styles OutOfMemory;
+            left = leads old new f (Ok (Report asked)) (Err (Plain OutOfMemory)) left;
+          },
+          leaves,
+        ),
       ),
     )
-    by_asked f (Err refusal) answer asks replies of left = refused_only f old.store.failed refusal answer _ replies
+    by_asked f (Err refusal) answer asks replies of left leaves = refused_only f old.store.failed refusal answer _ replies
 
-    by_reply : (f : Federation) → IsAnswered g old.store.failed new f request made [] written → (end : Federation) × (IsTreasuryOf g new end × Answers (standing old f) line text (standing new end))
-    by_reply f (asked, (asks, r)) =
+    by_reply : HasCleanDisk (state g new.store.conn) → (f : Federation) → IsTreasuryOf g old f → IsAnswered g old.store.failed new f request made [] written → Told f
+    by_reply clean f of (asked, (asks, r)) =
         let told = subst (λ (m : Result (Unit {0}) Refusal). MatchResult m (λ _. (answer : Answer) × ((r.reply ≡ Ok answer) × (written ≡ [] ++ body_of f asked answer))) (λ refusal. (r.reply ≡ Err refusal) × (written ≡ []))) ok r.text in
         by_asked f asked told.0 asks (subst (λ (y : Result Answer Refusal). MayReply (record { now = f; failed = old.store.failed }) asked y) told.1.0 r.replies)
         (subst (λ (y : Result Answer Refusal). IsTreasuryOf g new (after f asked y)) told.1.0 r.of) (r.left ∙ ap (λ (y : Result Answer Refusal). old.store.failed || is_failure y) told.1.0)
+        (λ is_open unfailed. (
+          beside.left clean is_open f of asked asks,
+          replied_open g old.store.conn new.store.conn made (Err (Plain OutOfMemory)) (λ e. absurd (done_not made x (Plain Failed) ok e)) (λ e. refl) (beside.open_but clean is_open f of),
+        ))
 
 -- ---- a request that is refused
 
@@ -256,68 +311,71 @@ data_line g new f (ClaimFailed failure) text of (s, (held, inl memory)) = inr (m
 data_line g new f (ClaimFailed failure) text of (s, (held, inr said)) = inl (said ∙ ap (λ (x : Federation). answer_text x.styles (Err (ClaimFailed failure))) (state_is g new s f of held))
 
 pub served_refusal : {S : Type 0} (g : Ghosts S) (old new : Treasury S) (line written text : List ℕ) (request : Request) (made : Result (Unit {0}) Refusal) (refusal : Refusal) → spelled line ≡ Some request → made ≡ Err refusal
-    → (HasCleanDisk (state g new.store.conn) → HasCleanDisk (state g old.store.conn))
+    → Beside g old new request made
     → (HasCleanDisk (state g new.store.conn) → (f : Federation) → IsTreasuryOf g old f → IsAnswered g old.store.failed new f request made [] written)
     → IsLineOf new refusal text → Serves g old line text new
-served_refusal g old new line written text request made refusal is refused clean answers said = record {
-  clean = clean;
-  answers = λ k f of. by_reply f (answers k f of);
+served_refusal g old new line written text request made refusal is refused beside answers said = record {
+  answers = λ k f of. by_reply k f of (answers k f of);
+  shuts = beside.shuts;
+  closed = λ failed. (beside.closed failed).1;
 }
   where
-    by_line : (f : Federation) (asked : Result Asked Refusal) → AsksOf old.store.failed f.styles request asked → MayReply (record { now = f; failed = old.store.failed }) asked (Err refusal) → IsTreasuryOf g new f
-        → new.store.failed ≡ (old.store.failed || is_failure (Err refusal))
-        → (text ≡ answer_text f.styles (Err refusal)) ⊎ ((text ≡ answer_text f.styles (Err (Plain OutOfMemory))) × (is_failure (Err refusal) ≡ false))
-        → Answers (standing old f) line text (standing new f)
-    by_line f asked asks replies of left (inl told) = record {
-      asked = asked;
-      reply = Err refusal;
-      asks = inl (request, (is, asks));
-      replies = (replies, λ _. spelled_some line request is);
-      text = told;
-      left = ap (λ (x : Federation). standing new x) (after_plain f asked refusal) ∙ leads old new f asked (Err refusal) left;
-    }
-    by_line f asked asks replies of left (inr (told, harmless)) = record {
-      asked = asked;
-      reply = Err (Plain OutOfMemory);
-      asks = inl (request, (is, asks));
-      replies = (inr (inl refl), λ _. spelled_some line request is);
-      text = told;
-      left = ap (λ (x : Federation). standing new x) (after_plain f asked (Plain OutOfMemory))
-          ∙ leads old new f asked (Err (Plain OutOfMemory)) (left ∙ ap (λ (b : Bool). old.store.failed || b) harmless);
-    }
+    Told : Federation → Type 0
+    Told f = (end : Federation) × (IsTreasuryOf g new end × ((a : Answers (standing old f) line text (standing new end)) × LeavesReply g old new f a.asked a.reply))
 
-    by_reply : (f : Federation) → IsAnswered g old.store.failed new f request made [] written → (end : Federation) × (IsTreasuryOf g new end × Answers (standing old f) line text (standing new end))
-    by_reply f (asked, (asks, r)) =
-        let told = subst (λ (m : Result (Unit {0}) Refusal). MatchResult m (λ _. (answer : Answer) × ((r.reply ≡ Ok answer) × (written ≡ [] ++ body_of f asked answer))) (λ e. (r.reply ≡ Err e) × (written ≡ []))) refused r.text in
-        let of : IsTreasuryOf g new f = subst (IsTreasuryOf g new) (sym (after_plain f asked refusal)) (subst (λ (y : Result Answer Refusal). IsTreasuryOf g new (after f asked y)) told.0 r.of) in (
-          f,
-          (
-            of,
-            by_line f asked asks (subst (λ (y : Result Answer Refusal). MayReply (record { now = f; failed = old.store.failed }) asked y) told.0 r.replies) of
-                (r.left ∙ ap (λ (y : Result Answer Refusal). old.store.failed || is_failure y) told.0) (data_line g new f refusal text of said),
+    same_refusal : (other : Refusal) → made ≡ Err other → refusal ≡ other
+    same_refusal other e = refusal_is made refusal other refused e
+
+    by_line : HasCleanDisk (state g new.store.conn) → (f : Federation) → IsTreasuryOf g old f → (asked : Result Asked Refusal) → AsksOf old.store.failed f.styles request asked
+        → MayReply (record { now = f; failed = old.store.failed }) asked (Err refusal) → IsTreasuryOf g new f → new.store.failed ≡ (old.store.failed || is_failure (Err refusal))
+        → (text ≡ answer_text f.styles (Err refusal)) ⊎ ((text ≡ answer_text f.styles (Err (Plain OutOfMemory))) × (is_failure (Err refusal) ≡ false)) → Told f
+    by_line clean f was asked asks replies of left (inl told) = (
+      f,
+      (
+        of,
+        (
+          record {
+            asked = asked;
+            reply = Err refusal;
+            asks = inl (request, (is, asks));
+            replies = (replies, λ _. spelled_some line request is);
+            text = told;
+            left = ap (λ (x : Federation). standing new x) (after_plain f asked refusal) ∙ leads old new f asked (Err refusal) left;
+          },
+          λ is_open unfailed. (
+            beside.left clean is_open f was asked asks,
+            replied_open g old.store.conn new.store.conn made (Err refusal) (λ e. ap (λ (x : Refusal). Err x) (same_refusal (Plain Failed) e)) (λ e. ap (λ (x : Refusal). Err x) (same_refusal (Plain OutOfMemory) e))
+                (beside.open_but clean is_open f was),
           ),
-        )
+        ),
+      ),
+    )
+    by_line clean f was asked asks replies of left (inr (told, harmless)) = (
+      f,
+      (
+        of,
+        (
+          record {
+            asked = asked;
+            reply = Err (Plain OutOfMemory);
+            asks = inl (request, (is, asks));
+            replies = (inr (inl refl), λ _. spelled_some line request is);
+            text = told;
+            left = ap (λ (x : Federation). standing new x) (after_plain f asked (Plain OutOfMemory))
+                ∙ leads old new f asked (Err (Plain OutOfMemory)) (left ∙ ap (λ (b : Bool). old.store.failed || b) harmless);
+          },
+          λ is_open unfailed. (
+            beside.left clean is_open f was asked asks,
+            replied_open g old.store.conn new.store.conn made (Err (Plain OutOfMemory)) (λ e. absurd (let clash : true ≡ false = sym (ap (λ (x : Refusal). is_failure (Err x)) (same_refusal (Plain Failed) e)) ∙ harmless in cc))
+                (λ e. refl) (beside.open_but clean is_open f was),
+          ),
+        ),
+      ),
+    )
 
--- ---- a run on a treasury is a run of the state that it is of
-
--- a treasury stands where a run stands
-abbrev pub IsAt : {S : Type 0} → Ghosts S → Treasury S → Standing → Type 0
-IsAt g t s = IsTreasuryOf g t s.now × (s.failed ≡ t.store.failed)
-
-stands : {S : Type 0} (g : Ghosts S) (t : Treasury S) (s : Standing) → IsAt g t s → s ≡ standing t s.now
-stands g t s at = ap (λ (b : Bool). record { now = s.now; failed = b }) at.1
-
-serves_told : {S : Type 0} (g : Ghosts S) (s t : Treasury S) (line text : List ℕ) → Serves g s line text t → HasCleanDisk (state g t.store.conn) → (a : Standing) → IsAt g s a
-    → (b : Standing) × (IsAt g t b × Answers a line text b)
-serves_told g s t line text step clean a at =
-    let next = step.answers clean a.now at.0 in
-    (standing t next.0, ((next.1.0, refl), subst (λ (x : Standing). Answers x line text (standing t next.0)) (sym (stands g s a at)) next.1.1))
-
-pub run_on : {S T R W : Type 0} (g : Ghosts S) (result : Result T Cause) (most : ℕ) (remaining : R → Option (List ℕ)) (r0 r1 : R) (contents : W → Option (List ℕ)) (w0 w1 : W) (old new : Treasury S)
-    → Ends result (Serves g) most remaining r0 r1 contents w0 w1 old new → HasCleanDisk (state g new.store.conn) → (f : Federation) → IsTreasuryOf g old f
-    → (end : Federation) × (IsTreasuryOf g new end × Ends result Answers most remaining r0 r1 contents w0 w1 (standing old f) (standing new end))
-run_on {S = S} g result most remaining r0 r1 contents w0 w1 old new ends clean f of =
-    let IsClean : Treasury S → Type 0 = λ t. HasCleanDisk (state g t.store.conn) in
-    let Is : Treasury S → Standing → Type 0 = λ t s. IsAt g t s in
-    let told = ends_lifted (Serves g) Answers IsClean Is (λ s t line text step. step.clean) (serves_told g) result most remaining r0 r1 contents w0 w1 old new ends clean (standing old f) (of, refl) in
-    (told.0.now, (told.1.0.0, subst (λ (x : Standing). Ends result Answers most remaining r0 r1 contents w0 w1 (standing old f) x) (stands g new told.0 told.1.0) told.1.1))
+    by_reply : HasCleanDisk (state g new.store.conn) → (f : Federation) → IsTreasuryOf g old f → IsAnswered g old.store.failed new f request made [] written → Told f
+    by_reply clean f was (asked, (asks, r)) =
+        let told = subst (λ (m : Result (Unit {0}) Refusal). MatchResult m (λ _. (answer : Answer) × ((r.reply ≡ Ok answer) × (written ≡ [] ++ body_of f asked answer))) (λ e. (r.reply ≡ Err e) × (written ≡ []))) refused r.text in
+        let of : IsTreasuryOf g new f = subst (IsTreasuryOf g new) (sym (after_plain f asked refusal)) (subst (λ (y : Result Answer Refusal). IsTreasuryOf g new (after f asked y)) told.0 r.of) in
+        by_line clean f was asked asks (subst (λ (y : Result Answer Refusal). MayReply (record { now = f; failed = old.store.failed }) asked y) told.0 r.replies) of
+        (r.left ∙ ap (λ (y : Result Answer Refusal). old.store.failed || is_failure y) told.0) (data_line g new f refusal text of said)

@@ -1,11 +1,14 @@
 -- What a run did and what it left, from whichever state it began on (own rules; docs/RULES.md, "Books", "Runs").
 use Rattle.std.specs.Prelude.{◌≡◌, ℕ, List, Option, Result, MatchResult}
+use Rattle.sqlite.specs.Store.{Ghosts}
 use Rattle.money_core.specs.declared.cause.Cause.{Cause}
 use Rattle.treasury_core.specs.History.{IsRun as IsCommandRun, state_after}
 use Rattle.treasury_core.specs.Headline.{KeepsBooks}
+use Rattle.treasury_store.specs.Treasury.{Treasury}
 use Rattle.treasury_api.specs.RunEnd.{most_input, Finished, EndsBy}
 use Rattle.treasury_api.specs.Step.{Standing, Answers}
 use Rattle.treasury_api.specs.History.{Turn, AreTurns, end_of, IsRun, commands_of, RefusalsLeave, RefusedLinesLeave}
+use Rattle.treasury_api.specs.Left.{LeavesRun}
 
 -- All of the input is answered, at most 64 MiB of it: by turns, one for each request. Their commands are a run of the machine of
 -- commands, which leads to the state at the end, and of which the headline holds. Each reply that is a refusal or `repeated`, and
@@ -33,9 +36,9 @@ pub record IsCutOffBy {R W : Type 0} (cause : Cause) (remaining : R → Option (
   pub headline : KeepsBooks start.now (commands_of turns)
   pub refusals : RefusalsLeave start turns
 
--- a run, by its result
-abbrev pub Runs : {T R W : Type 0} → Result T Cause → (R → Option (List ℕ)) → R → R
+-- A run on a treasury of a state, by its result: all is answered, or it is cut off; and it leaves of the tables what its turns say.
+abbrev pub Runs : {T S R W : Type 0} → Ghosts S → Treasury S → Treasury S → Result T Cause → (R → Option (List ℕ)) → R → R
     → (W → Option (List ℕ)) → W → W → Standing → Standing → Type 0
-Runs result remaining r0 r1 contents w0 w1 start end = MatchResult result
-    (λ _. AnswersAll remaining r0 r1 contents w0 w1 start end)
-    (λ cause. IsCutOffBy cause remaining r0 r1 contents w0 w1 start end)
+Runs g old new result remaining r0 r1 contents w0 w1 start end = MatchResult result
+    (λ _. (run : AnswersAll remaining r0 r1 contents w0 w1 start end) × LeavesRun g old new start run.turns end)
+    (λ cause. (run : IsCutOffBy cause remaining r0 r1 contents w0 w1 start end) × LeavesRun g old new start run.turns end)

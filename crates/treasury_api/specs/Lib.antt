@@ -7,9 +7,14 @@ pub mod Asked
 pub mod Report
 pub mod Answer
 pub mod Step
-pub mod Replied
 pub mod History
+pub mod Left
+pub mod Replied
+pub mod OneRequest
 pub mod Kept
+pub mod WebReply
+pub mod Web
 -- What mirrors code, for private clauses: nobody has to believe it
 pub mod Serving
 pub mod Served
+pub mod WebServing

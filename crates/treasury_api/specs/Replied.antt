@@ -1,5 +1,5 @@
 -- What a treasury answers to what is asked of it (own rules; docs/RULES.md, "Runs").
-use Rattle.std.specs.Prelude.{◌≡◌, ◌⊎◌, ⊤, ℕ, Bool, ◌||◌, List, [], ◌++◌, Some, Result, Ok, Err, MatchResult}
+use Rattle.std.specs.Prelude.{◌≡◌, ◌⊎◌, ⊤, ℕ, Bool, ◌||◌, List, [], ◌++◌, Some, Result, Ok, Err, IsTrue, MatchResult}
 use Rattle.sqlite.specs.Store.{Ghosts}
 use Rattle.sqlite.specs.State.{HasCleanDisk}
 use Rattle.sqlite.specs.Held.{state}
@@ -9,12 +9,14 @@ use Rattle.book_core.specs.declared.refusal.Refusal.{Refusal}
 use Rattle.book_core.specs.declared.refusal.Refusal.TheVariants.{Plain}
 use Rattle.treasury_core.specs.declared.command.Answer.{Answer}
 use Rattle.treasury_core.specs.Federation.{Federation}
+use Rattle.treasury_store.specs.Kept.{ShutsByFault}
 use Rattle.treasury_store.specs.Treasury.{Treasury, IsTreasuryOf}
 use Rattle.treasury_api.specs.declared.asking.Asked.{Asked}
 use Rattle.treasury_api.specs.declared.asking.Asked.TheVariants.{Command, Report}
 use Rattle.treasury_api.specs.Report.{report_text}
 use Rattle.treasury_api.specs.Answer.{answer_text, IsPrintableRefusal}
 use Rattle.treasury_api.specs.Step.{Standing, MayReply, Answers, after, is_failure}
+use Rattle.treasury_api.specs.Left.{LeavesReply}
 
 -- where a run on a treasury stands
 abbrev pub standing : {S : Type 0} → Treasury S → Federation → Standing
@@ -54,8 +56,11 @@ IsLineOf t (Plain cause) text = text ≡ answer_text [] (Err (Plain cause))
 IsLineOf t refusal text = (s : Federation) × ((t.held ≡ Some s) × IsLineIn s.styles refusal text)
 
 -- What a line makes of a treasury: of whichever state it is, it is answered as a run's line is, and the treasury is of the state where the run
--- then stands.
+-- then stands; the database stays open, and leaves what it may, as the reply to the line says. Only a fault of the disk shuts it, and behind a
+-- call that failed a line changes nothing.
 pub record Serves {S : Type 0} (g : Ghosts S) (old : Treasury S) (line text : List ℕ) (new : Treasury S) : Type 0 where
-  pub clean : HasCleanDisk (state g new.store.conn) → HasCleanDisk (state g old.store.conn)
   pub answers : HasCleanDisk (state g new.store.conn) → (f : Federation) → IsTreasuryOf g old f
-      → (end : Federation) × (IsTreasuryOf g new end × Answers (standing old f) line text (standing new end))
+      → (end : Federation) × (IsTreasuryOf g new end
+      × ((a : Answers (standing old f) line text (standing new end)) × LeavesReply g old new f a.asked a.reply))
+  pub shuts : ShutsByFault g old.store.conn new.store.conn
+  pub closed : IsTrue old.store.failed → new ≡ old

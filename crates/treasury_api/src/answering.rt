@@ -1,14 +1,18 @@
 //! Answers to requests, on a treasury.
 
-ghost use Rattle.std.specs.Prelude.{◌≡◌, false, Ok, IfErr, OnErr, Result};
+ghost use Rattle.std.specs.Prelude.{◌≡◌, false, None, Ok, Err, IfErr, OnOk, OnErr, IsTrue, Result};
 ghost use Rattle.sqlite.specs.State.{HasCleanDisk};
 ghost use Rattle.sqlite.specs.Held.{state};
 ghost use Rattle.book_core.specs.declared.refusal.Refusal.{Refusal as Refused};
 ghost use Rattle.treasury_core.specs.Federation.{Federation};
-ghost use Rattle.treasury_store.specs.Treasury.{IsTreasuryOf};
+ghost use Rattle.treasury_store.specs.Kept.{ShutsByFault, StaysAsIs};
+ghost use Rattle.treasury_store.specs.Shown.{ShowsNoState};
+ghost use Rattle.treasury_store.specs.Left.{LeavesStep};
+ghost use Rattle.treasury_store.specs.Treasury.{IsTreasuryOf, IsListed};
 ghost use Rattle.treasury_api.specs.declared.asking.Asked.{Asked as Meant};
 ghost use Rattle.treasury_api.specs.Asked.{AsksOf};
 ghost use Rattle.treasury_api.specs.Request.{HasDayNumbers};
+ghost use Rattle.treasury_api.specs.Left.{FailsWith, IsUnread, IsOpenBut, LeavesRequest};
 ghost use Rattle.treasury_api.specs.Replied.{IsReplied, IsPrintableIn};
 ghost use Rattle.treasury_api.specs.Serving.{IsHeldFor};
 
@@ -22,7 +26,7 @@ use money_core::{Cause, Styles};
 use sqlite::Alter;
 use std::alloc::Global;
 use treasury_core::Command;
-use treasury_store::Treasury;
+use treasury_store::{Treasury, left_law};
 
 /// Performs a command, and appends the line of its answer, for which the room is made before.
 fn answer_command<S: Alter>(
@@ -38,7 +42,13 @@ fn answer_command<S: Alter>(
     ensures err { OnErr result (out.new.items ≡ out.old.items) }
     ensures printable { IfErr result (IsPrintableIn treasury.new) }
     ensures clean { HasCleanDisk (state S.Store treasury.new.store.conn) → HasCleanDisk (state S.Store treasury.old.store.conn) }
+    ensures listed { IfErr result IsListed }
+    ensures fails { FailsWith result treasury.new.store.failed }
+    ensures still_open { HasCleanDisk (state S.Store treasury.new.store.conn) → IsTrue (state S.Store treasury.old.store.conn).is_open → IsOpenBut S.Store treasury.old.store.conn treasury.new.store.conn result }
+    ensures shuts { ShutsByFault S.Store treasury.old.store.conn treasury.new.store.conn }
+    ensures left { LeavesStep S.Store treasury.old treasury.new command }
 {
+    left_law::<S>();
     match out.reserve(MOST_PLAIN) {
         Ok(()) => {}
         Err(_) => return Err(Refusal::Plain(Cause::OutOfMemory)),
@@ -56,8 +66,9 @@ fn answer_command<S: Alter>(
 /// Does what a request asks of the treasury, and appends its answer: the line of a command that is accepted or repeated, or
 /// the lines of a report, without the `ok` behind them.
 ///
-/// It refuses as the texts of the request, the command or the report are refused, and 40 to 42 as the treasury; the vector is
-/// then as it was. The room for the line of a command is made before it is performed.
+/// It refuses as the texts of the request, the command or the report are refused, and 40 to 43 as the treasury; the vector is
+/// then as it was. The room for the line of a command is made before it is performed. A call of the database fails just where it
+/// answers 41, and then every later call answers 42 and changes nothing.
 pub fn answer<S: Alter>(
     alloc: Global,
     request: &Request,
@@ -71,6 +82,21 @@ pub fn answer<S: Alter>(
     ensures err { OnErr result (out.new.items ≡ out.old.items) }
     ensures printable { IfErr result (IsPrintableIn treasury.new) }
     ensures clean { HasCleanDisk (state S.Store treasury.new.store.conn) → HasCleanDisk (state S.Store treasury.old.store.conn) }
+    // Whatever the disk returned, and whatever the tables are.
+    ensures listed { treasury.old.store.failed ≡ false → IfErr result IsListed }
+    ensures fails { treasury.old.store.failed ≡ false → FailsWith result treasury.new.store.failed }
+    ensures closed { IsTrue treasury.old.store.failed → (result ≡ Err (Refusal.Plain Cause.Closed)) × (treasury.new ≡ treasury.old) }
+    // On tables that are no good state's: 43, or 40 or 41, and nothing is written.
+    ensures strange { HasCleanDisk (state S.Store treasury.new.store.conn) → treasury.old.store.failed ≡ false → treasury.old.held ≡ None → ShowsNoState (state S.Store treasury.old.store.conn).now
+        → IsUnread result × (IsTrue (state S.Store treasury.new.store.conn).is_open → StaysAsIs (state S.Store treasury.old.store.conn) (state S.Store treasury.new.store.conn)) }
+    // A database that was open is open where the request is done; on a treasury of a state also where it is refused, but by 41, or by
+    // 40 where the disk has failed once more. Only a fault of the disk shuts it.
+    ensures still_open { HasCleanDisk (state S.Store treasury.new.store.conn) → IsTrue (state S.Store treasury.old.store.conn).is_open → OnOk result (IsTrue (state S.Store treasury.new.store.conn).is_open) }
+    ensures open_but { HasCleanDisk (state S.Store treasury.new.store.conn) → IsTrue (state S.Store treasury.old.store.conn).is_open → (f : Federation) → IsTreasuryOf S.Store treasury.old f
+        → IsOpenBut S.Store treasury.old.store.conn treasury.new.store.conn result }
+    ensures shuts { ShutsByFault S.Store treasury.old.store.conn treasury.new.store.conn }
+    // Whatever is left, also behind 41: the rows of the state before the request, or of the one after it.
+    ensures left { LeavesRequest S.Store treasury.old treasury.new request.now }
 {
     reading_law();
     match treasury.hold() {

@@ -20,7 +20,7 @@ use treasury_core::Answer;
 pub const MOST_PLAIN: usize = 64;
 
 /// Appends the pieces. Where memory is refused, the line is as it was; where there is room, it is not.
-fn push_pieces(pieces: &[&[u8]], line: &mut Vec<u8>) -> Result<(), AllocError>
+pub fn push_pieces(pieces: &[&[u8]], line: &mut Vec<u8>) -> Result<(), AllocError>
     ensures ok { OnOk result (line.new.items ≡ line.old.items ++ flat_map (λ piece. piece.now) pieces.now) }
     ensures err { OnErr result (line.new.items ≡ line.old.items) }
     ensures room { length line.old.items + length (flat_map (λ piece. piece.now) pieces.now) ≤ vec_capacity line.old → IsOk result }

@@ -12,6 +12,10 @@ ghost use Rattle.treasury_api.specs.History.{Turn, AreTurns, end_of, IsRun, comm
 ghost use Rattle.treasury_api.specs.History.{RefusalsLeave, IsRefusalOrRepeat, RefusedLinesLeave};
 
 use crate::asking::Asked;
+use treasury_core::{
+    closed_law, closing_law, entered_law, joined_law, other_journal_law, own_journal_law,
+    printed_journal_law, rows_law, transit_law, unchanged_law,
+};
 
 /// A law of transcripts: each has turns, one for each request, whose texts are its output; and such turns have it as
 /// their transcript. Costs nothing.
@@ -23,11 +27,22 @@ pub fn run_law()
 {}
 
 /// A law of turns: their commands fit, and are a run of the machine of commands that leads where the turns do. So all
-/// laws of its runs hold of them. Costs nothing.
+/// laws of its runs hold of them; those that the program calls nowhere else are called here. Costs nothing.
 pub fn commands_law()
     ensures run { (start : Standing) (turns : List Turn) → AreTurns start turns → IsCommandRun start.now (commands_of turns) }
     ensures end { (start : Standing) (turns : List Turn) → (end_of start turns).now ≡ state_after start.now (commands_of turns) }
-{}
+{
+    joined_law();
+    unchanged_law();
+    entered_law();
+    own_journal_law();
+    printed_journal_law();
+    other_journal_law();
+    transit_law();
+    closing_law();
+    closed_law();
+    rows_law();
+}
 
 /// Laws of what is refused or repeated: along turns each such reply leaves the state, and so does every line whose
 /// answer is a refusal or `repeated`. Along a run so does each answer that stands in its output as such a line. A report

@@ -1,4 +1,4 @@
-//! Requests to a treasury and their answers: one at a time, and by lines.
+//! Requests to a treasury and their answers: one at a time, by lines, and over HTTP.
 #![tactic(auto)]
 
 mod answering;
@@ -10,6 +10,7 @@ mod lines;
 mod report;
 mod request;
 mod running;
+mod web;
 
 pub use answering::answer;
 pub use answers::{MOST_PLAIN, answer_line};
@@ -20,3 +21,4 @@ pub use lines::write_whole;
 pub use report::Report;
 pub use request::{Form, Request, read_command, request_of};
 pub use running::{refuse, run_lines};
+pub use web::{calls_law, serve_one};

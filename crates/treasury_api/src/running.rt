@@ -4,12 +4,15 @@ ghost use Rattle.std.specs.Prelude.{◌≡◌, ◌≤◌, ◌⊎◌, ◌++◌, [
 ghost use Rattle.sqlite.specs.State.{HasCleanDisk};
 ghost use Rattle.sqlite.specs.Held.{state};
 ghost use Rattle.treasury_core.specs.Federation.{Federation};
+ghost use Rattle.treasury_store.specs.Kept.{ShutsByFault};
 ghost use Rattle.treasury_store.specs.Treasury.{IsTreasuryOf};
 ghost use Rattle.treasury_api.specs.Request.{HasDayNumbers, is_report, spelled};
 ghost use Rattle.treasury_api.specs.Answer.{IsPrintableRefusal};
 ghost use Rattle.treasury_api.specs.Kept.{Runs};
-ghost use Rattle.treasury_api.specs.Replied.{IsPrintableIn, IsLineIn, IsLineOf, Serves, standing};
+ghost use Rattle.treasury_api.specs.Replied.{IsPrintableIn, IsLineOf, Serves, standing};
 ghost use Rattle.treasury_api.specs.Serving.{end_of_report};
+ghost use Rattle.treasury_api.specs.WebReply.{cause_of};
+ghost use Rattle.treasury_api.specs.WebServing.{IsLineBy, IsToldBy};
 
 use crate::answering::answer;
 use crate::answers::{MOST_PLAIN, answer_line};
@@ -22,7 +25,7 @@ use sqlite::Alter;
 use std::alloc::{AllocError, Global};
 use std::io::{Read, Write};
 use treasury_core::Answer;
-use treasury_store::Treasury;
+use treasury_store::{Treasury, left_law};
 
 /// Appends the line `ok` that ends a report. Other answers have their line.
 fn end_report(alloc: Global, request: &Request, text: &mut Vec<u8>) -> Result<(), Cause>
@@ -36,28 +39,68 @@ fn end_report(alloc: Global, request: &Request, text: &mut Vec<u8>) -> Result<()
     }
 }
 
+/// The line of a refusal, and its cause.
+#[derive(Debug, Drop)]
+pub struct Line {
+    pub text: Vec<u8>,
+    pub cause: Cause,
+}
+
+/// Why it is refused.
+fn cause_of(refusal: &Refusal) -> Cause
+    ensures { result ≡ cause_of refusal.now }
+{
+    match refusal {
+        Refusal::Plain(cause) => *cause,
+        Refusal::Text(fault) => fault.cause,
+        Refusal::ClaimFailed(_) => Cause::ClaimFailed,
+    }
+}
+
 /// The line of a refusal, on an empty vector that has room for a plain one. Where memory is refused for another, it is the
 /// line of 40.
-fn refuse_in(alloc: Global, styles: &Styles, refusal: Refusal, room: Vec<u8>) -> Vec<u8>
+fn refuse_in(alloc: Global, styles: &Styles, refusal: Refusal, room: Vec<u8>) -> Line
     requires printable { IsPrintableRefusal styles.now refusal }
     requires empty { room.items ≡ [] }
     requires room { MOST_PLAIN ≤ vec_capacity room }
-    ensures { IsLineIn styles.now refusal result.items }
+    ensures { IsLineBy styles.now refusal result.cause result.text.items }
 {
-    let mut line = room;
-    match answer_line(alloc, &Err(refusal), styles, &mut line) {
-        Ok(()) => line,
+    let cause = cause_of(&refusal);
+    let mut text = room;
+    match answer_line(alloc, &Err(refusal), styles, &mut text) {
+        Ok(()) => Line { text, cause },
         Err(_) => {
             let no_memory = Err(Refusal::Plain(Cause::OutOfMemory));
-            match answer_line(alloc, &no_memory, styles, &mut line) {
-                Ok(()) => line,
+            match answer_line(alloc, &no_memory, styles, &mut text) {
+                Ok(()) => Line {
+                    text,
+                    cause: Cause::OutOfMemory,
+                },
                 Err(_) => unreachable!(),
             }
         }
     }
 }
 
-/// The line of a refusal by the treasury, as `refuse_in` makes it.
+/// The line of a refusal by the treasury, and its cause, as `refuse_in` makes it.
+pub fn refuse_by<S: Alter>(
+    alloc: Global,
+    treasury: &Treasury<S>,
+    refusal: Refusal,
+    room: Vec<u8>,
+) -> Line
+    requires printable { IsPrintableIn treasury.now refusal }
+    requires empty { room.items ≡ [] }
+    requires room { MOST_PLAIN ≤ vec_capacity room }
+    ensures { IsToldBy treasury.now refusal result.cause result.text.items }
+{
+    match treasury.state() {
+        Some(state) => refuse_in(alloc, state.styles(), refusal, room),
+        None => refuse_in(alloc, &Styles::empty(alloc), refusal, room),
+    }
+}
+
+/// The line of a refusal by the treasury, in room for a plain one. Where memory is refused for another, it is the line of 40.
 pub fn refuse<S: Alter>(
     alloc: Global,
     treasury: &Treasury<S>,
@@ -69,10 +112,7 @@ pub fn refuse<S: Alter>(
     requires room { MOST_PLAIN ≤ vec_capacity room }
     ensures { IsLineOf treasury.now refusal result.items }
 {
-    match treasury.state() {
-        Some(state) => refuse_in(alloc, state.styles(), refusal, room),
-        None => refuse_in(alloc, &Styles::empty(alloc), refusal, room),
-    }
+    refuse_by(alloc, treasury, refusal, room).text
 }
 
 /// What has to be left of memory before a command, in bytes: more than its rows take in a database in memory, and more than
@@ -107,6 +147,7 @@ impl<S: Alter> Machine for Treasury<S> {
 
     fn answer(&mut self, alloc: Global, line: &[u8]) -> Result<Vec<u8>, AllocError> {
         reading_law();
+        left_law::<S>();
         let room = match Vec::with_capacity(alloc, MOST_PLAIN) {
             Ok(room) => room,
             Err(error) => return Err(error),
@@ -132,6 +173,9 @@ impl<S: Alter> Machine for Treasury<S> {
 /// or where the input goes on past 64 MiB: the complete lines before that are answered. 46 comes where a write fails or
 /// takes nothing: the last answer may be cut off, and its command stands. 40 comes where there is no memory for an answer:
 /// its request has changed nothing.
+///
+/// What a stop, a crash or a 41 leaves are the rows of the state where the run is, or of the one where the command leads that it
+/// was at.
 pub fn run_lines<R: Read, W: Write, S: Alter>(
     alloc: Global,
     reader: &mut R,
@@ -139,10 +183,15 @@ pub fn run_lines<R: Read, W: Write, S: Alter>(
     treasury: &mut Treasury<S>,
 ) -> Result<(), Cause>
     // Of whichever state the treasury is, while the disk returned what was written: a run, and the headline holds of it.
-    ensures { HasCleanDisk (state S.Store treasury.new.store.conn) → (f : Federation) → IsTreasuryOf S.Store treasury.old f
+    ensures runs { HasCleanDisk (state S.Store treasury.new.store.conn) → (f : Federation) → IsTreasuryOf S.Store treasury.old f
         → (end : Federation) × (IsTreasuryOf S.Store treasury.new end
-        × Runs result R.remaining reader.old reader.new W.contents writer.old writer.new
+        × Runs S.Store treasury.old treasury.new result R.remaining reader.old reader.new W.contents writer.old writer.new
         (standing treasury.old f) (standing treasury.new end)) }
+    // Whatever the disk returned, and whatever the tables are.
+    ensures causes { IfErr result (λ cause. (cause ≡ Cause.OutOfMemory) ⊎ ((cause ≡ Cause.ReadFault) ⊎ (cause ≡ Cause.WriteFault))) }
+    ensures closed { IsTrue treasury.old.store.failed → treasury.new ≡ treasury.old }
+    ensures shuts { ShutsByFault S.Store treasury.old.store.conn treasury.new.store.conn }
 {
+    left_law::<S>();
     run_machine(alloc, reader, writer, treasury)
 }

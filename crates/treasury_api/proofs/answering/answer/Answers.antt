@@ -1,16 +1,19 @@
-use Rattle.std.proofs.Common.{◌≡◌, ◌∙◌, ◌++◌, List, Ok, Err, true, false, refl, ap, subst}
+use Rattle.std.proofs.Common.{◌≡◌, ◌∙◌, ◌++◌, List, Ok, Err, true, false, inl, refl, ap, subst}
 use Rattle.std.specs.Prelude.{◌↔◌}
 use Rattle.money_core.specs.declared.cause.Cause.TheVariants.{UnknownBranch}
 use Rattle.money_core.specs.declared.style.Style.{Style}
 use Rattle.treasury_core.specs.Federation.{Federation}
-use Rattle.treasury_store.specs.Treasury.{Treasury}
+use Rattle.treasury_store.specs.Treasury.{Treasury, IsTreasuryOf}
 use Rattle.treasury_store.proofs.TreasuryLemmas.{ok_unfailed}
+use Rattle.treasury_store.proofs.LeftLemmas.{shuts_by, shuts_then}
+use Rattle.treasury_store.proofs.OwnRefusalLemmas.{listed_unheld}
 use Rattle.treasury_api.specs.Asked.{RequestAsks}
 use Rattle.treasury_api.specs.Report.{report_text, has_its_branch}
 use Rattle.treasury_api.specs.Serving.{OrMemory}
 use Rattle.treasury_api.specs.declared.asking.Asked.TheVariants.{Command, Report}
 use Rattle.treasury_api.proofs.ReplyLemmas.{state_is}
 use Rattle.treasury_api.proofs.AnswerLemmas.{unheld, held_unfailed, answered, meant, command_fits, refused_texts, reported, unreported, is_there}
+use Rattle.treasury_api.proofs.LeftLemmas.{left_same, left_command, open_unheld, open_done, open_then, fails_not, fails_unheld, fails_ruled, unread_state, refused_closed, ruled_texts, ruled_report}
 use Rattle.treasury_api.proofs.answering.answer.Goals as goal
 
 pub answer_command-requires-clause-held : goal.answer_command-requires-clause-held
@@ -63,3 +66,138 @@ returns-clause-replies g c clean f of =
     refused_texts c.reading_law.ensures.some g.S.Store c.args.treasury.now.store.failed c.hold.new.self f c.args.request.now c.in-Err-asked_by.refusal _ _ _ was
     (subst (λ (x : List Style). OrMemory (RequestAsks x c.args.request.now) (Err c.in-Err-asked_by.refusal)) (c.styles.ensures ∙ ap (λ (x : Federation). x.styles) same) c.in-Err-asked_by.ensures.asks)
     refl still_of (ok_unfailed c.in-Ok.field-0 _ (c.in-Ok.ensures.answers was)) refl
+
+-- ---- where the state cannot be had
+
+pub returns-in-Err-clause-listed : goal.returns-in-Err-clause-listed
+returns-in-Err-clause-listed g c unfailed = listed_unheld c.in-Err.cause _ (c.in-Err.ensures.answers unfailed)
+
+pub returns-in-Err-clause-fails : goal.returns-in-Err-clause-fails
+returns-in-Err-clause-fails g c unfailed = fails_unheld c.in-Err.cause _ (c.in-Err.ensures.answers unfailed)
+
+pub returns-in-Err-clause-closed : goal.returns-in-Err-clause-closed
+returns-in-Err-clause-closed g c failed = let k = c.in-Err.ensures.closed failed in (refused_closed c.in-Err.cause k.0, k.1)
+
+pub returns-in-Err-clause-strange : goal.returns-in-Err-clause-strange
+returns-in-Err-clause-strange g c clean unfailed unheld none = (unread_state c.in-Err.cause _ (c.in-Err.ensures.answers unfailed), c.hold.ensures.unchanged clean)
+
+pub returns-in-Err-clause-open_but : goal.returns-in-Err-clause-open_but
+returns-in-Err-clause-open_but g c clean is_open f of =
+    open_unheld g.S.Store c.args.treasury.now c.hold.new.self c.in-Err.cause c.hold.result _ c.in-Err.is refl c.hold.ensures.answers c.hold.ensures.closed (λ e. c.hold.ensures.damaged e clean f of)
+    (shuts_by g.S.Store c.args.treasury.now.store.conn c.hold.new.self.store.conn _ c.hold.ensures.crash) clean is_open
+
+pub returns-in-Err-clause-shuts : goal.returns-in-Err-clause-shuts
+returns-in-Err-clause-shuts g c = shuts_by g.S.Store c.args.treasury.now.store.conn c.hold.new.self.store.conn _ c.hold.ensures.crash
+
+pub returns-in-Err-clause-left : goal.returns-in-Err-clause-left
+returns-in-Err-clause-left g c = left_same g.S.Store c.args.treasury.now c.hold.new.self c.args.request.now c.hold.ensures.left
+
+-- ---- a command
+
+pub returns-in-Ok-Command-clause-listed : goal.returns-in-Ok-Command-clause-listed
+returns-in-Ok-Command-clause-listed g c unfailed = c.answer_command.ensures.listed
+
+pub returns-in-Ok-Command-clause-fails : goal.returns-in-Ok-Command-clause-fails
+returns-in-Ok-Command-clause-fails g c unfailed = c.answer_command.ensures.fails
+
+pub returns-in-Ok-Command-clause-closed : goal.returns-in-Ok-Command-clause-closed
+returns-in-Ok-Command-clause-closed g c failed = absurd (let k = (c.in-Ok.ensures.closed failed).0 in cc)
+
+pub returns-in-Ok-Command-clause-strange : goal.returns-in-Ok-Command-clause-strange
+returns-in-Ok-Command-clause-strange g c clean unfailed unheld none = absurd (c.in-Ok.ensures.shown (c.answer_command.ensures.clean clean) unheld none)
+
+pub returns-in-Ok-Command-clause-still_open : goal.returns-in-Ok-Command-clause-still_open
+returns-in-Ok-Command-clause-still_open g c clean is_open =
+    open_done g.S.Store c.hold.new.self.store.conn c.answer_command.new.treasury.store.conn c.answer_command.result
+    (c.answer_command.ensures.still_open clean (c.in-Ok.ensures.still_open (c.answer_command.ensures.clean clean) is_open))
+
+pub returns-in-Ok-Command-clause-open_but : goal.returns-in-Ok-Command-clause-open_but
+returns-in-Ok-Command-clause-open_but g c clean is_open f of =
+    open_then g.S.Store c.args.treasury.now.store.conn c.hold.new.self.store.conn c.answer_command.new.treasury.store.conn c.answer_command.result c.hold.ensures.crash.counts
+    (c.answer_command.ensures.still_open clean (c.in-Ok.ensures.still_open (c.answer_command.ensures.clean clean) is_open))
+
+pub returns-in-Ok-Command-clause-shuts : goal.returns-in-Ok-Command-clause-shuts
+returns-in-Ok-Command-clause-shuts g c =
+    shuts_then g.S.Store c.args.treasury.now.store.conn c.hold.new.self.store.conn c.answer_command.new.treasury.store.conn
+    (shuts_by g.S.Store c.args.treasury.now.store.conn c.hold.new.self.store.conn _ c.hold.ensures.crash) c.answer_command.ensures.shuts
+
+pub returns-in-Ok-Command-clause-left : goal.returns-in-Ok-Command-clause-left
+returns-in-Ok-Command-clause-left g c =
+    let means : (f : Federation) → IsTreasuryOf g.S.Store c.hold.new.self f → RequestAsks f.styles c.args.request.now (Ok (Command c.in-Ok-Command.command)) = λ f of.
+    let same : c.in-Some.state.now ≡ f = state_is g.S.Store c.hold.new.self c.in-Some.state.now f of c.in-Some.ensures in
+    meant _ _ _ _ _ (c.styles.ensures ∙ ap (λ (x : Federation). x.styles) same) c.in-Ok-Command.field-0-is c.in-Ok-Command.ensures.asks in
+    left_command g.S.Store c.args.treasury.now c.hold.new.self c.answer_command.new.treasury c.args.request.now c.in-Ok-Command.command
+    c.answer_command.ensures.clean c.in-Ok.ensures.still_open c.hold.ensures.of (held_unfailed _ c.in-Ok.field-0 c.hold.result c.in-Ok.is c.hold.ensures.closed)
+    (c.in-Some.state.now, (c.in-Some.ensures, (command_fits _ _ _ _ c.styles.ensures c.in-Ok-Command.field-0-is c.in-Ok-Command.ensures.ready, c.is_good.ensures)))
+    means c.answer_command.ensures.left
+
+-- ---- a report that is made
+
+pub returns-in-Ok-push_report-clause-fails : goal.returns-in-Ok-push_report-clause-fails
+returns-in-Ok-push_report-clause-fails g c unfailed = fails_not _ _ (ok_unfailed c.in-Ok.field-0 _ (c.in-Ok.ensures.answers unfailed)) (λ is. absurd cc)
+
+pub returns-in-Ok-push_report-clause-closed : goal.returns-in-Ok-push_report-clause-closed
+returns-in-Ok-push_report-clause-closed g c failed = absurd (let k = (c.in-Ok.ensures.closed failed).0 in cc)
+
+pub returns-in-Ok-push_report-clause-strange : goal.returns-in-Ok-push_report-clause-strange
+returns-in-Ok-push_report-clause-strange g c clean unfailed unheld none = absurd (c.in-Ok.ensures.shown clean unheld none)
+
+pub returns-in-Ok-push_report-clause-still_open : goal.returns-in-Ok-push_report-clause-still_open
+returns-in-Ok-push_report-clause-still_open g c = c.in-Ok.ensures.still_open
+
+pub returns-in-Ok-push_report-clause-open_but : goal.returns-in-Ok-push_report-clause-open_but
+returns-in-Ok-push_report-clause-open_but g c clean is_open f of = inl (c.in-Ok.ensures.still_open clean is_open)
+
+pub returns-in-Ok-push_report-clause-shuts : goal.returns-in-Ok-push_report-clause-shuts
+returns-in-Ok-push_report-clause-shuts g c = shuts_by g.S.Store c.args.treasury.now.store.conn c.hold.new.self.store.conn _ c.hold.ensures.crash
+
+pub returns-in-Ok-push_report-clause-left : goal.returns-in-Ok-push_report-clause-left
+returns-in-Ok-push_report-clause-left g c = left_same g.S.Store c.args.treasury.now c.hold.new.self c.args.request.now c.hold.ensures.left
+
+-- ---- a report that is refused
+
+pub returns-in-Ok-Report-clause-listed : goal.returns-in-Ok-Report-clause-listed
+returns-in-Ok-Report-clause-listed g c unfailed = inl (ruled_report c.in-Err-push_report.cause c.in-Err-push_report.ensures.causes)
+
+pub returns-in-Ok-Report-clause-fails : goal.returns-in-Ok-Report-clause-fails
+returns-in-Ok-Report-clause-fails g c unfailed =
+    fails_ruled _ _ (ruled_report c.in-Err-push_report.cause c.in-Err-push_report.ensures.causes) (ok_unfailed c.in-Ok.field-0 _ (c.in-Ok.ensures.answers unfailed))
+
+pub returns-in-Ok-Report-clause-closed : goal.returns-in-Ok-Report-clause-closed
+returns-in-Ok-Report-clause-closed g c failed = absurd (let k = (c.in-Ok.ensures.closed failed).0 in cc)
+
+pub returns-in-Ok-Report-clause-strange : goal.returns-in-Ok-Report-clause-strange
+returns-in-Ok-Report-clause-strange g c clean unfailed unheld none = absurd (c.in-Ok.ensures.shown clean unheld none)
+
+pub returns-in-Ok-Report-clause-open_but : goal.returns-in-Ok-Report-clause-open_but
+returns-in-Ok-Report-clause-open_but g c clean is_open f of = inl (c.in-Ok.ensures.still_open clean is_open)
+
+pub returns-in-Ok-Report-clause-shuts : goal.returns-in-Ok-Report-clause-shuts
+returns-in-Ok-Report-clause-shuts g c = shuts_by g.S.Store c.args.treasury.now.store.conn c.hold.new.self.store.conn _ c.hold.ensures.crash
+
+pub returns-in-Ok-Report-clause-left : goal.returns-in-Ok-Report-clause-left
+returns-in-Ok-Report-clause-left g c = left_same g.S.Store c.args.treasury.now c.hold.new.self c.args.request.now c.hold.ensures.left
+
+-- ---- a text that is refused
+
+pub returns-clause-listed : goal.returns-clause-listed
+returns-clause-listed g c unfailed = inl (ruled_texts _ c.args.request.now c.in-Err-asked_by.refusal c.in-Err-asked_by.ensures.asks)
+
+pub returns-clause-fails : goal.returns-clause-fails
+returns-clause-fails g c unfailed =
+    fails_ruled _ _ (ruled_texts _ c.args.request.now c.in-Err-asked_by.refusal c.in-Err-asked_by.ensures.asks) (ok_unfailed c.in-Ok.field-0 _ (c.in-Ok.ensures.answers unfailed))
+
+pub returns-clause-closed : goal.returns-clause-closed
+returns-clause-closed g c failed = absurd (let k = (c.in-Ok.ensures.closed failed).0 in cc)
+
+pub returns-clause-strange : goal.returns-clause-strange
+returns-clause-strange g c clean unfailed unheld none = absurd (c.in-Ok.ensures.shown clean unheld none)
+
+pub returns-clause-open_but : goal.returns-clause-open_but
+returns-clause-open_but g c clean is_open f of = inl (c.in-Ok.ensures.still_open clean is_open)
+
+pub returns-clause-shuts : goal.returns-clause-shuts
+returns-clause-shuts g c = shuts_by g.S.Store c.args.treasury.now.store.conn c.hold.new.self.store.conn _ c.hold.ensures.crash
+
+pub returns-clause-left : goal.returns-clause-left
+returns-clause-left g c = left_same g.S.Store c.args.treasury.now c.hold.new.self c.args.request.now c.hold.ensures.left

@@ -1,5 +1,8 @@
-use Rattle.std.proofs.Common.{rules, arith}
+use Rattle.std.proofs.Common.{rules, arith, refl, inl}
+use Rattle.treasury_core.specs.Rows.{rows}
+use Rattle.treasury_store.proofs.LeftLemmas.{shuts_same}
 use Rattle.treasury_api.proofs.ReplyLemmas.{performed, refusal_held, fits_of}
+use Rattle.treasury_api.proofs.LeftLemmas.{leaves_first, open_refused, fails_not, fails_refused, fails_done}
 use Rattle.treasury_api.proofs.answering.answer_command.Goals as goal
 
 pub returns-in-Err-perform-clause-replies : goal.returns-in-Err-perform-clause-replies
@@ -25,3 +28,48 @@ returns-clause-replies g c clean f of =
 
 pub returns-clause-clean : goal.returns-clause-clean
 returns-clause-clean g c = c.perform.ensures.clean
+
+-- ---- where there is no room for the answer
+
+pub returns-in-Err-clause-fails : goal.returns-in-Err-clause-fails
+returns-in-Err-clause-fails g c = fails_not _ _ c.requires.unfailed (λ is. absurd cc)
+
+pub returns-in-Err-clause-shuts : goal.returns-in-Err-clause-shuts
+returns-in-Err-clause-shuts g c = shuts_same g.S.Store c.args.treasury.now.store.conn
+
+pub returns-in-Err-clause-left : goal.returns-in-Err-clause-left
+returns-in-Err-clause-left g c is_open f of fits =
+    leaves_first g.S.Store c.args.treasury.now.store.conn (rows f) _ (c.left_law.ensures.rows c.args.treasury.now.store.conn (rows f) of.store.tables is_open)
+
+-- ---- where it is refused
+
+pub returns-in-Err-perform-clause-listed : goal.returns-in-Err-perform-clause-listed
+returns-in-Err-perform-clause-listed g c = c.in-Err-perform.ensures.listed c.requires.unfailed
+
+pub returns-in-Err-perform-clause-fails : goal.returns-in-Err-perform-clause-fails
+returns-in-Err-perform-clause-fails g c = fails_refused c.in-Err-perform.refusal _ (c.in-Err-perform.ensures.fails c.requires.unfailed)
+
+pub returns-in-Err-perform-clause-still_open : goal.returns-in-Err-perform-clause-still_open
+returns-in-Err-perform-clause-still_open g c =
+    open_refused g.S.Store c.args.treasury.now c.perform.new.self c.args.command c.perform.result c.in-Err-perform.refusal _ c.in-Err-perform.is refl c.requires.held
+    (c.perform.ensures.replies c.requires.unfailed) (c.perform.ensures.nothing c.requires.unfailed) c.perform.ensures.shuts
+
+pub returns-in-Err-perform-clause-shuts : goal.returns-in-Err-perform-clause-shuts
+returns-in-Err-perform-clause-shuts g c = c.perform.ensures.shuts
+
+pub returns-in-Err-perform-clause-left : goal.returns-in-Err-perform-clause-left
+returns-in-Err-perform-clause-left g c = c.perform.ensures.left
+
+-- ---- where it is done
+
+pub returns-clause-fails : goal.returns-clause-fails
+returns-clause-fails g c = fails_done c.in-Ok-perform.answer _ _ (c.in-Ok-perform.ensures.fails c.requires.unfailed)
+
+pub returns-clause-still_open : goal.returns-clause-still_open
+returns-clause-still_open g c clean is_open = inl (c.in-Ok-perform.ensures.still_open clean is_open)
+
+pub returns-clause-shuts : goal.returns-clause-shuts
+returns-clause-shuts g c = c.perform.ensures.shuts
+
+pub returns-clause-left : goal.returns-clause-left
+returns-clause-left g c = c.perform.ensures.left

@@ -1,11 +1,16 @@
-use Rattle.treasury_api.proofs.ServeLemmas.{run_on}
-use Rattle.treasury_api.proofs.RunEndLemmas.{kept}
-use Rattle.treasury_api.specs.Replied.{standing}
+use Rattle.treasury_api.specs.RunEnd.{most_input}
+use Rattle.treasury_api.proofs.RunEndLemmas.{kept, run_shuts, run_closed, run_causes}
 use Rattle.treasury_api.proofs.running.run_lines.Goals as goal
 
-pub returns : goal.returns
-returns g c clean f of =
-    let old = c.args.treasury.now in
-    let new = c.run_machine.new.machine in
-    let ended = run_on g.S.Store c.run_machine.result _ g.R.Read.remaining _ _ g.W.Write.contents _ _ old new c.run_machine.ensures clean f of in
-    (ended.0, (ended.1.0, kept c.run_machine.result g.R.Read.remaining _ _ g.W.Write.contents _ _ (standing old f) (standing new ended.0) of.store.good ended.1.1))
+pub returns-clause-runs : goal.returns-clause-runs
+returns-clause-runs g c =
+    kept g.S.Store c.left_law.ensures.rows c.run_machine.result g.R.Read.remaining _ _ g.W.Write.contents _ _ c.args.treasury.now c.run_machine.new.machine c.run_machine.ensures
+
+pub returns-clause-causes : goal.returns-clause-causes
+returns-clause-causes g c = run_causes _ c.run_machine.result most_input g.R.Read.remaining _ _ g.W.Write.contents _ _ c.args.treasury.now c.run_machine.new.machine c.run_machine.ensures
+
+pub returns-clause-closed : goal.returns-clause-closed
+returns-clause-closed g c = run_closed g.S.Store c.run_machine.result most_input g.R.Read.remaining _ _ g.W.Write.contents _ _ c.args.treasury.now c.run_machine.new.machine c.run_machine.ensures
+
+pub returns-clause-shuts : goal.returns-clause-shuts
+returns-clause-shuts g c = run_shuts g.S.Store c.run_machine.result most_input g.R.Read.remaining _ _ g.W.Write.contents _ _ c.args.treasury.now c.run_machine.new.machine c.run_machine.ensures

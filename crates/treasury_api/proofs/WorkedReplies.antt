@@ -1,0 +1,40 @@
+-- Statuses and replies, worked out by hand.
+use Rattle.std.specs.Prelude.{◌≡◌, ◌++◌, ℕ, List, Ok, Err, None, Some, codes, refl}
+use Rattle.std.specs.Fmt.{digits}
+use Rattle.money_core.specs.declared.cause.Cause.TheVariants as cause
+use Rattle.book_core.specs.declared.refusal.Refusal.TheVariants.{Plain, Text}
+use Rattle.treasury_core.specs.declared.command.Answer.TheVariants.{Done, Entered, Repeated}
+use Rattle.http_request.specs.declared.call.Call.TheVariants.{Unreadable, Nowhere, Balance, Journal, Transit}
+use Rattle.treasury_api.specs.declared.request.Request.TheVariants as asking
+use Rattle.treasury_api.specs.Web.{asked_by}
+use Rattle.treasury_api.specs.WebReply.{status_of, whole_reply}
+
+-- the table of statuses, at the ends of its rows
+pub done : (n m : ℕ) → (status_of (Ok Done) ≡ 200) × (status_of (Ok (Entered n m)) ≡ 200) × (status_of (Ok Repeated) ≡ 200)
+done n m = (refl, refl, refl)
+
+pub no_request : status_of (Err (Plain cause.Request)) ≡ 400
+no_request = refl
+
+pub conflicts : (status_of (Err (Plain cause.UnknownBranch)) ≡ 409) × (status_of (Err (Plain cause.BadId)) ≡ 409) × (status_of (Err (Plain cause.TooMuch)) ≡ 409)
+conflicts = (refl, refl, refl)
+
+pub texts : (line : ℕ)
+    → (status_of (Err (Text (record { line = line; cause = cause.Utf8 }))) ≡ 422) × (status_of (Err (Text (record { line = line; cause = cause.Unbalanced }))) ≡ 422)
+texts line = (refl, refl)
+
+pub damaged : status_of (Err (Plain cause.Damaged)) ≡ 500
+damaged = refl
+
+pub unavailable : (status_of (Err (Plain cause.OutOfMemory)) ≡ 503) × (status_of (Err (Plain cause.Store)) ≡ 503) × (status_of (Err (Plain cause.Closed)) ≡ 503)
+unavailable = (refl, refl, refl)
+
+-- a whole reply
+pub not_found : whole_reply 404 (codes "not found\n")
+    ≡ codes "HTTP/1.1 404 Not Found\r\nContent-Type: text/plain; charset=utf-8\r\nContent-Length: 10\r\nConnection: close\r\n\r\nnot found\n"
+unfolding digits
+not_found = refl
+
+-- parts of a path are taken as they stand
+pub parts : (asked_by (Journal (codes "%6eorth")) ≡ Some (asking.Journal (codes "%6eorth"))) × (asked_by Unreadable ≡ None) × (asked_by Nowhere ≡ None)
+parts = (refl, refl, refl)

@@ -1,0 +1,109 @@
+-- HTTP over a treasury: what a call asks, what it is answered, and how a connection ends (own rules; docs/FORMATS.md, "HTTP"). What
+-- the bytes of a connection call for, `http_request` says.
+use Rattle.std.specs.Prelude.{◌≡◌, ◌⊎◌, ℕ, List, [], ◌∷◌, take, Option, Some, None, option_map, Result, Err, MatchResult, codes}
+use Rattle.std.specs.Io.KnownBytes.{Appends}
+use Rattle.sqlite.specs.Store.{Ghosts}
+use Rattle.sqlite.specs.State.{HasCleanDisk}
+use Rattle.sqlite.specs.Held.{state}
+use Rattle.http_request.specs.declared.call.Call.{Call}
+use Rattle.http_request.specs.declared.call.Call.TheVariants.{Unreadable, Nowhere, Command, Balance, Journal, Transit}
+use Rattle.http_request.specs.Call.{Reads, IsStopped}
+use Rattle.money_core.specs.declared.cause.Cause.{Cause}
+use Rattle.money_core.specs.declared.cause.Cause.TheVariants.{OutOfMemory, ReadFault, WriteFault, Request as NoRequest}
+use Rattle.journal_lines.specs.DateReading.{date_of}
+use Rattle.book_core.specs.declared.refusal.Refusal.{Refusal}
+use Rattle.book_core.specs.declared.refusal.Refusal.TheVariants.{Plain}
+use Rattle.treasury_core.specs.declared.command.Answer.{Answer}
+use Rattle.treasury_core.specs.Federation.{Federation}
+use Rattle.treasury_store.specs.Treasury.{Treasury, IsTreasuryOf}
+use Rattle.treasury_api.specs.declared.request.Request.{Request}
+use Rattle.treasury_api.specs.declared.request.Request.TheVariants as asking
+use Rattle.treasury_api.specs.Request.{spelled}
+use Rattle.treasury_api.specs.Answer.{answer_text}
+use Rattle.treasury_api.specs.Step.{Standing}
+use Rattle.treasury_api.specs.Replied.{standing}
+use Rattle.treasury_api.specs.OneRequest.{AnswersRequest}
+use Rattle.treasury_api.specs.WebReply.{status_of, whole_reply}
+
+-- the request that is called for; none where nothing is, as by a date that is none
+abbrev pub asked_by : Call → Option Request
+asked_by Unreadable = None
+asked_by Nowhere = None
+asked_by (Command body) = spelled body
+asked_by (Balance branch date) = option_map (asking.Balance branch) (date_of date)
+asked_by (Journal branch) = Some (asking.Journal branch)
+asked_by (Transit date) = option_map asking.Transit (date_of date)
+
+-- the reply to a call that asks nothing: 404 where it has no route, else 44
+abbrev pub IsNoAnswer : Call → ℕ → List ℕ → Type 0
+IsNoAnswer Nowhere status body = (status ≡ 404) × (body ≡ codes "not found\n")
+IsNoAnswer call status body = (status ≡ 400) × (body ≡ answer_text [] (Err (Plain NoRequest)))
+
+-- A call is answered, and leads on: its request as any is, by a reply that gives the status.
+abbrev pub AnswersCall : Standing → Call → ℕ → List ℕ → Standing → Type 0
+AnswersCall s call status body t =
+    ((asked_by call ≡ None) × IsNoAnswer call status body × (t ≡ s))
+    ⊎ ((request : Request) × (asked_by call ≡ Some request)
+    × ((reply : Result Answer Refusal) × (AnswersRequest s request body reply t × (status ≡ status_of reply))))
+
+-- What a call makes of a treasury: of whichever state it is, while the disk returns what was written, the call is answered, and the
+-- treasury is of the state where that leads.
+pub record AnswersOn {S : Type 0} (g : Ghosts S) (old : Treasury S) (call : Call) (status : ℕ) (body : List ℕ) (new : Treasury S) : Type 0 where
+  pub clean : HasCleanDisk (state g new.store.conn) → HasCleanDisk (state g old.store.conn)
+  pub answers : HasCleanDisk (state g new.store.conn) → (f : Federation) → IsTreasuryOf g old f
+      → (end : Federation) × (IsTreasuryOf g new end × AnswersCall (standing old f) call status body (standing new end))
+
+-- what a reader gave calls for something, and that is answered
+pub record AnswersRead {S : Type 0} (g : Ghosts S) (r0 r1 : Option (List ℕ)) (old : Treasury S) (status : ℕ) (body : List ℕ) (new : Treasury S) : Type 0 where
+  pub call : Call
+  pub reads : Reads r0 r1 call
+  pub answers : AnswersOn g old call status body new
+
+-- `Ok`: the whole reply is written
+pub record IsServed {S : Type 0} (g : Ghosts S) (r0 r1 w0 w1 : Option (List ℕ)) (old new : Treasury S) : Type 0 where
+  pub status : ℕ
+  pub body : List ℕ
+  pub answered : AnswersRead g r0 r1 old status body new
+  pub written : Appends w0 w1 (whole_reply status body)
+
+-- 46: a first part of the reply is written, and what was asked stands
+pub record IsTorn {S : Type 0} (g : Ghosts S) (r0 r1 w0 w1 : Option (List ℕ)) (old new : Treasury S) : Type 0 where
+  pub status : ℕ
+  pub body : List ℕ
+  pub taken : ℕ
+  pub answered : AnswersRead g r0 r1 old status body new
+  pub written : Appends w0 w1 (take taken (whole_reply status body))
+
+-- how a connection ends that is refused by this cause: by 40 and 45 nothing is written, and nothing has changed
+abbrev pub FailsBy : {S W : Type 0} → Cause → Ghosts S → Option (List ℕ) → Option (List ℕ) → (W → Option (List ℕ)) → W → W → Treasury S → Treasury S → Type 0
+FailsBy OutOfMemory g r0 r1 contents w0 w1 old new = (w1 ≡ w0) × (new ≡ old)
+FailsBy ReadFault g r0 r1 contents w0 w1 old new = IsStopped r0 r1 × (w1 ≡ w0) × (new ≡ old)
+FailsBy WriteFault g r0 r1 contents w0 w1 old new = IsTorn g r0 r1 (contents w0) (contents w1) old new
+FailsBy _ g r0 r1 contents w0 w1 old new = ⊥
+
+-- how a connection ends, by its result; `remaining` and `contents` are what a reader has left and what a writer holds, where they
+-- are known
+abbrev pub ServesOne : {T S R W : Type 0} → Result T Cause → Ghosts S → (R → Option (List ℕ)) → R → R → (W → Option (List ℕ)) → W → W → Treasury S → Treasury S → Type 0
+ServesOne result g remaining r0 r1 contents w0 w1 old new = MatchResult result
+    (λ _. IsServed g (remaining r0) (remaining r1) (contents w0) (contents w1) old new)
+    (λ cause. FailsBy cause g (remaining r0) (remaining r1) contents w0 w1 old new)
+
+-- ---- connections one after another
+
+-- a connection that was answered: what it called for, and the reply
+pub record AnsweredCall : Type 0 where
+  pub call : Call
+  pub status : ℕ
+  pub body : List ℕ
+
+-- each is answered by the state that the one before it left; those that are not answered, by 40 or 45, change nothing
+abbrev pub AreServed : Standing → List AnsweredCall → Standing → Type 0
+AreServed s [] end = end ≡ s
+AreServed s (c ∷ cs) end = (mid : Standing) × AnswersCall s c.call c.status c.body mid × AreServed mid cs end
+
+-- What connections make of a treasury: of whichever state it was, while the disk returned what was written, it is of the state where
+-- those that were answered lead.
+pub record HasServed {S : Type 0} (g : Ghosts S) (old new : Treasury S) : Type 0 where
+  pub clean : HasCleanDisk (state g new.store.conn) → HasCleanDisk (state g old.store.conn)
+  pub served : HasCleanDisk (state g new.store.conn) → (f : Federation) → IsTreasuryOf g old f
+      → (end : Federation) × (IsTreasuryOf g new end × ((calls : List AnsweredCall) × AreServed (standing old f) calls (standing new end)))

@@ -1,0 +1,46 @@
+-- A reply of HTTP (RFC 9112, section 4; its statuses and its headers: own rule; docs/FORMATS.md, "HTTP").
+use Rattle.std.specs.Prelude.{ℕ, ◌==◌, ◌&&◌, ◌||◌, nat_le, if◌then◌else◌, List, [], ◌++◌, length, codes, decimal, unwrap_or, Result, Ok, Err}
+use Rattle.http.specs.StatusCode.{code_digits, reason_phrase}
+use Rattle.money_core.specs.declared.cause.Cause.{Cause}
+use Rattle.money_core.specs.declared.cause.Cause.TheVariants.{ClaimFailed as ClaimCause}
+use Rattle.money_core.specs.Cause.{number_of}
+use Rattle.book_core.specs.declared.refusal.Refusal.{Refusal}
+use Rattle.book_core.specs.declared.refusal.Refusal.TheVariants.{Plain, Text, ClaimFailed}
+use Rattle.treasury_core.specs.declared.command.Answer.{Answer}
+
+-- the status of a refusal, by its number
+abbrev pub status_of_number : ℕ → ℕ
+status_of_number nr =
+    if nr == 44 then 400
+    else if (nat_le 20 nr && nat_le nr 39) || (nr == 47) then 409
+    else if nat_le 1 nr && nat_le nr 18 then 422
+    else if nr == 43 then 500
+    else 503
+
+-- why it is refused
+abbrev pub cause_of : Refusal → Cause
+cause_of (Plain cause) = cause
+cause_of (Text fault) = fault.cause
+cause_of (ClaimFailed failure) = ClaimCause
+
+-- the status of a reply: what is done, repeated or reported is 200
+abbrev pub status_of : Result Answer Refusal → ℕ
+status_of (Ok answer) = 200
+status_of (Err refusal) = status_of_number (number_of (cause_of refusal))
+
+-- the phrase of a status
+abbrev pub reason_of : ℕ → List ℕ
+reason_of status = unwrap_or (reason_phrase status) []
+
+-- the head of a reply whose body has that many bytes, with the empty line that ends it
+abbrev pub reply_head : ℕ → ℕ → List ℕ
+reply_head status size =
+    codes "HTTP/1.1 " ++ code_digits status ++ codes " " ++ reason_of status ++ codes "\r\n"
+    ++ codes "Content-Type: text/plain; charset=utf-8\r\n"
+    ++ codes "Content-Length: " ++ decimal size ++ codes "\r\n"
+    ++ codes "Connection: close\r\n"
+    ++ codes "\r\n"
+
+-- a whole reply
+abbrev pub whole_reply : ℕ → List ℕ → List ℕ
+whole_reply status body = reply_head status (length body) ++ body

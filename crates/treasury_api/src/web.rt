@@ -1,0 +1,10 @@
+//! HTTP: one request is read from a connection, answered on a treasury, and its reply written.
+
+mod answering;
+mod laws;
+mod reply;
+mod serving;
+mod status;
+
+pub use laws::calls_law;
+pub use serving::serve_one;

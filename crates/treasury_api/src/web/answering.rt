@@ -1,0 +1,148 @@
+//! What a treasury replies to a call.
+
+ghost use Rattle.std.specs.Prelude.{◌≡◌, ◌≤◌, [], Ok, Err, IfOk, OnErr, codes, vec_capacity};
+ghost use Rattle.std.specs.Result.{IsOkUnless};
+ghost use Rattle.book_core.specs.declared.refusal.Refusal.{Refusal as Refused};
+ghost use Rattle.treasury_api.specs.Request.{HasDayNumbers};
+ghost use Rattle.treasury_api.specs.Answer.{answer_text};
+ghost use Rattle.treasury_api.specs.OneRequest.{RepliesOn};
+ghost use Rattle.treasury_api.specs.WebReply.{status_of};
+ghost use Rattle.treasury_api.specs.Web.{asked_by, AnswersOn};
+ghost use Rattle.treasury_api.specs.WebServing.{code_of, HasDays};
+
+use crate::answering::answer;
+use crate::answers::{MOST_PLAIN, answer_line};
+use crate::request::{Request, read_line};
+use crate::running::refuse_by;
+use crate::web::reply::Reply;
+use crate::web::status::{Status, status_of};
+use book_core::Refusal;
+use http_request::Call;
+use journal_lines::read_date;
+use money_core::{Cause, Styles, Text};
+use sqlite::Alter;
+use std::alloc::Global;
+use treasury_store::Treasury;
+
+/// The request for the balances of a branch, where the date is one.
+fn balance_at(branch: Text, date: Text) -> Option<Request>
+    ensures asked { result ≡ asked_by (Call.Balance branch date) }
+    ensures days { HasDays result }
+{
+    match read_date(date.as_str().as_bytes()) {
+        Some(day) => Some(Request::Balance { branch, day }),
+        None => None,
+    }
+}
+
+/// The request that is called for; `None` where nothing is. Answers 40 where there is no memory to read it.
+fn request_by(alloc: Global, call: Call) -> Result<Option<Request>, Cause>
+    ensures asked { IfOk result (λ request. request ≡ asked_by call) }
+    ensures days { IfOk result HasDays }
+    ensures memory { IsOkUnless result Cause.OutOfMemory }
+{
+    match call {
+        Call::Unreadable => Ok(None),
+        Call::Nowhere => Ok(None),
+        Call::Command(body) => match read_line(alloc, body.items()) {
+            Ok(request) => Ok(Some(request)),
+            Err(Cause::Request) => Ok(None),
+            Err(_) => Err(Cause::OutOfMemory),
+        },
+        Call::Balance { branch, date } => Ok(balance_at(branch, date)),
+        Call::Journal { branch } => Ok(Some(Request::Journal { branch })),
+        Call::Transit { date } => match read_date(date.as_str().as_bytes()) {
+            Some(day) => Ok(Some(Request::Transit { day })),
+            None => Ok(None),
+        },
+    }
+}
+
+/// The reply to a call that has no route, in room for a plain line.
+fn not_found(room: Vec<u8>) -> Reply
+    requires empty { room.items ≡ [] }
+    requires room { MOST_PLAIN ≤ vec_capacity room }
+    ensures status { code_of result.status ≡ 404 }
+    ensures body { result.body.items ≡ codes "not found\n" }
+{
+    let mut body = room;
+    match body.extend_from_slice(b"not found\n") {
+        Ok(()) => {}
+        Err(_) => unreachable!(),
+    }
+    Reply {
+        status: Status::NotFound,
+        body,
+    }
+}
+
+/// The reply to a call that is no request, by 44, in room for a plain line.
+fn no_request(alloc: Global, room: Vec<u8>) -> Reply
+    requires empty { room.items ≡ [] }
+    requires room { MOST_PLAIN ≤ vec_capacity room }
+    ensures status { code_of result.status ≡ 400 }
+    ensures body { result.body.items ≡ answer_text [] (Err (Refused.Plain Cause.Request)) }
+{
+    let mut body = room;
+    let line = Err(Refusal::Plain(Cause::Request));
+    match answer_line(alloc, &line, &Styles::empty(alloc), &mut body) {
+        Ok(()) => {}
+        Err(_) => unreachable!(),
+    }
+    Reply {
+        status: Status::BadRequest,
+        body,
+    }
+}
+
+/// The reply to a request. `room` is for the line of a refusal.
+fn answer_request<S: Alter>(
+    alloc: Global,
+    request: &Request,
+    treasury: &mut Treasury<S>,
+    room: Vec<u8>,
+) -> Reply
+    requires days { HasDayNumbers request.now }
+    requires empty { room.items ≡ [] }
+    requires room { MOST_PLAIN ≤ vec_capacity room }
+    ensures { RepliesOn S.Store treasury.old request.now result.body.items (λ reply. code_of result.status ≡ status_of reply) treasury.new }
+{
+    let mut body = Vec::new(alloc);
+    match answer(alloc, request, treasury, &mut body) {
+        Ok(()) => Reply {
+            status: Status::Done,
+            body,
+        },
+        Err(refusal) => {
+            let line = refuse_by(alloc, treasury, refusal, room);
+            Reply {
+                status: status_of(line.cause),
+                body: line.text,
+            }
+        }
+    }
+}
+
+/// The reply to a call, in room for a plain line that was made before. Answers 40 where there is no memory to read what is
+/// asked; nothing has changed then.
+pub fn answer_call<S: Alter>(
+    alloc: Global,
+    call: Call,
+    treasury: &mut Treasury<S>,
+    room: Vec<u8>,
+) -> Result<Reply, Cause>
+    requires empty { room.items ≡ [] }
+    requires room { MOST_PLAIN ≤ vec_capacity room }
+    ensures ok { IfOk result (λ reply. AnswersOn S.Store treasury.old call (code_of reply.status) reply.body.items treasury.new) }
+    ensures err { OnErr result (treasury.new ≡ treasury.old) }
+    ensures memory { IsOkUnless result Cause.OutOfMemory }
+{
+    match call {
+        Call::Nowhere => Ok(not_found(room)),
+        call => match request_by(alloc, call) {
+            Ok(Some(request)) => Ok(answer_request(alloc, &request, treasury, room)),
+            Ok(None) => Ok(no_request(alloc, room)),
+            Err(cause) => Err(cause),
+        },
+    }
+}

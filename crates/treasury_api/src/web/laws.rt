@@ -1,0 +1,23 @@
+//! What connections come to, one after another.
+
+ghost use Rattle.std.specs.Prelude.{◌≡◌, ◌≢◌, List, ℕ};
+ghost use Rattle.http_request.specs.declared.call.Call.{Call};
+ghost use Rattle.treasury_core.specs.Good.{IsGoodState};
+ghost use Rattle.treasury_core.specs.Headline.{KeepsBooks};
+ghost use Rattle.treasury_core.specs.History.{Turn, IsRun, state_after};
+ghost use Rattle.treasury_api.specs.Step.{Standing};
+ghost use Rattle.treasury_api.specs.Web.{AnswersCall, AnsweredCall, AreServed};
+
+use treasury_core::headline_law;
+
+/// A law of connections: answered one after another, each by the state that the one before it left, their commands are a run of
+/// the machine of commands, and it keeps the books as the headline says. A reply of another status than 200 leaves the state.
+/// Costs nothing.
+pub fn calls_law()
+    ensures headline { (start : Standing) (calls : List AnsweredCall) (end : Standing) → IsGoodState start.now → AreServed start calls end
+        → (turns : List Turn) × IsRun start.now turns × (end.now ≡ state_after start.now turns) × KeepsBooks start.now turns }
+    ensures refused { (s : Standing) (call : Call) (status : ℕ) (body : List ℕ) (t : Standing) → AnswersCall s call status body t
+        → status ≢ 200 → t.now ≡ s.now }
+{
+    headline_law();
+}
