@@ -46,7 +46,7 @@ module _ {D : Type 0} (g : disk.Ghosts D) where
   shows_again image c f holds finds (opens, live) = record {
     good = holds.good;
     short = holds.short;
-    holds = subst (λ (db : Database). Holds db (rows f)) same holds.tables;
+    holds = inl (subst (λ (db : Database). Holds db (rows f)) same holds.tables);
   }
     where
       committed : (file_state c).committed.trees ≡ holds.db.trees

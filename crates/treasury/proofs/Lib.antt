@@ -1,7 +1,7 @@
 pub mod RunLemmas
-pub mod SaidLemmas
 pub mod OverFileLemmas
 pub mod ToldLemmas
 pub mod FileLemmas
+pub mod ServingLemmas
 pub mod WordLemmas
 pub mod WorkedWords

@@ -23,11 +23,10 @@ use Rattle.book_core.specs.declared.refusal.Refusal.TheVariants.{Plain}
 use Rattle.treasury_core.specs.Federation.{Federation}
 use Rattle.treasury_core.specs.Good.{IsGoodState}
 use Rattle.treasury_core.specs.Rows.{rows, HasShortLocks}
-use Rattle.treasury_store.specs.Rows.{Holds}
+use Rattle.treasury_store.specs.Rows.{Tables, Holds, HoldsEither}
 use Rattle.treasury_store.specs.Kept.{KeepsTables}
 use Rattle.treasury_store.specs.Tables.{no_schema}
 use Rattle.treasury_store.specs.Creating.{has_one}
-use Rattle.treasury_store.specs.Opening.{MadeHere}
 use Rattle.treasury_store.specs.declared.store.Store.{Store}
 use Rattle.treasury_store.specs.Store.{TablesAre, IsOf, empty_state}
 use Rattle.treasury_store.specs.Treasury.{Treasury, IsTreasuryOf}
@@ -57,13 +56,13 @@ module _ {D : Type 0} (g : disk.Ghosts D) where
   pub is_started : (image : Image) (opened : Held (FileStore D g)) (s : Store (FileStore D g)) (t : Treasury (FileStore D g))
       → (HasCleanDisk (file_state opened) → IsOpened opened)
       → (HasCleanDisk (file_state opened) → FindsIn image (file_state opened))
-      → (HasCleanDisk (file_state s.conn) → MadeHere (file_state opened).now.schema → ((file_state s.conn).now ≡ (file_state opened).now) × ((file_state s.conn).committed ≡ (file_state opened).committed))
+      → ((file_state opened).committed ≡ (file_state opened).now → (rows : Tables) → HoldsEither (file_state opened).now rows → TablesAre over_files s.conn rows)
       → doubt (file_state opened).is_clean ≤ doubt (file_state s.conn).is_clean
       → (HasCleanDisk (file_state t.store.conn) → (f : Federation) → IsGoodState f → HasShortLocks f → TablesAre over_files s.conn (rows f) → IsTreasuryOf over_files t f)
       → t.store.failed ≡ false
       → KeepsTables over_files s.conn t.store.conn
       → IsStarted g image t
-  is_started image opened s t opens finds same first treasury unfailed keeps = record {
+  is_started image opened s t opens finds upgraded first treasury unfailed keeps = record {
     opened = opened;
     found = finds;
     serves = opens;
@@ -77,15 +76,10 @@ module _ {D : Type 0} (g : disk.Ghosts D) where
 
       of : HasCleanDisk (file_state t.store.conn) → (f : Federation) → ShowsState g opened f → IsTreasuryOf over_files t f
       of k f shows =
-          treasury k f shows.good shows.short
-          (λ at_store _.
-          let is = same at_store (λ _. shows.holds.schema) in (
-            subst (λ (db : Database). Holds db (rows f)) (sym is.0) shows.holds,
-            is.1 ∙ (sym (opens (clean k)).0.clean ∙ sym is.0),
-          ))
+          treasury k f shows.good shows.short (upgraded (sym (opens (clean k)).0.clean) (rows f) shows.holds)
 
   -- what a file holds whose connection is closed, and shows the rows of a good state
-  left_behind : (c : Held (FileStore D g)) (closed : Files D) (f : Federation) → IsLive (file_state c) → IsCopied c closed → IsGoodState f → HasShortLocks f
+  pub left_behind : (c : Held (FileStore D g)) (closed : Files D) (f : Federation) → IsLive (file_state c) → IsCopied c closed → IsGoodState f → HasShortLocks f
       → TablesAre over_files c (rows f) → HoldsState (image_of g closed) f
   left_behind c closed f live copied good short tables =
       let held = tables copied.was_clean copied.was_open in record {

@@ -1,7 +1,8 @@
 -- The words that the program knows (own rule; docs/RULES.md, "The program"), as `clap` reads them.
-use Rattle.std.specs.Prelude.{ℕ, true, false, codes, List, [], ◌∷◌, ◌++◌, Some}
+use Rattle.std.specs.Prelude.{ℕ, pos, true, false, codes, List, [], ◌∷◌, ◌++◌, Some}
 use Rattle.clap.specs.Walk.{Rule}
 use Rattle.clap.specs.Simple.{App, Shape, new_rule, new_shape}
+use Rattle.clap.specs.declared.builder.value_parser.ValueParser.TheVariants.{Signed}
 
 -- an option that may be given, `--NAME VALUE`; one that has to be; and a value that stands by itself and has to be given
 abbrev pub optional : List ℕ → Rule
@@ -9,6 +10,10 @@ optional name = record (new_rule name) { long = Some name; value_names = 1 }
 
 abbrev pub option : List ℕ → Rule
 option name = record (optional name) { required = true }
+
+-- an option that has to be given, with a whole number up to the most
+abbrev pub number : List ℕ → ℕ → Rule
+number name most = record (option name) { parser = Some (Signed (pos 0) (pos most)) }
 
 abbrev pub operand : List ℕ → Rule
 operand name = record (new_rule name) { value_names = 1; required = true }
@@ -54,12 +59,13 @@ transfers =
     ∷ word (codes "transit") (day ∷ [])
     ∷ []
 
--- those of a month's or a year's end, and the one that is over no file
+-- those of a month's or a year's end, the one that stays, and the one that is over no file
 abbrev pub ends : List Shape
 ends =
     word (codes "lock") (branch ∷ day ∷ [])
     ∷ word (codes "close") (branch ∷ day ∷ [])
     ∷ word (codes "journal") (branch ∷ [])
+    ∷ word (codes "serve") (number (codes "port") 65535 ∷ number (codes "requests") 4294967295 ∷ [])
     ∷ new_shape (codes "run")
     ∷ []
 

@@ -3,7 +3,10 @@ pub mod Known
 pub mod Spelling
 pub mod Word
 pub mod OverFile
+pub mod Look
+pub mod Serving
 pub mod Words
 -- What mirrors code, for private clauses: nobody has to believe it
 pub mod Knowing
 pub mod Started
+pub mod ServingParts

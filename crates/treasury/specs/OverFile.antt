@@ -20,7 +20,7 @@ use Rattle.treasury_core.specs.declared.command.Answer.TheVariants.{Done}
 use Rattle.treasury_core.specs.Federation.{Federation}
 use Rattle.treasury_core.specs.Good.{IsGoodState}
 use Rattle.treasury_core.specs.Rows.{rows, HasShortLocks}
-use Rattle.treasury_store.specs.Rows.{Holds}
+use Rattle.treasury_store.specs.Rows.{Holds, HoldsEither}
 use Rattle.treasury_store.specs.Store.{empty_state}
 use Rattle.treasury_store.specs.Tables.{no_schema}
 use Rattle.treasury_store.specs.Creating.{has_one}
@@ -74,11 +74,11 @@ abbrev pub IsLeft : Image → Image → Type 0
 IsLeft left next = (next ≡ left) ⊎ (next ≡ record left { log = [] })
 
 module _ {D : Type 0} (g : disk.Ghosts D) where
-  -- a connection shows tables that are the rows of a good state, with lock days that a table takes
+  -- a connection shows tables, of version 2 or of version 1, that are the rows of a good state, with lock days that a table takes
   pub record ShowsState (c : Held (FileStore D g)) (f : Federation) : Type 0 where
     pub good : IsGoodState f
     pub short : HasShortLocks f
-    pub holds : Holds (file_state c).now (rows f)
+    pub holds : HoldsEither (file_state c).now (rows f)
 
   -- A file was opened and closed. What its connection showed first is what the image holds, and of whichever state these are the
   -- rows: the request is answered as by that state, and the file that is closed holds the rows of the state where the answer leads.

@@ -26,9 +26,13 @@ named words = subcommand_of known words
 abbrev pub AskForRun : List (List ℕ) → Type 0
 AskForRun words = AreTaken words × (option_map (λ p. p.0) (named words) ≡ Some (codes "run"))
 
--- the words ask for another word, with these values
+-- the words ask for a word over a file, with these values
 abbrev pub AskForWord : List (List ℕ) → List ℕ → List Row → Type 0
-AskForWord words word values = AreTaken words × ((named words ≡ Some (word, values)) × (word ≢ codes "run"))
+AskForWord words word values = AreTaken words × ((named words ≡ Some (word, values)) × (word ≢ codes "run") × (word ≢ codes "serve"))
+
+-- the words ask for connections to be served, with these values
+abbrev pub AskToServe : List (List ℕ) → List Row → Type 0
+AskToServe words values = AreTaken words × (named words ≡ Some (codes "serve", values))
 
 -- the words may ask for help, or for the version
 abbrev pub MayAskForHelp : List (List ℕ) → Type 0

@@ -1,19 +1,30 @@
 //! What standard error says of a refusal, beside the answer on standard output.
 
+mod at_fault;
+mod exact;
+mod failure;
 mod held;
-mod pieces;
+mod hints;
+mod limits;
+pub mod lines;
+pub mod pieces;
 mod sentences;
 mod source;
+pub mod standing;
 
-use crate::explain::held::push_held;
-use crate::explain::pieces::{push_amount, push_day, push_number, push_shown};
+use crate::explain::at_fault::{AtFault, find_at_fault, push_at_fault};
+use crate::explain::failure::explain_failure;
+use crate::explain::held::{push_held, push_lock};
+use crate::explain::hints::push_fault_hint;
+use crate::explain::lines::push_source;
+use crate::explain::pieces::{push_number, push_shown};
 pub use crate::explain::sentences::sentence;
-use crate::explain::source::{push_left_over, push_source};
-use book_core::{Failure, Ledger, Refusal};
-use money_core::{Cause, Fault, Styles};
+use crate::explain::standing::branch_named;
+use book_core::{Ledger, Refusal};
+use money_core::{Cause, Fault};
 use std::alloc::Global;
 use treasury_api::Request;
-use treasury_core::State;
+use treasury_core::{Branch, State};
 
 /// Appends the first line of an explanation: where it comes from, if that is known, and the refusal's sentence.
 fn push_sentence(origin: &[u8], cause: Cause, out: &mut Vec<u8>) -> Result<(), Cause> {
@@ -24,13 +35,12 @@ fn push_sentence(origin: &[u8], cause: Cause, out: &mut Vec<u8>) -> Result<(), C
     Ok(())
 }
 
-/// Appends a line that names something of a refusal.
-fn push_named(name: &[u8], value: &[u8], out: &mut Vec<u8>) -> Result<(), Cause> {
-    out.extend_from_slice(b"  ")?;
-    out.extend_from_slice(name)?;
+/// Appends the file and the line that an explanation comes from.
+pub fn push_origin(source: &str, line: usize, out: &mut Vec<u8>) -> Result<(), Cause> {
+    push_shown(source.as_bytes(), out)?;
+    out.extend_from_slice(b":")?;
+    push_number(line, out)?;
     out.extend_from_slice(b": ")?;
-    out.extend_from_slice(value)?;
-    out.extend_from_slice(b"\n")?;
     Ok(())
 }
 
@@ -44,80 +54,7 @@ pub fn push_reason(origin: &str, reason: &str, out: &mut Vec<u8>) -> Result<(), 
     Ok(())
 }
 
-/// Appends an amount of a failed assertion.
-fn push_side(
-    alloc: Global,
-    styles: &Styles,
-    name: &[u8],
-    failure: &Failure,
-    qty: i64,
-    out: &mut Vec<u8>,
-) -> Result<(), Cause> {
-    let mut amount = Vec::new(alloc);
-    push_amount(alloc, styles, failure.unit, qty, &mut amount)?;
-    push_named(name, amount.as_slice(), out)
-}
-
-/// Appends the account of the assertion's leg and the header of its entry, where the branch has that entry.
-fn push_entry<L: Ledger>(
-    alloc: Global,
-    state: &State<L>,
-    name: &str,
-    failure: &Failure,
-    out: &mut Vec<u8>,
-) -> Result<(), Cause> {
-    let place = failure.place;
-    for branch in state.branches() {
-        if branch.name.as_str() == name && place.entry > 0 && place.leg > 0 {
-            if let Some(record) = branch.records.items().get(place.entry - 1) {
-                if let Some(leg) = record.entry.legs.items().get(place.leg - 1) {
-                    push_named(b"account", leg.account.as_str().as_bytes(), out)?;
-                }
-                let mut header = Vec::new(alloc);
-                push_day(alloc, place.day, &mut header)?;
-                header.extend_from_slice(b" ")?;
-                header.extend_from_slice(record.txn.description.as_str().as_bytes())?;
-                return push_named(b"entry", header.as_slice(), out);
-            }
-        }
-    }
-    let mut header = Vec::new(alloc);
-    push_day(alloc, place.day, &mut header)?;
-    header.extend_from_slice(b", an entry that is new")?;
-    push_named(b"entry", header.as_slice(), out)
-}
-
-/// The branch whose assertions a request may break.
-fn judged_branch(request: &Request) -> &str {
-    match request {
-        Request::Import { branch, .. } => branch.as_str(),
-        Request::Dispatch { from, .. } => from.as_str(),
-        Request::Receive { branch, .. } => branch.as_str(),
-        Request::Close { branch, .. } => branch.as_str(),
-        _ => "",
-    }
-}
-
-/// Appends what a failed assertion states, what was found, and the difference.
-fn explain_failure<L: Ledger>(
-    alloc: Global,
-    state: &State<L>,
-    request: &Request,
-    failure: &Failure,
-    out: &mut Vec<u8>,
-) -> Result<(), Cause> {
-    push_sentence(b"", Cause::ClaimFailed, out)?;
-    push_entry(alloc, state, judged_branch(request), failure, out)?;
-    let styles = state.styles();
-    push_side(alloc, styles, b"asserted", failure, failure.asserted, out)?;
-    push_side(alloc, styles, b"found", failure, failure.found, out)?;
-    match failure.found.checked_sub(failure.asserted) {
-        Some(difference) => push_side(alloc, styles, b"difference", failure, difference, out),
-        None => Ok(()),
-    }
-}
-
-/// Appends where a journal has its fault, what stands there, and for values that do not sum to zero what is left over.
+/// Appends where a journal has its fault, what stands there, and what should.
 fn explain_fault<L: Ledger>(
     alloc: Global,
     state: &State<L>,
@@ -127,26 +64,90 @@ fn explain_fault<L: Ledger>(
     out: &mut Vec<u8>,
 ) -> Result<(), Cause> {
     let mut origin = Vec::new(alloc);
-    push_shown(source.as_bytes(), &mut origin)?;
-    origin.extend_from_slice(b":")?;
-    push_number(fault.line, &mut origin)?;
-    origin.extend_from_slice(b": ")?;
+    push_origin(source, fault.line, &mut origin)?;
     push_sentence(origin.as_slice(), fault.cause, out)?;
     match request {
         Request::Import { journal, .. } => {
             push_source(journal.as_bytes(), fault.line, out)?;
-            match fault.cause {
-                Cause::Unbalanced => push_left_over(
-                    alloc,
-                    state.styles(),
-                    journal.as_bytes(),
-                    fault.line,
-                    out,
-                ),
-                _ => Ok(()),
-            }
+            push_fault_hint(alloc, state.styles(), journal.as_bytes(), fault, out)
         }
         _ => Ok(()),
+    }
+}
+
+/// Appends the sentence of a refusal by a cause alone, and what stands against the request.
+fn explain_plain<L: Ledger>(
+    alloc: Global,
+    state: &State<L>,
+    request: &Request,
+    cause: Cause,
+    out: &mut Vec<u8>,
+) -> Result<(), Cause> {
+    push_sentence(b"", cause, out)?;
+    push_held(alloc, state, request, cause, out)
+}
+
+/// Appends the sentence of a refusal of an import, the transaction that it comes from, and for what that is refused.
+fn explain_transaction<L: Ledger>(
+    alloc: Global,
+    state: &State<L>,
+    branch: &Branch<L>,
+    request: &Request,
+    source: &str,
+    fault: &AtFault,
+    cause: Cause,
+    out: &mut Vec<u8>,
+) -> Result<(), Cause> {
+    let Some(standing) = fault.list.as_slice().get(fault.place) else {
+        return explain_plain(alloc, state, request, cause, out);
+    };
+    let mut origin = Vec::new(alloc);
+    push_origin(source, standing.line, &mut origin)?;
+    push_sentence(origin.as_slice(), cause, out)?;
+    if let Request::Import { journal, .. } = request {
+        push_source(journal.as_bytes(), standing.line, out)?;
+    }
+    if cause == Cause::Locked {
+        return push_lock(alloc, state, request, out);
+    }
+    push_at_fault(alloc, state.styles(), branch, fault, standing, cause, out)
+}
+
+/// Whether an import is refused by that cause for one of its transactions.
+fn is_of_transaction(cause: Cause) -> bool {
+    matches!(
+        cause,
+        Cause::MarkClash
+            | Cause::ReservedMark
+            | Cause::ReservedAccount
+            | Cause::Locked
+            | Cause::Limit
+    )
+}
+
+/// Appends what is said of a refusal by a cause alone; of an import, with the transaction that it comes from.
+fn explain_cause<L: Ledger>(
+    alloc: Global,
+    state: &State<L>,
+    request: &Request,
+    source: &str,
+    cause: Cause,
+    out: &mut Vec<u8>,
+) -> Result<(), Cause> {
+    let Request::Import { branch, journal } = request else {
+        return explain_plain(alloc, state, request, cause, out);
+    };
+    let Some(branch) = branch_named(state, branch.as_str()) else {
+        return explain_plain(alloc, state, request, cause, out);
+    };
+    if !is_of_transaction(cause) {
+        return explain_plain(alloc, state, request, cause, out);
+    }
+    match find_at_fault(alloc, state.styles(), branch, journal.as_bytes(), cause) {
+        Ok(Some(fault)) => {
+            explain_transaction(alloc, state, branch, request, source, &fault, cause, out)
+        }
+        _ => explain_plain(alloc, state, request, cause, out),
     }
 }
 
@@ -162,11 +163,10 @@ pub fn explain<L: Ledger>(
     out: &mut Vec<u8>,
 ) -> Result<(), Cause> {
     match refusal {
-        Refusal::Plain(cause) => {
-            push_sentence(b"", *cause, out)?;
-            push_held(alloc, state, request, *cause, out)
-        }
+        Refusal::Plain(cause) => explain_cause(alloc, state, request, source, *cause, out),
         Refusal::Text(fault) => explain_fault(alloc, state, request, source, fault, out),
-        Refusal::ClaimFailed(failure) => explain_failure(alloc, state, request, failure, out),
+        Refusal::ClaimFailed(failure) => {
+            explain_failure(alloc, state, request, source, failure, out)
+        }
     }
 }

@@ -3,6 +3,7 @@
 
 mod explain;
 mod laws;
+mod notes;
 mod words;
 
 use sqlite::Wary;
@@ -18,11 +19,21 @@ fn words_given(rt: &HostRuntime) -> io::Result<Vec<String>> {
     Ok(words)
 }
 
+/// Says why the words cannot be had.
+fn say_unread(rt: &HostRuntime, error: io::Error) {
+    if error.kind() == io::ErrorKind::InvalidData {
+        let _ = eprintln!(rt; "treasury: an argument is not UTF-8");
+    }
+}
+
 fn main(rt: HostRuntime) -> io::Result<ExitCode> {
     // Words that cannot be had are as none: the usage is shown.
     let words = match words_given(&rt) {
         Ok(words) => words,
-        Err(_) => Vec::new(rt.alloc()),
+        Err(error) => {
+            say_unread(&rt, error);
+            Vec::new(rt.alloc())
+        }
     };
     let mut input = rt.reader();
     let mut output = io::writer(&rt);

@@ -1,10 +1,17 @@
 //! The words of the command line, and what they do.
 
+mod beside;
 mod file;
 mod known;
+mod looks;
 mod over_file;
+mod pipe;
+mod rehearsal;
 mod said;
+mod serving;
 mod spelling;
+mod tables;
+mod waiting;
 
 ghost use Rattle.std.specs.Prelude.{◌≡◌, ◌⊎◌, ◌≢◌, ℕ, List, map, codes, false, Some, IfOk, OnOk, OnErr, MatchResult};
 ghost use Rattle.clap.specs.Matches.{found_of, subcommand_name_of};
@@ -17,19 +24,26 @@ ghost use Rattle.treasury_store.specs.Treasury.{IsTreasuryOf};
 ghost use Rattle.std.specs.String.{string_bytes};
 ghost use Rattle.treasury_api.specs.Step.{Standing, at_first};
 ghost use Rattle.treasury_api.specs.Kept.{AnswersAll};
-ghost use Rattle.treasury.specs.Words.{AreTaken, AskForRun, AskForWord, MayAskForHelp, IsCutOff};
+ghost use Rattle.treasury.specs.Words.{AreTaken, AskForRun, AskForWord, AskToServe, MayAskForHelp, IsCutOff};
 ghost use Rattle.treasury.specs.OverFile.{Tells, IsTold};
+ghost use Rattle.treasury.specs.Serving.{IsServed};
 
-use crate::laws::{files_law, words_law};
+use crate::laws::{files_law, serving_law, words_law};
 use crate::words::known::known_words;
+use crate::words::looks::looks_of;
 use crate::words::over_file::answer_over_file;
-use crate::words::said::room_for_line;
+use crate::words::pipe::is_unread;
+use crate::words::said::{Said, room_for_line};
+use crate::words::serving::{is_unwritten, serve_over_file};
+use crate::words::spelling::value_of;
+use crate::words::waiting::wait_for;
 use clap::error::ErrorKind;
 use clap::{ArgMatches, Error};
 use money_core::Cause;
 use sqlite::{FileFrom, Start};
 use sqlite_disk::Disk;
 use std::alloc::Global;
+use std::fs::File;
 use std::io::{Read, Write};
 use std::mem::ManuallyDrop;
 use treasury_api::{commands_law, refusal_law, run_law, run_lines, write_whole};
@@ -43,7 +57,7 @@ use treasury_store::{Store, Treasury};
 /// What it means that something is cut off by this cause, which is 40, 45 or 46.
 fn meaning(cause: Cause) -> &'static str {
     match cause {
-        Cause::OutOfMemory => "there is no memory to go on; the requests before that are answered",
+        Cause::OutOfMemory => "out of memory; the requests before that are answered",
         Cause::ReadFault =>
             "the input could not be read to its end, or is over 64 MiB; the complete lines before that are answered",
         _ => "the output could not be written to its end; the last answer may be cut off",
@@ -117,8 +131,28 @@ fn show<W: Write>(alloc: Global, text: &Error, output: &mut W) -> Result<(), Cau
     }
 }
 
+/// Writes the text of help or of the version, and answers the exit status.
+fn show_text<W: Write>(rt: &HostRuntime, text: &Error, output: &mut W) -> u8
+    ensures { result ≢ 2 }
+{
+    match show(rt.alloc(), text, output) {
+        Err(Cause::WriteFault) if is_unread() => 1,
+        shown => status(rt, shown),
+    }
+}
+
 /// The answer where there is no memory for one.
 const NO_MEMORY: &[u8] = b"refused 40 OutOfMemory\n";
+
+/// The exit status where the output takes no more, which is said on standard error; of a pipe that nobody reads it is not.
+fn unwritten<H: Eprint>(rt: &H) -> u8
+    ensures { result ≡ 1 }
+{
+    if is_unread() {
+        return 1;
+    }
+    status(rt, Err(Cause::WriteFault))
+}
 
 /// Writes the answer to a word to the output, and answers the exit status: 1 where it is a refusal or cannot be written.
 fn write_answer<W: Write>(rt: &HostRuntime, answer: &[u8], is_refused: bool, output: &mut W) -> u8
@@ -126,7 +160,25 @@ fn write_answer<W: Write>(rt: &HostRuntime, answer: &[u8], is_refused: bool, out
 {
     match write_whole(output, answer) {
         Ok(()) => u8::from(is_refused),
-        Err(_) => status(rt, Err(Cause::WriteFault)),
+        Err(_) => unwritten(rt),
+    }
+}
+
+/// The file that a word is over, once no other program uses it; none where it stays in use, or is not there.
+fn turn_on(rt: &HostRuntime, values: &ArgMatches<'_>) -> Option<File> {
+    let path = value_of(values, "db")?;
+    wait_for(rt, path)
+}
+
+/// Writes to standard error what is said beside an answer, and what a look at the word's files adds to it.
+fn tell(rt: &HostRuntime, values: &ArgMatches<'_>, said: &Said) {
+    let reason = said.reason.as_slice();
+    let looks = looks_of(rt, values, said.answer.as_slice(), reason);
+    if let Ok(text) = str::from_utf8(reason) {
+        let _ = rt.eprint(text);
+    }
+    if let Ok(text) = str::from_utf8(looks.as_slice()) {
+        let _ = rt.eprint(text);
     }
 }
 
@@ -146,11 +198,37 @@ fn do_over_file<W: Write, S: Start>(
     let Ok(room) = room_for_line(rt.alloc()) else {
         return write_answer(rt, NO_MEMORY, true, output);
     };
+    let turn = turn_on(rt, values);
     let said = answer_over_file(rt, room, word, values, start);
+    drop(turn);
     let ended = write_answer(rt, said.answer.as_slice(), said.is_refused, output);
-    if let Ok(reason) = str::from_utf8(said.reason.as_slice()) {
-        let _ = rt.eprint(reason);
+    tell(rt, values, &said);
+    ended
+}
+
+/// Serves connections as `serve` says: the output says when they can be made, and what refuses it; standard error says why.
+fn do_serve<W: Write, S: Start>(
+    rt: &HostRuntime,
+    values: &ArgMatches<'_>,
+    output: &mut W,
+    start: S,
+) -> u8
+    ensures served { IsServed ⟦<FileFrom<S> as Disk>⟧ (image_at S.Start) W.contents output.old output.new result (rows_of (found_of values.now)) }
+    ensures usage { result ≢ 2 }
+{
+    serving_law::<FileFrom<S>>();
+    let Ok(room) = room_for_line(rt.alloc()) else {
+        return write_answer(rt, NO_MEMORY, true, output);
+    };
+    let turn = turn_on(rt, values);
+    let serving = serve_over_file(rt, room, values, output, start);
+    drop(turn);
+    if is_unwritten(serving.ending) {
+        return unwritten(rt);
     }
+    let said = serving.said;
+    let ended = write_answer(rt, said.answer.as_slice(), said.is_refused, output);
+    tell(rt, values, &said);
     ended
 }
 
@@ -166,16 +244,21 @@ fn do_word<R: Read, W: Write, S: Start>(
         → (end : Standing) × AnswersAll R.remaining input.old input.new W.contents output.old output.new at_first end }
     ensures cut_off { subcommand_name_of matches.now ≡ Some (codes "run") → result ≢ 0
         → (result ≡ 1) × IsCutOff R.remaining input.old input.new W.contents output.old output.new }
-    ensures word { (word : List ℕ) → (values : List Row) → subcommand_rows_of matches.now ≡ Some (word, values) → word ≢ codes "run"
+    ensures word { (word : List ℕ) → (values : List Row) → subcommand_rows_of matches.now ≡ Some (word, values) → word ≢ codes "run" → word ≢ codes "serve"
         → IsTold ⟦<FileFrom<S> as Disk>⟧ (image_at S.Start) W.contents output.old output.new result word values }
+    ensures serve { (values : List Row) → subcommand_rows_of matches.now ≡ Some (codes "serve", values)
+        → IsServed ⟦<FileFrom<S> as Disk>⟧ (image_at S.Start) W.contents output.old output.new result values }
     ensures other { (subcommand_name_of matches.now ≡ Some (codes "run") → ⊥) → input.new ≡ input.old }
     ensures usage { result ≡ 2 → (input.new ≡ input.old) × (output.new ≡ output.old) }
 {
     match matches.subcommand_matches("run") {
         Some(_) => status(rt, run(rt.alloc(), input, output)),
-        None => match matches.subcommand() {
-            Some((word, values)) => do_over_file(rt, word, values, output, start),
-            None => 2,
+        None => match matches.subcommand_matches("serve") {
+            Some(values) => do_serve(rt, values, output, start),
+            None => match matches.subcommand() {
+                Some((word, values)) => do_over_file(rt, word, values, output, start),
+                None => 2,
+            },
         },
     }
 }
@@ -207,6 +290,10 @@ where
     ensures word { (word : List ℕ) → (values : List Row) → AskForWord (map string_bytes words.now) word values
         → IsTold ⟦<FileFrom<S> as Disk>⟧ (image_at S.Start) W.contents output.old output.new result word values }
 
+    // `serve` answers the calls of connections over it.
+    ensures serve { (values : List Row) → AskToServe (map string_bytes words.now) values
+        → IsServed ⟦<FileFrom<S> as Disk>⟧ (image_at S.Start) W.contents output.old output.new result values }
+
     // Others read none, and those that are not taken, but for those that may ask for help or for the version, are answered 2.
     ensures other { (AskForRun (map string_bytes words.now) → ⊥) → input.new ≡ input.old }
     ensures wrong { (AreTaken (map string_bytes words.now) → ⊥) → (MayAskForHelp (map string_bytes words.now) → ⊥)
@@ -222,9 +309,7 @@ where
         Ok(matches) => do_word(rt, &matches, input, output, start),
         Err(error) => match error.kind() {
             ErrorKind::OutOfMemory => status(rt, Err(Cause::OutOfMemory)),
-            ErrorKind::DisplayHelp | ErrorKind::DisplayVersion => {
-                status(rt, show(alloc, &error, output))
-            }
+            ErrorKind::DisplayHelp | ErrorKind::DisplayVersion => show_text(rt, &error, output),
             _ => {
                 let _ = rt.eprint(&error);
                 2

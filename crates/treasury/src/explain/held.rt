@@ -1,11 +1,28 @@
-//! What is held that stands against a request: branches, a lock, a transfer.
+//! What stands against a request: what is held, and the forms and limits that its texts have to meet.
 
-use crate::explain::pieces::{push_amount, push_day};
-use book_core::Ledger;
-use money_core::{Cause, Styles, Text};
+use crate::explain::hints::{push_amount_form, push_sample, push_sample_form, push_samples};
+use crate::explain::pieces::{
+    push_amount, push_day, push_line, push_named, push_number, push_shown,
+};
+use crate::explain::standing::branch_named;
+use book_core::{Ledger, MAX_ENTRIES};
+use money_core::{Cause, Styles, Text, read_style};
 use std::alloc::Global;
 use treasury_api::Request;
 use treasury_core::{State, Transfer};
+
+/// The forms of a branch's name, of an account, and of a transfer's ID.
+const NAME_FORM: &[u8] =
+    b"a name is a lower-case letter followed by at most 31 lower-case letters, digits or -";
+
+const ACCOUNT_FORM: &[u8] =
+    b"an account is one or more names joined by single colons, at most 200 bytes in all, with no `;`, no tab, no two spaces in a row, and no space at either end";
+
+const ID_FORM: &[u8] = b"an ID is 1 to 64 ASCII letters, digits or -._";
+
+/// Said where a branch is closed at a day that is locked.
+const CLOSE_FIRST: &[u8] =
+    b"a branch cannot be closed at a day that is locked: close first, which also locks it";
 
 /// The branch that a request takes entries into, or locks.
 fn branch_of(request: &Request) -> Option<&Text> {
@@ -28,12 +45,20 @@ fn id_of(request: &Request) -> Option<&Text> {
     }
 }
 
+/// The account of a request.
+fn account_of(request: &Request) -> Option<&Text> {
+    match request {
+        Request::Dispatch { account, .. } => Some(account),
+        Request::Receive { account, .. } => Some(account),
+        _ => None,
+    }
+}
+
 /// Appends the names of all branches.
 fn push_branches<L: Ledger>(state: &State<L>, out: &mut Vec<u8>) -> Result<(), Cause> {
     let branches = state.branches();
     if branches.is_empty() {
-        out.extend_from_slice(b"  there is no branch yet; treasury branch adds one\n")?;
-        return Ok(());
+        return push_line(b"there is no branch yet; treasury branch adds one", out);
     }
     out.extend_from_slice(b"  branches:")?;
     for branch in branches {
@@ -44,24 +69,42 @@ fn push_branches<L: Ledger>(state: &State<L>, out: &mut Vec<u8>) -> Result<(), C
     Ok(())
 }
 
-/// Appends through which day the branch is locked.
-fn push_lock<L: Ledger>(
+/// Appends through which day the branch of a request is locked.
+pub fn push_lock<L: Ledger>(
     alloc: Global,
     state: &State<L>,
-    name: &str,
+    request: &Request,
     out: &mut Vec<u8>,
 ) -> Result<(), Cause> {
-    for branch in state.branches() {
-        if branch.name.as_str() == name {
-            if let Some(day) = branch.locked {
-                out.extend_from_slice(b"  ")?;
-                out.extend_from_slice(name.as_bytes())?;
-                out.extend_from_slice(b" is locked through ")?;
-                push_day(alloc, day, out)?;
-                out.extend_from_slice(b"\n")?;
-            }
-        }
+    let Some(name) = branch_of(request) else {
+        return Ok(());
+    };
+    let Some(branch) = branch_named(state, name.as_str()) else {
+        return Ok(());
+    };
+    let Some(day) = branch.locked else {
+        return Ok(());
+    };
+    out.extend_from_slice(b"  ")?;
+    push_shown(name.as_str().as_bytes(), out)?;
+    out.extend_from_slice(b" is locked through ")?;
+    push_day(alloc, day, out)?;
+    out.extend_from_slice(b"\n")?;
+    match request {
+        Request::Close { .. } => push_line(CLOSE_FIRST, out),
+        _ => Ok(()),
     }
+}
+
+/// Appends what is held of a transfer's receipt.
+fn push_receipt(alloc: Global, transfer: &Transfer, out: &mut Vec<u8>) -> Result<(), Cause> {
+    if let Some(receipt) = &transfer.receipt {
+        out.extend_from_slice(b", received on ")?;
+        push_day(alloc, receipt.day, out)?;
+        out.extend_from_slice(b" into ")?;
+        push_shown(receipt.payee.as_str().as_bytes(), out)?;
+    }
+    out.extend_from_slice(b"\n")?;
     Ok(())
 }
 
@@ -83,33 +126,107 @@ fn push_transfer(
     out.extend_from_slice(b", sent on ")?;
     push_day(alloc, transfer.day, out)?;
     out.extend_from_slice(b" from ")?;
-    out.extend_from_slice(transfer.payer.as_str().as_bytes())?;
-    if let Some(receipt) = &transfer.receipt {
-        out.extend_from_slice(b", received on ")?;
-        push_day(alloc, receipt.day, out)?;
-        out.extend_from_slice(b" into ")?;
-        out.extend_from_slice(receipt.payee.as_str().as_bytes())?;
-    }
-    out.extend_from_slice(b"\n")?;
-    Ok(())
+    push_shown(transfer.payer.as_str().as_bytes(), out)?;
+    push_receipt(alloc, transfer, out)
 }
 
-/// Appends what is held of the transfer of that ID.
+/// Appends what is held of the transfer that a request is on.
 fn push_transfer_of<L: Ledger>(
     alloc: Global,
     state: &State<L>,
-    id: &str,
+    request: &Request,
     out: &mut Vec<u8>,
 ) -> Result<(), Cause> {
+    let Some(id) = id_of(request) else {
+        return Ok(());
+    };
     for transfer in state.transfers() {
-        if transfer.id.as_str() == id {
-            push_transfer(alloc, state.styles(), transfer, out)?;
+        if transfer.id.as_str() == id.as_str() {
+            return push_transfer(alloc, state.styles(), transfer, out);
         }
     }
     Ok(())
 }
 
-/// Appends what is held that a refusal comes from: the branches that there are, the lock, or the transfer.
+/// Appends how the commodity of a sample is written already.
+fn push_style<L: Ledger>(
+    alloc: Global,
+    state: &State<L>,
+    request: &Request,
+    out: &mut Vec<u8>,
+) -> Result<(), Cause> {
+    let Request::Commodity { sample } = request else {
+        return Ok(());
+    };
+    let styles = state.styles();
+    let style = read_style(alloc, sample.as_str())?;
+    match styles.find(style.symbol.as_str()) {
+        Some(unit) => {
+            out.extend_from_slice(b"  held: ")?;
+            push_sample(alloc, styles, unit, out)?;
+            out.extend_from_slice(b"\n")?;
+            Ok(())
+        }
+        None => Ok(()),
+    }
+}
+
+/// Appends which count has reached its limit.
+fn push_count<L: Ledger>(
+    state: &State<L>,
+    request: &Request,
+    out: &mut Vec<u8>,
+) -> Result<(), Cause> {
+    match request {
+        Request::Branch { .. } => push_line(b"a treasury has at most 32 branches", out),
+        Request::Commodity { .. } => push_line(b"a treasury has at most 16 commodities", out),
+        _ => {
+            let Some(name) = branch_of(request) else {
+                return Ok(());
+            };
+            let Some(branch) = branch_named(state, name.as_str()) else {
+                return Ok(());
+            };
+            out.extend_from_slice(b"  a branch has at most ")?;
+            push_number(MAX_ENTRIES, out)?;
+            out.extend_from_slice(b" entries; ")?;
+            out.extend_from_slice(name.as_str().as_bytes())?;
+            out.extend_from_slice(b" has ")?;
+            push_number(branch.records.items().len(), out)?;
+            out.extend_from_slice(b"\n")?;
+            Ok(())
+        }
+    }
+}
+
+/// Appends how amounts or samples are written, where that of a request is none.
+fn push_form<L: Ledger>(
+    alloc: Global,
+    state: &State<L>,
+    request: &Request,
+    out: &mut Vec<u8>,
+) -> Result<(), Cause> {
+    match request {
+        Request::Commodity { .. } => push_sample_form(out),
+        Request::Dispatch { amount, .. } => {
+            push_amount_form(alloc, state.styles(), amount.as_str().as_bytes(), out)
+        }
+        _ => Ok(()),
+    }
+}
+
+/// Appends the account of a request, and what is said of it.
+fn push_account(request: &Request, form: &[u8], out: &mut Vec<u8>) -> Result<(), Cause> {
+    match account_of(request) {
+        Some(account) => {
+            push_named(b"account", account.as_str().as_bytes(), out)?;
+            push_line(form, out)
+        }
+        None => Ok(()),
+    }
+}
+
+/// Appends what stands against a request that is refused by a cause alone.
 pub fn push_held<L: Ledger>(
     alloc: Global,
     state: &State<L>,
@@ -119,16 +236,22 @@ pub fn push_held<L: Ledger>(
 ) -> Result<(), Cause> {
     match cause {
         Cause::UnknownBranch => push_branches(state, out),
-        Cause::Locked | Cause::LockBack => match branch_of(request) {
-            Some(name) => push_lock(alloc, state, name.as_str(), out),
-            None => Ok(()),
-        },
-        Cause::MarkClash | Cause::WrongBranch | Cause::AlreadyReceived | Cause::TooEarly => {
-            match id_of(request) {
-                Some(id) => push_transfer_of(alloc, state, id.as_str(), out),
-                None => Ok(()),
-            }
+        Cause::BranchName => push_line(NAME_FORM, out),
+        Cause::BadId => push_line(ID_FORM, out),
+        Cause::BadAccount => push_account(request, ACCOUNT_FORM, out),
+        Cause::ReservedAccount => { push_account(request, b"only transfers post there", out) }
+        Cause::Amount => push_form(alloc, state, request, out),
+        Cause::UnknownCommodity | Cause::Decimals => {
+            push_samples(alloc, state.styles(), b"declared", out)
         }
+        Cause::CommodityExists => push_style(alloc, state, request, out),
+        Cause::Full => push_count(state, request, out),
+        Cause::Locked | Cause::LockBack => push_lock(alloc, state, request, out),
+        Cause::MarkClash
+        | Cause::WrongBranch
+        | Cause::AlreadyReceived
+        | Cause::TooEarly
+        | Cause::TooMuch => push_transfer_of(alloc, state, request, out),
         _ => Ok(()),
     }
 }

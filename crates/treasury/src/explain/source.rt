@@ -1,28 +1,9 @@
-//! What a journal's text has at the line of a fault.
+//! What the transaction at the line of a fault has.
 
-use crate::explain::pieces::{push_amount, push_number, push_shown};
+use crate::explain::pieces::push_named_amount;
 use journal_format::{Posting, Txn, read_journal};
-use journal_lines::Lines;
 use money_core::{Cause, Styles, Unit, cost_of, is_declared, is_price};
 use std::alloc::Global;
-
-/// Appends the line of that number, with its number before it.
-pub fn push_source(text: &[u8], line: usize, out: &mut Vec<u8>) -> Result<(), Cause> {
-    for (number, bytes) in Lines::new(text) {
-        if number == line {
-            out.extend_from_slice(b"  ")?;
-            push_number(line, out)?;
-            out.extend_from_slice(b" |")?;
-            if !bytes.is_empty() {
-                out.extend_from_slice(b" ")?;
-                push_shown(bytes, out)?;
-            }
-            out.extend_from_slice(b"\n")?;
-            return Ok(());
-        }
-    }
-    Ok(())
-}
 
 /// The value of a posting, with its commodity; nothing where it has none, or is not exact.
 fn value_of(styles: &Styles, posting: &Posting) -> Option<(Unit, i64)> {
@@ -60,15 +41,30 @@ fn push_rest(alloc: Global, styles: &Styles, txn: &Txn, out: &mut Vec<u8>) -> Re
         let unit = Unit(number as u16);
         match sum_in(styles, txn.postings.items(), unit) {
             Some(0) => {}
-            Some(sum) => {
-                out.extend_from_slice(b"  left over: ")?;
-                push_amount(alloc, styles, unit, sum, out)?;
-                out.extend_from_slice(b"\n")?;
-            }
+            Some(sum) => push_named_amount(alloc, styles, b"left over", unit, sum, out)?,
             None => {}
         }
     }
     Ok(())
+}
+
+/// The transaction whose header stands at that line.
+pub fn transaction_at(
+    alloc: Global,
+    styles: &Styles,
+    text: &[u8],
+    line: usize,
+) -> Result<Option<Txn>, Cause> {
+    let list = match read_journal(alloc, text, styles) {
+        Ok(list) => list,
+        Err(fault) => return Err(fault.cause),
+    };
+    for located in list {
+        if located.line == line {
+            return Ok(Some(located.txn));
+        }
+    }
+    Ok(None)
 }
 
 /// Appends what the transaction whose header stands at that line leaves over.
@@ -79,15 +75,9 @@ pub fn push_left_over(
     line: usize,
     out: &mut Vec<u8>,
 ) -> Result<(), Cause> {
-    match read_journal(alloc, text, styles) {
-        Ok(list) => {
-            for located in &list {
-                if located.line == line {
-                    return push_rest(alloc, styles, &located.txn, out);
-                }
-            }
-            Ok(())
-        }
-        Err(fault) => Err(fault.cause),
+    match transaction_at(alloc, styles, text, line) {
+        Ok(Some(txn)) => push_rest(alloc, styles, &txn, out),
+        Ok(None) => Ok(()),
+        Err(cause) => Err(cause),
     }
 }

@@ -1,20 +1,20 @@
 //! The words that the program knows, and their help.
 
-ghost use Rattle.std.specs.Prelude.{◌≡◌, ◌∷◌, [], false, codes, IfOk};
+ghost use Rattle.std.specs.Prelude.{◌≡◌, ◌∷◌, [], Some, false, codes, IfOk};
 ghost use Rattle.clap.specs.Walk.{rule_of};
 ghost use Rattle.clap.specs.Simple.{app_of, new_app};
 ghost use Rattle.clap.specs.declared.builder.command.Command.TheViews.{out-Command};
-ghost use Rattle.treasury.specs.Known.{known, word, option, optional, operand, branch, day, account, id, begins, months, transfers, ends};
+ghost use Rattle.treasury.specs.Known.{known, word, option, optional, operand, number, branch, day, account, id, begins, months, transfers, ends};
 ghost use Rattle.treasury.specs.Knowing.{IsWord, HasMore};
 
-use clap::{Arg, Command};
+use clap::{Arg, Command, value_parser};
 use std::alloc::{AllocError, Global};
 
 /// The version that `--version` shows.
-const VERSION: &str = "0.2.0";
+const VERSION: &str = "0.3.0";
 
 /// What the program is for.
-const ABOUT: &str = "Keeps the books of a federation of branches, in a database file.";
+const ABOUT: &str = "Keeps the books of a federation of branches in a database file.";
 
 /// How the program is called, and what it ends with.
 const EXAMPLE: &str = r#"Example, a first day:
@@ -25,40 +25,46 @@ const EXAMPLE: &str = r#"Example, a first day:
   treasury balance --db books.db --branch north --day 2024-12-31
 
 The answer is written to standard output: ok, repeated, refused with a number and a name, or a report. Standard error
-says more of a refusal. DAY is a date as 2024-12-31, FILE the database.
+says why a command was refused, and notes what may have been meant otherwise. DAY is a date such as 2024-12-31, FILE
+the database.
 
-Status 0: done, repeated or reported. 1: refused, or cut off. 2: other words."#;
+Exit status 0: done, repeated or reported. 1: refused, or cut off. 2: the arguments were not understood."#;
 
 /// What each word does, in the order of a treasurer's year, with an example that works.
 const ABOUT_INIT: &str = "Makes the tables of a new treasury in FILE";
 
 const EXAMPLE_INIT: &str = "Example:\n  treasury init --db books.db";
 
-const ABOUT_BRANCH: &str = "Adds a branch, with an empty book";
+const ABOUT_BRANCH: &str = "Adds a branch with an empty book";
 
 const EXAMPLE_BRANCH: &str = "Example:\n  treasury branch --db books.db north";
 
-const ABOUT_COMMODITY: &str = "Adds a commodity, in the style of a sample amount";
+const ABOUT_COMMODITY: &str = "Adds a commodity in the style of a sample amount";
 
 const EXAMPLE_COMMODITY: &str =
     "Examples:\n  treasury commodity --db books.db '1,000.00 EUR'\n  treasury commodity --db books.db '$1,000.00'";
 
 const ABOUT_IMPORT: &str = "Enters a journal's new transactions into a branch's book";
 
-const EXAMPLE_IMPORT: &str =
-    "Example:\n  treasury import --db books.db --branch north north.journal\n\nWhat the branch has already is counted as repeated, so a journal may grow and be imported again.";
+const EXAMPLE_IMPORT: &str = r#"Examples:
+  treasury import --db books.db --branch north north.journal
+  hledger -f bank.csv print | treasury import --db books.db --branch north /dev/stdin
+
+A transaction that the branch has already is a repeat: it is counted and not entered again, so a journal may grow.
+One without a mark is known by its whole text: once edited, it is a new transaction.
+One with a mark, a comment line '; bookid:MARK' below its header, is known by the mark: with another text it is refused."#;
 
 const ABOUT_BALANCE: &str = "Reports a branch's balances through a day";
 
 const EXAMPLE_BALANCE: &str =
     "Example:\n  treasury balance --db books.db --branch north --day 2024-12-31";
 
-const ABOUT_REGISTER: &str = "Reports an account's postings, with running sums";
+const ABOUT_REGISTER: &str = "Reports an account's postings with running sums";
 
 const EXAMPLE_REGISTER: &str =
-    "Examples:\n  treasury register --db books.db --branch north --account assets:bank\n  treasury register --db books.db --branch north --account expenses --tag project=hall\n\nThe account's subaccounts are taken in.";
+    "Examples:\n  treasury register --db books.db --branch north --account assets:bank\n  treasury register --db books.db --branch north --account expenses --tag project=hall\n\nThe account's subaccounts are included.";
 
-const ABOUT_DISPATCH: &str = "Sends money from a branch to another";
+const ABOUT_DISPATCH: &str = "Sends money from one branch to another";
 
 const EXAMPLE_DISPATCH: &str =
     "Example:\n  treasury dispatch --db books.db --id t7 --from north --to south --day 2024-03-01 --amount '50.00 EUR' --account assets:bank";
@@ -72,45 +78,64 @@ const ABOUT_TRANSIT: &str = "Reports what is on its way between branches through
 
 const EXAMPLE_TRANSIT: &str = "Example:\n  treasury transit --db books.db --day 2024-12-31";
 
-const ABOUT_LOCK: &str = "Locks a branch through a day: no more entries on it or before";
+const ABOUT_LOCK: &str = "Locks a branch through a day: no new entries on that day or before";
 
-const EXAMPLE_LOCK: &str =
-    "Example:\n  treasury lock --db books.db --branch north --day 2024-01-31";
+const EXAMPLE_LOCK: &str = r#"Example:
+  treasury lock --db books.db --branch north --day 2024-01-31
+
+A lock cannot be undone, and never goes back. A branch that is to be closed at that day is closed first: the closing
+locks it as well."#;
 
 const ABOUT_CLOSE: &str = "Closes a branch's revenues and expenses at a day, and locks it";
 
-const EXAMPLE_CLOSE: &str =
-    "Example:\n  treasury close --db books.db --branch north --day 2024-12-31";
+const EXAMPLE_CLOSE: &str = r#"Example:
+  cp books.db before-closing.db
+  treasury close --db books.db --branch north --day 2024-12-31
+
+A closing cannot be undone: its entry stays, and the branch is locked through that day for good. A copy of FILE from
+before is the only way back."#;
 
 const ABOUT_JOURNAL: &str = "Reports a branch's book as a journal in hledger's format";
 
 const EXAMPLE_JOURNAL: &str =
-    "Example:\n  treasury journal --db books.db --branch north > north.journal";
+    "Example:\n  treasury journal --db books.db --branch north > north.book.journal";
+
+const ABOUT_SERVE: &str = "Answers requests over HTTP on 127.0.0.1, one connection after another";
+
+const EXAMPLE_SERVE: &str = r#"Example:
+  treasury serve --db books.db --port 8080 --requests 4294967295
+
+Standard output says `listening` once connections can be made, and standard error the address: with PORT 0 the system
+chooses one. After N connections it ends. FILE is in use until then. Routes:
+  POST /commands             its body is a request, one JSON object, as a line of `run`
+  GET /balance/BRANCH/DAY    the branch's balances through the day
+  GET /journal/BRANCH        the branch's journal
+  GET /transit/DAY           what is on its way between branches through the day"#;
 
 const ABOUT_RUN: &str = "Answers the requests on standard input, in memory alone";
 
 /// A day's requests and their answers.
-const EXAMPLE_RUN: &str = r#"One JSON object a line is a request. Requests:
+const EXAMPLE_RUN: &str = r#"Each line is a request, one JSON object. Requests:
   {"do":"branch","name":NAME}                    a new branch
   {"do":"commodity","sample":AMOUNT}             a new commodity, in the style of the amount
-  {"do":"import","branch":NAME,"journal":TEXT}   a journal's transactions, into the branch
+  {"do":"import","branch":NAME,"journal":TEXT}   a journal's new transactions, into the branch
   {"do":"dispatch","id":ID,"from":NAME,"to":NAME,"day":DAY,"amount":AMOUNT,"account":ACCOUNT}
-                                                 money on its way from the branch's account
+                                                 money sent from the branch's account
   {"do":"receive","id":ID,"branch":NAME,"day":DAY,"account":ACCOUNT}
-                                                 money that has come into the branch's account
-  {"do":"lock","branch":NAME,"day":DAY}          no more entries through the day
+                                                 money received into the branch's account
+  {"do":"lock","branch":NAME,"day":DAY}          no new entries through the day
   {"do":"close","branch":NAME,"day":DAY}         revenues and expenses to zero through the day, and a lock
 
 Reports:
   {"do":"balance","branch":NAME,"day":DAY}       the branch's balances through the day
   {"do":"register","branch":NAME,"account":ACCOUNT}
-                                                 the account's and its subaccounts' postings, with running sums;
+                                                 the postings of the account and its subaccounts, with running sums;
                                                  with "tag":TAG or "tag":"TAG=VALUE" of transactions that have it
   {"do":"transit","day":DAY}                     what is on its way between branches through the day
   {"do":"journal","branch":NAME}                 the branch's journal
 
 Each is answered by a line that begins with ok, repeated or refused; a report stands above its ok.
-All is kept in memory, and ends with the input.
+Everything is kept in memory, and is gone when the input ends.
 
 Example:
   $ treasury run
@@ -124,11 +149,15 @@ const NAME_HELP: &str = "A lower-case letter, then at most 31 lower-case letters
 
 const SAMPLE_HELP: &str = "An amount in the commodity's style, with its decimal mark";
 
-const JOURNAL_HELP: &str = "The journal's file, of at most 1 MiB";
+const JOURNAL_HELP: &str = "The journal's file, at most 1 MiB; /dev/stdin for standard input";
 
-const TAG_HELP: &str = "Only of transactions that have the tag: NAME, or NAME=VALUE";
+const TAG_HELP: &str = "Only transactions that have the tag: NAME, or NAME=VALUE";
 
-const ID_HELP: &str = "The transfer: at most 64 letters, digits or -._";
+const PORT_HELP: &str = "The port, 0 to 65535; 0 has the system choose one";
+
+const REQUESTS_HELP: &str = "After how many connections it ends, at most 4294967295";
+
+const ID_HELP: &str = "The transfer: 1 to 64 letters, digits or -._";
 
 /// An option that may be given, with a value.
 fn optional<'a>(alloc: Global, name: &'a str, value: &'a str, help: &'a str) -> Arg<'a>
@@ -173,7 +202,7 @@ fn day_option<'a>(alloc: Global) -> Arg<'a>
     ensures rule { rule_of result ≡ day }
     ensures local { result.global ≡ false }
 {
-    option(alloc, "day", "DAY", "The day, as 2024-12-31")
+    option(alloc, "day", "DAY", "The day, such as 2024-12-31")
 }
 
 /// The option of the account that a word is on.
@@ -251,7 +280,7 @@ fn register<'a>(alloc: Global) -> Result<Command<'a>, AllocError>
 {
     word(alloc, "register", ABOUT_REGISTER, EXAMPLE_REGISTER)?
         .arg(branch_option(alloc))?
-        .arg(account_option(alloc, "The account, with its subaccounts"))?
+        .arg(account_option(alloc, "The account, including its subaccounts"))?
         .arg(optional(alloc, "tag", "TAG", TAG_HELP))
 }
 
@@ -271,7 +300,7 @@ fn dispatch<'a>(alloc: Global) -> Result<Command<'a>, AllocError>
 {
     sending(alloc)?
         .arg(day_option(alloc))?
-        .arg(option(alloc, "amount", "AMOUNT", "What is sent"))?
+        .arg(option(alloc, "amount", "AMOUNT", "The amount that is sent"))?
         .arg(account_option(alloc, "The account that pays"))
 }
 
@@ -348,6 +377,31 @@ fn with_transfers<'a>(alloc: Global, command: Command<'a>) -> Result<Command<'a>
         .subcommand(transit(alloc)?)
 }
 
+/// The port that a word listens on.
+fn port_option<'a>(alloc: Global) -> Arg<'a>
+    ensures rule { rule_of result ≡ number (codes "port") 65535 }
+    ensures local { result.global ≡ false }
+{
+    option(alloc, "port", "PORT", PORT_HELP).value_parser(value_parser!(u16))
+}
+
+/// The number of connections that a word serves.
+fn requests_option<'a>(alloc: Global) -> Arg<'a>
+    ensures rule { rule_of result ≡ number (codes "requests") 4294967295 }
+    ensures local { result.global ≡ false }
+{
+    option(alloc, "requests", "N", REQUESTS_HELP).value_parser(value_parser!(u32))
+}
+
+/// The word `serve`.
+fn serve<'a>(alloc: Global) -> Result<Command<'a>, AllocError>
+    ensures { IfOk result (IsWord (codes "serve") (number (codes "port") 65535 ∷ number (codes "requests") 4294967295 ∷ [])) }
+{
+    word(alloc, "serve", ABOUT_SERVE, EXAMPLE_SERVE)?
+        .arg(port_option(alloc))?
+        .arg(requests_option(alloc))
+}
+
 /// The word `run`, which is over no file.
 fn run<'a>(alloc: Global) -> Command<'a>
     ensures app { app_of result ≡ new_app (codes "run") }
@@ -365,12 +419,13 @@ fn with_locks<'a>(alloc: Global, command: Command<'a>) -> Result<Command<'a>, Al
     command.subcommand(lock(alloc)?)?.subcommand(close(alloc)?)
 }
 
-/// With the words of a month's or a year's end, and `run`.
+/// With the words of a month's or a year's end, `serve` and `run`.
 fn with_ends<'a>(alloc: Global, command: Command<'a>) -> Result<Command<'a>, AllocError>
     ensures { IfOk result (HasMore ends command.entry) }
 {
     with_locks(alloc, command)?
         .subcommand(journal(alloc)?)?
+        .subcommand(serve(alloc)?)?
         .subcommand(run(alloc))
 }
 

@@ -12,6 +12,7 @@ ghost use Rattle.treasury.specs.OverFile.{IsRefusedBy, IsFileRefused, SaysToInit
 ghost use Rattle.treasury.specs.Started.{spoken, IsRoom, IsStarted};
 
 use crate::explain::{explain, sentence};
+use crate::notes::{held_before, notes_of};
 use crate::words::file::{
     FileTreasury, Unopened, close_treasury, make_tables, open_treasury, read_journal_file,
 };
@@ -27,7 +28,7 @@ use treasury_api::{Bytes, Request, answer, refuse, request_of};
 use treasury_store::Treasury;
 
 /// Said where a file serves no word.
-fn refused_file(alloc: Global, room: Vec<u8>, path: &str, unopened: Unopened) -> Said
+pub fn refused_file(alloc: Global, room: Vec<u8>, path: &str, unopened: Unopened) -> Said
     requires { IsRoom room }
     ensures { IsFileRefused (spoken result) }
 {
@@ -38,11 +39,38 @@ fn refused_file(alloc: Global, room: Vec<u8>, path: &str, unopened: Unopened) ->
         }
         Unopened::Unusable(reason) => refused(alloc, room, Cause::Store, path, reason),
         Unopened::NoTreasury(reason) => refused(alloc, room, Cause::Damaged, path, reason),
+        Unopened::OtherVersion(version) => refused_version(alloc, room, path, version),
+        Unopened::Strange(told) => {
+            let reason = match str::from_utf8(told.as_slice()) {
+                Ok(reason) => reason,
+                Err(_) => sentence(Cause::Damaged),
+            };
+            refused(alloc, room, Cause::Damaged, path, reason)
+        }
+    }
+}
+
+/// Said where the tables of a file are of another version, or are not those of the version that they name.
+fn refused_version(alloc: Global, room: Vec<u8>, path: &str, version: i64) -> Said
+    requires { IsRoom room }
+    ensures { IsRefusedBy Cause.Damaged (spoken result) }
+{
+    match format!(in alloc;
+        "the tables name version {version}; only version 1 without a table receipt and version 2 with it are opened"
+    ) {
+        Ok(reason) => refused(alloc, room, Cause::Damaged, path, reason.as_str()),
+        Err(_) => refused(
+            alloc,
+            room,
+            Cause::Damaged,
+            path,
+            "the tables are of another version",
+        ),
     }
 }
 
 /// Said where a value is not given that the word has to have. The words that are taken have them all.
-fn lacking(alloc: Global, room: Vec<u8>, word: &str) -> Said
+pub fn lacking(alloc: Global, room: Vec<u8>, word: &str) -> Said
     requires { IsRoom room }
     ensures { IsRefusedBy Cause.Request (spoken result) }
 {
@@ -78,10 +106,11 @@ pub fn answer_word<S: Alter>(
     ensures { SaysTo S.Store treasury.old request.now result.answer.items result.is_refused treasury.new }
 {
     let mut text = Vec::new(alloc);
+    let held = held_before(treasury, request);
     match answer(alloc, request, treasury, &mut text) {
         Ok(()) => Said {
             answer: text,
-            reason: Vec::new(alloc),
+            reason: notes_of(alloc, treasury, request, source, held),
             is_refused: false,
         },
         Err(refusal) => {
@@ -200,7 +229,7 @@ fn answer_form<S: Start>(
 {
     let alloc = rt.alloc();
     let Some(form) = form_of_word(word, values) else {
-        let reason = "the day is no date; one is written 2024-12-31";
+        let reason = "the day is not a date; dates are written as 2024-12-31";
         return refused(alloc, room, Cause::Request, word, reason);
     };
     match request_of(alloc, form) {

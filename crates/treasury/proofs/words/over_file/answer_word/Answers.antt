@@ -1,15 +1,19 @@
-use Rattle.std.proofs.Common.{ℕ, List, subst}
+use Rattle.std.proofs.Common.{◌≡◌, ℕ, List, true, false, Result, refl, subst}
+use Rattle.book_core.specs.declared.refusal.Refusal.{Refusal}
+use Rattle.treasury_core.specs.declared.command.Answer.{Answer}
+use Rattle.treasury_api.specs.OneRequest.{is_refusal}
 use Rattle.treasury_api.proofs.AnswerLemmas.{IsAnswered}
-use Rattle.treasury.proofs.SaidLemmas.{said_done, said_refusal}
+use Rattle.treasury_api.proofs.OneRequestLemmas.{said_done, said_refusal}
 use Rattle.treasury.proofs.words.over_file.answer_word.Goals as goal
 
 pub returns-in-Ok : goal.returns-in-Ok
 returns-in-Ok g c =
-    said_done g.S.Store c.args.treasury.now c.answer.new.treasury c.answer.new.out.items c.args.request.now c.answer.result c.in-Ok.field-0 c.in-Ok.is c.requires.days c.answer.ensures.clean
+    said_done g.S.Store c.args.treasury.now c.answer.new.treasury c.answer.new.out.items c.args.request.now (λ (reply : Result Answer Refusal). false ≡ is_refusal reply) c.answer.result c.in-Ok.field-0 c.in-Ok.is c.requires.days c.answer.ensures.clean
     (λ k f of. subst (λ (xs : List ℕ). IsAnswered g.S.Store c.args.treasury.now.store.failed c.answer.new.treasury f c.args.request.now c.answer.result xs c.answer.new.out.items) c.new-text.ensures.items (c.answer.ensures.replies k f of))
+    (λ answer. refl)
 
 pub returns-in-Err : goal.returns-in-Err
 returns-in-Err g c =
-    said_refusal g.S.Store c.args.treasury.now c.answer.new.treasury c.answer.new.out.items _ c.args.request.now c.answer.result c.in-Err.refusal c.in-Err.is c.requires.days c.answer.ensures.clean
+    said_refusal g.S.Store c.args.treasury.now c.answer.new.treasury c.answer.new.out.items _ c.args.request.now (λ (reply : Result Answer Refusal). true ≡ is_refusal reply) c.answer.result c.in-Err.refusal c.in-Err.is c.requires.days c.answer.ensures.clean
     (λ k f of. subst (λ (xs : List ℕ). IsAnswered g.S.Store c.args.treasury.now.store.failed c.answer.new.treasury f c.args.request.now c.answer.result xs c.answer.new.out.items) c.new-text.ensures.items (c.answer.ensures.replies k f of))
-    c.refuse.ensures
+    c.refuse.ensures refl refl

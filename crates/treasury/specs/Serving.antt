@@ -1,0 +1,78 @@
+-- What `serve` says and does over a database file (own rules; docs/RULES.md, "The program"), while the disk returns what was written.
+-- Of what a socket gives or takes nothing is said: whichever calls come, they are answered one after another.
+use Rattle.std.specs.Prelude.{◌≡◌, ◌<◌, ◌⊎◌, ◌^◌, ℕ, false, List, [], ◌++◌, Option, None, Some, codes}
+use Rattle.std.specs.Str.Parse.{IsNumeral, without_leading_plus, digits_value}
+use Rattle.clap.specs.Walk.{Row, first_of, one_of}
+use Rattle.sqlite_disk.specs.declared.Disk as disk
+use Rattle.sqlite_disk.specs.declared.Files.{Files}
+use Rattle.sqlite_wal.specs.Recovery.{Image}
+use Rattle.sqlite_wal.specs.Reads.{AreClean}
+use Rattle.sqlite_store.specs.declared.store.FileStore.{FileStore}
+use Rattle.sqlite.specs.Held.{Held}
+use Rattle.sqlite.specs.Start.{FindsIn}
+use Rattle.sqlite.specs.Files.{image_of, file_state, IsOpened}
+use Rattle.money_core.specs.declared.cause.Cause.TheVariants.{OutOfMemory, Request as NoRequest, ReadFault}
+use Rattle.treasury_core.specs.Federation.{Federation}
+use Rattle.treasury_api.specs.Step.{Standing}
+use Rattle.treasury_api.specs.Web.{AnsweredCall, AreServed}
+use Rattle.treasury.specs.OverFile.{Spoken, Tells, IsRefusedBy, IsFileRefused, HoldsState, ShowsState}
+
+-- ---- its values
+
+-- a whole number of that many bits, in decimal digits
+abbrev pub IsNumber : ℕ → List ℕ → Type 0
+IsNumber bits text = IsNumeral 10 (without_leading_plus text) × (digits_value 10 (without_leading_plus text) < 2 ^ bits)
+
+-- the number of that name is not given
+abbrev pub LacksNumber : ℕ → List ℕ → List Row → Type 0
+LacksNumber bits name values =
+    (one_of name values ≡ None) ⊎ ((text : List ℕ) × (one_of name values ≡ Some text) × (IsNumber bits text → ⊥))
+
+-- the file, the port or the number of connections is not given
+abbrev pub LacksValue : List Row → Type 0
+LacksValue values =
+    (first_of (codes "db") values ≡ None) ⊎ (LacksNumber 16 (codes "port") values ⊎ LacksNumber 32 (codes "requests") values)
+
+-- ---- what is said
+
+-- connections can be made
+abbrev pub listening : List ℕ
+listening = codes "listening\n"
+
+-- nothing
+abbrev pub silent : Spoken
+silent = record { text = []; refused = false }
+
+-- `listening`, and then something, or nothing
+abbrev pub after_listening : Spoken → Spoken
+after_listening said = record said { text = listening ++ said.text }
+
+module _ {D : Type 0} (g : disk.Ghosts D) where
+  -- A file was opened and closed, and calls were answered in between. What its connection showed first is what the image holds, and of
+  -- whichever state these are the rows: each call is answered by the state that the one before it left, and the file that is closed
+  -- holds the rows of the state where the last one leads.
+  pub record ServesOver (image : Image) : Type 0 where
+    pub opened : Held (FileStore D g)
+    pub closed : Files D
+    pub found : AreClean g closed.log closed.db → FindsIn image (file_state opened)
+    pub serves : AreClean g closed.log closed.db → IsOpened opened
+    pub answers : AreClean g closed.log closed.db → (f : Federation) → ShowsState g opened f
+        → (calls : List AnsweredCall) × (end : Standing) × AreServed (record { now = f; failed = false }) calls end × HoldsState (image_of g closed) end.now
+
+  -- how it ends once connections can be made: they are served, or one of them cannot be accepted, which is 45; or the file cannot be
+  -- closed
+  abbrev pub EndsServing : Image → Spoken → Type 0
+  EndsServing image said = (ServesOver image × ((said ≡ silent) ⊎ IsRefusedBy ReadFault said)) ⊎ IsFileRefused said
+
+  -- what is said to `serve`: a value is lacking, which is 44; or the file is refused, or the port, which is 45; or connections can be made
+  abbrev pub SaysToServe : Image → List Row → Spoken → Type 0
+  SaysToServe image values said =
+      (LacksValue values × IsRefusedBy NoRequest said)
+      ⊎ (IsFileRefused said
+      ⊎ ((ServesOver image × IsRefusedBy ReadFault said)
+      ⊎ ((rest : Spoken) × (said ≡ after_listening rest) × EndsServing image rest)))
+
+  -- `serve` is told what is said to it, or 40
+  abbrev pub IsServed : {W : Type 0} → Image → (W → Option (List ℕ)) → W → W → ℕ → List Row → Type 0
+  IsServed image contents w0 w1 status values =
+      (said : Spoken) × Tells contents w0 w1 status said × (IsRefusedBy OutOfMemory said ⊎ SaysToServe image values said)

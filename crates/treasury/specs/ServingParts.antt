@@ -1,0 +1,44 @@
+-- Mirrors code: how `serve` is done, part by part.
+use Rattle.std.specs.Prelude.{◌≡◌, ◌⊎◌, ℕ, Bool, true, false, List, take, Option, None, Some}
+use Rattle.std.specs.Io.KnownBytes.{Appends}
+use Rattle.clap.specs.Walk.{Row}
+use Rattle.sqlite_disk.specs.declared.Disk as disk
+use Rattle.sqlite_wal.specs.Recovery.{Image}
+use Rattle.money_core.specs.declared.cause.Cause.TheVariants.{Request as NoRequest, ReadFault}
+use Rattle.treasury.specs.declared.words.serving.Ending.{Ending}
+use Rattle.treasury.specs.declared.words.serving.Ending.TheVariants.{Unbound, Unwritten, Unaccepted, Finished}
+use Rattle.treasury.specs.OverFile.{Spoken, IsRefusedBy, IsFileRefused}
+use Rattle.treasury.specs.Serving.{ServesOver, LacksValue, listening, silent}
+
+-- `listening` is written once connections can be made, or a first part of it where the output takes no more
+abbrev pub IsAnnouncedBy : {W : Type 0} → (W → Option (List ℕ)) → W → W → Ending → Type 0
+IsAnnouncedBy contents w0 w1 (Unbound reason) = w1 ≡ w0
+IsAnnouncedBy contents w0 w1 Unwritten = (taken : ℕ) × Appends (contents w0) (contents w1) (take taken listening)
+IsAnnouncedBy contents w0 w1 Unaccepted = Appends (contents w0) (contents w1) listening
+IsAnnouncedBy contents w0 w1 Finished = Appends (contents w0) (contents w1) listening
+
+abbrev pub ends_unwritten : Option Ending → Bool
+ends_unwritten (Some Unwritten) = true
+ends_unwritten _ = false
+
+-- what is said then, where the file is closed
+abbrev pub SaysAtEnd : Ending → Spoken → Type 0
+SaysAtEnd (Unbound reason) said = IsRefusedBy ReadFault said
+SaysAtEnd Unwritten said = said ≡ silent
+SaysAtEnd Unaccepted said = IsRefusedBy ReadFault said
+SaysAtEnd Finished said = said ≡ silent
+
+-- nothing is written where it does not begin
+abbrev pub IsAnnounced : {W : Type 0} → (W → Option (List ℕ)) → W → W → Option Ending → Type 0
+IsAnnounced contents w0 w1 None = w1 ≡ w0
+IsAnnounced contents w0 w1 (Some ending) = IsAnnouncedBy contents w0 w1 ending
+
+module _ {D : Type 0} (g : disk.Ghosts D) where
+  -- and where it may not be
+  abbrev pub EndsBy : Image → Ending → Spoken → Type 0
+  EndsBy image ending said = IsFileRefused said ⊎ (ServesOver g image × SaysAtEnd ending said)
+
+  -- and where it did not begin
+  abbrev pub SaysServing : Image → List Row → Option Ending → Spoken → Type 0
+  SaysServing image values None said = (LacksValue values × IsRefusedBy NoRequest said) ⊎ IsFileRefused said
+  SaysServing image values (Some ending) said = EndsBy image ending said
