@@ -1,4 +1,4 @@
-# Prints the requests of a benchmark: one branch, one commodity, and so many imports of so many transactions of two
+# Prints the requests of a benchmark: one branch, one commodity, and IMPORTS imports of TRANSACTIONS transactions of two
 # postings each, over 200 expense accounts and 28 days of each month of a year.
 # Use: awk -v imports=10 -v transactions=5000 -f bench/requests.awk
 BEGIN {
