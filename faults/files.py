@@ -1,4 +1,5 @@
-"""Commands over a file: those of faults/rows.session, each with the file before it, and what SQLite finds before it and after it."""
+"""Commands over a file: those of faults/rows.session, and some over databases of version 1, each with the file before it, and what
+SQLite finds before it and after it."""
 import os
 import re
 import shlex
@@ -6,10 +7,33 @@ import shutil
 import sqlite3
 import subprocess
 import tempfile
+import types
 
 import shared
 
 DONE = re.compile(r"ok ([0-9]+) new, ([0-9]+) repeated\n")
+# What an opening adds to the tables of version 1 (docs/FORMATS.md, "Tables").
+RECEIPT = (
+    "CREATE TABLE receipt (transfer TEXT NOT NULL, part TEXT NOT NULL, qty INTEGER NOT NULL, received INTEGER NOT NULL, "
+    "payee TEXT NOT NULL, PRIMARY KEY (transfer, part)) STRICT"
+)
+# Databases of version 1 in cases/data; over each, the commands that open it, and their answers, as cases/versions.session has them.
+OPENINGS = {
+    "version_1_transfer": [
+        ("treasury balance --db t.db --branch north --day 2024-03-31",
+         ["          -50.00 EUR  assets:bank", "           50.00 EUR  assets:transit:north:south"]),
+        ("treasury receive --db t.db --id t9 --branch south --day 2024-03-05 --account assets:bank", ["refused 31 UnknownTransfer"]),
+    ],
+    "version_1_year": [
+        ("treasury transit --db t.db --day 2024-12-31", ["           10.00 EUR  north to south"]),
+        ("treasury receive --db t.db --id t9 --branch south --day 2025-01-02 --account assets:bank", ["ok"]),
+    ],
+}
+
+
+def second(tables):
+    """Returns tables of version 1 as an opening leaves them: of version 2, with no receipt in parts."""
+    return sorted((sql, [(2,)] if sql.startswith("CREATE TABLE format ") else rows) for sql, rows in [*tables, (RECEIPT, [])])
 
 
 def repeated(words, answer):
@@ -23,22 +47,31 @@ def repeated(words, answer):
 
 
 class Command:
-    """A command over t.db: what it is answered, and answered again; what the folder has before it, and the tables before it and after."""
+    """A command over t.db: what it is answered, and answered again; what the folder has before it, and the tables before it and after.
+    Those before it may be there in version 1 or, once they were opened, in version 2."""
 
     def __init__(self, title, step):
         self.words, self.answer = shlex.split(step.text)[1:], "".join(line + "\n" for line in step.answer)
         self.title = f"{title}: {' '.join(self.words)}"
         self.status = int(self.answer.startswith("refused "))
         self.again = repeated(self.words, self.answer)
-        self.files, self.before, self.after, self.calls = None, None, None, None
+        self.files, self.befores, self.after, self.calls = None, None, None, None
 
     def run(self, program, folder):
         """Runs it for the first time, and keeps what was there before it, and the tables."""
-        self.files, self.before = files_in(folder), tables(folder)
+        before = tables(folder)
+        is_first = any(sql.startswith("CREATE TABLE format ") and rows == [(1,)] for sql, rows in before)
+        self.files, self.befores = files_in(folder), [before, second(before)] if is_first else [before]
         answer, status = run(program, folder, self.words)
         if (answer, status) != (self.answer, self.status):
             raise SystemExit(f"{self.title}: {answer!r} with status {status}")
         self.after = tables(folder)
+        if is_first and self.answer != "ok\n" and self.after != second(before):
+            raise SystemExit(f"{self.title}: opened, it has {self.after}")
+
+    def is_done(self, found):
+        """Whether these tables are those after it, and others than before it."""
+        return found == self.after and found not in self.befores
 
 
 def files_in(folder):
@@ -72,15 +105,19 @@ def rows_of(connection):
     return [(sql, connection.execute(f'SELECT * FROM "{name}"').fetchall()) for name, sql in tables]
 
 
+def is_begun(folder):
+    """Whether t.db is not there, or empty, or only begun by `init`, with a first byte of 0."""
+    if not os.path.exists(f"{folder}/t.db"):
+        return True
+    with open(f"{folder}/t.db", "rb") as file:
+        return file.read(1) in (b"", b"\0")
+
+
 def tables(folder):
-    """Returns the tables of t.db alone, without its log; none where it is not there, or empty, or only begun, with a first byte of 0."""
-    path = f"{folder}/t.db"
-    if not os.path.exists(path):
+    """Returns the tables of t.db alone, without its log; none of a file that is only begun."""
+    if is_begun(folder):
         return []
-    with open(path, "rb") as file:
-        if file.read(1) in (b"", b"\0"):
-            return []
-    connection = sqlite3.connect(f"file:{path}?immutable=1", uri=True)
+    connection = sqlite3.connect(f"file:{folder}/t.db?immutable=1", uri=True)
     try:
         return rows_of(connection)
     finally:
@@ -88,7 +125,9 @@ def tables(folder):
 
 
 def tables_with_log(folder):
-    """Returns the tables of a copy of t.db and its log, which SQLite recovers."""
+    """Returns the tables of a copy of t.db and its log, which SQLite recovers; none of a file that is only begun."""
+    if is_begun(folder):
+        return []
     with tempfile.TemporaryDirectory(dir=folder) as copy:
         for name in ("t.db", "t.db-wal"):
             if os.path.exists(f"{folder}/{name}"):
@@ -100,8 +139,16 @@ def tables_with_log(folder):
             connection.close()
 
 
+def opening(program, place, name, text, answer):
+    """Returns a command that opens a database of version 1."""
+    put(place, {"t.db": (shared.TOP / f"cases/data/{name}.db").read_bytes()})
+    command = Command(f"an opening of {name}", types.SimpleNamespace(text=text, answer=answer))
+    command.run(program, place)
+    return command
+
+
 def commands(program, place):
-    """Returns the commands of the rows, each once."""
+    """Returns the commands of the rows, each once, and the openings."""
     found, met = [], set()
     for session in shared.loaded("sessions").sessions_of(f"{shared.TOP}/faults/rows.session"):
         put(f"{place}/row", {})
@@ -115,4 +162,4 @@ def commands(program, place):
             if id(step) not in met:
                 found.append(command)
             met.add(id(step))
-    return found
+    return found + [opening(program, f"{place}/row", name, *one) for name, those in OPENINGS.items() for one in those]
