@@ -1,5 +1,4 @@
 pub mod SumLemmas
-pub mod NameLemmas
 pub mod RestLemmas
 pub mod LimitLemmas
 pub mod FaultLemmas

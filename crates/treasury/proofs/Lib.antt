@@ -1,5 +1,4 @@
 pub mod RunLemmas
-pub mod LeftLemmas
 pub mod OverFileLemmas
 pub mod ToldLemmas
 pub mod FileLemmas

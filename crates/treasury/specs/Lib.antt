@@ -2,7 +2,6 @@
 pub mod Known
 pub mod Spelling
 pub mod Word
-pub mod Left
 pub mod OverFile
 pub mod Look
 pub mod Serving

@@ -13,9 +13,7 @@ pub mod DecideLemmas
 pub mod HistoryLemmas
 pub mod JoinedLemmas
 pub mod LookupLemmas
-pub mod MarkLemmas
 pub mod AskedLemmas
-pub mod PartLemmas
 pub mod ShareLemmas
 pub mod WayLemmas
 pub mod PassLemmas
@@ -23,7 +21,6 @@ pub mod GetsLemmas
 pub mod TransferLemmas
 pub mod OrderLemmas
 pub mod FairLemmas
-pub mod ReceiveLemmas
 pub mod KeepLemmas
 pub mod DispatchLemmas
 pub mod ProductLemmas
@@ -37,9 +34,6 @@ pub mod EnteredLemmas
 pub mod SoundLemmas
 pub mod LateEntryLemmas
 pub mod WorkedHistory
-pub mod WorkedState
-pub mod WorkedChoice
-pub mod WorkedParts
 pub mod RoomLemmas
 pub mod PlaceLemmas
 pub mod BackLemmas
@@ -55,7 +49,6 @@ pub mod UnitRowLemmas
 pub mod EntryRowLemmas
 pub mod BranchRowLemmas
 pub mod TransferRowLemmas
-pub mod PartRowLemmas
 pub mod DraftedLemmas
 pub mod RowsLawLemmas
 pub mod SameRowLemmas
@@ -63,7 +56,6 @@ pub mod AccountOrder
 pub mod ClosingSums
 pub mod ClosingLoops
 pub mod ClosingLemmas
-pub mod ChoiceLemmas
 pub mod ClosingPrinted
 pub mod ClosingReply
 pub mod CloseLemmas

@@ -4,57 +4,33 @@ ghost use Rattle.std.specs.Prelude.{◌≡◌, IfOk};
 ghost use Rattle.std.specs.Result.{IsOkUnless};
 ghost use Rattle.clap.specs.Matches.{found_of};
 ghost use Rattle.clap.specs.Walk.{rows_of};
-ghost use Rattle.sqlite_wal.specs.Recovery.{Image};
 ghost use Rattle.sqlite_wal.specs.Files.{image_at};
 ghost use Rattle.treasury_api.specs.declared.request.Request.TheVariants.{Import};
 ghost use Rattle.treasury_api.specs.Request.{HasDayNumbers};
-ghost use Rattle.treasury_api.specs.Left.{LeavesRequest};
-ghost use Rattle.treasury.specs.declared.words.left.Left.TheVariants.{Untouched};
-ghost use Rattle.treasury.specs.Left.{KeepsFile};
 ghost use Rattle.treasury.specs.Word.{SaysTo};
-ghost use Rattle.treasury.specs.OverFile.{IsRefusedBy, IsFileRefused, SaysToInit, SaysOver, SaysToJournal, SaysToImport, SaysToForm, SaysToWord};
-ghost use Rattle.treasury.specs.Started.{spoken, IsRoom, IsStarted, refusal_of, IsClosedOrShut};
+ghost use Rattle.treasury.specs.OverFile.{IsRefusedBy, IsFileRefused, SaysToInit, SaysOver, SaysToImport, SaysToForm, SaysToWord};
+ghost use Rattle.treasury.specs.Started.{spoken, IsRoom, IsStarted};
 
 use crate::explain::{explain, sentence};
 use crate::notes::{held_before, notes_of};
 use crate::words::file::{
-    UNCLOSED, Unopened, Unserved, close_treasury, make_tables, open_treasury, read_journal,
+    FileTreasury, Unopened, close_treasury, make_tables, open_treasury, read_journal_file,
 };
-use crate::words::left::Left;
 use crate::words::said::{Said, done, refused, room_for_line};
-use crate::words::spelling::{fault_of, form_of_word, value_of};
+use crate::words::spelling::{form_of_word, value_of};
 use book_core::Refusal;
 use clap::ArgMatches;
 use money_core::{Cause, Text};
-use sqlite::{Alter, FileFrom, FileStore, Start};
+use sqlite::{Alter, FileFrom, Start};
 use sqlite_disk::Disk;
 use std::alloc::Global;
-use std::fs;
-use std::io::Read;
 use treasury_api::{Bytes, Request, answer, refuse, request_of};
 use treasury_store::Treasury;
-
-/// What is said to a word over a file, and what it leaves of the file.
-#[derive(Drop)]
-pub struct Answered<D: Disk> {
-    pub said: Said,
-    pub left: Left<D>,
-}
-
-/// Said where no file was opened.
-fn before<D: Disk>(said: Said) -> Answered<D>
-    ensures { result ≡ record { said = said; left = Untouched } }
-{
-    Answered {
-        said,
-        left: Left::Untouched,
-    }
-}
 
 /// Said where a file serves no word.
 pub fn refused_file(alloc: Global, room: Vec<u8>, path: &str, unopened: Unopened) -> Said
     requires { IsRoom room }
-    ensures { IsRefusedBy (refusal_of unopened) (spoken result) }
+    ensures { IsFileRefused (spoken result) }
 {
     match unopened {
         Unopened::NoMemory => {
@@ -127,8 +103,7 @@ pub fn answer_word<S: Alter>(
 ) -> Said
     requires room { IsRoom room }
     requires days { HasDayNumbers request.now }
-    ensures says { SaysTo S.Store treasury.old request.now result.answer.items result.is_refused treasury.new }
-    ensures left { LeavesRequest S.Store treasury.old treasury.new request.now }
+    ensures { SaysTo S.Store treasury.old request.now result.answer.items result.is_refused treasury.new }
 {
     let mut text = Vec::new(alloc);
     let held = held_before(treasury, request);
@@ -149,70 +124,31 @@ pub fn answer_word<S: Alter>(
     }
 }
 
-/// What is left of the file of a treasury of which nothing was asked. It is closed, where it can be.
-fn left_unasked<D: Disk + Drop>(treasury: Treasury<FileStore<D>>) -> Left<D>
-    ensures keeps { (image : Image) → IsStarted D.Disk image treasury → KeepsFile D.Disk image result }
-    ensures touched { IsClosedOrShut result }
-{
-    match close_treasury(treasury) {
-        Ok(files) => Left::Closed(files),
-        Err(store) => Left::Shut(store),
-    }
-}
-
 /// Answers the request of a word on the treasury of a file, and closes the file.
 ///
-/// Where it cannot be closed, it answers 41: what the request asks for is done then, or it is not. Where there is no memory
-/// to say so, nothing is asked, and it answers 40.
-fn answer_on_file<D: Disk + Drop>(
+/// Where it cannot be closed, it answers 41: what the request asks for is done then, or it is not.
+fn answer_on_file<S: Start>(
     alloc: Global,
     room: Vec<u8>,
     path: &str,
     request: &Request,
     source: &str,
-    treasury: Treasury<FileStore<D>>,
-) -> Answered<D>
+    treasury: FileTreasury<S>,
+) -> Said
     requires room { IsRoom room }
     requires days { HasDayNumbers request.now }
-    ensures says { (image : Image) → IsStarted D.Disk image treasury → SaysOver D.Disk image request.now (spoken result.said) result.left }
-    // What is handed back is what was closed, or could not be.
-    ensures touched { IsClosedOrShut result.left }
+    requires started { IsStarted ⟦<FileFrom<S> as Disk>⟧ (image_at S.Start) treasury }
+    ensures { SaysOver ⟦<FileFrom<S> as Disk>⟧ (image_at S.Start) request.now (spoken result) }
 {
     let Ok(spare) = room_for_line(alloc) else {
-        return Answered {
-            said: refused_file(alloc, room, path, Unopened::NoMemory),
-            left: left_unasked(treasury),
-        };
+        let _ = close_treasury(treasury);
+        return refused_file(alloc, room, path, Unopened::NoMemory);
     };
     let mut treasury = treasury;
     let said = answer_word(alloc, room, request, source, &mut treasury);
     match close_treasury(treasury) {
-        Ok(files) => Answered {
-            said,
-            left: Left::Closed(files),
-        },
-        Err(store) => Answered {
-            said: refused_file(alloc, spare, path, Unopened::Unusable(UNCLOSED)),
-            left: Left::Shut(store),
-        },
-    }
-}
-
-/// Said where a file serves no word, and what is left of it.
-fn refused_by<D: Disk>(
-    alloc: Global,
-    room: Vec<u8>,
-    path: &str,
-    unserved: Unserved<D>,
-) -> Answered<D>
-    requires { IsRoom room }
-    ensures refused { IsFileRefused (spoken result.said) }
-    ensures left { result.left ≡ unserved.left }
-{
-    let Unserved { why, left } = unserved;
-    Answered {
-        said: refused_file(alloc, room, path, why),
-        left,
+        Ok(()) => said,
+        Err(unopened) => refused_file(alloc, spare, path, unopened),
     }
 }
 
@@ -224,14 +160,14 @@ fn answer_request<S: Start>(
     request: &Request,
     source: &str,
     start: S,
-) -> Answered<FileFrom<S>>
+) -> Said
     requires room { IsRoom room }
     requires days { HasDayNumbers request.now }
-    ensures { SaysOver ⟦<FileFrom<S> as Disk>⟧ (image_at S.Start) request.now (spoken result.said) result.left }
+    ensures { SaysOver ⟦<FileFrom<S> as Disk>⟧ (image_at S.Start) request.now (spoken result) }
 {
     match open_treasury(rt, path, start) {
         Ok(treasury) => answer_on_file(rt.alloc(), room, path, request, source, treasury),
-        Err(refused) => refused_by(rt.alloc(), room, path, refused),
+        Err(unopened) => refused_file(rt.alloc(), room, path, unopened),
     }
 }
 
@@ -248,33 +184,6 @@ fn import_of(alloc: Global, branch: &str, journal: Vec<u8>) -> Result<Request, C
     Ok(Request::Import { branch, journal })
 }
 
-/// Answers `import`, whose journal a reader has. `source` names the journal.
-fn answer_journal<R: Read + Drop, S: Start>(
-    rt: &HostRuntime,
-    room: Vec<u8>,
-    path: &str,
-    branch: &str,
-    source: &str,
-    reader: R,
-    start: S,
-) -> Answered<FileFrom<S>>
-    requires { IsRoom room }
-    ensures { SaysToJournal ⟦<FileFrom<S> as Disk>⟧ (image_at S.Start) branch.now (R.remaining reader) (spoken result.said) result.left }
-{
-    let alloc = rt.alloc();
-    let bytes = match read_journal(alloc, reader) {
-        Ok(bytes) => bytes,
-        Err(cause) => {
-            let reason = "the journal's file cannot be read";
-            return before(refused(alloc, room, cause, source, reason));
-        }
-    };
-    match import_of(alloc, branch, bytes) {
-        Ok(request) => answer_request(rt, room, path, &request, source, start),
-        Err(cause) => before(refused(alloc, room, cause, source, sentence(cause))),
-    }
-}
-
 /// Answers `import`: the journal's file is read before the database is opened.
 fn answer_import<S: Start>(
     rt: &HostRuntime,
@@ -282,23 +191,27 @@ fn answer_import<S: Start>(
     path: &str,
     values: &ArgMatches<'_>,
     start: S,
-) -> Answered<FileFrom<S>>
+) -> Said
     requires { IsRoom room }
-    ensures { SaysToImport ⟦<FileFrom<S> as Disk>⟧ (image_at S.Start) (rows_of (found_of values.now)) (spoken result.said) result.left }
+    ensures { SaysToImport ⟦<FileFrom<S> as Disk>⟧ (image_at S.Start) (rows_of (found_of values.now)) (spoken result) }
 {
     let alloc = rt.alloc();
     let Some(branch) = value_of(values, "branch") else {
-        return before(lacking(alloc, room, "import"));
+        return lacking(alloc, room, "import");
     };
     let Some(journal) = value_of(values, "journal") else {
-        return before(lacking(alloc, room, "import"));
+        return lacking(alloc, room, "import");
     };
-    match fs::open(rt, journal) {
-        Ok(file) => answer_journal(rt, room, path, branch, journal, file, start),
-        Err(_) => {
+    let bytes = match read_journal_file(rt, journal) {
+        Ok(bytes) => bytes,
+        Err(cause) => {
             let reason = "the journal's file cannot be read";
-            before(refused(alloc, room, Cause::ReadFault, journal, reason))
+            return refused(alloc, room, cause, journal, reason);
         }
+    };
+    match import_of(alloc, branch, bytes) {
+        Ok(request) => answer_request(rt, room, path, &request, journal, start),
+        Err(cause) => refused(alloc, room, cause, journal, sentence(cause)),
     }
 }
 
@@ -310,36 +223,29 @@ fn answer_form<S: Start>(
     word: &str,
     values: &ArgMatches<'_>,
     start: S,
-) -> Answered<FileFrom<S>>
+) -> Said
     requires { IsRoom room }
-    ensures { SaysToForm ⟦<FileFrom<S> as Disk>⟧ (image_at S.Start) word.now (rows_of (found_of values.now)) (spoken result.said) result.left }
+    ensures { SaysToForm ⟦<FileFrom<S> as Disk>⟧ (image_at S.Start) word.now (rows_of (found_of values.now)) (spoken result) }
 {
     let alloc = rt.alloc();
     let Some(form) = form_of_word(word, values) else {
-        return before(refused(alloc, room, Cause::Request, word, fault_of(values)));
+        let reason = "the day is not a date; dates are written as 2024-12-31";
+        return refused(alloc, room, Cause::Request, word, reason);
     };
     match request_of(alloc, form) {
         Ok(request) => answer_request(rt, room, path, &request, "", start),
-        Err(cause) => before(refused(alloc, room, cause, word, sentence(cause))),
+        Err(cause) => refused(alloc, room, cause, word, sentence(cause)),
     }
 }
 
 /// Answers `init`: makes the tables of a new treasury.
-fn answer_init<S: Start>(
-    rt: &HostRuntime,
-    room: Vec<u8>,
-    path: &str,
-    start: S,
-) -> Answered<FileFrom<S>>
+fn answer_init<S: Start>(rt: &HostRuntime, room: Vec<u8>, path: &str, start: S) -> Said
     requires { IsRoom room }
-    ensures { SaysToInit ⟦<FileFrom<S> as Disk>⟧ (image_at S.Start) (spoken result.said) result.left }
+    ensures { SaysToInit ⟦<FileFrom<S> as Disk>⟧ (image_at S.Start) (spoken result) }
 {
     match make_tables(rt, path, start) {
-        Ok(files) => Answered {
-            said: done(rt.alloc(), room),
-            left: Left::Closed(files),
-        },
-        Err(refused) => refused_by(rt.alloc(), room, path, refused),
+        Ok(()) => done(rt.alloc(), room),
+        Err(unopened) => refused_file(rt.alloc(), room, path, unopened),
     }
 }
 
@@ -352,12 +258,12 @@ pub fn answer_over_file<S: Start>(
     word: &str,
     values: &ArgMatches<'_>,
     start: S,
-) -> Answered<FileFrom<S>>
+) -> Said
     requires { IsRoom room }
-    ensures { SaysToWord ⟦<FileFrom<S> as Disk>⟧ (image_at S.Start) word.now (rows_of (found_of values.now)) (spoken result.said) result.left }
+    ensures { SaysToWord ⟦<FileFrom<S> as Disk>⟧ (image_at S.Start) word.now (rows_of (found_of values.now)) (spoken result) }
 {
     let Some(path) = value_of(values, "db") else {
-        return before(lacking(rt.alloc(), room, word));
+        return lacking(rt.alloc(), room, word);
     };
     if word == "init" {
         return answer_init(rt, room, path, start);
