@@ -1,4 +1,5 @@
 pub mod SumLemmas
+pub mod NameLemmas
 pub mod RestLemmas
 pub mod LimitLemmas
 pub mod FaultLemmas
