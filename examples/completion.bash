@@ -10,10 +10,10 @@ _treasury_options() {
     balance) echo --db --branch --day --help ;;
     register) echo --db --branch --account --tag --help ;;
     dispatch) echo --db --id --from --to --day --amount --account --help ;;
-    receive) echo --db --id --branch --day --account --help ;;
+    receive) echo --db --id --branch --day --account --part --amount --help ;;
     transit) echo --db --day --help ;;
     lock) echo --db --branch --day --help ;;
-    close) echo --db --branch --day --help ;;
+    close) echo --db --branch --day --accounts --into --help ;;
     journal) echo --db --branch --help ;;
     serve) echo --db --port --requests --help ;;
     run) echo --help ;;
@@ -32,7 +32,7 @@ _treasury() {
         mapfile -t COMPREPLY < <(compgen -W "$(_treasury_options "${COMP_WORDS[1]}")" -- "$at")
     else
         case $before in
-        --branch | --id | --from | --to | --day | --amount | --account | --tag | --port | --requests) ;;
+        --branch | --id | --from | --to | --day | --amount | --account | --tag | --accounts | --into | --port | --requests) ;;
         *) mapfile -t COMPREPLY < <(compgen -f -- "$at") ;;
         esac
     fi

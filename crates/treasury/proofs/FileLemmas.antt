@@ -1,32 +1,24 @@
--- What an opening finds of a file that was closed, and words over a file one after another.
-use Rattle.std.proofs.Common.{◌≡◌, List, [], ◌∷◌, refl, sym, ap, subst, ◌∙◌, inl, inr}
-use Rattle.std.proofs.Math.Logic.{∥∥₁_elim}
+-- Words over a file, one after another.
+use Rattle.std.proofs.Common.{◌≡◌, false, List, [], ◌∷◌, refl, sym, subst, inl, inr}
+use Rattle.std.proofs.Math.Logic.{∥∥₁_elim, ∥∥₁_map}
 use Rattle.sqlite_disk.specs.declared.Disk as disk
+use Rattle.sqlite_disk.specs.declared.Files.{Files}
 use Rattle.sqlite_wal.specs.Recovery.{Image}
-use Rattle.sqlite_trees.specs.Tree.{Trees}
-use Rattle.sqlite_trees.specs.Props.{Trees-set}
-use Rattle.sqlite_trees.specs.Objects.{catalog_tree}
-use Rattle.sqlite_schema.specs.declared.schema.Schema.{Schema}
-use Rattle.sqlite_catalog.specs.Listing.{Lists}
-use Rattle.sqlite_catalog.proofs.ReadLemmas.{lists_once}
+use Rattle.sqlite_wal.specs.Reads.{AreClean}
 use Rattle.sqlite_store.specs.declared.store.FileStore.{FileStore}
-use Rattle.sqlite.specs.Effect.{Database, IsDatabase}
 use Rattle.sqlite.specs.Held.{Held}
 use Rattle.sqlite.specs.Start.{FindsIn}
-use Rattle.sqlite.specs.Files.{image_of, file_state, IsOpened}
+use Rattle.sqlite.specs.Files.{file_state, IsOpened}
 use Rattle.treasury_core.specs.Federation.{Federation}
-use Rattle.treasury_core.specs.Rows.{rows}
-use Rattle.treasury_store.specs.Rows.{Holds}
-use Rattle.treasury.specs.Word.{Told, AreTold}
-use Rattle.treasury.specs.OverFile.{HoldsState, IsLeft, ShowsState, AreToldOver}
-
--- two databases are one whose trees are the same
-same_database : (one other : Database) → IsDatabase one → IsDatabase other → one.trees ≡ other.trees → one ≡ other
-same_database one other listed found trees =
-    let schema : one.schema ≡ other.schema =
-    lists_once (other.trees catalog_tree) one.schema other.schema
-    (subst (λ (t : Trees). Lists (t catalog_tree) one.schema) trees listed.lists) found.lists in
-    ap (λ (s : Schema). record { schema = s; trees = one.trees }) schema ∙ ap (λ (t : Trees). record { schema = other.schema; trees = t }) trees
+use Rattle.treasury_core.specs.Good.{IsGoodState}
+use Rattle.treasury_core.specs.Rows.{rows, HasShortLocks}
+use Rattle.treasury_api.specs.Step.{Standing}
+use Rattle.treasury.specs.Word.{AnswersWord, Told, AreTold}
+use Rattle.treasury.specs.declared.words.left.Left.{Left}
+use Rattle.treasury.specs.declared.words.left.Left.TheVariants.{Closed}
+use Rattle.treasury.specs.Left.{HoldsRows, HoldsOf, IsLeft, IsCleanIn, MayBe}
+use Rattle.treasury.specs.OverFile.{HoldsState, LeavesState, ShowsState, AnswersOver, said_to, IsFileRefused, SaysOver, AreToldOver, AreAnsweredOver, AreToldBut}
+use Rattle.treasury.proofs.LeftLemmas.{shows_rows}
 
 -- the files that were left hold what they held, and so does the database file alone
 pub still_holds : (left next : Image) (f : Federation) → IsLeft left next → HoldsState left f → HoldsState next f
@@ -40,29 +32,66 @@ still_holds left next f (inr alone) holds = subst (λ (image : Image). HoldsStat
   alone = record { both = holds.alone.alone; alone = holds.alone.alone };
 })
 
+-- files that hold the rows of a state hold these
+pub holds_of : (image : Image) (f : Federation) → HoldsState image f → HoldsOf image f
+holds_of image f holds = record {
+  good = holds.good;
+  short = holds.short;
+  held = record { db = holds.db; listed = holds.listed; tables = inl holds.tables; both = holds.alone.both };
+}
+
 module _ {D : Type 0} (g : disk.Ghosts D) where
   -- an opening of files that hold the rows of a state shows that state
-  pub shows_again : (image : Image) (c : Held (FileStore D g)) (f : Federation) → HoldsState image f → FindsIn image (file_state c) → IsOpened c → ShowsState g c f
-  shows_again image c f holds finds (opens, live) = record {
-    good = holds.good;
-    short = holds.short;
-    holds = inl (subst (λ (db : Database). Holds db (rows f)) same holds.tables);
-  }
-    where
-      committed : (file_state c).committed.trees ≡ holds.db.trees
-      committed = ∥∥₁_elim holds.alone.both (Trees-set _ _) (finds.holds holds.db.trees)
+  pub shows_of : (image : Image) (c : Held (FileStore D g)) (f : Federation) → HoldsOf image f → FindsIn image (file_state c) → IsOpened c → ShowsState g c f
+  shows_of image c f holds finds opened = record { good = holds.good; short = holds.short; holds = shows_rows g image c (rows f) holds.held finds opened }
 
-      same : holds.db ≡ (file_state c).now
-      same =
-          same_database holds.db (file_state c).now holds.listed (live opens.is_open).0
-          (sym (ap (λ (db : Database). db.trees) opens.clean ∙ committed))
+  -- what is found of files that were closed holds the state that they were left with
+  pub found_closed : (start : Image) (left : Left D g) (next : Image) (f : Federation) → ((closed : Files D) × (left ≡ Closed closed) × LeavesState g closed f) → MayBe g start left next → HoldsState next f
+  found_closed start left next f (closed, is, leaves) may =
+      let found = subst (λ (l : Left D g). MayBe g start l next) is may in
+      still_holds found.0 next f found.2 (leaves found.0 found.1)
 
-  -- words one after another, each answered on the state that the file held, leave the file holding the state where they lead
-  pub keeps_file : (start : Image) (words : List Told) (end : Image) (f : Federation) → HoldsState start f → AreToldOver g start words end
-      → (last : Federation) × AreTold f words last × HoldsState end last
-  keeps_file start [] end f holds same = (f, refl, subst (λ (image : Image). HoldsState image f) (sym same) holds)
-  keeps_file start (w ∷ ws) end f holds (word, clean, (next, left, rest)) =
-      let shown = shows_again start word.opened f holds (word.found clean) (word.serves clean) in
+  -- a word that is answered leads on from the state that the files hold
+  answered_on : (start : Image) (w : Told) (left : Left D g) (next : Image) (f : Federation) → HoldsOf start f → (word : AnswersOver g start w.request (said_to w) left) → AreClean g word.closed.log word.closed.db
+      → MayBe g start left next → (mid : Standing) × AnswersWord (record { now = f; failed = false }) w.request w.text w.refused mid × HoldsState next mid.now
+  answered_on start w left next f holds word clean may =
+      let shown = shows_of start word.opened f holds (word.found clean) (word.serves clean) in
       let answered = word.answers clean f shown in
-      let behind = keeps_file next ws end answered.0.now (still_holds (image_of g word.closed) next answered.0.now left answered.2) rest in
-      (behind.0, (answered.0, answered.1, behind.1), behind.2)
+      (answered.0, answered.1, found_closed start left next answered.0.now (word.closed, word.is_left, answered.2) may)
+
+  -- words one after another, each answered on the state that the files held, leave the files holding the state where they lead
+  pub answers_file : (start : Image) (words : List Told) (end : Image) (f : Federation) → HoldsState start f → AreAnsweredOver g start words end
+      → (last : Federation) × AreTold f words last × HoldsState end last
+  answers_file start [] end f holds same = (f, refl, subst (λ (image : Image). HoldsState image f) (sym same) holds)
+  answers_file start (w ∷ ws) end f holds (left, word, clean, (next, may, more)) =
+      let one = answered_on start w left next f (holds_of start f holds) word clean may in
+      let behind = answers_file next ws end one.0.now one.2 more in
+      (behind.0, (one.0, one.1, behind.1), behind.2)
+
+  -- a word leads from one state to another: to whichever words then lead on from that one
+  abbrev LeadsTo : Federation → Told → Federation → Type 0
+  LeadsTo f w mid = (ws : List Told) → (end : Federation) → AreToldBut mid ws end → AreToldBut f (w ∷ ws) end
+
+  -- a word that is refused leaves what it found
+  left_alone : (w : Told) (next : Image) (f : Federation) → IsGoodState f → HasShortLocks f → IsFileRefused (said_to w) → ∥ HoldsRows next (rows f) ∥₁ → ∥ ((mid : Federation) × LeadsTo f w mid × HoldsOf next mid) ∥₁
+  left_alone w next f good short refused held = ∥∥₁_map held (λ one.
+      let r : (mid : Federation) × LeadsTo f w mid × HoldsOf next mid = (f, λ ws end told. inr (refused, told), record { good = good; short = short; held = one }) in r)
+
+  -- one word, be it answered or refused
+  keeps_one : (start : Image) (w : Told) (left : Left D g) (next : Image) (f : Federation) → HoldsOf start f → SaysOver g start w.request (said_to w) left → IsCleanIn g left → MayBe g start left next
+      → ∥ ((mid : Federation) × LeadsTo f w mid × HoldsOf next mid) ∥₁
+  keeps_one start w left next f holds (inl (inl memory, keeps)) clean may = left_alone w next f holds.good holds.short (inl memory) (keeps.finds clean next may (rows f) holds.held)
+  keeps_one start w left next f holds (inl (inr damaged, keeps)) clean may = left_alone w next f holds.good holds.short (inr (inr damaged)) (keeps.finds clean next may (rows f) holds.held)
+  keeps_one start w left next f holds (inr (inl (store, done))) clean may = left_alone w next f holds.good holds.short (inr (inl store)) (done.finds clean next may f holds)
+  keeps_one start w left next f holds (inr (inr word)) clean may =
+      let one = answered_on start w left next f holds word (subst (λ (l : Left D g). IsCleanIn g l) word.is_left clean) may in
+      let r : (mid : Federation) × LeadsTo f w mid × HoldsOf next mid = (one.0.now, λ ws end told. inl (one.0, one.1, told), holds_of next one.0.now one.2) in ∣ r ∣₁
+
+  -- and so do words of which some are refused, each of which leaves what it found
+  pub keeps_file : (start : Image) (words : List Told) (end : Image) (f : Federation) → HoldsOf start f → AreToldOver g start words end
+      → ∥ ((last : Federation) × AreToldBut f words last × HoldsOf end last) ∥₁
+  keeps_file start [] end f holds same = ∣ (f, refl, subst (λ (image : Image). HoldsOf image f) (sym same) holds) ∣₁
+  keeps_file start (w ∷ ws) end f holds (left, says, clean, (next, may, more)) =
+      ∥∥₁_elim (keeps_one start w left next f holds says clean may) squash₁ (λ one.
+      ∥∥₁_map (keeps_file next ws end one.0 one.2 more) (λ behind.
+      let r : (last : Federation) × AreToldBut f (w ∷ ws) last × HoldsOf end last = (behind.0, one.1 ws behind.0 behind.1, behind.2) in r))

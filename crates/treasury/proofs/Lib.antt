@@ -1,4 +1,5 @@
 pub mod RunLemmas
+pub mod LeftLemmas
 pub mod OverFileLemmas
 pub mod ToldLemmas
 pub mod FileLemmas

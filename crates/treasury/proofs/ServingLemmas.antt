@@ -12,7 +12,7 @@ use Rattle.sqlite_wal.specs.Recovery.{Image}
 use Rattle.sqlite_wal.specs.Reads.{AreClean}
 use Rattle.sqlite_store.specs.declared.store.FileStore.{FileStore}
 use Rattle.sqlite.specs.State.{HasCleanDisk}
-use Rattle.sqlite.specs.Files.{image_of, file_state, over_files}
+use Rattle.sqlite.specs.Files.{file_state, over_files}
 use Rattle.money_core.specs.declared.cause.Cause.TheVariants.{OutOfMemory}
 use Rattle.book_core.specs.declared.refusal.Refusal.TheVariants.{Plain}
 use Rattle.treasury_core.specs.Federation.{Federation}
@@ -21,14 +21,15 @@ use Rattle.treasury_api.specs.Answer.{answer_text}
 use Rattle.treasury_api.specs.Replied.{standing}
 use Rattle.treasury_api.specs.Step.{Standing}
 use Rattle.treasury_api.specs.Web.{AnsweredCall, AreServed, HasServed}
-use Rattle.treasury.specs.OverFile.{Spoken, ShowsState, HoldsState, IsFileRefused, Tells}
-use Rattle.treasury.specs.Serving.{IsNumber, LacksNumber, listening, silent, after_listening, ServesOver, IsServed}
-use Rattle.treasury.specs.declared.words.said.Said.{Said}
-use Rattle.treasury.specs.Started.{spoken, IsStarted, IsClosedAs}
-use Rattle.treasury.specs.ServingParts.{ends_unwritten, IsAnnounced, SaysAtEnd, EndsBy, SaysServing}
+use Rattle.treasury.specs.declared.words.left.Left.{Left}
+use Rattle.treasury.specs.declared.words.left.Left.TheVariants.{Untouched, Closed}
+use Rattle.treasury.specs.OverFile.{Spoken, ShowsState, LeavesState, Tells}
+use Rattle.treasury.specs.Serving.{IsNumber, LacksNumber, listening, after_listening, TellsServing, ServesOver, IsServed}
+use Rattle.treasury.specs.Started.{IsStarted, IsClosedAs}
+use Rattle.treasury.specs.ServingParts.{ends_unwritten, IsAnnounced, SaysServing}
 use Rattle.treasury.specs.declared.words.serving.Ending.{Ending}
 use Rattle.treasury.specs.declared.words.serving.Ending.TheVariants.{Unbound, Unwritten, Unaccepted, Finished}
-use Rattle.treasury.proofs.OverFileLemmas.{left_behind, line_of_40, tells_nothing}
+use Rattle.treasury.proofs.OverFileLemmas.{left_behind, committed_in, line_of_40, tells_nothing}
 
 -- ---- its values
 
@@ -61,11 +62,16 @@ take_past : (n : ℕ) (xs ys : List ℕ) → (m : ℕ) × (take m (xs ++ ys) ≡
 take_past n [] ys = (n, refl)
 take_past n (x ∷ xs) ys = let more = take_past n xs ys in (suc more.0, ap (λ (zs : List ℕ). x ∷ zs) more.1)
 
+-- what is told of a word is told of `serve`
+pub tells_serving : {W : Type 0} (contents : W → Option (List ℕ)) (w0 w1 : W) (status : ℕ) (said : Spoken) → Tells contents w0 w1 status said → TellsServing contents w0 w1 status said
+tells_serving contents w0 w1 status said (inl whole) = inl whole
+tells_serving contents w0 w1 status said (inr (taken, within, part, one)) = inr (taken, part, one)
+
 -- `listening` is told, and then what is said
 tells_after : {W : Type 0} (contents : W → Option (List ℕ)) (w0 w1 w2 : W) (status : ℕ) (said : Spoken)
-    → Appends (contents w0) (contents w1) listening → Tells contents w1 w2 status said → Tells contents w0 w2 status (after_listening said)
+    → Appends (contents w0) (contents w1) listening → Tells contents w1 w2 status said → TellsServing contents w0 w2 status (after_listening said)
 tells_after contents w0 w1 w2 status said first (inl (then, is)) = inl (Appends-trans (contents w0) (contents w1) (contents w2) listening said.text first then, is)
-tells_after contents w0 w1 w2 status said first (inr (taken, then, one)) =
+tells_after contents w0 w1 w2 status said first (inr (taken, within, then, one)) =
     let part = take_past taken listening said.text in
     inr (
       part.0,
@@ -76,100 +82,92 @@ tells_after contents w0 w1 w2 status said first (inr (taken, then, one)) =
 
 -- or a first part of it
 tells_part : {W : Type 0} (contents : W → Option (List ℕ)) (w0 w1 : W) (status taken : ℕ) (said : Spoken)
-    → Appends (contents w0) (contents w1) (take taken listening) → status ≡ 1 → Tells contents w0 w1 status (after_listening said)
+    → Appends (contents w0) (contents w1) (take taken listening) → status ≡ 1 → TellsServing contents w0 w1 status (after_listening said)
 tells_part contents w0 w1 status taken said written one =
     let part = take_within taken listening said.text in
     inr (part.0, subst (λ (bytes : List ℕ). Appends (contents w0) (contents w1) bytes) (sym part.1) written, one)
 
 tells_alone : {W : Type 0} (contents : W → Option (List ℕ)) (w0 w1 w2 : W) (status : ℕ) (said : Spoken)
-    → w1 ≡ w0 → Tells contents w1 w2 status said → Tells contents w0 w2 status said
-tells_alone contents w0 w1 w2 status said same tells = subst (λ w. Tells contents w w2 status said) same tells
+    → w1 ≡ w0 → Tells contents w1 w2 status said → TellsServing contents w0 w2 status said
+tells_alone contents w0 w1 w2 status said same tells = subst (λ w. TellsServing contents w w2 status said) same (tells_serving contents w1 w2 status said tells)
 
 -- ---- over a file
 
 module _ {D : Type 0} (g : disk.Ghosts D) where
   -- its treasury serves connections, and the file is closed
-  pub serves_over : (image : Image) (old new : Treasury (FileStore D g)) → IsStarted g image old → HasServed over_files old new → IsClosedAs g new.store.conn → ServesOver g image
-  serves_over image old new started served (live, (closed, copies)) = record {
+  pub serves_over : (image : Image) (old new : Treasury (FileStore D g)) (closed : Files D) → IsStarted g image old → HasServed over_files old new → IsClosedAs g new.store.conn closed → ServesOver g image (Closed closed)
+  serves_over image old new closed started served closes = record {
     opened = started.opened;
     closed = closed;
-    found = λ k. started.found (at_first k);
-    serves = λ k. started.serves (at_first k);
+    is_left = refl;
+    found = λ k. started.on.found (at_first k);
+    serves = λ k. started.on.serves (at_first k);
     answers = answers;
   }
     where
       at_first : AreClean g closed.log closed.db → HasCleanDisk (file_state started.opened)
-      at_first k = started.clean (served.clean (copies k).was_clean)
+      at_first k = started.starts.clean (served.clean (closes.copied k).was_clean)
 
       answers : AreClean g closed.log closed.db → (f : Federation) → ShowsState g started.opened f
-          → (calls : List AnsweredCall) × (end : Standing) × AreServed (record { now = f; failed = false }) calls end × HoldsState (image_of g closed) end.now
+          → (calls : List AnsweredCall) × (end : Standing) × AreServed (record { now = f; failed = false }) calls end × LeavesState g closed end.now
       answers k f shows =
-          let at_end = (copies k).was_clean in
-          let r = served.served at_end f (started.of (served.clean at_end) f shows) in (
+          let at_end = (closes.copied k).was_clean in
+          let r = served.served at_end f (started.starts.of (served.clean at_end) (committed_in g image started.opened started.on (at_first k)) f shows) in (
             r.1.1.0,
             standing new r.0,
-            subst (λ (failed : Bool). AreServed (record { now = f; failed = failed }) r.1.1.0 (standing new r.0)) started.unfailed r.1.1.1,
-            left_behind g new.store.conn closed r.0 live (copies k) r.1.0.store.good r.1.0.short r.1.0.store.tables,
+            subst (λ (failed : Bool). AreServed (record { now = f; failed = failed }) r.1.1.0 (standing new r.0)) started.starts.unfailed r.1.1.1,
+            left_behind g new.store.conn closed r.0 closes.live (closes.copied k) r.1.0.store.good r.1.0.short r.1.0.store.tables,
           )
 
-  -- it says how it ended, and what the file is left with
-  pub ends_served : (image : Image) (ending : Ending) (old new : Treasury (FileStore D g)) (said at_end : Said) → said ≡ at_end
-      → IsStarted g image old → HasServed over_files old new → IsClosedAs g new.store.conn → SaysAtEnd ending (spoken at_end) → EndsBy g image ending (spoken said)
-  ends_served image ending old new said at_end is started served closed says =
-      subst (λ (s : Said). EndsBy g image ending (spoken s)) (sym is) (inr (serves_over image old new started served closed, says))
-
-  -- or that the file could not be closed
-  pub ends_unclosed : (image : Image) (ending : Ending) (said refused : Said) → said ≡ refused → IsFileRefused (spoken refused) → EndsBy g image ending (spoken said)
-  ends_unclosed image ending said refused is file = subst (λ (s : Said). EndsBy g image ending (spoken s)) (sym is) (inl file)
-
   -- what is said to it is told
-  pub told_served : {W : Type 0} (image : Image) (contents : W → Option (List ℕ)) (w0 w1 w2 : W) (status : ℕ) (values : List Row) (ending : Option Ending) (said : Spoken)
-      → IsAnnounced contents w0 w1 ending → SaysServing g image values ending said → ends_unwritten ending ≡ false → Tells contents w1 w2 status said
-      → IsServed g image contents w0 w2 status values
-  told_served image contents w0 w1 w2 status values None said same (inl lacks) other tells = (said, tells_alone contents w0 w1 w2 status said same tells, inr (inl lacks))
-  told_served image contents w0 w1 w2 status values None said same (inr file) other tells = (said, tells_alone contents w0 w1 w2 status said same tells, inr (inr (inl file)))
-  told_served image contents w0 w1 w2 status values (Some (Unbound reason)) said same (inl file) other tells =
-      (said, tells_alone contents w0 w1 w2 status said same tells, inr (inr (inl file)))
-  told_served image contents w0 w1 w2 status values (Some (Unbound reason)) said same (inr port) other tells =
+  pub told_served : {W : Type 0} (image : Image) (contents : W → Option (List ℕ)) (w0 w1 w2 : W) (status : ℕ) (values : List Row) (ending : Option Ending) (said : Spoken) (left : Left D g)
+      → IsAnnounced contents w0 w1 ending → SaysServing g image values ending said left → ends_unwritten ending ≡ false → Tells contents w1 w2 status said
+      → IsServed g image contents w0 w2 status values left
+  told_served image contents w0 w1 w2 status values None said left same (inl lacks) other tells = (said, tells_alone contents w0 w1 w2 status said same tells, inr (inl lacks))
+  told_served image contents w0 w1 w2 status values None said left same (inr file) other tells = (said, tells_alone contents w0 w1 w2 status said same tells, inr (inr (inl file)))
+  told_served image contents w0 w1 w2 status values (Some (Unbound reason)) said left same (inl file) other tells =
+      (said, tells_alone contents w0 w1 w2 status said same tells, inr (inr (inr (inr (inl file)))))
+  told_served image contents w0 w1 w2 status values (Some (Unbound reason)) said left same (inr port) other tells =
       (said, tells_alone contents w0 w1 w2 status said same tells, inr (inr (inr (inl port))))
-  told_served image contents w0 w1 w2 status values (Some Unwritten) said first says other tells = absurd cc
-  told_served image contents w0 w1 w2 status values (Some Unaccepted) said first (inl file) other tells =
-      (after_listening said, tells_after contents w0 w1 w2 status said first tells, inr (inr (inr (inr (said, refl, inr file)))))
-  told_served image contents w0 w1 w2 status values (Some Unaccepted) said first (inr (serves, refused)) other tells =
-      (after_listening said, tells_after contents w0 w1 w2 status said first tells, inr (inr (inr (inr (said, refl, inl (serves, inr refused))))))
-  told_served image contents w0 w1 w2 status values (Some Finished) said first (inl file) other tells =
-      (after_listening said, tells_after contents w0 w1 w2 status said first tells, inr (inr (inr (inr (said, refl, inr file)))))
-  told_served image contents w0 w1 w2 status values (Some Finished) said first (inr (serves, is)) other tells =
-      (after_listening said, tells_after contents w0 w1 w2 status said first tells, inr (inr (inr (inr (said, refl, inl (serves, inl is))))))
+  told_served image contents w0 w1 w2 status values (Some Unwritten) said left first says other tells = absurd cc
+  told_served image contents w0 w1 w2 status values (Some Unaccepted) said left first (inl file) other tells =
+      (after_listening said, tells_after contents w0 w1 w2 status said first tells, inr (inr (inr (inr (inr (said, refl, inr file))))))
+  told_served image contents w0 w1 w2 status values (Some Unaccepted) said left first (inr (serves, refused)) other tells =
+      (after_listening said, tells_after contents w0 w1 w2 status said first tells, inr (inr (inr (inr (inr (said, refl, inl (serves, inr refused)))))))
+  told_served image contents w0 w1 w2 status values (Some Finished) said left first (inl file) other tells =
+      (after_listening said, tells_after contents w0 w1 w2 status said first tells, inr (inr (inr (inr (inr (said, refl, inr file))))))
+  told_served image contents w0 w1 w2 status values (Some Finished) said left first (inr (serves, is)) other tells =
+      (after_listening said, tells_after contents w0 w1 w2 status said first tells, inr (inr (inr (inr (inr (said, refl, inl (serves, inl is)))))))
 
   -- and a first part where `listening` cannot be written
-  pub told_unwritten : {W : Type 0} (image : Image) (contents : W → Option (List ℕ)) (w0 w1 : W) (status : ℕ) (values : List Row) (ending : Option Ending) (said : Spoken)
-      → IsAnnounced contents w0 w1 ending → SaysServing g image values ending said → ends_unwritten ending ≡ true → status ≡ 1
-      → IsServed g image contents w0 w1 status values
-  told_unwritten image contents w0 w1 status values (Some Unwritten) said (taken, written) (inl file) is one =
-      (after_listening said, tells_part contents w0 w1 status taken said written one, inr (inr (inr (inr (said, refl, inr file)))))
-  told_unwritten image contents w0 w1 status values (Some Unwritten) said (taken, written) (inr (serves, silence)) is one =
-      (after_listening said, tells_part contents w0 w1 status taken said written one, inr (inr (inr (inr (said, refl, inl (serves, inl silence))))))
-  told_unwritten image contents w0 w1 status values None said first says is one = absurd cc
-  told_unwritten image contents w0 w1 status values (Some (Unbound reason)) said first says is one = absurd cc
-  told_unwritten image contents w0 w1 status values (Some Unaccepted) said first says is one = absurd cc
-  told_unwritten image contents w0 w1 status values (Some Finished) said first says is one = absurd cc
+  pub told_unwritten : {W : Type 0} (image : Image) (contents : W → Option (List ℕ)) (w0 w1 : W) (status : ℕ) (values : List Row) (ending : Option Ending) (said : Spoken) (left : Left D g)
+      → IsAnnounced contents w0 w1 ending → SaysServing g image values ending said left → ends_unwritten ending ≡ true → status ≡ 1
+      → IsServed g image contents w0 w1 status values left
+  told_unwritten image contents w0 w1 status values (Some Unwritten) said left (taken, written) (inl file) is one =
+      (after_listening said, tells_part contents w0 w1 status taken said written one, inr (inr (inr (inr (inr (said, refl, inr file))))))
+  told_unwritten image contents w0 w1 status values (Some Unwritten) said left (taken, written) (inr (serves, silence)) is one =
+      (after_listening said, tells_part contents w0 w1 status taken said written one, inr (inr (inr (inr (inr (said, refl, inl (serves, inl silence)))))))
+  told_unwritten image contents w0 w1 status values None said left first says is one = absurd cc
+  told_unwritten image contents w0 w1 status values (Some (Unbound reason)) said left first says is one = absurd cc
+  told_unwritten image contents w0 w1 status values (Some Unaccepted) said left first says is one = absurd cc
+  told_unwritten image contents w0 w1 status values (Some Finished) said left first says is one = absurd cc
 
   -- 40 is told
-  pub told_served_40 : {W : Type 0} (image : Image) (contents : W → Option (List ℕ)) (w0 w1 : W) (status : ℕ) (values : List Row)
-      → Tells contents w0 w1 status (record { text = codes "refused 40 OutOfMemory\n"; refused = true }) → IsServed g image contents w0 w1 status values
-  told_served_40 image contents w0 w1 status values tells = (record { text = codes "refused 40 OutOfMemory\n"; refused = true }, tells, inl (line_of_40, refl))
+  pub told_served_40 : {W : Type 0} (image : Image) (contents : W → Option (List ℕ)) (w0 w1 : W) (status : ℕ) (values : List Row) (left : Left D g)
+      → left ≡ Untouched → Tells contents w0 w1 status (record { text = codes "refused 40 OutOfMemory\n"; refused = true }) → IsServed g image contents w0 w1 status values left
+  told_served_40 image contents w0 w1 status values left none tells =
+      (record { text = codes "refused 40 OutOfMemory\n"; refused = true }, tells_serving contents w0 w1 status (record { text = codes "refused 40 OutOfMemory\n"; refused = true }) tells, inl ((line_of_40, refl), none))
 
   -- or nothing, where there is no memory to read the words
-  pub served_nothing : {W : Type 0} (image : Image) (contents : W → Option (List ℕ)) (w0 w1 : W) (status : ℕ) (values : List Row)
-      → w1 ≡ w0 → status ≡ 1 → IsServed g image contents w0 w1 status values
-  served_nothing image contents w0 w1 status values same one = (
+  pub served_nothing : {W : Type 0} (image : Image) (contents : W → Option (List ℕ)) (w0 w1 : W) (status : ℕ) (values : List Row) (left : Left D g)
+      → left ≡ Untouched → w1 ≡ w0 → status ≡ 1 → IsServed g image contents w0 w1 status values left
+  served_nothing image contents w0 w1 status values left none same one = (
     record { text = answer_text [] (Err (Plain OutOfMemory)); refused = true },
-    tells_nothing contents w0 w1 status (record { text = answer_text [] (Err (Plain OutOfMemory)); refused = true }) same one,
-    inl (refl, refl),
+    tells_serving contents w0 w1 status (record { text = answer_text [] (Err (Plain OutOfMemory)); refused = true }) (tells_nothing contents w0 w1 status same one),
+    inl ((refl, refl), none),
   )
 
   -- what is told to some values is told to equal ones
-  pub served_alike : {W : Type 0} (image : Image) (contents : W → Option (List ℕ)) (w0 w1 : W) (status : ℕ) (these those : List Row)
-      → these ≡ those → IsServed g image contents w0 w1 status these → IsServed g image contents w0 w1 status those
-  served_alike image contents w0 w1 status these those alike is = subst (λ (values : List Row). IsServed g image contents w0 w1 status values) alike is
+  pub served_alike : {W : Type 0} (image : Image) (contents : W → Option (List ℕ)) (w0 w1 : W) (status : ℕ) (these those : List Row) (left : Left D g)
+      → these ≡ those → IsServed g image contents w0 w1 status these left → IsServed g image contents w0 w1 status those left
+  served_alike image contents w0 w1 status these those left alike is = subst (λ (values : List Row). IsServed g image contents w0 w1 status values left) alike is

@@ -55,7 +55,7 @@ months =
 abbrev pub transfers : List Shape
 transfers =
     word (codes "dispatch") (id ∷ option (codes "from") ∷ option (codes "to") ∷ day ∷ option (codes "amount") ∷ account ∷ [])
-    ∷ word (codes "receive") (id ∷ branch ∷ day ∷ account ∷ [])
+    ∷ word (codes "receive") (id ∷ branch ∷ day ∷ account ∷ optional (codes "part") ∷ optional (codes "amount") ∷ [])
     ∷ word (codes "transit") (day ∷ [])
     ∷ []
 
@@ -63,7 +63,7 @@ transfers =
 abbrev pub ends : List Shape
 ends =
     word (codes "lock") (branch ∷ day ∷ [])
-    ∷ word (codes "close") (branch ∷ day ∷ [])
+    ∷ word (codes "close") (branch ∷ day ∷ optional (codes "accounts") ∷ optional (codes "into") ∷ [])
     ∷ word (codes "journal") (branch ∷ [])
     ∷ word (codes "serve") (number (codes "port") 65535 ∷ number (codes "requests") 4294967295 ∷ [])
     ∷ new_shape (codes "run")

@@ -2,6 +2,7 @@
 pub mod Known
 pub mod Spelling
 pub mod Word
+pub mod Left
 pub mod OverFile
 pub mod Look
 pub mod Serving

@@ -1,6 +1,6 @@
 -- What is said to a word over a database file, and what it leaves of the file (own rules; docs/RULES.md, "The program"), while the
 -- disk returns what was written. An image is what the files, the database and its log, hold; that of a word, when they were opened.
-use Rattle.std.specs.Prelude.{◌≡◌, ◌≢◌, ◌⊎◌, ℕ, Bool, true, false, if◌then◌else◌, List, [], ◌∷◌, take, Option, None, Some, Ok, Err, codes}
+use Rattle.std.specs.Prelude.{◌≡◌, ◌≢◌, ◌<◌, ◌⊎◌, ℕ, Bool, true, false, if◌then◌else◌, List, [], ◌∷◌, take, length, Option, None, Some, IfSome, Ok, Err, codes}
 use Rattle.std.specs.Io.KnownBytes.{Appends}
 use Rattle.clap.specs.Walk.{Row, first_of}
 use Rattle.sqlite_disk.specs.declared.Disk as disk
@@ -11,7 +11,8 @@ use Rattle.sqlite_store.specs.declared.store.FileStore.{FileStore}
 use Rattle.sqlite.specs.Effect.{Database, IsDatabase}
 use Rattle.sqlite.specs.Held.{Held}
 use Rattle.sqlite.specs.Start.{FindsIn}
-use Rattle.sqlite.specs.Files.{image_of, file_state, IsOpened}
+use Rattle.sqlite.specs.Tree.{Trees}
+use Rattle.sqlite.specs.Files.{file_state, IsOpened}
 use Rattle.sqlite.specs.Closing.{HoldsAlone}
 use Rattle.money_core.specs.declared.cause.Cause.{Cause}
 use Rattle.money_core.specs.declared.cause.Cause.TheVariants.{OutOfMemory, Store, Damaged, Request as NoRequest, ReadFault}
@@ -20,7 +21,7 @@ use Rattle.treasury_core.specs.declared.command.Answer.TheVariants.{Done}
 use Rattle.treasury_core.specs.Federation.{Federation}
 use Rattle.treasury_core.specs.Good.{IsGoodState}
 use Rattle.treasury_core.specs.Rows.{rows, HasShortLocks}
-use Rattle.treasury_store.specs.Rows.{Holds, HoldsEither}
+use Rattle.treasury_store.specs.Rows.{Holds, HoldsEither, AreTreesOf}
 use Rattle.treasury_store.specs.Store.{empty_state}
 use Rattle.treasury_store.specs.Tables.{no_schema}
 use Rattle.treasury_store.specs.Creating.{has_one}
@@ -30,6 +31,9 @@ use Rattle.treasury_api.specs.Answer.{answer_text}
 use Rattle.treasury_api.specs.Step.{Standing}
 use Rattle.treasury.specs.Spelling.{request_in}
 use Rattle.treasury.specs.Word.{AnswersWord, Told}
+use Rattle.treasury.specs.declared.words.left.Left.{Left}
+use Rattle.treasury.specs.declared.words.left.Left.TheVariants.{Untouched, Closed}
+use Rattle.treasury.specs.Left.{HoldsRows, HoldsOf, HaveRows, IsImageOf, IsCleanIn, MayBe, MayComeBack, AreSpared, KeepsFile}
 
 -- what is said to a word: a text for standard output, and whether that is a refusal
 pub record Spoken : Type 0 where
@@ -45,17 +49,26 @@ IsRefusedBy cause said = (said.text ≡ answer_text [] (Err (Plain cause))) × (
 abbrev pub IsFileRefused : Spoken → Type 0
 IsFileRefused said = IsRefusedBy OutOfMemory said ⊎ (IsRefusedBy Store said ⊎ IsRefusedBy Damaged said)
 
+-- how many bytes of a journal are read at most: one more than a text may have, so that a longer one is seen to be
+abbrev pub most_journal : ℕ
+most_journal = 1_048_577
+
 -- 45 or 40: the journal's file cannot be read
 abbrev pub IsJournalRefused : Spoken → Type 0
 IsJournalRefused said = IsRefusedBy ReadFault said ⊎ IsRefusedBy OutOfMemory said
 
+-- what was said to a word
+abbrev pub said_to : Told → Spoken
+said_to w = record { text = w.text; refused = w.refused }
+
 -- ---- what is told: a text on standard output, and an exit status
 
--- All of the text is written, and the status is 1 where it is a refusal, else 0; or the output takes no more, and it is 1.
+-- All of the text is written, and the status is 1 where it is a refusal, else 0; or the output takes a part of it and no more, and
+-- it is 1.
 abbrev pub Tells : {W : Type 0} → (W → Option (List ℕ)) → W → W → ℕ → Spoken → Type 0
 Tells contents w0 w1 status said =
     (Appends (contents w0) (contents w1) said.text × (status ≡ (if said.refused then 1 else 0)))
-    ⊎ ((taken : ℕ) × Appends (contents w0) (contents w1) (take taken said.text) × (status ≡ 1))
+    ⊎ ((taken : ℕ) × (taken < length said.text) × Appends (contents w0) (contents w1) (take taken said.text) × (status ≡ 1))
 
 -- ---- what a file holds, and what is said by it
 
@@ -69,10 +82,6 @@ pub record HoldsState (image : Image) (f : Federation) : Type 0 where
   pub tables : Holds db (rows f)
   pub alone : HoldsAlone image db.trees
 
--- the files as they were left, or the database file alone
-abbrev pub IsLeft : Image → Image → Type 0
-IsLeft left next = (next ≡ left) ⊎ (next ≡ record left { log = [] })
-
 module _ {D : Type 0} (g : disk.Ghosts D) where
   -- a connection shows tables, of version 2 or of version 1, that are the rows of a good state, with lock days that a table takes
   pub record ShowsState (c : Held (FileStore D g)) (f : Federation) : Type 0 where
@@ -80,65 +89,110 @@ module _ {D : Type 0} (g : disk.Ghosts D) where
     pub short : HasShortLocks f
     pub holds : HoldsEither (file_state c).now (rows f)
 
-  -- A file was opened and closed. What its connection showed first is what the image holds, and of whichever state these are the
-  -- rows: the request is answered as by that state, and the file that is closed holds the rows of the state where the answer leads.
-  pub record AnswersOver (image : Image) (request : Request) (said : Spoken) : Type 0 where
+  -- The files that were closed hold the rows of a state, as they read and as a crash may leave them.
+  abbrev pub LeavesState : Files D → Federation → Type 0
+  LeavesState closed f = (left : Image) → IsImageOf g closed.log closed.db left → HoldsState left f
+
+  -- A file was opened and closed, and that is what is left. What its connection showed first is what the image holds, and of whichever
+  -- state these are the rows: the request is answered as by that state, and the file that is closed holds the rows of the state where
+  -- the answer leads.
+  pub record AnswersOver (image : Image) (request : Request) (said : Spoken) (left : Left D g) : Type 0 where
     pub opened : Held (FileStore D g)
     pub closed : Files D
+    pub is_left : left ≡ Closed closed
     pub found : AreClean g closed.log closed.db → FindsIn image (file_state opened)
     pub serves : AreClean g closed.log closed.db → IsOpened opened
     pub answers : AreClean g closed.log closed.db → (f : Federation) → ShowsState opened f
-        → (end : Standing) × AnswersWord (record { now = f; failed = false }) request said.text said.refused end × HoldsState (image_of g closed) end.now
+        → (end : Standing) × AnswersWord (record { now = f; failed = false }) request said.text said.refused end × LeavesState closed end.now
 
-  -- A file was opened and closed. Where its connection showed no table first, the file that is closed holds the rows of a state that
-  -- has nothing; in no case was there a table with one of our names.
-  pub record MakesOver (image : Image) : Type 0 where
+  -- A file was opened and closed, and that is what is left. Where its connection showed no table first, the file that is closed holds
+  -- the rows of a state that has nothing; in no case was there a table with one of our names.
+  pub record MakesOver (image : Image) (left : Left D g) : Type 0 where
     pub opened : Held (FileStore D g)
     pub closed : Files D
+    pub is_left : left ≡ Closed closed
     pub found : AreClean g closed.log closed.db → FindsIn image (file_state opened)
     pub free : has_one (file_state opened).now.schema ≡ false
-    pub makes : AreClean g closed.log closed.db → (file_state opened).now.schema ≡ no_schema → HoldsState (image_of g closed) empty_state
+    pub makes : AreClean g closed.log closed.db → (file_state opened).now.schema ≡ no_schema → LeavesState closed empty_state
 
-  -- `init`
-  abbrev pub SaysToInit : Image → Spoken → Type 0
-  SaysToInit image said =
-      IsFileRefused said
-      ⊎ (MakesOver image × (said ≡ record { text = answer_text [] (Ok Done); refused = false }))
+  -- trees of a database with the rows of the state where a request leads that is answered by a state
+  abbrev pub HaveRowsBehind : Trees → Federation → Request → Type 0
+  HaveRowsBehind trees f request =
+      (text : List ℕ) × (refused : Bool) × (end : Standing) × AnswersWord (record { now = f; failed = false }) request text refused end × AreTreesOf trees (rows end.now)
 
-  -- the request is answered over a file, or the file is refused
-  abbrev pub SaysOver : Image → Request → Spoken → Type 0
-  SaysOver image request said = IsFileRefused said ⊎ AnswersOver image request said
+  -- What the next word may find holds the rows that the files held; what may come back of a database that a failure shut has these, or
+  -- the rows of the state where the request leads.
+  pub record MayHaveDone (image : Image) (request : Request) (left : Left D g) : Type 0 where
+    pub finds : IsCleanIn g left → (next : Image) → MayBe g image left next → (f : Federation) → HoldsOf image f → ∥ HoldsRows next (rows f) ∥₁
+    pub comes_back : IsCleanIn g left → (trees : Trees) → MayComeBack g left trees → (f : Federation) → HoldsOf image f → HaveRows trees (rows f) ⊎ HaveRowsBehind trees f request
+    pub spared : IsCleanIn g left → AreSpared g image left
 
-  -- The same of `import`, whose journal is read first.
-  abbrev pub SaysToImport : Image → List Row → Spoken → Type 0
-  SaysToImport image values said =
-      (((first_of (codes "branch") values ≡ None) ⊎ (first_of (codes "journal") values ≡ None)) × IsRefusedBy NoRequest said)
-      ⊎ (IsJournalRefused said
-      ⊎ ((branch : List ℕ) × (journal : List ℕ) × (first_of (codes "branch") values ≡ Some branch) × SaysOver image (Import branch journal) said))
+  -- `init`: refused, by 40, 41 or 43, it leaves the file
+  abbrev pub SaysToInit : Image → Spoken → Left D g → Type 0
+  SaysToInit image said left =
+      (IsFileRefused said × KeepsFile g image left)
+      ⊎ (MakesOver image left × (said ≡ record { text = answer_text [] (Ok Done); refused = false }))
+
+  -- The request is answered over a file. Or the file is refused: by 40 or 43, and it is left as it was; or by 41, and the request may
+  -- have been done.
+  abbrev pub SaysOver : Image → Request → Spoken → Left D g → Type 0
+  SaysOver image request said left =
+      ((IsRefusedBy OutOfMemory said ⊎ IsRefusedBy Damaged said) × KeepsFile g image left)
+      ⊎ ((IsRefusedBy Store said × MayHaveDone image request left) ⊎ AnswersOver image request said left)
+
+  -- a cause alone is said, and no file was opened
+  abbrev pub IsRefusedBefore : Cause → Spoken → Left D g → Type 0
+  IsRefusedBefore cause said left = IsRefusedBy cause said × (left ≡ Untouched)
+
+  -- The same of `import`, whose journal is read first: it is refused, or what its reader has, where that is known, up to the limit.
+  abbrev pub SaysToJournal : Image → List ℕ → Option (List ℕ) → Spoken → Left D g → Type 0
+  SaysToJournal image branch has said left =
+      (IsJournalRefused said × (left ≡ Untouched))
+      ⊎ ((journal : List ℕ) × IfSome has (λ bytes. journal ≡ take most_journal bytes) × SaysOver image (Import branch journal) said left)
+
+  abbrev pub SaysToImport : Image → List Row → Spoken → Left D g → Type 0
+  SaysToImport image values said left =
+      (((first_of (codes "branch") values ≡ None) ⊎ (first_of (codes "journal") values ≡ None)) × IsRefusedBefore NoRequest said left)
+      ⊎ ((branch : List ℕ) × (has : Option (List ℕ)) × (first_of (codes "branch") values ≡ Some branch) × SaysToJournal image branch has said left)
 
   -- and of a word whose values spell its request
-  abbrev pub SaysToForm : Image → List ℕ → List Row → Spoken → Type 0
-  SaysToForm image word values said =
-      ((request_in word values ≡ None) × IsRefusedBy NoRequest said)
-      ⊎ ((request : Request) × (request_in word values ≡ Some request) × SaysOver image request said)
+  abbrev pub SaysToForm : Image → List ℕ → List Row → Spoken → Left D g → Type 0
+  SaysToForm image word values said left =
+      ((request_in word values ≡ None) × IsRefusedBefore NoRequest said left)
+      ⊎ ((request : Request) × (request_in word values ≡ Some request) × SaysOver image request said left)
 
   -- any word but `run`, by its values
-  abbrev pub SaysToWord : Image → List ℕ → List Row → Spoken → Type 0
-  SaysToWord image word values said =
-      ((first_of (codes "db") values ≡ None) × IsRefusedBy NoRequest said)
-      ⊎ (((word ≡ codes "init") × SaysToInit image said)
-      ⊎ (((word ≡ codes "import") × SaysToImport image values said)
-      ⊎ ((word ≢ codes "init") × (word ≢ codes "import") × SaysToForm image word values said)))
+  abbrev pub SaysToWord : Image → List ℕ → List Row → Spoken → Left D g → Type 0
+  SaysToWord image word values said left =
+      ((first_of (codes "db") values ≡ None) × IsRefusedBefore NoRequest said left)
+      ⊎ (((word ≡ codes "init") × SaysToInit image said left)
+      ⊎ (((word ≡ codes "import") × SaysToImport image values said left)
+      ⊎ ((word ≢ codes "init") × (word ≢ codes "import") × SaysToForm image word values said left)))
 
-  -- a word is told what is said to it, or 40
-  abbrev pub IsTold : {W : Type 0} → Image → (W → Option (List ℕ)) → W → W → ℕ → List ℕ → List Row → Type 0
-  IsTold image contents w0 w1 status word values =
-      (said : Spoken) × Tells contents w0 w1 status said × (IsRefusedBy OutOfMemory said ⊎ SaysToWord image word values said)
+  -- a word is told what is said to it; or 40, and no file was opened
+  abbrev pub IsTold : {W : Type 0} → Image → (W → Option (List ℕ)) → W → W → ℕ → List ℕ → List Row → Left D g → Type 0
+  IsTold image contents w0 w1 status word values left =
+      (said : Spoken) × Tells contents w0 w1 status said × (IsRefusedBefore OutOfMemory said left ⊎ SaysToWord image word values said left)
 
-  -- Words over a file, one after another, while the disk returns what was written and nobody else writes to the file: each is
-  -- answered, and opens what the closing of the one before it left, with the log or without.
+  -- ---- words over a file, one after another
+
+  -- Words over a file, while the disk returns what was written and nobody else writes to the file: something is said to each, be it
+  -- answered or refused, and it finds what the one before it left.
   abbrev pub AreToldOver : Image → List Told → Image → Type 0
   AreToldOver start [] end = end ≡ start
   AreToldOver start (w ∷ ws) end =
-      (word : AnswersOver start w.request (record { text = w.text; refused = w.refused })) × AreClean g word.closed.log word.closed.db
-      × ((next : Image) × IsLeft (image_of g word.closed) next × AreToldOver next ws end)
+      (left : Left D g) × SaysOver start w.request (said_to w) left × IsCleanIn g left × ((next : Image) × MayBe g start left next × AreToldOver next ws end)
+
+  -- The same of words of which none is refused for the file's sake: each is answered.
+  abbrev pub AreAnsweredOver : Image → List Told → Image → Type 0
+  AreAnsweredOver start [] end = end ≡ start
+  AreAnsweredOver start (w ∷ ws) end =
+      (left : Left D g) × (word : AnswersOver start w.request (said_to w) left) × AreClean g word.closed.log word.closed.db
+      × ((next : Image) × MayBe g start left next × AreAnsweredOver next ws end)
+
+-- The states between words over a file: a word is answered by the state, and leads on; or it is refused by 40, 41 or 43, and leaves it.
+abbrev pub AreToldBut : Federation → List Told → Federation → Type 0
+AreToldBut f [] end = end ≡ f
+AreToldBut f (w ∷ ws) end =
+    ((mid : Standing) × AnswersWord (record { now = f; failed = false }) w.request w.text w.refused mid × AreToldBut mid.now ws end)
+    ⊎ (IsFileRefused (said_to w) × AreToldBut f ws end)

@@ -1,6 +1,7 @@
 -- What `serve` says and does over a database file (own rules; docs/RULES.md, "The program"), while the disk returns what was written.
 -- Of what a socket gives or takes nothing is said: whichever calls come, they are answered one after another.
-use Rattle.std.specs.Prelude.{◌≡◌, ◌<◌, ◌⊎◌, ◌^◌, ℕ, false, List, [], ◌++◌, Option, None, Some, codes}
+use Rattle.std.specs.Prelude.{◌≡◌, ◌<◌, ◌⊎◌, ◌^◌, ℕ, false, if◌then◌else◌, List, [], ◌++◌, take, Option, None, Some, codes}
+use Rattle.std.specs.Io.KnownBytes.{Appends}
 use Rattle.std.specs.Str.Parse.{IsNumeral, without_leading_plus, digits_value}
 use Rattle.clap.specs.Walk.{Row, first_of, one_of}
 use Rattle.sqlite_disk.specs.declared.Disk as disk
@@ -10,12 +11,15 @@ use Rattle.sqlite_wal.specs.Reads.{AreClean}
 use Rattle.sqlite_store.specs.declared.store.FileStore.{FileStore}
 use Rattle.sqlite.specs.Held.{Held}
 use Rattle.sqlite.specs.Start.{FindsIn}
-use Rattle.sqlite.specs.Files.{image_of, file_state, IsOpened}
-use Rattle.money_core.specs.declared.cause.Cause.TheVariants.{OutOfMemory, Request as NoRequest, ReadFault}
+use Rattle.sqlite.specs.Files.{file_state, IsOpened}
+use Rattle.money_core.specs.declared.cause.Cause.TheVariants.{OutOfMemory, Store, Request as NoRequest, ReadFault}
 use Rattle.treasury_core.specs.Federation.{Federation}
 use Rattle.treasury_api.specs.Step.{Standing}
 use Rattle.treasury_api.specs.Web.{AnsweredCall, AreServed}
-use Rattle.treasury.specs.OverFile.{Spoken, Tells, IsRefusedBy, IsFileRefused, HoldsState, ShowsState}
+use Rattle.treasury.specs.declared.words.left.Left.{Left}
+use Rattle.treasury.specs.declared.words.left.Left.TheVariants.{Closed}
+use Rattle.treasury.specs.Left.{KeepsFile}
+use Rattle.treasury.specs.OverFile.{Spoken, IsRefusedBy, IsFileRefused, IsRefusedBefore, LeavesState, ShowsState}
 
 -- ---- its values
 
@@ -47,32 +51,42 @@ silent = record { text = []; refused = false }
 abbrev pub after_listening : Spoken → Spoken
 after_listening said = record said { text = listening ++ said.text }
 
+-- All of the text is written, and the status is 1 where it ends as a refusal, else 0; or the output takes no more behind a part of it, or
+-- does not hand on what it took, and it is 1.
+abbrev pub TellsServing : {W : Type 0} → (W → Option (List ℕ)) → W → W → ℕ → Spoken → Type 0
+TellsServing contents w0 w1 status said =
+    (Appends (contents w0) (contents w1) said.text × (status ≡ (if said.refused then 1 else 0)))
+    ⊎ ((taken : ℕ) × Appends (contents w0) (contents w1) (take taken said.text) × (status ≡ 1))
+
 module _ {D : Type 0} (g : disk.Ghosts D) where
-  -- A file was opened and closed, and calls were answered in between. What its connection showed first is what the image holds, and of
-  -- whichever state these are the rows: each call is answered by the state that the one before it left, and the file that is closed
-  -- holds the rows of the state where the last one leads.
-  pub record ServesOver (image : Image) : Type 0 where
+  -- A file was opened and closed, and that is what is left; calls were answered in between. What its connection showed first is what
+  -- the image holds, and of whichever state these are the rows: each call is answered by the state that the one before it left, and the
+  -- file that is closed holds the rows of the state where the last one leads.
+  pub record ServesOver (image : Image) (left : Left D g) : Type 0 where
     pub opened : Held (FileStore D g)
     pub closed : Files D
+    pub is_left : left ≡ Closed closed
     pub found : AreClean g closed.log closed.db → FindsIn image (file_state opened)
     pub serves : AreClean g closed.log closed.db → IsOpened opened
     pub answers : AreClean g closed.log closed.db → (f : Federation) → ShowsState g opened f
-        → (calls : List AnsweredCall) × (end : Standing) × AreServed (record { now = f; failed = false }) calls end × HoldsState (image_of g closed) end.now
+        → (calls : List AnsweredCall) × (end : Standing) × AreServed (record { now = f; failed = false }) calls end × LeavesState g closed end.now
 
   -- how it ends once connections can be made: they are served, or one of them cannot be accepted, which is 45; or the file cannot be
   -- closed
-  abbrev pub EndsServing : Image → Spoken → Type 0
-  EndsServing image said = (ServesOver image × ((said ≡ silent) ⊎ IsRefusedBy ReadFault said)) ⊎ IsFileRefused said
+  abbrev pub EndsServing : Image → Spoken → Left D g → Type 0
+  EndsServing image said left = (ServesOver image left × ((said ≡ silent) ⊎ IsRefusedBy ReadFault said)) ⊎ IsRefusedBy Store said
 
-  -- what is said to `serve`: a value is lacking, which is 44; or the file is refused, or the port, which is 45; or connections can be made
-  abbrev pub SaysToServe : Image → List Row → Spoken → Type 0
-  SaysToServe image values said =
-      (LacksValue values × IsRefusedBy NoRequest said)
-      ⊎ (IsFileRefused said
-      ⊎ ((ServesOver image × IsRefusedBy ReadFault said)
-      ⊎ ((rest : Spoken) × (said ≡ after_listening rest) × EndsServing image rest)))
+  -- what is said to `serve`: a value is lacking, which is 44; or the file is refused, and is left as it was; or the port, which is 45,
+  -- where the file may not be closed, which is 41; or connections can be made
+  abbrev pub SaysToServe : Image → List Row → Spoken → Left D g → Type 0
+  SaysToServe image values said left =
+      (LacksValue values × IsRefusedBefore g NoRequest said left)
+      ⊎ ((IsFileRefused said × KeepsFile g image left)
+      ⊎ ((ServesOver image left × IsRefusedBy ReadFault said)
+      ⊎ (IsRefusedBy Store said
+      ⊎ ((rest : Spoken) × (said ≡ after_listening rest) × EndsServing image rest left))))
 
-  -- `serve` is told what is said to it, or 40
-  abbrev pub IsServed : {W : Type 0} → Image → (W → Option (List ℕ)) → W → W → ℕ → List Row → Type 0
-  IsServed image contents w0 w1 status values =
-      (said : Spoken) × Tells contents w0 w1 status said × (IsRefusedBy OutOfMemory said ⊎ SaysToServe image values said)
+  -- `serve` is told what is said to it; or 40, and no file was opened
+  abbrev pub IsServed : {W : Type 0} → Image → (W → Option (List ℕ)) → W → W → ℕ → List Row → Left D g → Type 0
+  IsServed image contents w0 w1 status values left =
+      (said : Spoken) × TellsServing contents w0 w1 status said × (IsRefusedBefore g OutOfMemory said left ⊎ SaysToServe image values said left)

@@ -4,10 +4,12 @@ use Rattle.std.specs.Io.KnownBytes.{Appends}
 use Rattle.clap.specs.Walk.{Row}
 use Rattle.sqlite_disk.specs.declared.Disk as disk
 use Rattle.sqlite_wal.specs.Recovery.{Image}
-use Rattle.money_core.specs.declared.cause.Cause.TheVariants.{Request as NoRequest, ReadFault}
+use Rattle.money_core.specs.declared.cause.Cause.TheVariants.{Store, Request as NoRequest, ReadFault}
 use Rattle.treasury.specs.declared.words.serving.Ending.{Ending}
 use Rattle.treasury.specs.declared.words.serving.Ending.TheVariants.{Unbound, Unwritten, Unaccepted, Finished}
-use Rattle.treasury.specs.OverFile.{Spoken, IsRefusedBy, IsFileRefused}
+use Rattle.treasury.specs.declared.words.left.Left.{Left}
+use Rattle.treasury.specs.Left.{KeepsFile}
+use Rattle.treasury.specs.OverFile.{Spoken, IsRefusedBy, IsFileRefused, IsRefusedBefore}
 use Rattle.treasury.specs.Serving.{ServesOver, LacksValue, listening, silent}
 
 -- `listening` is written once connections can be made, or a first part of it where the output takes no more
@@ -35,10 +37,10 @@ IsAnnounced contents w0 w1 (Some ending) = IsAnnouncedBy contents w0 w1 ending
 
 module _ {D : Type 0} (g : disk.Ghosts D) where
   -- and where it may not be
-  abbrev pub EndsBy : Image → Ending → Spoken → Type 0
-  EndsBy image ending said = IsFileRefused said ⊎ (ServesOver g image × SaysAtEnd ending said)
+  abbrev pub EndsBy : Image → Ending → Spoken → Left D g → Type 0
+  EndsBy image ending said left = IsRefusedBy Store said ⊎ (ServesOver g image left × SaysAtEnd ending said)
 
   -- and where it did not begin
-  abbrev pub SaysServing : Image → List Row → Option Ending → Spoken → Type 0
-  SaysServing image values None said = (LacksValue values × IsRefusedBy NoRequest said) ⊎ IsFileRefused said
-  SaysServing image values (Some ending) said = EndsBy image ending said
+  abbrev pub SaysServing : Image → List Row → Option Ending → Spoken → Left D g → Type 0
+  SaysServing image values None said left = (LacksValue values × IsRefusedBefore g NoRequest said left) ⊎ (IsFileRefused said × KeepsFile g image left)
+  SaysServing image values (Some ending) said left = EndsBy image ending said left

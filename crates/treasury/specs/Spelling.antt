@@ -1,12 +1,14 @@
 -- The request that a word over a database file spells (own rule; docs/RULES.md, "The program"): the one that a line of `run`
 -- spells whose keys have the word's values.
-use Rattle.std.specs.Prelude.{ℕ, List, codes, Option, None, option_map, option_and_then, if◌then◌else◌}
+use Rattle.std.specs.Prelude.{ℕ, List, codes, Option, Some, None, option_map, option_and_then, if◌then◌else◌}
 use Rattle.std.specs.Str.{bytes_eq}
 use Rattle.clap.specs.Walk.{Row, first_of}
 use Rattle.money_core.specs.declared.day.Day.{Day}
 use Rattle.journal_lines.specs.DateReading.{date_of}
+use Rattle.treasury_api.specs.declared.request.WrittenPart.{WrittenPart}
 use Rattle.treasury_api.specs.declared.request.Request.{Request}
 use Rattle.treasury_api.specs.declared.request.Request.TheVariants.{Branch, Commodity, Dispatch, Receive, Lock, Close, Balance, Register, Transit, Journal}
+use Rattle.treasury_api.specs.Request.{written}
 
 -- the day that is given, where it is a date
 abbrev pub day_in : List Row → Option Day
@@ -19,10 +21,20 @@ dispatch_in rows =
     option_map (λ account. Dispatch id from to day amount account) (first_of (codes "account") rows)) (first_of (codes "amount") rows))
     (day_in rows)) (first_of (codes "to") rows)) (first_of (codes "from") rows)) (first_of (codes "id") rows)
 
+-- a part is spelled by its key and its amount: both are given, or neither
+abbrev pub part_of : Option (List ℕ) → Option (List ℕ) → Option (Option WrittenPart)
+part_of None None = Some None
+part_of None (Some amount) = None
+part_of (Some key) None = None
+part_of (Some key) (Some amount) = Some (Some (written key amount))
+
+abbrev pub part_in : List Row → Option (Option WrittenPart)
+part_in rows = part_of (first_of (codes "part") rows) (first_of (codes "amount") rows)
+
 abbrev pub receive_in : List Row → Option Request
 receive_in rows =
-    option_and_then (λ id. option_and_then (λ branch. option_and_then (λ day.
-    option_map (λ account. Receive id branch day account) (first_of (codes "account") rows))
+    option_and_then (λ id. option_and_then (λ branch. option_and_then (λ day. option_and_then (λ account.
+    option_map (λ part. Receive id branch day account part) (part_in rows)) (first_of (codes "account") rows))
     (day_in rows)) (first_of (codes "branch") rows)) (first_of (codes "id") rows)
 
 -- what the word of a report spells
@@ -47,5 +59,5 @@ request_in word rows =
     else if bytes_eq word (codes "lock")
     then option_and_then (λ branch. option_map (Lock branch) (day_in rows)) (first_of (codes "branch") rows)
     else if bytes_eq word (codes "close")
-    then option_and_then (λ branch. option_map (Close branch) (day_in rows)) (first_of (codes "branch") rows)
+    then option_and_then (λ branch. option_map (λ day. Close branch day (first_of (codes "accounts") rows) (first_of (codes "into") rows)) (day_in rows)) (first_of (codes "branch") rows)
     else report_in word rows

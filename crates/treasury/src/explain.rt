@@ -1,6 +1,7 @@
 //! What standard error says of a refusal, beside the answer on standard output.
 
 mod at_fault;
+mod closing;
 mod exact;
 mod failure;
 mod held;
@@ -11,8 +12,10 @@ pub mod pieces;
 mod sentences;
 mod source;
 pub mod standing;
+mod transfers;
 
 use crate::explain::at_fault::{AtFault, find_at_fault, push_at_fault};
+use crate::explain::closing::push_closing;
 use crate::explain::failure::explain_failure;
 use crate::explain::held::{push_held, push_lock};
 use crate::explain::hints::push_fault_hint;
@@ -84,7 +87,8 @@ fn explain_plain<L: Ledger>(
     out: &mut Vec<u8>,
 ) -> Result<(), Cause> {
     push_sentence(b"", cause, out)?;
-    push_held(alloc, state, request, cause, out)
+    push_held(alloc, state, request, cause, out)?;
+    push_closing(alloc, state, request, cause, out)
 }
 
 /// Appends the sentence of a refusal of an import, the transaction that it comes from, and for what that is refused.

@@ -37,6 +37,7 @@ fn main(rt: HostRuntime) -> io::Result<ExitCode> {
     };
     let mut input = rt.reader();
     let mut output = io::writer(&rt);
-    let status = words::run_words(&rt, words.as_slice(), &mut input, &mut output, Wary);
-    Ok(ExitCode::from(status))
+    let ended = words::run_words(&rt, words.as_slice(), &mut input, &mut output, Wary);
+    // What is left of a word's files is held until here.
+    Ok(ExitCode::from(ended.status))
 }

@@ -3,12 +3,14 @@
 mod accounts;
 mod again;
 mod amounts;
+mod places;
 
 use crate::explain::pieces::{push_day, push_number, push_shown};
-use crate::explain::standing::{Standing, branch_named, standings};
+use crate::explain::standing::branch_named;
 use crate::notes::accounts::{has_new_account, push_accounts};
 use crate::notes::again::{Again, find_again, push_again};
 use crate::notes::amounts::{has_odd_amount, push_odd_amount, push_odd_amounts};
+use crate::notes::places::new_lines;
 use book_core::Ledger;
 use money_core::{Cause, Day};
 use sqlite::Alter;
@@ -97,14 +99,14 @@ fn push_noted<L: Ledger>(
     out: &mut Vec<u8>,
 ) -> Result<(), Cause> {
     let styles = state.styles();
-    let list = standings(alloc, styles, import.held, import.text)?;
-    let list: &[Standing] = list.as_slice();
+    let lines = new_lines(alloc, styles, import)?;
+    let lines: &[usize] = lines.as_slice();
     if noted.has_odd_amount {
-        push_odd_amounts(alloc, styles, import, list, out)?;
+        push_odd_amounts(alloc, styles, import, lines, out)?;
     }
-    push_again(alloc, import, list, noted.again.as_slice(), out)?;
+    push_again(alloc, import, lines, noted.again.as_slice(), out)?;
     if noted.has_new_account {
-        push_accounts(alloc, import, list, out)?;
+        push_accounts(alloc, import, lines, out)?;
     }
     Ok(())
 }

@@ -3,6 +3,7 @@
 mod beside;
 mod file;
 mod known;
+mod left;
 mod looks;
 mod over_file;
 mod pipe;
@@ -13,7 +14,7 @@ mod spelling;
 mod tables;
 mod waiting;
 
-ghost use Rattle.std.specs.Prelude.{◌≡◌, ◌⊎◌, ◌≢◌, ℕ, List, map, codes, false, Some, IfOk, OnOk, OnErr, MatchResult};
+ghost use Rattle.std.specs.Prelude.{◌≡◌, ◌⊎◌, ◌≢◌, ℕ, List, map, codes, false, None, Some, IfOk, OnOk, OnErr, MatchResult};
 ghost use Rattle.clap.specs.Matches.{found_of, subcommand_name_of};
 ghost use Rattle.clap.specs.Simple.{subcommand_rows_of};
 ghost use Rattle.clap.specs.Walk.{Row, rows_of};
@@ -24,17 +25,20 @@ ghost use Rattle.treasury_store.specs.Treasury.{IsTreasuryOf};
 ghost use Rattle.std.specs.String.{string_bytes};
 ghost use Rattle.treasury_api.specs.Step.{Standing, at_first};
 ghost use Rattle.treasury_api.specs.Kept.{AnswersAll};
-ghost use Rattle.treasury.specs.Words.{AreTaken, AskForRun, AskForWord, AskToServe, MayAskForHelp, IsCutOff};
+ghost use Rattle.treasury.specs.Words.{AreTaken, named, AskForRun, AskForWord, AskToServe, MayAskForHelp, IsCutOff};
 ghost use Rattle.treasury.specs.OverFile.{Tells, IsTold};
 ghost use Rattle.treasury.specs.Serving.{IsServed};
+ghost use Rattle.treasury.specs.Started.{AnswersUntaken};
+ghost use Rattle.clap.specs.Values.{kind_of};
 
 use crate::laws::{files_law, serving_law, words_law};
 use crate::words::known::known_words;
+use crate::words::left::Left;
 use crate::words::looks::looks_of;
-use crate::words::over_file::answer_over_file;
+use crate::words::over_file::{Answered, answer_over_file};
 use crate::words::pipe::is_unread;
 use crate::words::said::{Said, room_for_line};
-use crate::words::serving::{is_unwritten, serve_over_file};
+use crate::words::serving::{Serving, is_unwritten, serve_over_file};
 use crate::words::spelling::value_of;
 use crate::words::waiting::wait_for;
 use clap::error::ErrorKind;
@@ -53,6 +57,13 @@ use treasury_core::{
 };
 use treasury_memory::{MemoryStore, open_memory};
 use treasury_store::{Store, Treasury};
+
+/// How the program ends: its exit status, and what it leaves of the files of a word.
+#[derive(Drop)]
+pub struct Ended<D: Disk> {
+    pub status: u8,
+    pub left: Left<D>,
+}
 
 /// What it means that something is cut off by this cause, which is 40, 45 or 46.
 fn meaning(cause: Cause) -> &'static str {
@@ -189,21 +200,24 @@ fn do_over_file<W: Write, S: Start>(
     values: &ArgMatches<'_>,
     output: &mut W,
     start: S,
-) -> u8
-    ensures told { IsTold ⟦<FileFrom<S> as Disk>⟧ (image_at S.Start) W.contents output.old output.new result word.now (rows_of (found_of values.now)) }
-    ensures usage { result ≢ 2 }
+) -> Ended<FileFrom<S>>
+    ensures told { IsTold ⟦<FileFrom<S> as Disk>⟧ (image_at S.Start) W.contents output.old output.new result.status word.now (rows_of (found_of values.now)) result.left }
+    ensures usage { result.status ≢ 2 }
 {
     words_law();
     files_law::<FileFrom<S>>();
     let Ok(room) = room_for_line(rt.alloc()) else {
-        return write_answer(rt, NO_MEMORY, true, output);
+        return Ended {
+            status: write_answer(rt, NO_MEMORY, true, output),
+            left: Left::Untouched,
+        };
     };
     let turn = turn_on(rt, values);
-    let said = answer_over_file(rt, room, word, values, start);
+    let Answered { said, left } = answer_over_file(rt, room, word, values, start);
     drop(turn);
-    let ended = write_answer(rt, said.answer.as_slice(), said.is_refused, output);
+    let status = write_answer(rt, said.answer.as_slice(), said.is_refused, output);
     tell(rt, values, &said);
-    ended
+    Ended { status, left }
 }
 
 /// Serves connections as `serve` says: the output says when they can be made, and what refuses it; standard error says why.
@@ -212,24 +226,29 @@ fn do_serve<W: Write, S: Start>(
     values: &ArgMatches<'_>,
     output: &mut W,
     start: S,
-) -> u8
-    ensures served { IsServed ⟦<FileFrom<S> as Disk>⟧ (image_at S.Start) W.contents output.old output.new result (rows_of (found_of values.now)) }
-    ensures usage { result ≢ 2 }
+) -> Ended<FileFrom<S>>
+    ensures served { IsServed ⟦<FileFrom<S> as Disk>⟧ (image_at S.Start) W.contents output.old output.new result.status (rows_of (found_of values.now)) result.left }
+    ensures usage { result.status ≢ 2 }
 {
     serving_law::<FileFrom<S>>();
     let Ok(room) = room_for_line(rt.alloc()) else {
-        return write_answer(rt, NO_MEMORY, true, output);
+        return Ended {
+            status: write_answer(rt, NO_MEMORY, true, output),
+            left: Left::Untouched,
+        };
     };
     let turn = turn_on(rt, values);
-    let serving = serve_over_file(rt, room, values, output, start);
+    let Serving { ending, said, left } = serve_over_file(rt, room, values, output, start);
     drop(turn);
-    if is_unwritten(serving.ending) {
-        return unwritten(rt);
+    if is_unwritten(ending) {
+        return Ended {
+            status: unwritten(rt),
+            left,
+        };
     }
-    let said = serving.said;
-    let ended = write_answer(rt, said.answer.as_slice(), said.is_refused, output);
+    let status = write_answer(rt, said.answer.as_slice(), said.is_refused, output);
     tell(rt, values, &said);
-    ended
+    Ended { status, left }
 }
 
 /// Does what words say that are taken, by what they match, and answers the exit status.
@@ -239,81 +258,105 @@ fn do_word<R: Read, W: Write, S: Start>(
     input: &mut R,
     output: &mut W,
     start: S,
-) -> u8
-    ensures done { subcommand_name_of matches.now ≡ Some (codes "run") → result ≡ 0
+) -> Ended<FileFrom<S>>
+    ensures done { subcommand_name_of matches.now ≡ Some (codes "run") → result.status ≡ 0
         → (end : Standing) × AnswersAll R.remaining input.old input.new W.contents output.old output.new at_first end }
-    ensures cut_off { subcommand_name_of matches.now ≡ Some (codes "run") → result ≢ 0
-        → (result ≡ 1) × IsCutOff R.remaining input.old input.new W.contents output.old output.new }
+    ensures cut_off { subcommand_name_of matches.now ≡ Some (codes "run") → result.status ≢ 0
+        → (result.status ≡ 1) × IsCutOff R.remaining input.old input.new W.contents output.old output.new }
     ensures word { (word : List ℕ) → (values : List Row) → subcommand_rows_of matches.now ≡ Some (word, values) → word ≢ codes "run" → word ≢ codes "serve"
-        → IsTold ⟦<FileFrom<S> as Disk>⟧ (image_at S.Start) W.contents output.old output.new result word values }
+        → IsTold ⟦<FileFrom<S> as Disk>⟧ (image_at S.Start) W.contents output.old output.new result.status word values result.left }
     ensures serve { (values : List Row) → subcommand_rows_of matches.now ≡ Some (codes "serve", values)
-        → IsServed ⟦<FileFrom<S> as Disk>⟧ (image_at S.Start) W.contents output.old output.new result values }
+        → IsServed ⟦<FileFrom<S> as Disk>⟧ (image_at S.Start) W.contents output.old output.new result.status values result.left }
     ensures other { (subcommand_name_of matches.now ≡ Some (codes "run") → ⊥) → input.new ≡ input.old }
-    ensures usage { result ≡ 2 → (input.new ≡ input.old) × (output.new ≡ output.old) }
+    ensures usage { result.status ≡ 2 → (subcommand_rows_of matches.now ≡ None) × ((input.new ≡ input.old) × (output.new ≡ output.old)) }
 {
     match matches.subcommand_matches("run") {
-        Some(_) => status(rt, run(rt.alloc(), input, output)),
+        Some(_) => Ended {
+            status: status(rt, run(rt.alloc(), input, output)),
+            left: Left::Untouched,
+        },
         None => match matches.subcommand_matches("serve") {
             Some(values) => do_serve(rt, values, output, start),
             None => match matches.subcommand() {
                 Some((word, values)) => do_over_file(rt, word, values, output, start),
-                None => 2,
+                None => Ended {
+                    status: 2,
+                    left: Left::Untouched,
+                },
             },
         },
     }
 }
 
-/// Does what the words say, and answers the exit status.
+/// Answers words that are not taken: 2, with the reason and the usage on standard error; or help or the version, which are
+/// written to the output; or 1 for want of memory.
+fn answer_untaken<W: Write>(rt: &HostRuntime, error: &Error, output: &mut W) -> u8
+    ensures { AnswersUntaken (kind_of error.now) output.old output.new result }
+{
+    match error.kind() {
+        ErrorKind::OutOfMemory => status(rt, Err(Cause::OutOfMemory)),
+        ErrorKind::DisplayHelp | ErrorKind::DisplayVersion => show_text(rt, error, output),
+        _ => {
+            let _ = rt.eprint(error);
+            2
+        }
+    }
+}
+
+/// Does what the words say, and answers the exit status, with what is left of the files of a word.
 ///
 /// The words begin with the program's name. 0: done, whatever was refused. 1: cut off, because memory was refused, the
-/// input broke or a write failed, with the refusal and its meaning on standard error. 2: words that say nothing to do,
-/// with the reason and the usage on standard error. `--help` and `--version` are written to the output. `start` stands for
-/// what the database file of a word holds when it is opened.
+/// input broke or a write failed, with the refusal and its meaning on standard error; and a word over a file that is refused.
+/// 2: words that say nothing to do, with the reason and the usage on standard error. `--help` and `--version` are written to
+/// the output. `start` stands for what the database file of a word holds when it is opened.
 pub fn run_words<R, W, S>(
     rt: &HostRuntime,
     words: &[String],
     input: &mut R,
     output: &mut W,
     start: S,
-) -> u8
+) -> Ended<FileFrom<S>>
 where
     R: Read,
     W: Write,
     S: Start,
     // Words that ask for a run have one, unless there is no memory to read them.
-    ensures done { AskForRun (map string_bytes words.now) → result ≡ 0
+    ensures done { AskForRun (map string_bytes words.now) → result.status ≡ 0
         → (end : Standing) × AnswersAll R.remaining input.old input.new W.contents output.old output.new at_first end }
-    ensures cut_off { AskForRun (map string_bytes words.now) → result ≢ 0
-        → (result ≡ 1) × IsCutOff R.remaining input.old input.new W.contents output.old output.new }
+    ensures cut_off { AskForRun (map string_bytes words.now) → result.status ≢ 0
+        → (result.status ≡ 1) × IsCutOff R.remaining input.old input.new W.contents output.old output.new }
 
-    // A word over a database file is answered over that file.
+    // A word over a database file is answered over that file, and leaves it as is said.
     ensures word { (word : List ℕ) → (values : List Row) → AskForWord (map string_bytes words.now) word values
-        → IsTold ⟦<FileFrom<S> as Disk>⟧ (image_at S.Start) W.contents output.old output.new result word values }
+        → IsTold ⟦<FileFrom<S> as Disk>⟧ (image_at S.Start) W.contents output.old output.new result.status word values result.left }
 
     // `serve` answers the calls of connections over it.
     ensures serve { (values : List Row) → AskToServe (map string_bytes words.now) values
-        → IsServed ⟦<FileFrom<S> as Disk>⟧ (image_at S.Start) W.contents output.old output.new result values }
+        → IsServed ⟦<FileFrom<S> as Disk>⟧ (image_at S.Start) W.contents output.old output.new result.status values result.left }
 
-    // Others read none, and those that are not taken, but for those that may ask for help or for the version, are answered 2.
+    // Others read none, and those that are not taken, but for those that may ask for help or for the version, are answered 2; or 1
+    // for want of memory. No other words are answered 2.
     ensures other { (AskForRun (map string_bytes words.now) → ⊥) → input.new ≡ input.old }
     ensures wrong { (AreTaken (map string_bytes words.now) → ⊥) → (MayAskForHelp (map string_bytes words.now) → ⊥)
-        → ((result ≡ 2) ⊎ (result ≡ 1)) × (output.new ≡ output.old) }
-    ensures usage { result ≡ 2 → (input.new ≡ input.old) × (output.new ≡ output.old) }
+        → ((result.status ≡ 2) ⊎ (result.status ≡ 1)) × (output.new ≡ output.old) }
+    ensures usage { result.status ≡ 2 → (input.new ≡ input.old) × (output.new ≡ output.old) }
+    ensures unused { result.status ≡ 2 → AreTaken (map string_bytes words.now) → named (map string_bytes words.now) ≡ None }
 {
     let alloc = rt.alloc();
     let known = match known_words(alloc) {
         Ok(known) => known,
-        Err(_) => return status(rt, Err(Cause::OutOfMemory)),
+        Err(_) => {
+            return Ended {
+                status: status(rt, Err(Cause::OutOfMemory)),
+                left: Left::Untouched,
+            };
+        }
     };
     match known.try_get_matches_from(words) {
         Ok(matches) => do_word(rt, &matches, input, output, start),
-        Err(error) => match error.kind() {
-            ErrorKind::OutOfMemory => status(rt, Err(Cause::OutOfMemory)),
-            ErrorKind::DisplayHelp | ErrorKind::DisplayVersion => show_text(rt, &error, output),
-            _ => {
-                let _ = rt.eprint(&error);
-                2
-            }
+        Err(error) => Ended {
+            status: answer_untaken(rt, &error, output),
+            left: Left::Untouched,
         },
     }
 }

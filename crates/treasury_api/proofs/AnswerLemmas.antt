@@ -1,5 +1,5 @@
 -- A request is answered by what it asks, or by 40 to 42, whatever it asks; and a line by its request, or by 44.
-use Rattle.std.proofs.Common.{◌≡◌, ◌++◌, ◌⊎◌, ℕ, ℤ, List, Bool, IfErr, true, false, not, if◌then◌else◌, Option, Some, None, Result, Ok, Err, IsTrue, refl, ap, ◌∙◌, sym, subst, inl, inr}
+use Rattle.std.proofs.Common.{◌≡◌, ◌++◌, ◌⊎◌, ℕ, ℤ, List, Bool, IfErr, true, false, not, if◌then◌else◌, Option, Some, None, Result, Ok, Err, IsTrue, refl, ap, ◌∙◌, sym, subst, inl, inr, option_map}
 use Rattle.std.specs.Prelude.{◌↔◌}
 use Rattle.money_core.specs.declared.style.Style.{Style}
 use Rattle.money_core.specs.declared.cause.Cause.{Cause}
@@ -25,7 +25,7 @@ use Rattle.treasury_api.specs.declared.request.Request.TheVariants.{Branch as Fo
 use Rattle.treasury_api.specs.declared.asking.Asked.{Asked}
 use Rattle.treasury_api.specs.declared.asking.Asked.TheVariants.{Command, Report}
 use Rattle.treasury_api.specs.declared.report.Report.TheVariants as report
-use Rattle.treasury_api.specs.Asked.{asked_by_sample, asked_by_amount, JournalAsks, RequestAsks, AsksOf}
+use Rattle.treasury_api.specs.Asked.{asked_by_sample, asked_by_amount, asked_by_part, asked_by_receipt, cut_list, JournalAsks, RequestAsks, AsksOf}
 use Rattle.treasury_api.specs.declared.report.Report.{Report as AnyReport}
 use Rattle.treasury_api.specs.Report.{report_text, has_its_branch}
 use Rattle.treasury_api.specs.Step.{is_failure}
@@ -52,9 +52,9 @@ request_asks law styles (ForBranch name) = (Ok (Command (cmd.Branch name)), refl
 request_asks law styles (ForCommodity sample) = (asked_by_sample (style_of sample), refl)
 request_asks law styles (ForImport name journal) = journal_asks law styles name journal
 request_asks law styles (ForDispatch id from to day text account) = (asked_by_amount id from to day account (amount styles text), refl)
-request_asks law styles (ForReceive id name day account) = (Ok (Command (cmd.Receive (record { id = id; branch = name; day = day; account = account }))), refl)
+request_asks law styles (ForReceive id name day account part) = (asked_by_receipt styles id name day account part, refl)
 request_asks law styles (ForLock name day) = (Ok (Command (cmd.Lock name day)), refl)
-request_asks law styles (ForClose name day) = (Ok (Command (cmd.Close name day)), refl)
+request_asks law styles (ForClose name day accounts into) = (Ok (Command (cmd.Close (record { branch = name; day = day; choice = record { accounts = option_map cut_list accounts; into = into } }))), refl)
 request_asks law styles (ForBalance name day) = (Ok (Report (report.Balance name day)), refl)
 request_asks law styles (ForRegister name account tag) = (Ok (Report (report.Register name account tag)), refl)
 request_asks law styles (ForTransit day) = (Ok (Report (report.Transit day)), refl)
@@ -134,9 +134,14 @@ texts_stay styles (ForDispatch id from to day text account) refusal asks = by_am
     by_amount : (r : Result (Commodity × ℤ) Cause) → IfErr r (λ cause. (cause ≡ Amount) ⊎ (cause ≡ UnknownCommodity) ⊎ (cause ≡ Decimals)) → Err refusal ≡ asked_by_amount id from to day account r → is_failure (Err refusal) ≡ false
     by_amount (Ok (unit, qty)) causes e = absurd cc
     by_amount (Err cause) causes e = let k : refusal ≡ Plain cause = cc in ap (λ (x : Refusal). is_failure (Err x)) k ∙ amount_stays cause causes
-texts_stay styles (ForReceive id name day account) refusal asks = absurd cc
+texts_stay styles (ForReceive id name day account None) refusal asks = absurd cc
+texts_stay styles (ForReceive id name day account (Some part)) refusal asks = by_amount (amount styles part.amount) (one_of_causes styles part.amount (amount styles part.amount) refl) asks
+  where
+    by_amount : (r : Result (Commodity × ℤ) Cause) → IfErr r (λ cause. (cause ≡ Amount) ⊎ (cause ≡ UnknownCommodity) ⊎ (cause ≡ Decimals)) → Err refusal ≡ asked_by_part id name day account part.key r → is_failure (Err refusal) ≡ false
+    by_amount (Ok (unit, qty)) causes e = absurd cc
+    by_amount (Err cause) causes e = let k : refusal ≡ Plain cause = cc in ap (λ (x : Refusal). is_failure (Err x)) k ∙ amount_stays cause causes
 texts_stay styles (ForLock name day) refusal asks = absurd cc
-texts_stay styles (ForClose name day) refusal asks = absurd cc
+texts_stay styles (ForClose name day accounts into) refusal asks = absurd cc
 texts_stay styles (ForBalance name day) refusal asks = absurd cc
 texts_stay styles (ForRegister name account tag) refusal asks = absurd cc
 texts_stay styles (ForTransit day) refusal asks = absurd cc

@@ -26,8 +26,8 @@ use Rattle.treasury_core.specs.Good.{IsFile, Fits}
 use Rattle.treasury_api.specs.declared.request.Request.{Request}
 use Rattle.treasury_api.specs.declared.request.Request.TheVariants.{Branch as ForBranch, Commodity as ForCommodity, Import as ForImport, Dispatch as ForDispatch, Receive as ForReceive, Lock as ForLock, Close as ForClose, Balance as ForBalance, Register as ForRegister, Transit as ForTransit, Journal as ForJournal}
 use Rattle.treasury_api.specs.declared.asking.Asked.TheVariants.{Command}
-use Rattle.treasury_api.specs.Request.{text_at, day_at, is_form, dispatch_at, receive_at, register_at, tagged_at, report_form, form, request_of, spelled, HasDayNumbers}
-use Rattle.treasury_api.specs.Asked.{asked_by_sample, asked_by_amount, RequestAsks, Asks}
+use Rattle.treasury_api.specs.Request.{text_at, day_at, is_form, dispatch_at, receive_at, written, part_at, register_at, tagged_at, one_chosen, close_at, chosen_at, both_at, report_form, close_form, form, request_of, spelled, HasDayNumbers}
+use Rattle.treasury_api.specs.Asked.{asked_by_sample, asked_by_amount, asked_by_part, cut_list, RequestAsks, Asks}
 
 -- ---- the days of a request that is spelled
 
@@ -76,11 +76,21 @@ dispatch_days d request h =
 
 receive_days : (d : Data) (request : Request) → receive_at d ≡ Some request → HasDayNumbers request
 receive_days d request h =
-    let id = by_texts (λ id. option_and_then (λ branch. option_and_then (λ day. option_map (λ account. ForReceive id branch day account) (text_at (codes "account") d)) (day_at (codes "day") d)) (text_at (codes "branch") d)) (text_at (codes "id") d) request h in
-    let branch = by_texts (λ branch. option_and_then (λ day. option_map (λ account. ForReceive id.0 branch day account) (text_at (codes "account") d)) (day_at (codes "day") d)) (text_at (codes "branch") d) request id.1 in
-    let day = by_days (codes "day") d (λ day. option_map (λ account. ForReceive id.0 branch.0 day account) (text_at (codes "account") d)) request branch.1 in
-    let account = by_text (λ account. ForReceive id.0 branch.0 day.0 account) (text_at (codes "account") d) request day.1.0 in
+    let id = by_texts (λ id. option_and_then (λ branch. option_and_then (λ day. option_map (λ account. ForReceive id branch day account None) (text_at (codes "account") d)) (day_at (codes "day") d)) (text_at (codes "branch") d)) (text_at (codes "id") d) request h in
+    let branch = by_texts (λ branch. option_and_then (λ day. option_map (λ account. ForReceive id.0 branch day account None) (text_at (codes "account") d)) (day_at (codes "day") d)) (text_at (codes "branch") d) request id.1 in
+    let day = by_days (codes "day") d (λ day. option_map (λ account. ForReceive id.0 branch.0 day account None) (text_at (codes "account") d)) request branch.1 in
+    let account = by_text (λ account. ForReceive id.0 branch.0 day.0 account None) (text_at (codes "account") d) request day.1.0 in
     subst HasDayNumbers account.1 day.1.1
+
+part_days : (d : Data) (request : Request) → part_at d ≡ Some request → HasDayNumbers request
+part_days d request h =
+    let id = by_texts (λ id. option_and_then (λ branch. option_and_then (λ day. option_and_then (λ account. option_and_then (λ key. option_map (λ amount. ForReceive id branch day account (Some (written key amount))) (text_at (codes "amount") d)) (text_at (codes "part") d)) (text_at (codes "account") d)) (day_at (codes "day") d)) (text_at (codes "branch") d)) (text_at (codes "id") d) request h in
+    let branch = by_texts (λ branch. option_and_then (λ day. option_and_then (λ account. option_and_then (λ key. option_map (λ amount. ForReceive id.0 branch day account (Some (written key amount))) (text_at (codes "amount") d)) (text_at (codes "part") d)) (text_at (codes "account") d)) (day_at (codes "day") d)) (text_at (codes "branch") d) request id.1 in
+    let day = by_days (codes "day") d (λ day. option_and_then (λ account. option_and_then (λ key. option_map (λ amount. ForReceive id.0 branch.0 day account (Some (written key amount))) (text_at (codes "amount") d)) (text_at (codes "part") d)) (text_at (codes "account") d)) request branch.1 in
+    let account = by_texts (λ account. option_and_then (λ key. option_map (λ amount. ForReceive id.0 branch.0 day.0 account (Some (written key amount))) (text_at (codes "amount") d)) (text_at (codes "part") d)) (text_at (codes "account") d) request day.1.0 in
+    let key = by_texts (λ key. option_map (λ amount. ForReceive id.0 branch.0 day.0 account.0 (Some (written key amount))) (text_at (codes "amount") d)) (text_at (codes "part") d) request account.1 in
+    let amount = by_text (λ amount. ForReceive id.0 branch.0 day.0 account.0 (Some (written key.0 amount))) (text_at (codes "amount") d) request key.1 in
+    subst HasDayNumbers amount.1 day.1.1
 
 register_days : (d : Data) (request : Request) → register_at d ≡ Some request → HasDayNumbers request
 register_days d request h =
@@ -107,6 +117,38 @@ report_days word d request e =
     one_of (is_form (codes "journal") 2 word d) _ _ request (HasDayNumbers request) e4
     (λ h. let b = by_text ForJournal (text_at (codes "branch") d) request h in subst HasDayNumbers b.1 tt) (λ e5. absurd cc)))))
 
+close_days : (d : Data) (request : Request) → close_at d ≡ Some request → HasDayNumbers request
+close_days d request h =
+    let b = by_texts (λ branch. option_map (λ day. ForClose branch day None None) (day_at (codes "day") d)) (text_at (codes "branch") d) request h in
+    let l = by_day (codes "day") d (λ day. ForClose b.0 day None None) request b.1 in
+    subst HasDayNumbers l.1.0 l.1.1
+
+one_days : (branch : List ℕ) (day : Day) (accounts into : Option (List ℕ)) (request : Request) → IsDayNumber day → one_chosen branch day accounts into ≡ Some request → HasDayNumbers request
+one_days branch day (Some names) into request days h = let same : ForClose branch day (Some names) None ≡ request = cc in subst HasDayNumbers same days
+one_days branch day None into request days h =
+    let account = by_text (λ account. ForClose branch day None (Some account)) into request h in
+    subst HasDayNumbers account.1 days
+
+chosen_days : (d : Data) (request : Request) → chosen_at d ≡ Some request → HasDayNumbers request
+chosen_days d request h =
+    let b = by_texts (λ branch. option_and_then (λ day. one_chosen branch day (text_at (codes "accounts") d) (text_at (codes "into") d)) (day_at (codes "day") d)) (text_at (codes "branch") d) request h in
+    let l = by_days (codes "day") d (λ day. one_chosen b.0 day (text_at (codes "accounts") d) (text_at (codes "into") d)) request b.1 in
+    one_days b.0 l.0 (text_at (codes "accounts") d) (text_at (codes "into") d) request l.1.1 l.1.0
+
+both_days : (d : Data) (request : Request) → both_at d ≡ Some request → HasDayNumbers request
+both_days d request h =
+    let b = by_texts (λ branch. option_and_then (λ day. option_and_then (λ names. option_map (λ account. ForClose branch day (Some names) (Some account)) (text_at (codes "into") d)) (text_at (codes "accounts") d)) (day_at (codes "day") d)) (text_at (codes "branch") d) request h in
+    let l = by_days (codes "day") d (λ day. option_and_then (λ names. option_map (λ account. ForClose b.0 day (Some names) (Some account)) (text_at (codes "into") d)) (text_at (codes "accounts") d)) request b.1 in
+    let names = by_texts (λ names. option_map (λ account. ForClose b.0 l.0 (Some names) (Some account)) (text_at (codes "into") d)) (text_at (codes "accounts") d) request l.1.0 in
+    let account = by_text (λ account. ForClose b.0 l.0 (Some names.0) (Some account)) (text_at (codes "into") d) request names.1 in
+    subst HasDayNumbers account.1 l.1.1
+
+close_form_days : (word : List ℕ) (d : Data) (request : Request) → close_form word d ≡ Some request → HasDayNumbers request
+close_form_days word d request e =
+    one_of (is_form (codes "close") 3 word d) _ _ request (HasDayNumbers request) e (close_days d request) (λ e1.
+    one_of (is_form (codes "close") 4 word d) _ _ request (HasDayNumbers request) e1 (chosen_days d request) (λ e2.
+    one_of (is_form (codes "close") 5 word d) _ _ request (HasDayNumbers request) e2 (both_days d request) (report_days word d request)))
+
 form_days : (word : List ℕ) (d : Data) (request : Request) → form word d ≡ Some request → HasDayNumbers request
 form_days word d request e =
     one_of (is_form (codes "branch") 2 word d) _ _ request (HasDayNumbers request) e (λ h. let b = by_text ForBranch (text_at (codes "name") d) request h in subst HasDayNumbers b.1 tt) (λ e1.
@@ -116,12 +158,11 @@ form_days word d request e =
     let j = by_text (ForImport b.0) (text_at (codes "journal") d) request b.1 in subst HasDayNumbers j.1 tt) (λ e3.
     one_of (is_form (codes "dispatch") 7 word d) _ _ request (HasDayNumbers request) e3 (dispatch_days d request) (λ e4.
     one_of (is_form (codes "receive") 5 word d) _ _ request (HasDayNumbers request) e4 (receive_days d request) (λ e5.
-    one_of (is_form (codes "lock") 3 word d) _ _ request (HasDayNumbers request) e5
+    one_of (is_form (codes "receive") 7 word d) _ _ request (HasDayNumbers request) e5 (part_days d request) (λ e6.
+    one_of (is_form (codes "lock") 3 word d) _ _ request (HasDayNumbers request) e6
     (λ h. let b = by_texts (λ branch. option_map (ForLock branch) (day_at (codes "day") d)) (text_at (codes "branch") d) request h in
-    let l = by_day (codes "day") d (ForLock b.0) request b.1 in subst HasDayNumbers l.1.0 l.1.1) (λ e6.
-    one_of (is_form (codes "close") 3 word d) _ _ request (HasDayNumbers request) e6
-    (λ h. let b = by_texts (λ branch. option_map (ForClose branch) (day_at (codes "day") d)) (text_at (codes "branch") d) request h in
-    let l = by_day (codes "day") d (ForClose b.0) request b.1 in subst HasDayNumbers l.1.0 l.1.1) (report_days word d request)))))))
+    let l = by_day (codes "day") d (ForLock b.0) request b.1 in subst HasDayNumbers l.1.0 l.1.1) (λ e7.
+    close_form_days word d request e7)))))))
 
 request_days : (o : Option Data) (request : Request) → option_and_then request_of o ≡ Some request → HasDayNumbers request
 request_days None request e = absurd cc
@@ -153,6 +194,13 @@ amount_fits styles id from to text account day (Ok (unit, qty)) c days e h =
     subst (Fits styles) (sym same) (record { day = days; amount = amounts_bound styles text unit qty e })
 amount_fits styles id from to text account day (Err cause) c days e h = absurd cc
 
+part_fits : (styles : List Style) (id name account key text : List ℕ) (day : Day) (r : Result (Unit × ℤ) Cause) (c : AnyCommand) → IsDayNumber day → amount styles text ≡ r
+    → asked_by_part id name day account key r ≡ Ok (Command c) → Fits styles c
+part_fits styles id name account key text day (Ok (unit, qty)) c days e h =
+    let same : c ≡ cmd.Receive (record { id = id; branch = name; day = day; account = account; part = Some (record { key = key; unit = unit; qty = qty }) }) = cc in
+    subst (Fits styles) (sym same) (record { day = days; part = amounts_bound styles text unit qty e })
+part_fits styles id name account key text day (Err cause) c days e h = absurd cc
+
 pub request_fits : (styles : List Style) (request : Request) (c : AnyCommand) → HasDayNumbers request → RequestAsks styles request (Ok (Command c)) → Fits styles c
 request_fits styles (ForBranch name) c days h = let same : c ≡ cmd.Branch name = cc in subst (Fits styles) (sym same) tt
 request_fits styles (ForCommodity sample) c days h = sample_fits styles sample (style_of sample) c refl (sym h)
@@ -162,11 +210,14 @@ request_fits styles (ForImport name journal) c days (inl reads) =
     subst (Fits styles) (sym same) (file_fits styles journal reads.0 reads.1.0)
 request_fits styles (ForImport name journal) c days (inr fault) = absurd (let e = fault.1.1 in cc)
 request_fits styles (ForDispatch id from to day text account) c days h = amount_fits styles id from to text account day (amount styles text) c days refl (sym h)
-request_fits styles (ForReceive id name day account) c days h =
-    let same : c ≡ cmd.Receive (record { id = id; branch = name; day = day; account = account }) = cc in
-    subst (Fits styles) (sym same) (record { day = days })
+request_fits styles (ForReceive id name day account None) c days h =
+    let same : c ≡ cmd.Receive (record { id = id; branch = name; day = day; account = account; part = None }) = cc in
+    subst (Fits styles) (sym same) (record { day = days; part = tt })
+request_fits styles (ForReceive id name day account (Some part)) c days h = part_fits styles id name account part.key part.amount day (amount styles part.amount) c days refl (sym h)
 request_fits styles (ForLock name day) c days h = let same : c ≡ cmd.Lock name day = cc in subst (Fits styles) (sym same) days
-request_fits styles (ForClose name day) c days h = let same : c ≡ cmd.Close name day = cc in subst (Fits styles) (sym same) days
+request_fits styles (ForClose name day accounts into) c days h =
+    let same : c ≡ cmd.Close (record { branch = name; day = day; choice = record { accounts = option_map cut_list accounts; into = into } }) = cc in
+    subst (Fits styles) (sym same) days
 request_fits styles (ForBalance name day) c days h = absurd cc
 request_fits styles (ForRegister name account tag) c days h = absurd cc
 request_fits styles (ForTransit day) c days h = absurd cc

@@ -32,7 +32,7 @@ use Rattle.treasury_api.specs.declared.request.Request.{Request}
 use Rattle.treasury_api.specs.declared.request.Request.TheVariants.{Branch as ForBranch, Commodity as ForCommodity, Import as ForImport, Dispatch as ForDispatch, Receive as ForReceive, Lock as ForLock, Close as ForClose, Balance as ForBalance, Register as ForRegister, Transit as ForTransit, Journal as ForJournal}
 use Rattle.treasury_api.specs.declared.asking.Asked.{Asked}
 use Rattle.treasury_api.specs.declared.asking.Asked.TheVariants.{Command}
-use Rattle.treasury_api.specs.Asked.{asked_by_sample, asked_by_amount, JournalAsks, RequestAsks, AsksOf}
+use Rattle.treasury_api.specs.Asked.{asked_by_sample, asked_by_amount, asked_by_part, JournalAsks, RequestAsks, AsksOf}
 use Rattle.treasury_api.specs.Serving.{IsHeldFor, OrMemory}
 use Rattle.treasury_api.specs.Left.{FailsWith, IsUnread, IsOpenBut, LeavesAsked, LeavesRequest}
 use Rattle.treasury_api.proofs.ReplyLemmas.{at_held, refusal_is, fits_of}
@@ -52,9 +52,9 @@ request_once styles (ForBranch name) one other a b = a ∙ sym b
 request_once styles (ForCommodity sample) one other a b = a ∙ sym b
 request_once styles (ForImport name journal) one other a b = journal_once styles name journal one other a b
 request_once styles (ForDispatch id from to day text account) one other a b = a ∙ sym b
-request_once styles (ForReceive id name day account) one other a b = a ∙ sym b
+request_once styles (ForReceive id name day account part) one other a b = a ∙ sym b
 request_once styles (ForLock name day) one other a b = a ∙ sym b
-request_once styles (ForClose name day) one other a b = a ∙ sym b
+request_once styles (ForClose name day accounts into) one other a b = a ∙ sym b
 request_once styles (ForBalance name day) one other a b = a ∙ sym b
 request_once styles (ForRegister name account tag) one other a b = a ∙ sym b
 request_once styles (ForTransit day) one other a b = a ∙ sym b
@@ -181,6 +181,11 @@ unread_state {X = X} cause failed (inr (damaged, unfailed)) = inl (ap (λ (x : C
 pub refused_closed : {T X : Type 0} (cause : Cause) → ◌≡◌ {A = Result X Cause} (Err cause) (Err Closed) → ◌≡◌ {A = Result T Refusal} (Err (Plain cause)) (Err (Plain Closed))
 refused_closed {X = X} cause closed = ap (λ (x : Cause). Err (Plain x)) (cause_is {T = X} cause Closed closed)
 
+amount_ruled : (cause : Cause) → (cause ≡ Amount) ⊎ (cause ≡ UnknownCommodity) ⊎ (cause ≡ Decimals) → is_by_rules (Plain cause) ≡ true
+amount_ruled cause (inl e) = ap (λ (x : Cause). is_by_rules (Plain x)) e
+amount_ruled cause (inr (inl e)) = ap (λ (x : Cause). is_by_rules (Plain x)) e
+amount_ruled cause (inr (inr e)) = ap (λ (x : Cause). is_by_rules (Plain x)) e
+
 -- a refusal of the texts is one by the rules
 texts_ruled : (styles : List Style) (request : Request) (refusal : Refusal) → RequestAsks styles request (Err refusal) → is_by_rules refusal ≡ true
 texts_ruled styles (ForBranch name) refusal asks = absurd cc
@@ -193,17 +198,17 @@ texts_ruled styles (ForImport name journal) refusal (inl reads) = absurd (let e 
 texts_ruled styles (ForImport name journal) refusal (inr (fault, (first, e))) = let k : refusal ≡ Text fault = cc in ap (λ (x : Refusal). is_by_rules x) k
 texts_ruled styles (ForDispatch id from to day text account) refusal asks = by_amount (amount styles text) (one_of_causes styles text (amount styles text) refl) asks
   where
-    ruled : (cause : Cause) → (cause ≡ Amount) ⊎ (cause ≡ UnknownCommodity) ⊎ (cause ≡ Decimals) → is_by_rules (Plain cause) ≡ true
-    ruled cause (inl e) = ap (λ (x : Cause). is_by_rules (Plain x)) e
-    ruled cause (inr (inl e)) = ap (λ (x : Cause). is_by_rules (Plain x)) e
-    ruled cause (inr (inr e)) = ap (λ (x : Cause). is_by_rules (Plain x)) e
-
     by_amount : (r : Result (Commodity × ℤ) Cause) → IfErr r (λ cause. (cause ≡ Amount) ⊎ (cause ≡ UnknownCommodity) ⊎ (cause ≡ Decimals)) → Err refusal ≡ asked_by_amount id from to day account r → is_by_rules refusal ≡ true
     by_amount (Ok (unit, qty)) causes e = absurd cc
-    by_amount (Err cause) causes e = let k : refusal ≡ Plain cause = cc in ap (λ (x : Refusal). is_by_rules x) k ∙ ruled cause causes
-texts_ruled styles (ForReceive id name day account) refusal asks = absurd cc
+    by_amount (Err cause) causes e = let k : refusal ≡ Plain cause = cc in ap (λ (x : Refusal). is_by_rules x) k ∙ amount_ruled cause causes
+texts_ruled styles (ForReceive id name day account None) refusal asks = absurd cc
+texts_ruled styles (ForReceive id name day account (Some part)) refusal asks = by_amount (amount styles part.amount) (one_of_causes styles part.amount (amount styles part.amount) refl) asks
+  where
+    by_amount : (r : Result (Commodity × ℤ) Cause) → IfErr r (λ cause. (cause ≡ Amount) ⊎ (cause ≡ UnknownCommodity) ⊎ (cause ≡ Decimals)) → Err refusal ≡ asked_by_part id name day account part.key r → is_by_rules refusal ≡ true
+    by_amount (Ok (unit, qty)) causes e = absurd cc
+    by_amount (Err cause) causes e = let k : refusal ≡ Plain cause = cc in ap (λ (x : Refusal). is_by_rules x) k ∙ amount_ruled cause causes
 texts_ruled styles (ForLock name day) refusal asks = absurd cc
-texts_ruled styles (ForClose name day) refusal asks = absurd cc
+texts_ruled styles (ForClose name day accounts into) refusal asks = absurd cc
 texts_ruled styles (ForBalance name day) refusal asks = absurd cc
 texts_ruled styles (ForRegister name account tag) refusal asks = absurd cc
 texts_ruled styles (ForTransit day) refusal asks = absurd cc

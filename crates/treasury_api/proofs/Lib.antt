@@ -4,6 +4,7 @@ pub mod LineLemmas
 pub mod RunLemmas
 pub mod AppendLemmas
 pub mod PrintableLemmas
+pub mod ListLemmas
 pub mod AskedLemmas
 pub mod ReplyLemmas
 pub mod AnswerLemmas

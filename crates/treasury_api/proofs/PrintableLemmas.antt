@@ -1,8 +1,9 @@
 -- A refusal can be printed: a failed assertion of a book names a date, a commodity and quantities of its entries.
-use Rattle.std.proofs.Common.{◌≡◌, ◌≤◌, ◌<◌, ◌⊎◌, ◌++◌, List, [], ◌∷◌, length, Option, Some, None, Result, Ok, Err, ℤ, pos, arith, refl, sym, subst, inl, inr, ℕ, Bool, true, false, not, nat_le, nat_lt}
-use Rattle.std.specs.Prelude.{Contains, unsigned_abs, if◌then◌else◌, int_le, int_lt, is_some}
+use Rattle.std.proofs.Common.{◌≡◌, ◌∙◌, ◌≤◌, ◌<◌, ◌⊎◌, ◌++◌, List, [], ◌∷◌, length, Option, Some, None, Result, Ok, Err, ℤ, pos, arith, refl, sym, subst, inl, inr, ℕ, Bool, true, false, not, nat_le, nat_lt}
+use Rattle.std.specs.Prelude.{Contains, unsigned_abs, if◌then◌else◌, find, int_le, int_lt, is_some}
 use Rattle.std.specs.Str.{bytes_eq}
-use Rattle.std.specs.List.{AllByRecursion, list_any}
+use Rattle.std.specs.Cmp.Lexicographic.{pointwise}
+use Rattle.std.specs.List.{AllByRecursion, list_all, list_any}
 use Rattle.std.specs.Option.{option_or}
 use Rattle.money_core.specs.declared.style.Style.{Style}
 use Rattle.money_core.specs.declared.unit.Unit.{Unit as Commodity}
@@ -10,7 +11,7 @@ use Rattle.money_core.specs.declared.unit.Declared.{Declared}
 use Rattle.money_core.specs.declared.unit.Declared.TheVariants.{New, Same}
 use Rattle.money_core.specs.declared.day.Day.{Day}
 use Rattle.money_core.specs.declared.cause.Cause.{Cause}
-use Rattle.money_core.specs.declared.cause.Cause.TheVariants.{OutOfMemory, UnknownTransfer, NothingToClose, Limit}
+use Rattle.money_core.specs.declared.cause.Cause.TheVariants.{OutOfMemory, UnknownTransfer, AlreadyReceived, MarkClash, NothingToClose, Locked, Limit}
 use Rattle.money_core.specs.Amount.{limit}
 use Rattle.money_core.specs.AmountText.{IsDeclared}
 use Rattle.money_core.specs.Style.{declared}
@@ -40,17 +41,21 @@ use Rattle.treasury_core.specs.declared.command.Command.TheVariants as cmd
 use Rattle.treasury_core.specs.Federation.{Federation, is_branch_name, most_branches, has_branch, records_of, lock_of, entries, book_of}
 use Rattle.treasury_core.specs.declared.command.Dispatch.{Dispatch}
 use Rattle.treasury_core.specs.declared.command.Receive.{Receive}
+use Rattle.treasury_core.specs.declared.command.Close.{Close}
+use Rattle.treasury_core.specs.declared.choice.Choice.{Choice}
+use Rattle.treasury_core.specs.declared.transfer.Part.{Part}
 use Rattle.treasury_core.specs.declared.transfer.Transfer.{Transfer}
-use Rattle.treasury_core.specs.Mark.{is_held, is_repeat, is_product_mark}
-use Rattle.treasury_core.specs.Transfer.{is_id, is_account_text, is_reserved, is_transit, dispatch_record, receipt_record}
+use Rattle.treasury_core.specs.Mark.{held, is_held, is_repeat, is_product_mark}
+use Rattle.treasury_core.specs.Transfer.{is_id, is_account_text, is_reserved, is_transit, dispatch_record, receipt_record, receipts_of}
+use Rattle.treasury_core.specs.Choice.{is_selected, target_in, listed, list_text, choice_comments, list_limit, holds_transit, choice_refusal}
 use Rattle.treasury_core.specs.Closing.{close_mark, closing_record, closing_answer, closing_in}
-use Rattle.treasury_core.specs.Step.{unless, commodity_reply, is_locked, is_lock, goes_back, fault_on, unbalanced, records_in_file, barred, refusal_of, refused_in, new_records, enter_refusal, transfer_at, transfer_of, is_dispatched_so, dispatch_refusal, dispatch_reply, receipt_of, is_received_so, receipt_refusal, receipt_reply, receive_reply, entering_refusal, close_refusal, reply}
+use Rattle.treasury_core.specs.Step.{unless, commodity_reply, is_locked, is_lock, goes_back, fault_on, unbalanced, records_in_file, barred, refusal_of, refused_in, new_records, enter_refusal, transfer_at, transfer_of, is_dispatched_so, dispatch_refusal, dispatch_reply, key_of, qty_of, receipt_of, has_key, is_received_so, is_too_much, has_bad_key, has_nothing_left, receipt_refusal, held_reply, receipt_reply, receive_reply, entering_refusal, close_refusal, closed_reply, reply}
 use Rattle.treasury_core.specs.Good.{IsGoodRecord, IsGoodState, Fits}
 use Rattle.treasury_core.proofs.LateEntryLemmas.{all_at}
 use Rattle.treasury_core.proofs.OwnLemmas.{of_branch}
 use Rattle.treasury_core.proofs.ClosingReply.{not_more}
 use Rattle.treasury_core.proofs.ClosingRecord.{closing_record_good}
-use Rattle.treasury_core.proofs.ReplyLemmas.{new_good, dispatch_record_good, receipt_record_good}
+use Rattle.treasury_core.proofs.ReplyLemmas.{new_good, dispatch_record_good, may_receive, receipt_record_good}
 use Rattle.treasury_api.specs.Answer.{IsPrintableFailure, IsPrintableRefusal}
 
 -- an entry of a transaction that can be printed
@@ -140,6 +145,10 @@ chosen : (styles : List Style) (t : Bool) (cause : Cause) (o : Option Refusal) (
 chosen styles true cause o e h rest = plain_printable styles cause e cc
 chosen styles false cause o e h rest = rest h
 
+passed_by : (styles : List Style) (t : Bool) (cause : Cause) (o : Option Refusal) (e : Refusal) → (if t then Some (Plain cause) else o) ≡ Some e → (t ≡ false → o ≡ Some e → IsPrintableRefusal styles e) → IsPrintableRefusal styles e
+passed_by styles true cause o e h rest = plain_printable styles cause e cc
+passed_by styles false cause o e h rest = rest refl h
+
 barred_printable : (styles : List Style) (lock : Option Day) (r : Record) (e : Refusal) → barred lock r ≡ Some e → IsPrintableRefusal styles e
 barred_printable styles lock r e h =
     chosen styles (is_product_mark r.mark) _ _ e h (λ h1. chosen styles (list_any is_transit r.entry.legs) _ _ e h1 (λ h2. chosen styles (is_locked lock r.entry.day) _ _ e h2 (λ h3. absurd cc)))
@@ -186,6 +195,10 @@ replied_plain : (styles : List Style) (t : Bool) (cause : Cause) (x : Result Ans
 replied_plain styles true cause x e h rest = plain_printable styles cause e cc
 replied_plain styles false cause x e h rest = rest h
 
+kept_out : (styles : List Style) (t : Bool) (cause : Cause) (x : Result Answer Refusal) (e : Refusal) → (if t then Err (Plain cause) else x) ≡ Err e → (t ≡ false → x ≡ Err e → IsPrintableRefusal styles e) → IsPrintableRefusal styles e
+kept_out styles true cause x e h rest = plain_printable styles cause e cc
+kept_out styles false cause x e h rest = rest refl h
+
 replied_there : (styles : List Style) (t : Bool) (cause : Cause) (x : Result Answer Refusal) (e : Refusal) → (if not t then Err (Plain cause) else x) ≡ Err e → (t ≡ true → x ≡ Err e → IsPrintableRefusal styles e)
     → IsPrintableRefusal styles e
 replied_there styles false cause x e h rest = plain_printable styles cause e cc
@@ -210,30 +223,57 @@ dispatch_printable f d e good fits h =
     chosen f.styles (int_le d.qty (pos 0)) _ _ e k2 (λ k3. chosen f.styles (is_locked (lock_of f d.source) d.day) _ _ e k3 (λ k4.
     with_record_printable f d.source (dispatch_record (transfer_of d)) e good (dispatch_record_good f d good fits source target id account) k4))))))))))
 
-receipt_printable : (f : Federation) (r : Receive) (o : Option Transfer) (e : Refusal) → IsGoodState f → Fits f.styles (cmd.Receive r) → transfer_at f r.id ≡ o → receipt_reply f r o ≡ Err e → IsPrintableRefusal f.styles e
-receipt_printable f r None e good fits at h = plain_printable f.styles UnknownTransfer e cc
-receipt_printable f r (Some t) e good fits at h =
-    replied_there f.styles (bytes_eq t.target r.branch) _ _ e h (λ target h1. replied_repeat f.styles (is_received_so r t.receipt) _ e h1 (λ h2.
-    replied_plain f.styles (is_some t.receipt) _ _ e h2 (λ h3.
-    let refused = by_answer f.styles _ (receipt_refusal (lock_of f r.branch) (records_of f r.branch) t r) e h3 in
-    kept_or f.styles (is_account_text r.account) _ _ e refused (λ account k1. chosen f.styles (is_reserved r.account) _ _ e k1 (λ k2.
-    chosen f.styles (int_lt r.day.0 t.day.0) _ _ e k2 (λ k3. chosen f.styles (is_locked (lock_of f r.branch) r.day) _ _ e k3 (λ k4.
-    with_record_printable f r.branch (receipt_record t (receipt_of r)) e good (receipt_record_good f r t good fits at account) k4)))))))
+new_printable : (f : Federation) (r : Receive) (t : Transfer) (e : Refusal) → IsGoodState f → Fits f.styles (cmd.Receive r) → has_bad_key r.part ≡ false → transfer_at f r.id ≡ Some t
+    → find (has_key (key_of r.part)) (receipts_of t) ≡ None → receipt_refusal (lock_of f r.branch) (records_of f r.branch) t r ≡ Some e → IsPrintableRefusal f.styles e
+new_printable f r t e good fits bad at none refused =
+    kept_or f.styles (is_account_text r.account) _ _ e refused (λ account k1. passed_by f.styles (is_reserved r.account) _ _ e k1 (λ clear k2.
+    passed_by f.styles (int_le (qty_of t r.part) (pos 0)) _ _ e k2 (λ some k3. passed_by f.styles (is_too_much t r.part) _ _ e k3 (λ enough k4.
+    passed_by f.styles (int_lt r.day.0 t.day.0) _ _ e k4 (λ late k5. chosen f.styles (is_locked (lock_of f r.branch) r.day) _ _ e k5 (λ k6.
+    with_record_printable f r.branch (receipt_record t (receipt_of t r)) e good (receipt_record_good f r t good fits at (may_receive t r bad none clear some enough late) account) k6))))))
+
+held_printable : (f : Federation) (r : Receive) (t : Transfer) (o : Option Part) (e : Refusal) → IsGoodState f → Fits f.styles (cmd.Receive r) → has_bad_key r.part ≡ false → transfer_at f r.id ≡ Some t
+    → find (has_key (key_of r.part)) (receipts_of t) ≡ o → held_reply f t r o ≡ Err e → IsPrintableRefusal f.styles e
+held_printable f r t (Some p) e good fits bad at held h = replied_repeat f.styles (is_received_so t r p) _ e h (λ h1. plain_printable f.styles AlreadyReceived e cc)
+held_printable f r t None e good fits bad at none h =
+    replied_plain f.styles (has_nothing_left t r.part) _ _ e h (λ h1. new_printable f r t e good fits bad at none (by_answer f.styles _ (receipt_refusal (lock_of f r.branch) (records_of f r.branch) t r) e h1))
+
+receipt_printable : (f : Federation) (r : Receive) (o : Option Transfer) (e : Refusal) → IsGoodState f → Fits f.styles (cmd.Receive r) → has_bad_key r.part ≡ false → transfer_at f r.id ≡ o → receipt_reply f r o ≡ Err e → IsPrintableRefusal f.styles e
+receipt_printable f r None e good fits bad at h = plain_printable f.styles UnknownTransfer e cc
+receipt_printable f r (Some t) e good fits bad at h =
+    replied_there f.styles (bytes_eq t.target r.branch) _ _ e h (λ target h1. held_printable f r t (find (has_key (key_of r.part)) (receipts_of t)) e good fits bad at refl h1)
 
 receive_printable : (f : Federation) (r : Receive) (e : Refusal) → IsGoodState f → Fits f.styles (cmd.Receive r) → receive_reply f r ≡ Err e → IsPrintableRefusal f.styles e
 receive_printable f r e good fits h =
-    replied_there f.styles (has_branch f r.branch) _ _ e h (λ there h1. replied_there f.styles (is_id r.id) _ _ e h1 (λ id h2. receipt_printable f r (transfer_at f r.id) e good fits refl h2))
+    replied_there f.styles (has_branch f r.branch) _ _ e h (λ there h1. replied_there f.styles (is_id r.id) _ _ e h1 (λ id h2. kept_out f.styles (has_bad_key r.part) _ _ e h2 (λ bad h3. receipt_printable f r (transfer_at f r.id) e good fits bad refl h3)))
 
-entering_printable : (f : Federation) (name : List ℕ) (day : Day) (t : Txn) (b : Bool) (e : Refusal) → IsGoodState f → IsDayNumber day → closing_in f name day ≡ Some t → nat_lt posting_limit (length t.postings) ≡ b
+entering_printable : (f : Federation) (name : List ℕ) (day : Day) (c : Choice) (t : Txn) (b : Bool) (e : Refusal) → IsGoodState f → IsDayNumber day → choice_refusal c ≡ None → closing_in f name day c ≡ Some t → nat_lt posting_limit (length t.postings) ≡ b
     → entering_refusal (records_of f name) day (if b then Err (Plain Limit) else Ok t) ≡ Some e → IsPrintableRefusal f.styles e
-entering_printable f name day t true e good days closes few h = plain_printable f.styles Limit e cc
-entering_printable f name day t false e good days closes few h =
-    with_record_printable f name (closing_record day t) e good (closing_record_good f name day t good days closes (not_more (length t.postings) few)) h
+entering_printable f name day c t true e good days allowed closes few h = plain_printable f.styles Limit e cc
+entering_printable f name day c t false e good days allowed closes few h =
+    with_record_printable f name (closing_record day t) e good (closing_record_good f name day c t good days allowed closes (not_more (length t.postings) few)) h
 
-closing_printable : (f : Federation) (name : List ℕ) (day : Day) (o : Option Txn) (e : Refusal) → IsGoodState f → IsDayNumber day → closing_in f name day ≡ o
+closing_printable : (f : Federation) (name : List ℕ) (day : Day) (c : Choice) (o : Option Txn) (e : Refusal) → IsGoodState f → IsDayNumber day → choice_refusal c ≡ None → closing_in f name day c ≡ o
     → entering_refusal (records_of f name) day (closing_answer o) ≡ Some e → IsPrintableRefusal f.styles e
-closing_printable f name day None e good days closes h = plain_printable f.styles NothingToClose e cc
-closing_printable f name day (Some t) e good days closes h = entering_printable f name day t (nat_lt posting_limit (length t.postings)) e good days closes refl h
+closing_printable f name day c None e good days allowed closes h = plain_printable f.styles NothingToClose e cc
+closing_printable f name day c (Some t) e good days allowed closes h = entering_printable f name day c t (nat_lt posting_limit (length t.postings)) e good days allowed closes refl h
+
+-- a choice is refused by a cause alone
+choice_printable : (styles : List Style) (c : Choice) (e : Refusal) → choice_refusal c ≡ Some e → IsPrintableRefusal styles e
+choice_printable styles c e h =
+    kept_or styles (list_all is_account_text (listed c.accounts)) _ _ e h (λ formed k1. kept_or styles (is_account_text (target_in c.into)) _ _ e k1 (λ target k2.
+    chosen styles (list_any holds_transit (listed c.accounts)) _ _ e k2 (λ k3. chosen styles (is_reserved (target_in c.into)) _ _ e k3 (λ k4.
+    chosen styles (is_selected c.accounts (target_in c.into)) _ _ e k4 (λ k5. chosen styles (nat_lt list_limit (length (list_text (listed c.accounts)))) _ _ e k5 (λ k6. absurd cc))))))
+
+close_printable : (f : Federation) (x : Close) (o : Option Refusal) (e : Refusal) → IsGoodState f → IsDayNumber x.day → choice_refusal x.choice ≡ o
+    → option_or o (if is_locked (lock_of f x.branch) x.day then Some (Plain Locked) else entering_refusal (records_of f x.branch) x.day (closing_answer (closing_in f x.branch x.day x.choice))) ≡ Some e → IsPrintableRefusal f.styles e
+close_printable f x (Some refusal) e good days is h = choice_printable f.styles x.choice e (is ∙ h)
+close_printable f x None e good days is h =
+    chosen f.styles (is_locked (lock_of f x.branch) x.day) _ _ e h (λ k. closing_printable f x.branch x.day x.choice (closing_in f x.branch x.day x.choice) e good days is refl k)
+
+closed_printable : (f : Federation) (x : Close) (o : Option Record) (e : Refusal) → IsGoodState f → IsDayNumber x.day → closed_reply f x o ≡ Err e → IsPrintableRefusal f.styles e
+closed_printable f x (Some r) e good days h = replied_repeat f.styles (pointwise bytes_eq r.txn.comments (choice_comments x.choice)) _ e h (λ h1. plain_printable f.styles MarkClash e cc)
+closed_printable f x None e good days h =
+    close_printable f x (choice_refusal x.choice) e good days refl (by_answer f.styles _ (close_refusal (lock_of f x.branch) (records_of f x.branch) x (closing_in f x.branch x.day x.choice)) e h)
 
 reply_printable : (f : Federation) (c : Command) (e : Refusal) → IsGoodState f → Fits f.styles c → reply f c ≡ Err e → IsPrintableRefusal f.styles e
 unfolding reply
@@ -248,10 +288,8 @@ reply_printable f (cmd.Receive r) e good fits h = receive_printable f r e good f
 reply_printable f (cmd.Lock name day) e good fits h =
     replied_there f.styles (has_branch f name) _ _ e h (λ there h1. replied_repeat f.styles (is_lock (lock_of f name) day) _ e h1 (λ h2.
     replied_plain f.styles (goes_back (lock_of f name) day) _ _ e h2 (λ h3. absurd cc)))
-reply_printable f (cmd.Close name day) e good fits h =
-    replied_there f.styles (has_branch f name) _ _ e h (λ there h1. replied_repeat f.styles (is_held (records_of f name) (close_mark day)) _ e h1 (λ h2.
-    let refused = by_answer f.styles _ (close_refusal (lock_of f name) (records_of f name) day (closing_in f name day)) e h2 in
-    chosen f.styles (is_locked (lock_of f name) day) _ _ e refused (λ k. closing_printable f name day (closing_in f name day) e good fits refl k)))
+reply_printable f (cmd.Close x) e good fits h =
+    replied_there f.styles (has_branch f x.branch) _ _ e h (λ there h1. closed_printable f x (held (records_of f x.branch) (close_mark x.day)) e good fits h1)
 
 -- the refusal of a decided command can be printed
 pub decided_printable : (f : Federation) (c : Command) (e : Refusal) → IsGoodState f → Fits f.styles c → (e ≡ Plain OutOfMemory) ⊎ (reply f c ≡ Err e) → IsPrintableRefusal f.styles e

@@ -26,7 +26,7 @@ use Rattle.treasury_api.specs.declared.asking.Asked.{Asked}
 use Rattle.treasury_api.specs.declared.asking.Asked.TheVariants.{Command, Report}
 use Rattle.treasury_api.specs.declared.report.Report.{Report as AnyReport}
 use Rattle.treasury_api.specs.Request.{spelled, is_report}
-use Rattle.treasury_api.specs.Asked.{AsksOf, Asks, asked_by_sample, asked_by_amount}
+use Rattle.treasury_api.specs.Asked.{AsksOf, Asks, asked_by_sample, asked_by_amount, asked_by_part}
 use Rattle.treasury_api.specs.Report.{report_text, has_its_branch}
 use Rattle.treasury_api.specs.Answer.{answer_text, IsPlainAnswer}
 use Rattle.treasury_api.specs.Step.{Answers, MayReply, after, next, reply_text, is_failure}
@@ -138,9 +138,9 @@ asks_report false styles (ForBranch name) c asks = refl
 asks_report false styles (ForCommodity sample) c asks = refl
 asks_report false styles (ForImport name journal) c asks = refl
 asks_report false styles (ForDispatch id from to day text account) c asks = refl
-asks_report false styles (ForReceive id name day account) c asks = refl
+asks_report false styles (ForReceive id name day account part) c asks = refl
 asks_report false styles (ForLock name day) c asks = refl
-asks_report false styles (ForClose name day) c asks = refl
+asks_report false styles (ForClose name day accounts into) c asks = refl
 
 by_sample : (o : Option Style) (report : AnyReport) (P : Type 0) → Ok (Report report) ≡ asked_by_sample o → P
 by_sample None report P e = absurd cc
@@ -150,6 +150,10 @@ by_amount : (id from to account : List ℕ) (day : Day) (r : Result (Commodity �
 by_amount id from to account day (Ok (unit, qty)) report P e = absurd cc
 by_amount id from to account day (Err cause) report P e = absurd cc
 
+by_part : (id name account key : List ℕ) (day : Day) (r : Result (Commodity × ℤ) Cause) (report : AnyReport) (P : Type 0) → Ok (Report report) ≡ asked_by_part id name day account key r → P
+by_part id name account key day (Ok (unit, qty)) report P e = absurd cc
+by_part id name account key day (Err cause) report P e = absurd cc
+
 no_report : (failed : Bool) (styles : List Style) (request : Request) (report : AnyReport) → AsksOf failed styles request (Ok (Report report)) → is_report request ≡ true
 no_report true styles request report asks = absurd cc
 no_report false styles (ForBranch name) report asks = absurd cc
@@ -157,9 +161,10 @@ no_report false styles (ForCommodity sample) report asks = by_sample (style_of s
 no_report false styles (ForImport name journal) report (inl reads) = absurd (let e = reads.1.1 in cc)
 no_report false styles (ForImport name journal) report (inr fault) = absurd (let e = fault.1.1 in cc)
 no_report false styles (ForDispatch id from to day text account) report asks = by_amount id from to account day (amount styles text) report _ asks
-no_report false styles (ForReceive id name day account) report asks = absurd cc
+no_report false styles (ForReceive id name day account None) report asks = absurd cc
+no_report false styles (ForReceive id name day account (Some part)) report asks = by_part id name account part.key day (amount styles part.amount) report _ asks
 no_report false styles (ForLock name day) report asks = absurd cc
-no_report false styles (ForClose name day) report asks = absurd cc
+no_report false styles (ForClose name day accounts into) report asks = absurd cc
 no_report false styles (ForBalance name day) report asks = refl
 no_report false styles (ForRegister name account tag) report asks = refl
 no_report false styles (ForTransit day) report asks = refl

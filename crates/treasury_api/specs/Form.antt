@@ -1,12 +1,18 @@
 -- The request that a form is, whose texts lie elsewhere.
-use Rattle.std.specs.Option.{option_copied}
+use Rattle.std.specs.Option.{option_copied, option_map}
+use Rattle.treasury_api.specs.declared.request.WrittenPart.{WrittenPart}
 use Rattle.treasury_api.specs.declared.request.Request.{Request}
 use Rattle.treasury_api.specs.declared.request.Request.TheVariants.{Branch, Commodity, Import, Dispatch, Receive, Lock, Close, Balance, Register, Transit, Journal}
+use Rattle.treasury_api.specs.declared.request.form.PartForm.{PartForm}
 use Rattle.treasury_api.specs.declared.request.form.Form.{Form}
 use Rattle.treasury_api.specs.declared.request.form.Form.TheVariants.{Branch as BranchForm, Commodity as CommodityForm}
 use Rattle.treasury_api.specs.declared.request.form.Form.TheVariants.{Import as ImportForm, Dispatch as DispatchForm, Receive as ReceiveForm}
 use Rattle.treasury_api.specs.declared.request.form.Form.TheVariants.{Lock as LockForm, Close as CloseForm, Balance as BalanceForm}
 use Rattle.treasury_api.specs.declared.request.form.Form.TheVariants.{Register as RegisterForm, Transit as TransitForm, Journal as JournalForm}
+
+-- the part of a receipt's form
+abbrev pub shown_part : PartForm → WrittenPart
+shown_part part = record { key = part.key.now; amount = part.amount.now }
 
 -- the request of a form
 abbrev pub shown : Form → Request
@@ -14,9 +20,9 @@ shown (BranchForm name) = Branch name.now
 shown (CommodityForm sample) = Commodity sample.now
 shown (ImportForm branch journal) = Import branch.now journal.now
 shown (DispatchForm id from to day amount account) = Dispatch id.now from.now to.now day amount.now account.now
-shown (ReceiveForm id branch day account) = Receive id.now branch.now day account.now
+shown (ReceiveForm id branch day account part) = Receive id.now branch.now day account.now (option_map shown_part part)
 shown (LockForm branch day) = Lock branch.now day
-shown (CloseForm branch day) = Close branch.now day
+shown (CloseForm branch day accounts into) = Close branch.now day (option_copied accounts) (option_copied into)
 shown (BalanceForm branch day) = Balance branch.now day
 shown (RegisterForm branch account tag) = Register branch.now account.now (option_copied tag)
 shown (TransitForm day) = Transit day

@@ -9,6 +9,7 @@ use Rattle.serde_json.specs.Read.{read}
 use Rattle.money_core.specs.declared.day.Day.{Day}
 use Rattle.journal_lines.specs.Date.{IsDayNumber}
 use Rattle.journal_lines.specs.DateReading.{date_of}
+use Rattle.treasury_api.specs.declared.request.WrittenPart.{WrittenPart}
 use Rattle.treasury_api.specs.declared.request.Request.{Request}
 use Rattle.treasury_api.specs.declared.request.Request.TheVariants.{Branch, Commodity, Import, Dispatch, Receive, Lock, Close, Balance, Register, Transit, Journal}
 
@@ -38,7 +39,7 @@ key_count (object ms) = count_members ms
 abbrev pub is_form : List ℕ → ℕ → List ℕ → Data → Bool
 is_form name keys word d = bytes_eq word name && (key_count d == keys)
 
--- the request of a dispatch, and of a receipt: their keys are all there, each with a text
+-- the request of a dispatch, of a receipt, and of a receipt of a part: their keys are all there, each with a text
 abbrev pub dispatch_at : Data → Option Request
 dispatch_at d =
     option_and_then (λ id. option_and_then (λ from. option_and_then (λ to. option_and_then (λ day. option_and_then (λ amount.
@@ -48,8 +49,36 @@ dispatch_at d =
 abbrev pub receive_at : Data → Option Request
 receive_at d =
     option_and_then (λ id. option_and_then (λ branch. option_and_then (λ day.
-    option_map (λ account. Receive id branch day account) (text_at (codes "account") d))
+    option_map (λ account. Receive id branch day account None) (text_at (codes "account") d))
     (day_at (codes "day") d)) (text_at (codes "branch") d)) (text_at (codes "id") d)
+
+abbrev pub written : List ℕ → List ℕ → WrittenPart
+written key amount = record { key = key; amount = amount }
+
+abbrev pub part_at : Data → Option Request
+part_at d =
+    option_and_then (λ id. option_and_then (λ branch. option_and_then (λ day. option_and_then (λ account. option_and_then (λ key.
+    option_map (λ amount. Receive id branch day account (Some (written key amount))) (text_at (codes "amount") d)) (text_at (codes "part") d))
+    (text_at (codes "account") d)) (day_at (codes "day") d)) (text_at (codes "branch") d)) (text_at (codes "id") d)
+
+-- the request of a closing: without a choice, with one of its two keys, and with both
+abbrev pub close_at : Data → Option Request
+close_at d = option_and_then (λ branch. option_map (λ day. Close branch day None None) (day_at (codes "day") d)) (text_at (codes "branch") d)
+
+abbrev pub one_chosen : List ℕ → Day → Option (List ℕ) → Option (List ℕ) → Option Request
+one_chosen branch day (Some names) into = Some (Close branch day (Some names) None)
+one_chosen branch day None into = option_map (λ account. Close branch day None (Some account)) into
+
+abbrev pub chosen_at : Data → Option Request
+chosen_at d =
+    option_and_then (λ branch. option_and_then (λ day. one_chosen branch day (text_at (codes "accounts") d) (text_at (codes "into") d))
+    (day_at (codes "day") d)) (text_at (codes "branch") d)
+
+abbrev pub both_at : Data → Option Request
+both_at d =
+    option_and_then (λ branch. option_and_then (λ day. option_and_then (λ names.
+    option_map (λ account. Close branch day (Some names) (Some account)) (text_at (codes "into") d))
+    (text_at (codes "accounts") d)) (day_at (codes "day") d)) (text_at (codes "branch") d)
 
 -- the request of a register, without a tag and with one
 abbrev pub register_at : Data → Option Request
@@ -73,6 +102,14 @@ report_form word d =
     else if is_form (codes "journal") 2 word d then option_map Journal (text_at (codes "branch") d)
     else None
 
+-- the request of a closing, and behind it those of the reports
+abbrev pub close_form : List ℕ → Data → Option Request
+close_form word d =
+    if is_form (codes "close") 3 word d then close_at d
+    else if is_form (codes "close") 4 word d then chosen_at d
+    else if is_form (codes "close") 5 word d then both_at d
+    else report_form word d
+
 -- the request of each word: its keys are all there, each with a text, and since they are so many there is no further one
 abbrev pub form : List ℕ → Data → Option Request
 form word d =
@@ -82,11 +119,10 @@ form word d =
     then option_and_then (λ branch. option_map (Import branch) (text_at (codes "journal") d)) (text_at (codes "branch") d)
     else if is_form (codes "dispatch") 7 word d then dispatch_at d
     else if is_form (codes "receive") 5 word d then receive_at d
+    else if is_form (codes "receive") 7 word d then part_at d
     else if is_form (codes "lock") 3 word d
     then option_and_then (λ branch. option_map (Lock branch) (day_at (codes "day") d)) (text_at (codes "branch") d)
-    else if is_form (codes "close") 3 word d
-    then option_and_then (λ branch. option_map (Close branch) (day_at (codes "day") d)) (text_at (codes "branch") d)
-    else report_form word d
+    else close_form word d
 
 -- the request that an object is
 abbrev pub request_of : Data → Option Request
@@ -102,9 +138,9 @@ HasDayNumbers (Branch name) = ⊤
 HasDayNumbers (Commodity sample) = ⊤
 HasDayNumbers (Import branch journal) = ⊤
 HasDayNumbers (Dispatch id from to day amount account) = IsDayNumber day
-HasDayNumbers (Receive id branch day account) = IsDayNumber day
+HasDayNumbers (Receive id branch day account part) = IsDayNumber day
 HasDayNumbers (Lock branch day) = IsDayNumber day
-HasDayNumbers (Close branch day) = IsDayNumber day
+HasDayNumbers (Close branch day accounts into) = IsDayNumber day
 HasDayNumbers (Balance branch day) = IsDayNumber day
 HasDayNumbers (Register branch account tag) = ⊤
 HasDayNumbers (Transit day) = IsDayNumber day
@@ -116,9 +152,9 @@ is_report (Branch name) = false
 is_report (Commodity sample) = false
 is_report (Import branch journal) = false
 is_report (Dispatch id from to day amount account) = false
-is_report (Receive id branch day account) = false
+is_report (Receive id branch day account part) = false
 is_report (Lock branch day) = false
-is_report (Close branch day) = false
+is_report (Close branch day accounts into) = false
 is_report (Balance branch day) = true
 is_report (Register branch account tag) = true
 is_report (Transit day) = true

@@ -1,20 +1,22 @@
 //! What a request asks, once its texts are read: a command, or a report.
 
-ghost use Rattle.std.specs.Prelude.{◌≡◌};
+ghost use Rattle.std.specs.Prelude.{◌≡◌, List, Ok, IfOk, option_map};
+ghost use Rattle.std.specs.Result.{IsOkUnless};
+ghost use Rattle.money_core.specs.declared.style.Style.{Style};
 ghost use Rattle.money_core.specs.Sampling.{style_of};
 ghost use Rattle.money_core.specs.Reading.{amount};
 ghost use Rattle.journal_lines.specs.Date.{IsDayNumber};
-ghost use Rattle.treasury_api.specs.Asked.{asked_by_sample, asked_by_amount, JournalAsks, RequestAsks};
+ghost use Rattle.treasury_api.specs.Asked.{asked_by_sample, asked_by_amount, asked_by_part, asked_by_receipt, cut_list, JournalAsks, RequestAsks};
 ghost use Rattle.treasury_api.specs.Request.{HasDayNumbers};
 ghost use Rattle.treasury_api.specs.Serving.{IsReady, OrMemory};
 
 use crate::report::Report;
-use crate::request::Request;
+use crate::request::{Request, WrittenPart};
 use book_core::Refusal;
 use journal_format::read_journal;
 use money_core::{Cause, Copied, Day, Items, Styles, Text, read_amount, read_style};
 use std::alloc::Global;
-use treasury_core::{Command, Dispatch, Receive};
+use treasury_core::{AskedPart, Choice, Close, Command, Dispatch, Receive};
 
 /// What is asked of the treasury.
 #[derive(Drop)]
@@ -85,6 +87,112 @@ fn asked_by_amount(
     }
 }
 
+/// Asks for a receipt of a part, of the amount that the text is.
+fn asked_by_part(
+    styles: &Styles,
+    id: Text,
+    branch: Text,
+    day: Day,
+    account: Text,
+    key: Text,
+    text: &str,
+) -> Result<Asked, Refusal>
+    requires { IsDayNumber day }
+    ensures asks { result ≡ asked_by_part id branch day account key (amount styles.now text.now) }
+    ensures ready { IsReady styles.now result }
+{
+    match read_amount(text, styles) {
+        Ok((unit, qty)) => Ok(Asked::Command(Command::Receive(Receive {
+            id,
+            branch,
+            day,
+            account,
+            part: Some(AskedPart { key, unit, qty }),
+        }))),
+        Err(cause) => Err(Refusal::Plain(cause)),
+    }
+}
+
+/// Asks for a receipt of all that is left, or of a part.
+fn asked_by_receipt(
+    styles: &Styles,
+    id: Text,
+    branch: Text,
+    day: Day,
+    account: Text,
+    part: Option<WrittenPart>,
+) -> Result<Asked, Refusal>
+    requires { IsDayNumber day }
+    ensures asks { result ≡ asked_by_receipt styles.now id branch day account part }
+    ensures ready { IsReady styles.now result }
+{
+    match part {
+        Some(WrittenPart { key, amount }) => {
+            asked_by_part(styles, id, branch, day, account, key, amount.as_str())
+        }
+        None => Ok(Asked::Command(Command::Receive(Receive {
+            id,
+            branch,
+            day,
+            account,
+            part: None,
+        }))),
+    }
+}
+
+/// A list, cut at each `;`.
+fn cut_list(alloc: Global, text: &str) -> Result<Items<Text>, Cause>
+    ensures value { IfOk result (λ names. names ≡ cut_list text.now) }
+    ensures memory { IsOkUnless result Cause.OutOfMemory }
+{
+    let mut names = Items::empty(alloc);
+    let mut rest = text;
+    'names: while let Some((name, more)) = rest.split_once(';') {
+        let name = Text::of(alloc, name)?;
+        names.push(name)?;
+        rest = more;
+    }
+    let last = Text::of(alloc, rest)?;
+    names.push(last)?;
+    Ok(names)
+}
+
+/// A list that is given, cut at each `;`.
+fn cut_if_given(alloc: Global, text: Option<Text>) -> Result<Option<Items<Text>>, Cause>
+    ensures value { IfOk result (λ names. names ≡ option_map cut_list text) }
+    ensures memory { IsOkUnless result Cause.OutOfMemory }
+{
+    match text {
+        Some(text) => {
+            let names = cut_list(alloc, text.as_str())?;
+            Ok(Some(names))
+        }
+        None => Ok(None),
+    }
+}
+
+/// Asks for a closing of the accounts that are listed, into that one, each where it is given.
+fn asked_by_choice(
+    alloc: Global,
+    branch: Text,
+    day: Day,
+    accounts: Option<Text>,
+    into: Option<Text>,
+) -> Result<Asked, Refusal>
+    requires { IsDayNumber day }
+    ensures asks { OrMemory (λ asked. asked ≡ Ok (Asked.Command (Command.Close (record { branch = branch; day = day; choice = record { accounts = option_map cut_list accounts; into = into } })))) result }
+    ensures ready { (styles : List Style) → IsReady styles result }
+{
+    match cut_if_given(alloc, accounts) {
+        Ok(accounts) => Ok(Asked::Command(Command::Close(Close {
+            branch,
+            day,
+            choice: Choice { accounts, into },
+        }))),
+        Err(_) => Err(NO_MEMORY),
+    }
+}
+
 /// What the request asks, or the first fault of its texts; 40 for want of memory.
 fn asked_by_request(alloc: Global, styles: &Styles, request: Request) -> Result<Asked, Refusal>
     requires { HasDayNumbers request }
@@ -110,14 +218,15 @@ fn asked_by_request(alloc: Global, styles: &Styles, request: Request) -> Result<
             branch,
             day,
             account,
-        } => Ok(Asked::Command(Command::Receive(Receive {
-            id,
+            part,
+        } => asked_by_receipt(styles, id, branch, day, account, part),
+        Request::Lock { branch, day } => Ok(Asked::Command(Command::Lock(branch, day))),
+        Request::Close {
             branch,
             day,
-            account,
-        }))),
-        Request::Lock { branch, day } => Ok(Asked::Command(Command::Lock(branch, day))),
-        Request::Close { branch, day } => Ok(Asked::Command(Command::Close(branch, day))),
+            accounts,
+            into,
+        } => asked_by_choice(alloc, branch, day, accounts, into),
         Request::Balance { branch, day } => Ok(Asked::Report(Report::Balance { branch, day })),
         Request::Register {
             branch,

@@ -19,6 +19,6 @@ pub use bytes::Bytes;
 pub use laws::{commands_law, refusal_law, run_law};
 pub use lines::write_whole;
 pub use report::Report;
-pub use request::{Form, Request, read_command, request_of};
+pub use request::{Form, PartForm, Request, WrittenPart, read_command, request_of};
 pub use running::{refuse, run_lines};
 pub use web::{calls_law, serve_one};

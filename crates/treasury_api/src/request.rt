@@ -8,9 +8,17 @@ ghost use Rattle.std.specs.Result.{IsOkUnless};
 ghost use Rattle.treasury_api.specs.Request.{is_report};
 
 use crate::bytes::Bytes;
-pub use form::Form;
+pub use form::{Form, PartForm};
 use money_core::{Cause, Copied, Day, Text};
 pub use reading::{read_command, read_line, request_of};
+
+/// A part of a transfer, with its texts as they were written.
+#[derive(Debug, Drop)]
+pub struct WrittenPart {
+    /// Its key, unique in the transfer.
+    pub key: Text,
+    pub amount: Text,
+}
 
 /// A request, with its texts as they were written and its days read.
 #[derive(Debug, Drop)]
@@ -37,22 +45,26 @@ pub enum Request {
         amount: Text,
         account: Text,
     },
-    /// Money that has come to the branch on that day, into its account.
+    /// Money that has come to the branch on that day, into its account: all that is left, or a part.
     Receive {
         id: Text,
         branch: Text,
         day: Day,
         account: Text,
+        part: Option<WrittenPart>,
     },
     /// A lock of the branch of that name through the day.
     Lock {
         branch: Text,
         day: Day,
     },
-    /// The closing of the branch of that name at the day.
+    /// The closing of the branch of that name at the day: of the accounts that are listed, joined by `;`, into that one,
+    /// each where it is given.
     Close {
         branch: Text,
         day: Day,
+        accounts: Option<Text>,
+        into: Option<Text>,
     },
     /// The balances of the branch of that name through the day.
     Balance {
@@ -104,6 +116,28 @@ fn copied(text: &Option<Text>) -> Result<Option<Text>, Cause>
     }
 }
 
+impl Copied for WrittenPart {
+    fn copy(&self) -> Result<Self, Cause> {
+        let key = self.key.copy()?;
+        let amount = self.amount.copy()?;
+        Ok(WrittenPart { key, amount })
+    }
+}
+
+/// An equal part, if there is one.
+fn copied_part(part: &Option<WrittenPart>) -> Result<Option<WrittenPart>, Cause>
+    ensures equal { IfOk result (λ copy. copy ≡ part.now) }
+    ensures memory { IsOkUnless result Cause.OutOfMemory }
+{
+    match part {
+        Some(part) => {
+            let copy = part.copy()?;
+            Ok(Some(copy))
+        }
+        None => Ok(None),
+    }
+}
+
 impl Copied for Request {
     fn copy(&self) -> Result<Self, Cause> {
         match self {
@@ -147,24 +181,39 @@ impl Copied for Request {
                 branch,
                 day,
                 account,
+                part,
             } => {
                 let id = id.copy()?;
                 let branch = branch.copy()?;
                 let account = account.copy()?;
+                let part = copied_part(part)?;
                 Ok(Request::Receive {
                     id,
                     branch,
                     day: *day,
                     account,
+                    part,
                 })
             }
             Request::Lock { branch, day } => {
                 let branch = branch.copy()?;
                 Ok(Request::Lock { branch, day: *day })
             }
-            Request::Close { branch, day } => {
+            Request::Close {
+                branch,
+                day,
+                accounts,
+                into,
+            } => {
                 let branch = branch.copy()?;
-                Ok(Request::Close { branch, day: *day })
+                let accounts = copied(accounts)?;
+                let into = copied(into)?;
+                Ok(Request::Close {
+                    branch,
+                    day: *day,
+                    accounts,
+                    into,
+                })
             }
             Request::Balance { branch, day } => {
                 let branch = branch.copy()?;

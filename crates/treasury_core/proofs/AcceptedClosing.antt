@@ -15,9 +15,11 @@ use Rattle.journal_format.specs.declared.txn.Txn.{Txn}
 use Rattle.treasury_core.specs.declared.record.Record.{Record}
 use Rattle.treasury_core.specs.declared.command.Answer.{Answer}
 use Rattle.treasury_core.specs.declared.command.Answer.TheVariants.{Done}
+use Rattle.treasury_core.specs.declared.command.Close.{Close}
 use Rattle.treasury_core.specs.declared.command.Command.TheVariants as cmd
 use Rattle.treasury_core.specs.Federation.{Branch, Federation, has_name, records_of, lock_in, lock_of, entries, book_of}
-use Rattle.treasury_core.specs.Closing.{is_revenue_or_expense, retained_earnings, closing_record, closing_in}
+use Rattle.treasury_core.specs.Choice.{is_selected, target_in}
+use Rattle.treasury_core.specs.Closing.{closing_record, closing_in}
 use Rattle.treasury_core.specs.Closed.{closed_book}
 use Rattle.treasury_core.specs.Joined.{with_records, with_lock, changed}
 use Rattle.treasury_core.specs.Step.{is_locked, reply, done, added, after, step, closing_records}
@@ -26,6 +28,7 @@ use Rattle.treasury_core.specs.History.{Turn, IsRun, state_after, records_among}
 use Rattle.treasury_core.proofs.BytesLemmas.{same_bytes, self_bytes}
 use Rattle.treasury_core.proofs.ChangeLemmas.{any-changed}
 use Rattle.treasury_core.proofs.HistoryLemmas.{own_or, after_records, entries-append}
+use Rattle.treasury_core.proofs.ChoiceLemmas.{allowed}
 use Rattle.treasury_core.proofs.ClosingLemmas.{closed, untouched}
 use Rattle.treasury_core.proofs.ClosingRecord.{is_closing_of}
 use Rattle.treasury_core.proofs.ReplyLemmas.{shut}
@@ -58,74 +61,78 @@ lock_there [] day name other n = refl
 lock_there (b ∷ bs) day name other n = lock_there_at day b bs name other (bytes_eq b.name name) refl n (lock_there bs day name other n)
 
 -- the state that it leaves
-next_is : (f : Federation) (name : List ℕ) (day : Day) → reply f (cmd.Close name day) ≡ Ok Done → (step f (cmd.Close name day)).next ≡ done f (cmd.Close name day)
-next_is f name day h = ap (λ (r : Result Answer Refusal). after f (cmd.Close name day) r) h
+next_is : (f : Federation) (x : Close) → reply f (cmd.Close x) ≡ Ok Done → (step f (cmd.Close x)).next ≡ done f (cmd.Close x)
+next_is f x h = ap (λ (r : Result Answer Refusal). after f (cmd.Close x) r) h
 
-done_lock : (f : Federation) (name : List ℕ) (day : Day) → list_any (has_name name) f.branches ≡ true → lock_of (done f (cmd.Close name day)) name ≡ Some day
+done_lock : (f : Federation) (x : Close) → list_any (has_name x.branch) f.branches ≡ true → lock_of (done f (cmd.Close x)) x.branch ≡ Some x.day
 unfolding done
-done_lock f name day h =
-    let rs = closing_records day (closing_in f name day) in
-    lock_here (changed (with_records rs) name f.branches) day name (any-changed (with_records rs) name name f.branches (λ b. refl) ∙ h)
+done_lock f x h =
+    let rs = closing_records x.day (closing_in f x.branch x.day x.choice) in
+    lock_here (changed (with_records rs) x.branch f.branches) x.day x.branch (any-changed (with_records rs) x.branch x.branch f.branches (λ b. refl) ∙ h)
 
-done_lock_there : (f : Federation) (name other : List ℕ) (day : Day) → bytes_eq name other ≡ false → lock_of (done f (cmd.Close name day)) other ≡ lock_of f other
+done_lock_there : (f : Federation) (x : Close) (other : List ℕ) → bytes_eq x.branch other ≡ false → lock_of (done f (cmd.Close x)) other ≡ lock_of f other
 unfolding done
-done_lock_there f name other day n =
-    let rs = closing_records day (closing_in f name day) in
-    lock_there (changed (with_records rs) name f.branches) day name other n ∙ lock-entered rs f.branches name other
+done_lock_there f x other n =
+    let rs = closing_records x.day (closing_in f x.branch x.day x.choice) in
+    lock_there (changed (with_records rs) x.branch f.branches) x.day x.branch other n ∙ lock-entered rs f.branches x.branch other
 
-pub closing_locked : (f : Federation) (name : List ℕ) (day : Day) → reply f (cmd.Close name day) ≡ Ok Done → lock_of (step f (cmd.Close name day)).next name ≡ Some day
-closing_locked f name day h = ap (λ (g : Federation). lock_of g name) (next_is f name day h) ∙ done_lock f name day (shut f name day Done tt h).there
+pub closing_locked : (f : Federation) (x : Close) → reply f (cmd.Close x) ≡ Ok Done → lock_of (step f (cmd.Close x)).next x.branch ≡ Some x.day
+closing_locked f x h = ap (λ (g : Federation). lock_of g x.branch) (next_is f x h) ∙ done_lock f x (shut f x Done tt h).there
 
 -- its records
-added_among : (f : Federation) (name other : List ℕ) (day : Day) (t : Txn) → closing_in f name day ≡ Some t → records_among other (added f (cmd.Close name day)) ≡ own_or (bytes_eq name other) (closing_record day t ∷ [])
-added_among f name other day t e = ap (records_among other) (closing_adds f name day t e) ∙ append-nil (own_or (bytes_eq name other) (closing_record day t ∷ []))
+added_among : (f : Federation) (x : Close) (other : List ℕ) (t : Txn) → closing_in f x.branch x.day x.choice ≡ Some t → records_among other (added f (cmd.Close x)) ≡ own_or (bytes_eq x.branch other) (closing_record x.day t ∷ [])
+added_among f x other t e = ap (records_among other) (closing_adds f x t e) ∙ append-nil (own_or (bytes_eq x.branch other) (closing_record x.day t ∷ []))
 
-next_records : (f : Federation) (name other : List ℕ) (day : Day) (t : Txn) → reply f (cmd.Close name day) ≡ Ok Done → closing_in f name day ≡ Some t
-    → records_of (step f (cmd.Close name day)).next other ≡ records_of f other ++ own_or (bytes_eq name other) (closing_record day t ∷ [])
-next_records f name other day t h e =
-    ap (λ (r : Result Answer Refusal). records_of (after f (cmd.Close name day) r) other) h
-    ∙ (after_records f (cmd.Close name day) (Ok Done) other (inl (sym h)) ∙ ap (λ (rs : List Record). records_of f other ++ rs) (added_among f name other day t e))
+next_records : (f : Federation) (x : Close) (other : List ℕ) (t : Txn) → reply f (cmd.Close x) ≡ Ok Done → closing_in f x.branch x.day x.choice ≡ Some t
+    → records_of (step f (cmd.Close x)).next other ≡ records_of f other ++ own_or (bytes_eq x.branch other) (closing_record x.day t ∷ [])
+next_records f x other t h e =
+    ap (λ (r : Result Answer Refusal). records_of (after f (cmd.Close x) r) other) h
+    ∙ (after_records f (cmd.Close x) (Ok Done) other (inl (sym h)) ∙ ap (λ (rs : List Record). records_of f other ++ rs) (added_among f x other t e))
 
-own_records : (f : Federation) (name : List ℕ) (day : Day) (t : Txn) → reply f (cmd.Close name day) ≡ Ok Done → closing_in f name day ≡ Some t
-    → records_of (step f (cmd.Close name day)).next name ≡ records_of f name ++ closing_record day t ∷ []
-own_records f name day t h e = next_records f name name day t h e ∙ ap (λ (b : Bool). records_of f name ++ own_or b (closing_record day t ∷ [])) (self_bytes name)
+own_records : (f : Federation) (x : Close) (t : Txn) → reply f (cmd.Close x) ≡ Ok Done → closing_in f x.branch x.day x.choice ≡ Some t
+    → records_of (step f (cmd.Close x)).next x.branch ≡ records_of f x.branch ++ closing_record x.day t ∷ []
+own_records f x t h e = next_records f x x.branch t h e ∙ ap (λ (b : Bool). records_of f x.branch ++ own_or b (closing_record x.day t ∷ [])) (self_bytes x.branch)
 
-pub closing_adds_one : (f : Federation) (name : List ℕ) (day : Day) → reply f (cmd.Close name day) ≡ Ok Done
-    → (t : Txn) × ((closing_in f name day ≡ Some t) × (records_of (step f (cmd.Close name day)).next name ≡ records_of f name ++ closing_record day t ∷ []))
-closing_adds_one f name day h = let s = shut f name day Done tt h in (s.txn, (s.closes, own_records f name day s.txn h s.closes))
+pub closing_adds_one : (f : Federation) (x : Close) → reply f (cmd.Close x) ≡ Ok Done
+    → (t : Txn) × ((closing_in f x.branch x.day x.choice ≡ Some t) × (records_of (step f (cmd.Close x)).next x.branch ≡ records_of f x.branch ++ closing_record x.day t ∷ []))
+closing_adds_one f x h = let s = shut f x Done tt h in (s.txn, (s.closes, own_records f x s.txn h s.closes))
 
-pub closing_elsewhere : (f : Federation) (name other : List ℕ) (day : Day) → reply f (cmd.Close name day) ≡ Ok Done → bytes_eq name other ≡ false
-    → (records_of (step f (cmd.Close name day)).next other ≡ records_of f other) × (lock_of (step f (cmd.Close name day)).next other ≡ lock_of f other)
-closing_elsewhere f name other day h n =
-    let s = shut f name day Done tt h in (
-      next_records f name other day s.txn h s.closes ∙ (ap (λ (b : Bool). records_of f other ++ own_or b (closing_record day s.txn ∷ [])) n ∙ append-nil (records_of f other)),
-      ap (λ (g : Federation). lock_of g other) (next_is f name day h) ∙ done_lock_there f name other day n,
+pub closing_elsewhere : (f : Federation) (x : Close) (other : List ℕ) → reply f (cmd.Close x) ≡ Ok Done → bytes_eq x.branch other ≡ false
+    → (records_of (step f (cmd.Close x)).next other ≡ records_of f other) × (lock_of (step f (cmd.Close x)).next other ≡ lock_of f other)
+closing_elsewhere f x other h n =
+    let s = shut f x Done tt h in (
+      next_records f x other s.txn h s.closes ∙ (ap (λ (b : Bool). records_of f other ++ own_or b (closing_record x.day s.txn ∷ [])) n ∙ append-nil (records_of f other)),
+      ap (λ (g : Federation). lock_of g other) (next_is f x h) ∙ done_lock_there f x other n,
     )
 
 -- its book
-next_book : (f : Federation) (name : List ℕ) (day : Day) (t : Txn) → reply f (cmd.Close name day) ≡ Ok Done → closing_in f name day ≡ Some t → book_of (step f (cmd.Close name day)).next name ≡ closed_book f name t
-next_book f name day t h e = ap entries (own_records f name day t h e) ∙ entries-append (records_of f name) (closing_record day t ∷ [])
+next_book : (f : Federation) (x : Close) (t : Txn) → reply f (cmd.Close x) ≡ Ok Done → closing_in f x.branch x.day x.choice ≡ Some t → book_of (step f (cmd.Close x)).next x.branch ≡ closed_book f x.branch t
+next_book f x t h e = ap entries (own_records f x t h e) ∙ entries-append (records_of f x.branch) (closing_record x.day t ∷ [])
 
-pub closing_zero : (f : Federation) (name : List ℕ) (day : Day) (account : List ℕ) (unit : Commodity) → IsGoodState f → reply f (cmd.Close name day) ≡ Ok Done → is_revenue_or_expense account ≡ true
-    → balance Own (book_of (step f (cmd.Close name day)).next name) account unit (Through day) ≡ pos 0
-closing_zero f name day account unit good h is =
-    let s = shut f name day Done tt h in
-    ap (λ (b : List Entry). balance Own b account unit (Through day)) (next_book f name day s.txn h s.closes)
-    ∙ closed is_revenue_or_expense retained_earnings f name day s.txn account unit (is_closing_of f name day s.txn good s.closes) is
+pub closing_zero : (f : Federation) (x : Close) (account : List ℕ) (unit : Commodity) → IsGoodState f → reply f (cmd.Close x) ≡ Ok Done → is_selected x.choice.accounts account ≡ true
+    → balance Own (book_of (step f (cmd.Close x)).next x.branch) account unit (Through x.day) ≡ pos 0
+closing_zero f x account unit good h is =
+    let s = shut f x Done tt h in
+    ap (λ (b : List Entry). balance Own b account unit (Through x.day)) (next_book f x s.txn h s.closes)
+    ∙ closed (is_selected x.choice.accounts) (target_in x.choice.into) f x.branch x.day s.txn account unit (is_closing_of f x.branch x.day x.choice s.txn good s.chosen s.closes) is
 
-pub closing_untouched : (f : Federation) (name : List ℕ) (day : Day) (account : List ℕ) (unit : Commodity) (on : Day) → IsGoodState f → reply f (cmd.Close name day) ≡ Ok Done → is_revenue_or_expense account ≡ false
-    → bytes_eq retained_earnings account ≡ false → balance Own (book_of (step f (cmd.Close name day)).next name) account unit (Through on) ≡ balance Own (book_of f name) account unit (Through on)
-closing_untouched f name day account unit on good h other apart =
-    let s = shut f name day Done tt h in
-    ap (λ (b : List Entry). balance Own b account unit (Through on)) (next_book f name day s.txn h s.closes)
-    ∙ untouched is_revenue_or_expense retained_earnings f name day s.txn account unit on (is_closing_of f name day s.txn good s.closes) other apart
+pub closing_untouched : (f : Federation) (x : Close) (account : List ℕ) (unit : Commodity) (on : Day) → IsGoodState f → reply f (cmd.Close x) ≡ Ok Done → is_selected x.choice.accounts account ≡ false
+    → bytes_eq (target_in x.choice.into) account ≡ false → balance Own (book_of (step f (cmd.Close x)).next x.branch) account unit (Through on) ≡ balance Own (book_of f x.branch) account unit (Through on)
+closing_untouched f x account unit on good h other apart =
+    let s = shut f x Done tt h in
+    ap (λ (b : List Entry). balance Own b account unit (Through on)) (next_book f x s.txn h s.closes)
+    ∙ untouched (is_selected x.choice.accounts) (target_in x.choice.into) f x.branch x.day s.txn account unit on (is_closing_of f x.branch x.day x.choice s.txn good s.chosen s.closes) other apart
+
+-- the target is not selected
+pub closing_apart : (f : Federation) (x : Close) → reply f (cmd.Close x) ≡ Ok Done → is_selected x.choice.accounts (target_in x.choice.into) ≡ false
+closing_apart f x h = (allowed x.choice (shut f x Done tt h).chosen).apart
 
 -- later on
 same_day : (q : ℤ) → int_le q q ≡ true
 same_day q = grind (arith, ints)
 
-pub closing_stays : (f : Federation) (name : List ℕ) (day : Day) (turns : List Turn) (account : List ℕ) (unit : Commodity) → IsGoodState f → reply f (cmd.Close name day) ≡ Ok Done → IsRun (step f (cmd.Close name day)).next turns
-    → is_revenue_or_expense account ≡ true → balance Own (book_of (state_after (step f (cmd.Close name day)).next turns) name) account unit (Through day) ≡ pos 0
-closing_stays f name day turns account unit good h run is =
-    run_balance (step f (cmd.Close name day)).next turns name day Own account unit run (ap (λ (o : Option Day). is_locked o day) (closing_locked f name day h) ∙ same_day day.0)
-    ∙ closing_zero f name day account unit good h is
+pub closing_stays : (f : Federation) (x : Close) (turns : List Turn) (account : List ℕ) (unit : Commodity) → IsGoodState f → reply f (cmd.Close x) ≡ Ok Done → IsRun (step f (cmd.Close x)).next turns
+    → is_selected x.choice.accounts account ≡ true → balance Own (book_of (state_after (step f (cmd.Close x)).next turns) x.branch) account unit (Through x.day) ≡ pos 0
+closing_stays f x turns account unit good h run is =
+    run_balance (step f (cmd.Close x)).next turns x.branch x.day Own account unit run (ap (λ (o : Option Day). is_locked o x.day) (closing_locked f x h) ∙ same_day x.day.0)
+    ∙ closing_zero f x account unit good h is

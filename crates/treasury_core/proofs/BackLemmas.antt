@@ -114,7 +114,7 @@ room_one f (add.Commodity style) h = record { styles = styles_back f.styles styl
 room_one f (add.Branch name) h = record { styles = h.styles; branches = all_front HasRoom f.branches (new_branch name ∷ []) h.branches; ids = h.ids }
 room_one f (add.Record name r) h = record { styles = h.styles; branches = back_changed (with_records (r ∷ [])) name f.branches (λ b k. room_before b r k) h.branches; ids = h.ids }
 room_one f (add.Dispatched t) h = record { styles = h.styles; branches = h.branches; ids = uninserted t f.transfers h.ids }
-room_one f (add.Received id day payee) h = record { styles = h.styles; branches = h.branches; ids = unreceived id (record { day = day; payee = payee }) f.transfers h.ids }
+room_one f (add.Received id p) h = record { styles = h.styles; branches = h.branches; ids = unreceived id p f.transfers h.ids }
 room_one f (add.Locked name day) h = record { styles = h.styles; branches = back_changed (with_lock day) name f.branches (λ b k. record { fit = k.fit; within = k.within }) h.branches; ids = h.ids }
 
 pub room_back : (xs : List Addition) (f : Federation) → IsRoomy (joined f xs) → IsRoomy f

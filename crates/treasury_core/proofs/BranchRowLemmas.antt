@@ -18,7 +18,7 @@ use Rattle.treasury_core.specs.Drafted.{IsFault}
 use Rattle.treasury_core.proofs.ChangeLemmas.{all-append}
 use Rattle.treasury_core.proofs.DraftLemmas.{fault_of, heads, tails, less, all_middle}
 
-pub all_more : (P : EntryRow → Type 0) (rows : List EntryRow) (i : ℕ) (row : EntryRow) → i < length rows → row ≡ get_or rows i row → AllByRecursion P (take i rows) → P row → AllByRecursion P (take (i + 1) rows)
+pub all_more : {T : Type 0} (P : T → Type 0) (rows : List T) (i : ℕ) (row : T) → i < length rows → row ≡ get_or rows i row → AllByRecursion P (take i rows) → P row → AllByRecursion P (take (i + 1) rows)
 all_more P rows i row h is before p =
     subst (AllByRecursion P) (sym (take_more rows i row h ∙ ap (λ y. take i rows ++ y ∷ []) (sym is))) (all-append P (take i rows) (row ∷ []) before (p, tt))
 
@@ -37,32 +37,32 @@ other_rows styles b k (x ∷ bs) h =
     all-append (λ (r : EntryRow). r.branch ≡ pos b → ⊥) (entry_rows_from styles k 1 x.records) (entry_rows_in styles (k + 1) bs) (not_own styles b k 1 x.records h) (other_rows styles b (k + 1) bs (omega arith))
 
 -- where a count of rows at the front stops
-pub stop_at : (P : EntryRow → Type 0) (own rest : List EntryRow) (i : ℕ) → AllByRecursion P (take i (own ++ rest)) → AllByRecursion P own → AllByRecursion (λ r. P r → ⊥) rest → i ≤ length (own ++ rest)
-    → ((y : EntryRow) (ys : List EntryRow) → drop i (own ++ rest) ≡ y ∷ ys → P y → ⊥) → i ≡ length own
+pub stop_at : {T : Type 0} (P : T → Type 0) (own rest : List T) (i : ℕ) → AllByRecursion P (take i (own ++ rest)) → AllByRecursion P own → AllByRecursion (λ r. P r → ⊥) rest → i ≤ length (own ++ rest)
+    → ((y : T) (ys : List T) → drop i (own ++ rest) ≡ y ∷ ys → P y → ⊥) → i ≡ length own
 stop_at P [] rest zero h own other few stops = refl
 stop_at P [] [] (suc i) h own other few stops = absurd (omega arith)
 stop_at P [] (r ∷ rest) (suc i) h own other few stops = absurd (other.0 h.0)
 stop_at P (x ∷ xs) rest zero h own other few stops = absurd (stops x (xs ++ rest) refl own.0)
 stop_at P (x ∷ xs) rest (suc i) h own other few stops = ap suc (stop_at P xs rest i h.1 own.1 other (omega (arith, few)) stops)
 
-pub counted_own : (P : EntryRow → Type 0) (rows own rest : List EntryRow) (i : ℕ) → AllByRecursion P (take i rows) → i ≤ length rows
-    → ((y : EntryRow) (ys : List EntryRow) → drop i rows ≡ y ∷ ys → P y → ⊥) → AllByRecursion P own → AllByRecursion (λ r. P r → ⊥) rest → rows ≡ own ++ rest → i ≡ length own
-counted_own P rows own rest i h few stops o r e =
-    stop_at P own rest i (subst (λ (xs : List EntryRow). AllByRecursion P (take i xs)) e h) o r (subst (λ (xs : List EntryRow). i ≤ length xs) e few)
-    (subst (λ (xs : List EntryRow). (y : EntryRow) (ys : List EntryRow) → drop i xs ≡ y ∷ ys → P y → ⊥) e stops)
+pub counted_own : {T : Type 0} (P : T → Type 0) (rows own rest : List T) (i : ℕ) → AllByRecursion P (take i rows) → i ≤ length rows
+    → ((y : T) (ys : List T) → drop i rows ≡ y ∷ ys → P y → ⊥) → AllByRecursion P own → AllByRecursion (λ r. P r → ⊥) rest → rows ≡ own ++ rest → i ≡ length own
+counted_own {T = T} P rows own rest i h few stops o r e =
+    stop_at P own rest i (subst (λ (xs : List T). AllByRecursion P (take i xs)) e h) o r (subst (λ (xs : List T). i ≤ length xs) e few)
+    (subst (λ (xs : List T). (y : T) (ys : List T) → drop i xs ≡ y ∷ ys → P y → ⊥) e stops)
 
-pub stops_here : (P : EntryRow → Type 0) (rows : List EntryRow) (i : ℕ) (row : EntryRow) → i < length rows → row ≡ get_or rows i row → (P row → ⊥)
-    → (y : EntryRow) (ys : List EntryRow) → drop i rows ≡ y ∷ ys → P y → ⊥
+pub stops_here : {T : Type 0} (P : T → Type 0) (rows : List T) (i : ℕ) (row : T) → i < length rows → row ≡ get_or rows i row → (P row → ⊥)
+    → (y : T) (ys : List T) → drop i rows ≡ y ∷ ys → P y → ⊥
 stops_here P rows i row h is n y ys e p = n (subst P (sym (heads row y (drop (i + 1) rows) ys (sym (less rows i row h is) ∙ e))) p)
 
-pub stops_behind : (P : EntryRow → Type 0) (rows : List EntryRow) (i : ℕ) → length rows ≤ i → (y : EntryRow) (ys : List EntryRow) → drop i rows ≡ y ∷ ys → P y → ⊥
+pub stops_behind : {T : Type 0} (P : T → Type 0) (rows : List T) (i : ℕ) → length rows ≤ i → (y : T) (ys : List T) → drop i rows ≡ y ∷ ys → P y → ⊥
 stops_behind P rows i h y ys e p = let n : [] ≡ y ∷ ys = sym (drop_all i rows h) ∙ e in cc
 
-take_front : (own rest : List EntryRow) → take (length own) (own ++ rest) ≡ own
+pub take_front : {T : Type 0} (own rest : List T) → take (length own) (own ++ rest) ≡ own
 take_front [] rest = refl
 take_front (x ∷ xs) rest = ap (λ ys. x ∷ ys) (take_front xs rest)
 
-drop_front : (own rest : List EntryRow) → drop (length own) (own ++ rest) ≡ rest
+pub drop_front : {T : Type 0} (own rest : List T) → drop (length own) (own ++ rest) ≡ rest
 drop_front [] rest = refl
 drop_front (x ∷ xs) rest = drop_front xs rest
 

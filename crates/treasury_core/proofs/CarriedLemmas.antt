@@ -4,12 +4,13 @@ use Rattle.std.specs.Prelude.{IfSome, MatchOption, filter}
 use Rattle.std.specs.List.{AllByRecursion}
 use Rattle.std.specs.Str.{bytes_eq}
 use Rattle.treasury_core.specs.declared.record.Record.{Record}
-use Rattle.treasury_core.specs.declared.transfer.Receipt.{Receipt}
+use Rattle.treasury_core.specs.declared.transfer.Part.{Part}
 use Rattle.treasury_core.specs.declared.transfer.Transfer.{Transfer}
 use Rattle.treasury_core.specs.Federation.{Branch}
 use Rattle.treasury_core.specs.Mark.{is_held, held, HaveOwnMarks, is_transfer_mark, is_of_transfer}
-use Rattle.treasury_core.specs.Transfer.{asked, out_records, in_records}
+use Rattle.treasury_core.specs.Transfer.{asked, out_records, in_records, receipts_of}
 use Rattle.treasury_core.specs.Good.{AreAscending, IsCarried}
+use Rattle.treasury_core.specs.Fair.{IsMarked}
 use Rattle.treasury_core.proofs.BytesLemmas.{same_bytes, self_bytes, or_true}
 use Rattle.treasury_core.proofs.HeldLemmas.{not_held}
 use Rattle.treasury_core.proofs.LookupLemmas.{first_held}
@@ -30,17 +31,18 @@ all_filtered : (rs : List Record) → AreOfTransfers (filter is_of_transfer rs)
 all_filtered [] = tt
 all_filtered (r ∷ rs) = filtered_at r (filter is_of_transfer rs) (is_of_transfer r) refl (all_filtered rs)
 
-asked_at : (t : Transfer) (rest : List Record) (a b : Bool) (o : Option Receipt) → AreOfTransfers rest → AreOfTransfers (out_records t a ++ (in_records t b o ++ rest))
-asked_at t rest true true (Some r) h = (refl, (refl, h))
-asked_at t rest true true None h = (refl, h)
-asked_at t rest true false o h = (refl, h)
-asked_at t rest false true (Some r) h = (refl, h)
-asked_at t rest false true None h = h
-asked_at t rest false false o h = h
+all_in : (t : Transfer) (b : Bool) (ps : List Part) (rest : List Record) → AreOfTransfers rest → AreOfTransfers (in_records t b ps ++ rest)
+all_in t true [] rest h = h
+all_in t true (p ∷ ps) rest h = (refl, all_in t true ps rest h)
+all_in t false ps rest h = h
+
+all_out : (t : Transfer) (a : Bool) (rest : List Record) → AreOfTransfers rest → AreOfTransfers (out_records t a ++ rest)
+all_out t true rest h = (refl, h)
+all_out t false rest h = h
 
 pub all_asked : (ts : List Transfer) (name : List ℕ) → AreOfTransfers (asked ts name)
 all_asked [] name = tt
-all_asked (t ∷ ts) name = asked_at t (asked ts name) (bytes_eq t.source name) (bytes_eq t.target name) t.receipt (all_asked ts name)
+all_asked (t ∷ ts) name = all_out t (bytes_eq t.source name) _ (all_in t (bytes_eq t.target name) (receipts_of t) (asked ts name) (all_asked ts name))
 
 -- other marks are not among them
 other_at : (r : Record) (rs : List Record) (m : List ℕ) (t : Bool) → bytes_eq r.mark m ≡ t → is_of_transfer r ≡ true → is_transfer_mark m ≡ false → held rs m ≡ None → cond t (Some r) (held rs m) ≡ None
@@ -145,11 +147,11 @@ asked_back rs rows same =
 pub carried_from : (ts : List Transfer) (b : Branch) → Stand b.records (asked ts b.name) → AreAsked (asked ts b.name) b.records → IsCarried ts b
 carried_from ts b stand are = λ m. alike_at b.records (asked ts b.name) m (is_transfer_mark m) refl (all_asked ts b.name) stand are
 
-pub own_asked : (ts : List Transfer) (name : List ℕ) → AreAscending ts → HaveOwnMarks (asked ts name)
-own_asked ts name ids = asked_own ts name (own_ids ts ids)
+pub own_asked : (ts : List Transfer) (name : List ℕ) → AllByRecursion IsMarked ts → AreAscending ts → HaveOwnMarks (asked ts name)
+own_asked ts name marked ids = asked_own ts name marked (own_ids ts ids)
 
-pub stand_of : (ts : List Transfer) (b : Branch) → AreAscending ts → IsCarried ts b → Stand b.records (asked ts b.name)
-stand_of ts b ids h = stand_back b.records (asked ts b.name) (all_asked ts b.name) (own_asked ts b.name ids) h
+pub stand_of : (ts : List Transfer) (b : Branch) → AllByRecursion IsMarked ts → AreAscending ts → IsCarried ts b → Stand b.records (asked ts b.name)
+stand_of ts b marked ids h = stand_back b.records (asked ts b.name) (all_asked ts b.name) (own_asked ts b.name marked ids) h
 
 pub asked_of : (ts : List Transfer) (b : Branch) → IsCarried ts b → AreAsked (asked ts b.name) b.records
 asked_of ts b h = asked_back b.records (asked ts b.name) h

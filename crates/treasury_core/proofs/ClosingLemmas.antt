@@ -316,21 +316,21 @@ moves_other m b known day into select a unit off apart =
 
 -- ---- the book with the closing
 
-of_postings : (day : Day) (ps : List Posting) (t : Txn) → closing_of day ps ≡ Some t → t ≡ closing_txn day ps
-of_postings day [] t e = absurd cc
-of_postings day (p ∷ ps) t e = cc
+of_postings : (day : Day) (comments : List (List ℕ)) (ps : List Posting) (t : Txn) → closing_of day comments ps ≡ Some t → t ≡ closing_txn day comments ps
+of_postings day comments [] t e = absurd cc
+of_postings day comments (p ∷ ps) t e = cc
 
-pub from_closing : (select : List ℕ → Bool) (into : List ℕ) (styles : List Style) (b : List Entry) (day : Day) (t : Txn) → closing select into styles b day ≡ Some t
-    → t ≡ closing_txn day (closing_postings b day into (selected select b) (declared styles))
+pub from_closing : (select : List ℕ → Bool) (into : List ℕ) (comments : List (List ℕ)) (styles : List Style) (b : List Entry) (day : Day) (t : Txn) → closing select into comments styles b day ≡ Some t
+    → t ≡ closing_txn day comments (closing_postings b day into (selected select b) (declared styles))
 unfolding closing
-from_closing select into styles b day t e = of_postings day (closing_postings b day into (selected select b) (declared styles)) t e
+from_closing select into comments styles b day t e = of_postings day comments (closing_postings b day into (selected select b) (declared styles)) t e
 
 -- each balance of it: that of the book, and on the day or later what the closing moves
 pub closed_balance : (select : List ℕ → Bool) (into : List ℕ) (f : Federation) (name : List ℕ) (day : Day) (t : Txn) → IsClosing select into f name day t → (a : List ℕ) (unit : Commodity) (x : Day) →
     balance Own (closed_book f name t) a unit (Through x) ≡ balance Own (book_of f name) a unit (Through x) +ℤ (if int_le day.0 x.0 then moves (length f.styles) (book_of f name) day into select a unit else pos 0)
 closed_balance select into f name day t h a unit x =
     let b = book_of f name in
-    let is = from_closing select into f.styles b day t h.closes in
+    let is = from_closing select into h.comments f.styles b day t h.closes in
     balance-append Own b (written_entry t ∷ []) a unit x
     ∙ ap (λ (z : ℤ). balance Own b a unit (Through x) +ℤ z)
     (balance-entry Own (written_entry t) a unit x ∙ ap (λ (s : Txn). if int_le s.day.0 x.0 then sum_in Own a unit (written_legs s.postings) else pos 0) is)

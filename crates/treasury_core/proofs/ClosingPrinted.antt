@@ -1,6 +1,6 @@
 -- a closing can be printed, and does what its postings say
 use Rattle.std.proofs.Common.{◌≡◌, ◌≤◌, ◌<◌, ◌+◌, ◌*◌, ◌||◌, ◌==◌, ℕ, zero, suc, Bool, true, false, List, [], ◌∷◌, ◌++◌, length, ℤ, pos, neg_ℤ, ◌-ℤ◌, refl, ap, ◌∙◌, sym, subst, arith, Option, Some, None, Ok, length-append, true≢false, Ordering}
-use Rattle.std.specs.Prelude.{codes, nat_lt, nat_le, unsigned_abs, if◌then◌else◌, filter, cond}
+use Rattle.std.specs.Prelude.{codes, nat_lt, nat_le, unsigned_abs, if◌then◌else◌, filter, cond, is_some, slice_get, ◌&&◌}
 use Rattle.std.specs.Ordering.{int_eq}
 use Rattle.std.specs.Char.{is_ascii_digit}
 use Rattle.std.specs.List.{list_all, flat_map, AllByRecursion}
@@ -16,7 +16,11 @@ use Rattle.money_core.specs.declared.unit.Unit.{Unit as Commodity}
 use Rattle.money_core.specs.declared.day.Day.{Day}
 use Rattle.money_core.specs.declared.price.Price.{Price}
 use Rattle.money_core.specs.Amount.{limit}
+use Rattle.money_core.specs.NamePart.{IsNamePart}
+use Rattle.money_core.specs.Price.{cost_unit, is_cost}
 use Rattle.money_core.specs.Style.{AreStyles}
+use Rattle.money_core.specs.Symbol.{is_symbol}
+use Rattle.money_core.proofs.SymbolText.{name_parts}
 use Rattle.book_core.specs.declared.claim.Claim.{Claim}
 use Rattle.book_core.specs.declared.entry.Entry.{Entry}
 use Rattle.book_core.specs.declared.leg.Leg.{Leg}
@@ -32,29 +36,33 @@ use Rattle.journal_lines.specs.Date.{printed_date, IsDayNumber}
 use Rattle.journal_lines.proofs.DateLemmas.{dates_print}
 use Rattle.journal_format.specs.declared.posting.Posting.{Posting}
 use Rattle.journal_format.specs.declared.txn.Txn.{Txn}
-use Rattle.journal_format.specs.BodySize.{postings_size}
+use Rattle.journal_format.specs.BodySize.{postings_size, remarks_size}
 use Rattle.journal_format.specs.CanonicalText.{body_text}
 use Rattle.journal_format.specs.Mark.{is_mark, is_mark_byte}
 use Rattle.journal_format.specs.Pieces.{posting_limit}
-use Rattle.journal_format.specs.Printable.{is_amount, is_posting, IsPrintable}
-use Rattle.journal_format.proofs.SizeLemmas.{body_size, head_is, header_small, postings-append, no_remarks}
+use Rattle.journal_format.specs.Printable.{is_remark_text, is_note, is_amount, is_price_or_none, is_claim_or_none, is_value, is_posting, IsPrintable}
+use Rattle.journal_format.proofs.SizeLemmas.{body_size, head_is, header_small, remarks_push, remark_small, postings-append, no_remarks}
 use Rattle.journal_format.proofs.Utf8Lemmas.{is_low, utf8_low}
-use Rattle.journal_balance.specs.Conversion.{conversion_account}
+use Rattle.journal_balance.specs.Conversion.{symbol_in, symbol_of, conversion_account}
 use Rattle.journal_balance.specs.Legs.{commodities, declared, leg, rest_leg, sum_of, amount_legs, posting_legs, legs_among, legs_of}
 use Rattle.journal_balance.specs.Plain.{written_leg, written_legs, written_entry, is_written}
 use Rattle.journal_balance.proofs.FaultLemmas.{legs_found}
+use Rattle.journal_balance.proofs.NameLemmas.{conversion_formed}
 use Rattle.journal_balance.proofs.WrittenLemmas.{legs_of-written}
 use Rattle.treasury_core.specs.declared.record.Record.{Record}
+use Rattle.treasury_core.specs.declared.choice.Choice.{Choice}
 use Rattle.treasury_core.specs.Federation.{Federation, entries, book_of, records_of}
 use Rattle.treasury_core.specs.Transfer.{is_account_text}
 use Rattle.treasury_core.specs.Good.{IsGoodRecord, IsGoodState}
 use Rattle.treasury_core.specs.Accounts.{placed_name, with_name, ordered_names, book_accounts}
-use Rattle.treasury_core.specs.Closing.{is_revenue_or_expense, retained_earnings, through, zero_claim, posting_of, selected, closed_account, held_in, gaining_account, closing_postings, close_mark, closing_txn, closing_in}
+use Rattle.treasury_core.specs.Choice.{is_selected, target_in, choice_comments, choice_refusal}
+use Rattle.treasury_core.specs.Closing.{through, zero_claim, posting_of, selected, closed_account, held_in, gaining_account, closing_postings, close_mark, closing_txn, closing_in}
 use Rattle.treasury_core.specs.Closed.{IsClosing}
 use Rattle.treasury_core.proofs.ChangeLemmas.{all-append}
 use Rattle.treasury_core.proofs.OwnLemmas.{of_branch}
 use Rattle.treasury_core.proofs.OpenLemmas.{good_book}
 use Rattle.treasury_core.proofs.ProductLemmas.{line_small}
+use Rattle.treasury_core.proofs.ChoiceLemmas.{allowed, comments_print, few_chosen}
 use Rattle.treasury_core.proofs.ClosingSums.{picked-value, spread, picked_closed, held_all, AreApart, closed_small, abs_value, same_spread}
 use Rattle.treasury_core.proofs.ClosingLemmas.{book_known, selected_apart, closing_balanced, from_closing}
 
@@ -153,22 +161,49 @@ closing_legs select into f name day t h =
     let m = length f.styles in
     let ps = closing_postings b day into names (commodities 0 m) in
     let plain = all_plain b (good_book f name h.good).within.small day into m names (selected_apart select b) in
-    let own : legs_of f.styles (closing_txn day ps) ≡ Ok (written_entry (closing_txn day ps)) =
-    legs_of-written f.styles (closing_txn day ps) (record { written = all_written ps plain; balanced = λ unit. closing_balanced m b (book_known f name h.good) day into names unit; small = all_small ps plain }) in
-    subst (λ (s : Txn). legs_of f.styles s ≡ Ok (written_entry s)) (sym (from_closing select into f.styles b day t h.closes)) own
+    let own : legs_of f.styles (closing_txn day h.comments ps) ≡ Ok (written_entry (closing_txn day h.comments ps)) =
+    legs_of-written f.styles (closing_txn day h.comments ps) (record { written = all_written ps plain; balanced = λ unit. closing_balanced m b (book_known f name h.good) day into names unit; small = all_small ps plain }) in
+    subst (λ (s : Txn). legs_of f.styles s ≡ Ok (written_entry s)) (sym (from_closing select into h.comments f.styles b day t h.closes)) own
 
--- ---- revenue and expense accounts are well formed
+-- ---- the accounts of a book are well formed
 
--- if it is a revenue or expense account, it is well formed
 abbrev IsNamed : List ℕ → Type 0
-IsNamed account = is_revenue_or_expense account ≡ true → is_account_text account ≡ true
+IsNamed account = is_account_text account ≡ true
 
 abbrev HasName : Leg → Type 0
 HasName x = IsNamed x.account
 
-no_conversion : (a b own : List ℕ) → IsNamed (conversion_account a b own)
-unfolding conversion_account
-no_conversion a b own e = absurd (true≢false (sym e))
+-- each symbol can stand in a name
+abbrev AreNamed : List Style → Type 0
+AreNamed styles = (i : ℕ) (style : Style) → slice_get styles i ≡ Some style → IsNamePart style.symbol
+
+styles_named : (styles : List Style) → AreStyles styles → AreNamed styles
+styles_named styles are i style e = name_parts style.symbol (and_parts (is_symbol style.symbol) _ (are.each i style e)).0
+
+named_at : (styles : List Style) → AreNamed styles → (i : ℕ) (o : Option Style) → slice_get styles i ≡ o → is_some o ≡ true → IsNamePart (symbol_in o)
+named_at styles are i None e k = absurd (true≢false (sym k))
+named_at styles are i (Some style) e k = are i style e
+
+symbol_named : (styles : List Style) → AreNamed styles → (unit : Commodity) → is_some (slice_get styles unit.0) ≡ true → IsNamePart (symbol_of styles unit)
+symbol_named styles are unit k = named_at styles are unit.0 (slice_get styles unit.0) refl k
+
+style_there : (styles : List Style) (i : ℕ) → i < length styles → is_some (slice_get styles i) ≡ true
+style_there [] i h = absurd (omega (arith, h))
+style_there (x ∷ xs) zero h = refl
+style_there (x ∷ xs) (suc i) h = let k : i < length xs = omega (arith, h) in style_there xs i k
+
+less : (a b : ℕ) → nat_lt a b ≡ true → a < b
+less a b h = grind (arith, nat_tests)
+
+amount_there : (styles : List Style) (i : ℕ) → nat_lt i (length styles) ≡ true → is_some (slice_get styles i) ≡ true
+amount_there styles i h = style_there styles i (less i (length styles) h)
+
+price_there : (o : Option Style) (p : Price) → is_cost o p ≡ true → is_some o ≡ true
+price_there None p h = absurd cc
+price_there (Some style) p h = refl
+
+account_named : (a b own : List ℕ) → IsNamePart a → IsNamePart b → IsNamePart own → IsNamed (conversion_account a b own)
+account_named a b own h k o = let both = conversion_formed a b own h k o in and_from _ _ both.0 both.1
 
 rest_named : (account : List ℕ) (f : Commodity → ℤ) (n k : ℕ) → IsNamed account → AllByRecursion HasName (flat_map (λ (u : Commodity). rest_leg account u (f u)) (commodities n k))
 rest_named account f n zero h = tt
@@ -180,35 +215,42 @@ rest_named account f n (suc k) h =
     by_test true = tt
     by_test false = (h, tt)
 
-amount_named : (styles : List Style) (account : List ℕ) (a : Commodity × ℤ) (p : Option Price) → IsNamed account → AllByRecursion HasName (amount_legs styles account a p)
-amount_named styles account a None h = (h, tt)
-amount_named styles account a (Some p) h = (h, (no_conversion _ _ _, (no_conversion _ _ _, tt)))
+amount_named : (styles : List Style) → AreNamed styles → (account : List ℕ) (a : Commodity × ℤ) (p : Option Price) → IsNamed account → nat_lt a.0.0 (length styles) ≡ true → is_price_or_none styles p ≡ true
+    → AllByRecursion HasName (amount_legs styles account a p)
+amount_named styles are account a None h known priced = (h, tt)
+amount_named styles are account a (Some p) h known priced =
+    let own = symbol_named styles are a.0 (amount_there styles a.0.0 known) in
+    let other = symbol_named styles are (cost_unit p) (price_there (slice_get styles (cost_unit p).0) p priced) in
+    (h, (account_named _ _ _ own other own, (account_named _ _ _ own other other, tt)))
 
-posting_named : (styles : List Style) (all : List Posting) (account : List ℕ) (o : Option (Commodity × ℤ)) (p : Option Price) → IsNamed account → AllByRecursion HasName (posting_legs styles all account o p)
-posting_named styles all account None p h = rest_named account (λ (u : Commodity). sum_of styles u all) 0 (length styles) h
-posting_named styles all account (Some a) p h = amount_named styles account a p h
+posting_named : (styles : List Style) → AreNamed styles → (all : List Posting) (account : List ℕ) (o : Option (Commodity × ℤ)) (p : Option Price) (k : Option Claim) → IsNamed account → is_value styles o p k ≡ true
+    → AllByRecursion HasName (posting_legs styles all account o p)
+posting_named styles are all account None p k h value = rest_named account (λ (u : Commodity). sum_of styles u all) 0 (length styles) h
+posting_named styles are all account (Some a) p k h value =
+    let one = and_parts (is_amount styles a.0 a.1 && is_price_or_none styles p) (is_claim_or_none styles k) value in
+    let two = and_parts (is_amount styles a.0 a.1) (is_price_or_none styles p) one.0 in
+    amount_named styles are account a p h (and_parts (nat_lt a.0.0 (length styles)) _ two.0).0 two.1
 
-posting_account : (styles : List Style) (p : Posting) → is_posting styles p ≡ true → is_account_text p.account ≡ true
-posting_account styles p h =
+one_named : (styles : List Style) → AreNamed styles → (all : List Posting) (p : Posting) → is_posting styles p ≡ true → AllByRecursion HasName (posting_legs styles all p.account p.amount p.price)
+one_named styles are all p h =
     let one = and_parts _ _ h in
-    let two = and_parts _ _ one.0 in
-    two.0
+    let two = and_parts (is_account p.account && is_utf8 p.account) (is_value styles p.amount p.price p.claim) one.0 in
+    posting_named styles are all p.account p.amount p.price p.claim two.0 two.1
 
-legs_named : (styles : List Style) (all xs : List Posting) → list_all (is_posting styles) xs ≡ true → AllByRecursion HasName (legs_among styles all xs)
-legs_named styles all [] ok = tt
-legs_named styles all (x ∷ xs) ok =
+legs_named : (styles : List Style) → AreNamed styles → (all xs : List Posting) → list_all (is_posting styles) xs ≡ true → AllByRecursion HasName (legs_among styles all xs)
+legs_named styles are all [] ok = tt
+legs_named styles are all (x ∷ xs) ok =
     let both = and_parts (is_posting styles x) (list_all (is_posting styles) xs) ok in
-    all-append HasName (posting_legs styles all x.account x.amount x.price) (legs_among styles all xs)
-    (posting_named styles all x.account x.amount x.price (λ e. posting_account styles x both.0)) (legs_named styles all xs both.1)
+    all-append HasName (posting_legs styles all x.account x.amount x.price) (legs_among styles all xs) (one_named styles are all x both.0) (legs_named styles are all xs both.1)
 
-entry_named : (styles : List Style) (r : Record) → IsGoodRecord styles r → AllByRecursion HasName r.entry.legs
-entry_named styles r h =
+entry_named : (styles : List Style) → AreNamed styles → (r : Record) → IsGoodRecord styles r → AllByRecursion HasName r.entry.legs
+entry_named styles are r h =
     let found = legs_found styles r.txn r.entry h.legs in
-    subst (λ (e : Entry). AllByRecursion HasName e.legs) found.1 (legs_named styles r.txn.postings r.txn.postings h.printable.postings)
+    subst (λ (e : Entry). AllByRecursion HasName e.legs) found.1 (legs_named styles are r.txn.postings r.txn.postings h.printable.postings)
 
-book_named : (styles : List Style) (rs : List Record) → AllByRecursion (IsGoodRecord styles) rs → AllByRecursion HasName (book_legs (entries rs))
-book_named styles [] h = tt
-book_named styles (r ∷ rs) h = all-append HasName r.entry.legs (book_legs (entries rs)) (entry_named styles r h.0) (book_named styles rs h.1)
+book_named : (styles : List Style) → AreNamed styles → (rs : List Record) → AllByRecursion (IsGoodRecord styles) rs → AllByRecursion HasName (book_legs (entries rs))
+book_named styles are [] h = tt
+book_named styles are (r ∷ rs) h = all-append HasName r.entry.legs (book_legs (entries rs)) (entry_named styles are r h.0) (book_named styles are rs h.1)
 
 accounts_named : (legs : List Leg) → AllByRecursion HasName legs → AllByRecursion IsNamed (accounts_of legs)
 accounts_named [] h = tt
@@ -227,18 +269,18 @@ ordered_named : (names : List (List ℕ)) → AllByRecursion IsNamed names → A
 ordered_named [] h = tt
 ordered_named (name ∷ names) h = with_named name (ordered_names names) h.0 (ordered_named names h.1)
 
-selected_at : (name : List ℕ) (rest : List (List ℕ)) → IsNamed name → AllByRecursion (λ (n : List ℕ). is_account_text n ≡ true) rest → (t : Bool) → is_revenue_or_expense name ≡ t
-    → AllByRecursion (λ (n : List ℕ). is_account_text n ≡ true) (cond t (name ∷ rest) rest)
-selected_at name rest h all true e = (h e, all)
-selected_at name rest h all false e = all
+-- so are those that are selected, whatever selects them
+selected_at : (name : List ℕ) (rest : List (List ℕ)) → IsNamed name → AllByRecursion IsNamed rest → (t : Bool) → AllByRecursion IsNamed (cond t (name ∷ rest) rest)
+selected_at name rest h all true = (h, all)
+selected_at name rest h all false = all
 
-selected_named : (names : List (List ℕ)) → AllByRecursion IsNamed names → AllByRecursion (λ (n : List ℕ). is_account_text n ≡ true) (filter is_revenue_or_expense names)
-selected_named [] h = tt
-selected_named (name ∷ names) h = selected_at name (filter is_revenue_or_expense names) h.0 (selected_named names h.1) (is_revenue_or_expense name) refl
+selected_named : (select : List ℕ → Bool) (names : List (List ℕ)) → AllByRecursion IsNamed names → AllByRecursion IsNamed (filter select names)
+selected_named select [] h = tt
+selected_named select (name ∷ names) h = selected_at name (filter select names) h.0 (selected_named select names h.1) (select name)
 
-names_formed : (styles : List Style) (rs : List Record) → AllByRecursion (IsGoodRecord styles) rs → AllByRecursion (λ (n : List ℕ). is_account_text n ≡ true) (selected is_revenue_or_expense (entries rs))
+names_formed : (select : List ℕ → Bool) (styles : List Style) → AreNamed styles → (rs : List Record) → AllByRecursion (IsGoodRecord styles) rs → AllByRecursion IsNamed (selected select (entries rs))
 unfolding book_accounts
-names_formed styles rs h = selected_named (book_accounts (entries rs)) (ordered_named (accounts_of (book_legs (entries rs))) (accounts_named (book_legs (entries rs)) (book_named styles rs h)))
+names_formed select styles are rs h = selected_named select (book_accounts (entries rs)) (ordered_named (accounts_of (book_legs (entries rs))) (accounts_named (book_legs (entries rs)) (book_named styles are rs h)))
 
 -- ---- the transaction can be printed
 
@@ -317,35 +359,48 @@ mark_fits day h =
     and_from _ _ (and_from _ _ some few)
     (list_all-append is_mark_byte (codes "close:") (printed_date day) ∙ and_from _ _ refl (all_weaker (λ b. is_ascii_digit b || (b == 45)) is_mark_byte date_byte (printed_date day) text.form))
 
-txn_printable : (styles : List Style) → AreStyles styles → (day : Day) → IsDayNumber day → (ps : List Posting) → AllByRecursion (IsShort styles) ps → length ps ≤ posting_limit → IsPrintable styles (closing_txn day ps)
-txn_printable styles are day number ps short few =
-    let t = closing_txn day ps in
-    let size : length (body_text styles t) ≤ 1000000 = omega (arith, body_size styles t, head_is t, header_small day None None (codes "close"), no_remarks, lines_small styles are ps short, few) in
+-- the comments of a choice are short
+two_small : (xs : List (List ℕ)) → list_all is_note xs ≡ true → length xs ≤ 2 → remarks_size xs ≤ 1814
+two_small [] h few = omega (arith, no_remarks)
+two_small (x ∷ []) h few = omega (arith, remark_small x (and_parts (is_remark_text x) _ (and_parts (is_note x) true h).0).0)
+two_small (x ∷ (y ∷ [])) h few =
+    let first = and_parts (is_note x) (list_all is_note (y ∷ [])) h in
+    let second = and_parts (is_note y) true first.1 in
+    omega (arith, remarks_push (x ∷ []) y, remark_small x (and_parts (is_remark_text x) _ first.0).0, remark_small y (and_parts (is_remark_text y) _ second.0).0)
+two_small (x ∷ (y ∷ (z ∷ zs))) h few = absurd (omega (arith, few))
+
+txn_printable : (styles : List Style) → AreStyles styles → (day : Day) → IsDayNumber day → (comments : List (List ℕ)) → list_all is_note comments ≡ true → length comments ≤ 2 → (ps : List Posting)
+    → AllByRecursion (IsShort styles) ps → length ps ≤ posting_limit → IsPrintable styles (closing_txn day comments ps)
+txn_printable styles are day number comments notes two ps short few =
+    let t = closing_txn day comments ps in
+    let size : length (body_text styles t) ≤ 1000000 =
+    omega (arith, body_size styles t, head_is t, header_small day None None (codes "close"), two_small comments notes two, lines_small styles are ps short, few) in
     record {
       header = record { number = number; code_ok = refl; description_ok = refl };
       code = refl;
       description = utf8_low (codes "close") refl;
       mark = mark_fits day number;
-      comments = refl;
+      comments = notes;
       postings = all_fit styles ps short;
       few = few;
       small = size;
     }
 
-target_formed : is_account_text retained_earnings ≡ true
-unfolding is_account
-target_formed = and_from _ _ refl (utf8_low retained_earnings refl)
-
-pub closing_printable : (f : Federation) (name : List ℕ) (day : Day) (t : Txn) → IsGoodState f → IsDayNumber day → closing_in f name day ≡ Some t → length t.postings ≤ posting_limit → IsPrintable f.styles t
-closing_printable f name day t good number closes few =
+pub closing_printable : (f : Federation) (name : List ℕ) (day : Day) (c : Choice) (t : Txn) → IsGoodState f → IsDayNumber day → choice_refusal c ≡ None → closing_in f name day c ≡ Some t → length t.postings ≤ posting_limit
+    → IsPrintable f.styles t
+closing_printable f name day c t good number chosen closes few =
+    let h = allowed c chosen in
     let b = book_of f name in
-    let names = selected is_revenue_or_expense b in
-    let ps = closing_postings b day retained_earnings names (declared f.styles) in
-    let is = from_closing is_revenue_or_expense retained_earnings f.styles b day t closes in
-    let formed = names_formed f.styles (records_of f name) (of_branch (λ xs. AllByRecursion (IsGoodRecord f.styles) xs) f.styles f.branches name tt (λ b h. h.records) good.branches) in
-    let short = all_short f.styles b (good_book f name good).within.small day retained_earnings names (selected_apart is_revenue_or_expense b) target_formed formed in
+    let select = is_selected c.accounts in
+    let into = target_in c.into in
+    let names = selected select b in
+    let ps = closing_postings b day into names (declared f.styles) in
+    let is = from_closing select into (choice_comments c) f.styles b day t closes in
+    let formed =
+    names_formed select f.styles (styles_named f.styles good.styles) (records_of f name) (of_branch (λ xs. AllByRecursion (IsGoodRecord f.styles) xs) f.styles f.branches name tt (λ b h. h.records) good.branches) in
+    let short = all_short f.styles b (good_book f name good).within.small day into names (selected_apart select b) h.target formed in
     let count : length ps ≤ posting_limit = subst (λ (s : Txn). length s.postings ≤ posting_limit) is few in
-    subst (λ (s : Txn). IsPrintable f.styles s) (sym is) (txn_printable f.styles good.styles day number ps short count)
+    subst (λ (s : Txn). IsPrintable f.styles s) (sym is) (txn_printable f.styles good.styles day number (choice_comments c) (comments_print c h) (few_chosen c) ps short count)
 
 -- ---- its postings, as they are put together
 

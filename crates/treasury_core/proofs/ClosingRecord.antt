@@ -1,5 +1,5 @@
 -- the record of a closing: it is good, no transfer's, and within the lock that comes with it
-use Rattle.std.proofs.Common.{◌≡◌, ◌≤◌, ◌+◌, ◌||◌, inl, inr, ℕ, Bool, true, false, cond, List, [], ◌∷◌, ◌++◌, length, ℤ, refl, ap, ◌∙◌, sym, arith, Option, Some, None}
+use Rattle.std.proofs.Common.{◌≡◌, ◌≤◌, ◌+◌, ◌||◌, ℕ, Bool, true, false, cond, List, [], ◌∷◌, ◌++◌, length, ℤ, refl, ap, ◌∙◌, sym, arith, Option, Some, None}
 use Rattle.std.specs.Prelude.{filter, int_le}
 use Rattle.std.specs.List.{list_any, flat_map, AllByRecursion}
 use Rattle.std.proofs.lemmas.Int.{ints}
@@ -7,38 +7,26 @@ use Rattle.money_core.specs.declared.unit.Unit.{Unit as Commodity}
 use Rattle.money_core.specs.declared.day.Day.{Day}
 use Rattle.book_core.specs.declared.leg.Leg.{Leg}
 use Rattle.book_core.specs.declared.entry.Entry.{Entry}
-use Rattle.book_core.specs.Account.{IsInside}
-use Rattle.book_core.proofs.AccountLemmas.{is_inside_decides}
-use Rattle.journal_lines.specs.AccountName.{transit}
 use Rattle.journal_lines.specs.Date.{IsDayNumber}
 use Rattle.journal_format.specs.declared.posting.Posting.{Posting}
 use Rattle.journal_format.specs.declared.txn.Txn.{Txn}
 use Rattle.journal_format.specs.Pieces.{posting_limit}
 use Rattle.journal_balance.specs.Legs.{commodities}
 use Rattle.journal_balance.specs.Plain.{written_leg, written_legs}
+use Rattle.treasury_core.specs.declared.choice.Choice.{Choice}
 use Rattle.treasury_core.specs.Federation.{Federation, book_of}
 use Rattle.treasury_core.specs.Transfer.{is_reserved, is_transit}
 use Rattle.treasury_core.specs.Accounts.{book_accounts}
-use Rattle.treasury_core.specs.Closing.{is_revenue_or_expense, retained_earnings, selected, closed_account, held_in, gaining_account, closing_postings, closing_txn, close_mark, closing_in, closing_record}
+use Rattle.treasury_core.specs.Choice.{is_selected, target_in, choice_comments, choice_refusal}
+use Rattle.treasury_core.specs.Closing.{selected, closed_account, held_in, gaining_account, closing_postings, closing_txn, close_mark, closing_in, closing_record}
 use Rattle.treasury_core.specs.Closed.{IsClosing}
 use Rattle.treasury_core.specs.Step.{is_locked}
 use Rattle.treasury_core.specs.Good.{IsGoodRecord, IsGoodState}
 use Rattle.treasury_core.proofs.ChangeLemmas.{all-append}
+use Rattle.treasury_core.proofs.ChoiceLemmas.{IsChoice, allowed, selected_off}
 use Rattle.treasury_core.proofs.ClosingLemmas.{from_closing}
 use Rattle.treasury_core.proofs.ClosingPrinted.{each_spread, each_closed, closing_legs, closing_printable}
 use Rattle.treasury_core.proofs.KeepLemmas.{IsOwnEntry}
-
--- a revenue or expense account is not `assets:transit` or below it
-not_transit : (a : List ℕ) → is_revenue_or_expense a ≡ true → IsInside transit a → ⊥
-not_transit a h (inl e) = let k : false ≡ true = ap is_revenue_or_expense (sym e) ∙ h in cc
-not_transit a h (inr p) = let k : false ≡ true = ap is_revenue_or_expense (sym p.1) ∙ h in cc
-
-closed_apart : (a : List ℕ) → is_revenue_or_expense a ≡ true → is_reserved a ≡ false
-closed_apart a h = by_test (is_reserved a) refl
-  where
-    by_test : (t : Bool) → is_reserved a ≡ t → t ≡ false
-    by_test true e = absurd (not_transit a h ((is_inside_decides transit a).0 e))
-    by_test false e = refl
 
 -- each selected account is
 selected_at : (p : List ℕ → Bool) (name : List ℕ) (names : List (List ℕ)) (t : Bool) → p name ≡ t → AllByRecursion (λ (n : List ℕ). p n ≡ true) names → AllByRecursion (λ (n : List ℕ). p n ≡ true) (cond t (name ∷ names) names)
@@ -53,12 +41,13 @@ all_selected p (name ∷ names) = selected_at p name (filter p names) (p name) r
 abbrev IsApart : Posting → Type 0
 IsApart p = is_reserved p.account ≡ false
 
-all_apart : (b : List Entry) (day : Day) (m : ℕ) (names : List (List ℕ)) → AllByRecursion (λ (n : List ℕ). is_revenue_or_expense n ≡ true) names → AllByRecursion IsApart (closing_postings b day retained_earnings names (commodities 0 m))
-all_apart b day m names are =
+all_apart : (c : Choice) → IsChoice c → (b : List Entry) (day : Day) (m : ℕ) (names : List (List ℕ)) → AllByRecursion (λ (n : List ℕ). is_selected c.accounts n ≡ true) names
+    → AllByRecursion IsApart (closing_postings b day (target_in c.into) names (commodities 0 m))
+all_apart c h b day m names are =
     let all : 0 + m ≤ m = omega arith in
-    all-append IsApart (flat_map (closed_account b day (commodities 0 m)) names) (gaining_account b day retained_earnings names (commodities 0 m))
-    (each_closed IsApart (λ (n : List ℕ). is_revenue_or_expense n ≡ true) b day m names are (λ name unit q known. closed_apart name q))
-    (each_spread IsApart retained_earnings (λ (u : Commodity). held_in b day u names) (λ (u : Commodity). None) m 0 m all (λ unit known. refl))
+    all-append IsApart (flat_map (closed_account b day (commodities 0 m)) names) (gaining_account b day (target_in c.into) names (commodities 0 m))
+    (each_closed IsApart (λ (n : List ℕ). is_selected c.accounts n ≡ true) b day m names are (λ name unit q known. selected_off c name h q))
+    (each_spread IsApart (target_in c.into) (λ (u : Commodity). held_in b day u names) (λ (u : Commodity). None) m 0 m all (λ unit known. h.clear))
 
 leg_apart : (a : List ℕ) (o : Option (Commodity × ℤ)) (xs : List Leg) → is_reserved a ≡ false → list_any is_transit xs ≡ false → list_any is_transit (written_leg a o ++ xs) ≡ false
 leg_apart a None xs e h = h
@@ -69,34 +58,37 @@ legs_apart [] h = refl
 legs_apart (p ∷ ps) h = leg_apart p.account p.amount (written_legs ps) h.0 (legs_apart ps h.1)
 
 -- the closing as it is made
-abbrev made : Federation → List ℕ → Day → Txn
-made f name day = closing_txn day (closing_postings (book_of f name) day retained_earnings (selected is_revenue_or_expense (book_of f name)) (commodities 0 (length f.styles)))
+abbrev made : Federation → List ℕ → Day → Choice → Txn
+made f name day c =
+    closing_txn day (choice_comments c) (closing_postings (book_of f name) day (target_in c.into) (selected (is_selected c.accounts) (book_of f name)) (commodities 0 (length f.styles)))
 
-pub is_made : (f : Federation) (name : List ℕ) (day : Day) (t : Txn) → closing_in f name day ≡ Some t → t ≡ made f name day
-is_made f name day t closes = from_closing is_revenue_or_expense retained_earnings f.styles (book_of f name) day t closes
+pub is_made : (f : Federation) (name : List ℕ) (day : Day) (c : Choice) (t : Txn) → closing_in f name day c ≡ Some t → t ≡ made f name day c
+is_made f name day c t closes = from_closing (is_selected c.accounts) (target_in c.into) (choice_comments c) f.styles (book_of f name) day t closes
 
-pub made_on : (f : Federation) (name : List ℕ) (day : Day) (t : Txn) → closing_in f name day ≡ Some t → t.day ≡ day
-made_on f name day t closes = ap (λ (s : Txn). s.day) (is_made f name day t closes)
+pub made_on : (f : Federation) (name : List ℕ) (day : Day) (c : Choice) (t : Txn) → closing_in f name day c ≡ Some t → t.day ≡ day
+made_on f name day c t closes = ap (λ (s : Txn). s.day) (is_made f name day c t closes)
 
-pub is_closing_of : (f : Federation) (name : List ℕ) (day : Day) (t : Txn) → IsGoodState f → closing_in f name day ≡ Some t → IsClosing is_revenue_or_expense retained_earnings f name day t
-is_closing_of f name day t good closes = record { good = good; apart = refl; closes = closes }
+pub is_closing_of : (f : Federation) (name : List ℕ) (day : Day) (c : Choice) (t : Txn) → IsGoodState f → choice_refusal c ≡ None → closing_in f name day c ≡ Some t → IsClosing (is_selected c.accounts) (target_in c.into) f name day t
+is_closing_of f name day c t good chosen closes = record { good = good; apart = (allowed c chosen).apart; comments = choice_comments c; closes = closes }
 
-pub closing_record_good : (f : Federation) (name : List ℕ) (day : Day) (t : Txn) → IsGoodState f → IsDayNumber day → closing_in f name day ≡ Some t → length t.postings ≤ posting_limit → IsGoodRecord f.styles (closing_record day t)
-closing_record_good f name day t good number closes few = record {
-  marked = ap (λ (s : Txn). s.mark) (is_made f name day t closes);
-  printable = closing_printable f name day t good number closes few;
-  legs = closing_legs is_revenue_or_expense retained_earnings f name day t (is_closing_of f name day t good closes);
+pub closing_record_good : (f : Federation) (name : List ℕ) (day : Day) (c : Choice) (t : Txn) → IsGoodState f → IsDayNumber day → choice_refusal c ≡ None → closing_in f name day c ≡ Some t → length t.postings ≤ posting_limit
+    → IsGoodRecord f.styles (closing_record day t)
+closing_record_good f name day c t good number chosen closes few = record {
+  marked = ap (λ (s : Txn). s.mark) (is_made f name day c t closes);
+  printable = closing_printable f name day c t good number chosen closes few;
+  legs = closing_legs (is_selected c.accounts) (target_in c.into) f name day t (is_closing_of f name day c t good chosen closes);
 }
 
 same_day : (q : ℤ) → int_le q q ≡ true
 same_day q = grind (arith, ints)
 
-pub closing_record_own : (f : Federation) (name : List ℕ) (day : Day) (t : Txn) → closing_in f name day ≡ Some t → IsOwnEntry (Some day) (closing_record day t)
-closing_record_own f name day t closes =
-    let on = made_on f name day t closes in
+pub closing_record_own : (f : Federation) (name : List ℕ) (day : Day) (c : Choice) (t : Txn) → choice_refusal c ≡ None → closing_in f name day c ≡ Some t → IsOwnEntry (Some day) (closing_record day t)
+closing_record_own f name day c t chosen closes =
+    let on = made_on f name day c t closes in
     record {
       apart = refl;
-      clear = ap (λ (s : Txn). list_any is_transit (written_legs s.postings)) (is_made f name day t closes)
-          ∙ legs_apart (made f name day).postings (all_apart (book_of f name) day (length f.styles) (selected is_revenue_or_expense (book_of f name)) (all_selected is_revenue_or_expense (book_accounts (book_of f name))));
+      clear = ap (λ (s : Txn). list_any is_transit (written_legs s.postings)) (is_made f name day c t closes)
+          ∙ legs_apart (made f name day c).postings
+          (all_apart c (allowed c chosen) (book_of f name) day (length f.styles) (selected (is_selected c.accounts) (book_of f name)) (all_selected (is_selected c.accounts) (book_accounts (book_of f name))));
       closed = λ e. record { own_day = ap close_mark (sym on); locked = ap (λ (d : Day). is_locked (Some day) d) on ∙ same_day day.0 };
     }

@@ -14,33 +14,44 @@ use Rattle.journal_format.specs.declared.txn.Txn.{Txn}
 use Rattle.journal_format.specs.Pieces.{posting_limit}
 use Rattle.journal_format.specs.Printable.{IsPrintable}
 use Rattle.journal_balance.specs.Legs.{declared}
+use Rattle.treasury_core.specs.declared.choice.Choice.{Choice}
 use Rattle.treasury_core.specs.Federation.{Federation, has_branch, book_of}
 use Rattle.treasury_core.specs.Good.{IsGoodState}
-use Rattle.treasury_core.specs.Closing.{is_revenue_or_expense, retained_earnings, selected, closing_postings, closing_of, closing, closing_in, closing_answer, closing_reply}
+use Rattle.treasury_core.specs.Choice.{is_selected, target_in, choice_comments, choice_refusal}
+use Rattle.treasury_core.specs.Closing.{selected, closing_postings, closing_of, closing, closing_in, closing_answer, chosen_answer, closing_reply}
 use Rattle.treasury_core.proofs.ClosingPrinted.{closing_printable}
 
-abbrev by_branch : Bool → Option Txn → Result Txn Refusal
-by_branch t o = if not t then Err (Plain UnknownBranch) else closing_answer o
+abbrev by_branch : Bool → Option Refusal → Option Txn → Result Txn Refusal
+by_branch t e o = if not t then Err (Plain UnknownBranch) else chosen_answer e o
 
-pub no_branch : (f : Federation) (name : List ℕ) (day : Day) → has_branch f name ≡ false → closing_reply f name day ≡ Err (Plain UnknownBranch)
+pub no_branch : (f : Federation) (name : List ℕ) (day : Day) (c : Choice) → has_branch f name ≡ false → closing_reply f name day c ≡ Err (Plain UnknownBranch)
 unfolding closing_reply
-no_branch f name day h = ap (λ (t : Bool). by_branch t (closing_in f name day)) h
+no_branch f name day c h = ap (λ (t : Bool). by_branch t (choice_refusal c) (closing_in f name day c)) h
 
-pub of_branch : (f : Federation) (name : List ℕ) (day : Day) → has_branch f name ≡ true → closing_reply f name day ≡ closing_answer (closing_in f name day)
+-- a choice that is refused
+pub not_chosen : (f : Federation) (name : List ℕ) (day : Day) (c : Choice) (e : Refusal) → has_branch f name ≡ true → choice_refusal c ≡ Some e → closing_reply f name day c ≡ Err e
 unfolding closing_reply
-of_branch f name day h = ap (λ (t : Bool). by_branch t (closing_in f name day)) h
+not_chosen f name day c e h k =
+    ap (λ (t : Bool). by_branch t (choice_refusal c) (closing_in f name day c)) h
+    ∙ ap (λ (o : Option Refusal). chosen_answer o (closing_in f name day c)) k
+
+pub of_branch : (f : Federation) (name : List ℕ) (day : Day) (c : Choice) → has_branch f name ≡ true → choice_refusal c ≡ None → closing_reply f name day c ≡ closing_answer (closing_in f name day c)
+unfolding closing_reply
+of_branch f name day c h k =
+    ap (λ (t : Bool). by_branch t (choice_refusal c) (closing_in f name day c)) h
+    ∙ ap (λ (o : Option Refusal). chosen_answer o (closing_in f name day c)) k
 
 -- the postings of the book, in the styles
-abbrev pub postings_in : List Style → List Entry → Day → List Posting
-postings_in styles b day = closing_postings b day retained_earnings (selected is_revenue_or_expense b) (declared styles)
+abbrev pub postings_in : Choice → List Style → List Entry → Day → List Posting
+postings_in c styles b day = closing_postings b day (target_in c.into) (selected (is_selected c.accounts) b) (declared styles)
 
-pub answers : (f : Federation) (name : List ℕ) (day : Day) (b : List Entry) (styles : List Style) (ps : List Posting) (r : Result Txn Refusal) → has_branch f name ≡ true → b ≡ book_of f name → styles ≡ f.styles → ps ≡ postings_in styles b day
-    → (r ≡ closing_answer (closing_of day ps)) ⊎ (r ≡ Err (Plain OutOfMemory)) → (r ≡ closing_reply f name day) ⊎ (r ≡ Err (Plain OutOfMemory))
+pub answers : (f : Federation) (name : List ℕ) (day : Day) (c : Choice) (b : List Entry) (styles : List Style) (ps : List Posting) (r : Result Txn Refusal) → has_branch f name ≡ true → choice_refusal c ≡ None → b ≡ book_of f name → styles ≡ f.styles
+    → ps ≡ postings_in c styles b day → (r ≡ closing_answer (closing_of day (choice_comments c) ps)) ⊎ (r ≡ Err (Plain OutOfMemory)) → (r ≡ closing_reply f name day c) ⊎ (r ≡ Err (Plain OutOfMemory))
 unfolding closing
-answers f name day b styles ps r here book same all (inr e) = inr e
-answers f name day b styles ps r here book same all (inl e) =
-    let is : ps ≡ postings_in f.styles (book_of f name) day = all ∙ (ap (λ (xs : List Style). postings_in xs b day) same ∙ ap (λ (xs : List Entry). postings_in f.styles xs day) book) in
-    inl (e ∙ (ap (λ (xs : List Posting). closing_answer (closing_of day xs)) is ∙ sym (of_branch f name day here)))
+answers f name day c b styles ps r here chosen book same all (inr e) = inr e
+answers f name day c b styles ps r here chosen book same all (inl e) =
+    let is : ps ≡ postings_in c f.styles (book_of f name) day = all ∙ (ap (λ (xs : List Style). postings_in c xs b day) same ∙ ap (λ (xs : List Entry). postings_in c f.styles xs day) book) in
+    inl (e ∙ (ap (λ (xs : List Posting). closing_answer (closing_of day (choice_comments c) xs)) is ∙ sym (of_branch f name day c here chosen)))
 
 pub not_more : (n : ℕ) → nat_lt posting_limit n ≡ false → n ≤ posting_limit
 not_more n h = grind (arith, nat_tests)
@@ -54,10 +65,17 @@ by_closing : (P : Txn → Type 0) (o : Option Txn) (r : Result Txn Refusal) → 
 by_closing P None r h is = subst (λ (x : Result Txn Refusal). IfOk x P) (sym is) tt
 by_closing P (Some t) r h is = limited P t (h t refl) (nat_lt posting_limit (length t.postings)) refl r is
 
-by_state : (P : Txn → Type 0) (f : Federation) (name : List ℕ) (day : Day) (r : Result Txn Refusal) → ((t : Txn) → closing_in f name day ≡ Some t → length t.postings ≤ posting_limit → P t) → r ≡ closing_reply f name day → (b : Bool) → has_branch f name ≡ b → IfOk r P
-by_state P f name day r h is true e = by_closing P (closing_in f name day) r h (is ∙ of_branch f name day e)
-by_state P f name day r h is false e = subst (λ (x : Result Txn Refusal). IfOk x P) (sym (is ∙ no_branch f name day e)) tt
+by_choice : (P : Txn → Type 0) (e : Option Refusal) (o : Option Txn) (r : Result Txn Refusal) → ((t : Txn) → e ≡ None → o ≡ Some t → length t.postings ≤ posting_limit → P t) → r ≡ chosen_answer e o → IfOk r P
+by_choice P (Some e) o r h is = subst (λ (x : Result Txn Refusal). IfOk x P) (sym is) tt
+by_choice P None o r h is = by_closing P o r (λ t. h t refl) is
 
-pub answer_printable : (f : Federation) (name : List ℕ) (day : Day) (r : Result Txn Refusal) → IsGoodState f → IsDayNumber day → (r ≡ closing_reply f name day) ⊎ (r ≡ Err (Plain OutOfMemory)) → IfOk r (λ (t : Txn). IsPrintable f.styles t)
-answer_printable f name day r good number (inl e) = by_state (λ (t : Txn). IsPrintable f.styles t) f name day r (λ t is few. closing_printable f name day t good number is few) e (has_branch f name) refl
-answer_printable f name day r good number (inr e) = subst (λ (x : Result Txn Refusal). IfOk x (λ (t : Txn). IsPrintable f.styles t)) (sym e) tt
+by_state : (P : Txn → Type 0) (b : Bool) (e : Option Refusal) (o : Option Txn) (r : Result Txn Refusal) → ((t : Txn) → e ≡ None → o ≡ Some t → length t.postings ≤ posting_limit → P t) → r ≡ by_branch b e o → IfOk r P
+by_state P true e o r h is = by_choice P e o r h is
+by_state P false e o r h is = subst (λ (x : Result Txn Refusal). IfOk x P) (sym is) tt
+
+pub answer_printable : (f : Federation) (name : List ℕ) (day : Day) (c : Choice) (r : Result Txn Refusal) → IsGoodState f → IsDayNumber day → (r ≡ closing_reply f name day c) ⊎ (r ≡ Err (Plain OutOfMemory))
+    → IfOk r (λ (t : Txn). IsPrintable f.styles t)
+unfolding closing_reply
+answer_printable f name day c r good number (inl e) =
+    by_state (λ (t : Txn). IsPrintable f.styles t) (has_branch f name) (choice_refusal c) (closing_in f name day c) r (λ t chosen is few. closing_printable f name day c t good number chosen is few) e
+answer_printable f name day c r good number (inr e) = subst (λ (x : Result Txn Refusal). IfOk x (λ (t : Txn). IsPrintable f.styles t)) (sym e) tt

@@ -7,18 +7,21 @@ use Rattle.money_core.specs.declared.style.Style.{Style}
 use Rattle.book_core.specs.GoodBook.{verdict}
 use Rattle.treasury_core.specs.declared.record.Record.{Record}
 use Rattle.treasury_core.specs.declared.transfer.Transfer.{Transfer}
-use Rattle.treasury_core.specs.declared.transfer.Receipt.{Receipt}
+use Rattle.treasury_core.specs.declared.transfer.Part.{Part}
 use Rattle.treasury_core.specs.Federation.{Branch, Federation, entries, book_of}
 use Rattle.treasury_core.specs.Mark.{held, is_of_transfer, is_closing}
-use Rattle.treasury_core.specs.Transfer.{has_id, asked, out_records, in_records, dispatch_record, receipt_record, out_mark}
+use Rattle.treasury_core.specs.Transfer.{has_id, asked, out_records, in_records, receipts_of, dispatch_record, receipt_record, out_mark}
 use Rattle.treasury_core.specs.Joined.{with_records, changed, inserted, received, with_receipt, with_entered, with_dispatched, with_received}
-use Rattle.treasury_core.specs.Good.{IsGoodRecord, IsGoodBranch, IsGoodTransfer, IsCarried, IsGoodState, IsLater}
+use Rattle.treasury_core.specs.Good.{IsGoodRecord, IsGoodBranch, IsGoodTransfer, IsCarried, IsGoodState}
+use Rattle.treasury_core.specs.Fair.{IsMarked}
 use Rattle.treasury_core.proofs.BytesLemmas.{self_bytes, other_bytes}
+use Rattle.treasury_core.proofs.MarkLemmas.{id_no_colon}
 use Rattle.treasury_core.proofs.LookupLemmas.{first_held}
 use Rattle.treasury_core.proofs.AskedLemmas.{no_out}
 use Rattle.treasury_core.proofs.PassLemmas.{same_transfer, pass_out, inserted_elsewhere, inserted_here, received_elsewhere, received_here}
 use Rattle.treasury_core.proofs.GetsLemmas.{gets, keeps, no_receipt}
-use Rattle.treasury_core.proofs.FairLemmas.{found, in_step}
+use Rattle.treasury_core.proofs.FairLemmas.{found, in_step, good_marked}
+use Rattle.treasury_core.proofs.ReceiveLemmas.{IsReceipt, good_with, asks_more}
 use Rattle.treasury_core.proofs.OrderLemmas.{own_ids, sorted_inserted, sorted_received}
 use Rattle.treasury_core.proofs.ChangeLemmas.{length-changed, names-changed, all-changed, all_weaker}
 use Rattle.treasury_core.proofs.TransferLemmas.{other_branches, all-inserted, all-received}
@@ -44,7 +47,7 @@ stays_whole : (styles : List Style) (ts ts' : List Transfer) (b : Branch) → as
 stays_whole styles ts ts' b e h = let kept = keeps ts ts' b e (in_step styles ts b h.good h.carried) in record { good = h.good; carried = kept.asked_for }
 
 -- a dispatch
-pub good_dispatched : (f : Federation) (t : Transfer) → IsGoodState f → t.receipt ≡ None → IsGoodTransfer f.branches t → list_any (has_id t.id) f.transfers ≡ false → IsGoodRecord f.styles (dispatch_record t)
+pub good_dispatched : (f : Federation) (t : Transfer) → IsGoodState f → receipts_of t ≡ [] → IsGoodTransfer f.branches t → list_any (has_id t.id) f.transfers ≡ false → IsGoodRecord f.styles (dispatch_record t)
     → verdict (book_of f t.source ++ (dispatch_record t).entry ∷ []) ≡ None → IsGoodState (with_dispatched (with_entered f t.source (dispatch_record t ∷ [])) t)
 good_dispatched f t good none fair new written passes =
     let g : Branch → Branch = with_records (dispatch_record t ∷ []) in
@@ -66,27 +69,26 @@ good_dispatched f t good none fair new written passes =
     }
 
 -- a receipt
-received_fair : (bs : List Branch) (t : Transfer) (r : Receipt) → IsLater t (Some r) → IsGoodTransfer bs t → IsGoodTransfer bs (with_receipt r t)
-received_fair bs t r later h = record { id = h.id; source = h.source; target = h.target; apart = h.apart; positive = h.positive; payer = h.payer; later = later }
-
-pub good_received : (f : Federation) (t : Transfer) (r : Receipt) → IsGoodState f → find (has_id t.id) f.transfers ≡ Some t → t.receipt ≡ None → IsGoodTransfer f.branches t → IsLater t (Some r) → IsGoodRecord f.styles (receipt_record t r)
-    → verdict (book_of f t.target ++ (receipt_record t r).entry ∷ []) ≡ None → IsGoodState (with_received (with_entered f t.target (receipt_record t r ∷ [])) t.id r)
-good_received f t r good here none fair later written passes =
-    let g : Branch → Branch = with_records (receipt_record t r ∷ []) in
+pub good_received : (f : Federation) (t : Transfer) (p : Part) → IsGoodState f → find (has_id t.id) f.transfers ≡ Some t → IsGoodTransfer f.branches t → IsReceipt t p → IsGoodRecord f.styles (receipt_record t p)
+    → verdict (book_of f t.target ++ (receipt_record t p).entry ∷ []) ≡ None → IsGoodState (with_received (with_entered f t.target (receipt_record t p ∷ [])) t.id p)
+good_received f t p good here fair may written passes =
+    let g : Branch → Branch = with_records (receipt_record t p ∷ []) in
     let ts = f.transfers in
-    let ts' = received t.id r f.transfers in
+    let ts' = received t.id p f.transfers in
+    let marked = good_marked f.branches ts good.transfers in
+    let plain = id_no_colon t.id fair.id in
     let whole = all-changed (IsWhole f.styles ts) (IsWhole f.styles ts') g t.target f.branches good.names
-    (λ b n e l h. gets_record f.styles ts ts' b (receipt_record t r) h written refl refl (rw e passes) (no_receipt t ts b.name here none (own_ids ts good.ids))
-    (λ m. received_here r t ts b.name m here none (ap (λ (x : List ℕ). bytes_eq t.target x) n ∙ self_bytes t.target)))
-    (λ b n h. stays_whole f.styles ts ts' b (received_elsewhere r t ts b.name here (other_bytes b.name t.target n)) h)
+    (λ b n e l h. gets_record f.styles ts ts' b (receipt_record t p) h written refl refl (rw e passes) (no_receipt t p.key ts b.name marked plain here may.fresh (own_ids ts good.ids))
+    (λ m. received_here p t ts b.name m marked plain here (asks_more t p plain may) (ap (λ (x : List ℕ). bytes_eq t.target x) n ∙ self_bytes t.target)))
+    (λ b n h. stays_whole f.styles ts ts' b (received_elsewhere p t ts b.name here (other_bytes b.name t.target n)) h)
     (all_whole f.styles ts f.branches good.branches good.carried) in
     record {
       styles = good.styles;
       few = omega (arith, good.few, length-changed g t.target f.branches);
       names = names-changed g t.target f.branches (λ b. refl) good.names;
       branches = all_weaker (IsWhole f.styles ts') (IsGoodBranch f.styles) (changed g t.target f.branches) (λ b h. h.good) whole;
-      ids = sorted_received t.id r ts good.ids;
-      transfers = all-received (IsGoodTransfer (changed g t.target f.branches)) r t ts here (received_fair _ t r later (other_branches f.branches _ t (same_names g t.target f.branches (λ b. refl)) fair))
+      ids = sorted_received t.id p ts good.ids;
+      transfers = all-received (IsGoodTransfer (changed g t.target f.branches)) p t ts here (other_branches f.branches _ (with_receipt p t) (same_names g t.target f.branches (λ b. refl)) (good_with f.branches t p fair may))
           (transfers-changed g t.target f.branches ts (λ b. refl) good.transfers);
       carried = all_weaker (IsWhole f.styles ts') (IsCarried ts') (changed g t.target f.branches) (λ b h. h.carried) whole;
     }
@@ -100,8 +102,8 @@ asked_at : (t x : Transfer) (xs : List Transfer) (c : Bool) → bytes_eq x.id t.
     → held (asked (x ∷ xs) t.source) (out_mark t) ≡ Some (dispatch_record t)
 asked_at t x xs true g e h =
     let P : Transfer → Type 0 = λ y. held (asked (x ∷ xs) y.source) (out_mark y) ≡ Some (dispatch_record y) in
-    subst P (same_transfer x t e) (asked_first x (in_records x (bytes_eq x.target x.source) x.receipt ++ asked xs x.source) (bytes_eq x.source x.source) (self_bytes x.source))
-asked_at t x xs false g e h = pass_out x (asked xs t.source) t.id (bytes_eq x.source t.source) (bytes_eq x.target t.source) x.receipt g ∙ h e
+    subst P (same_transfer x t e) (asked_first x (in_records x (bytes_eq x.target x.source) (receipts_of x) ++ asked xs x.source) (bytes_eq x.source x.source) (self_bytes x.source))
+asked_at t x xs false g e h = pass_out x (asked xs t.source) t.id (bytes_eq x.source t.source) (bytes_eq x.target t.source) (receipts_of x) g ∙ h e
 
 asked_out : (t : Transfer) (ts : List Transfer) → find (has_id t.id) ts ≡ Some t → held (asked ts t.source) (out_mark t) ≡ Some (dispatch_record t)
 asked_out t [] e = absurd cc

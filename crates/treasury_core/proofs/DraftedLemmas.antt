@@ -9,15 +9,17 @@ use Rattle.treasury_core.specs.declared.rows.UnitRow.{UnitRow}
 use Rattle.treasury_core.specs.declared.rows.BranchRow.{BranchRow}
 use Rattle.treasury_core.specs.declared.rows.EntryRow.{EntryRow}
 use Rattle.treasury_core.specs.declared.rows.TransferRow.{TransferRow}
+use Rattle.treasury_core.specs.declared.rows.PartRow.{PartRow}
 use Rattle.treasury_core.specs.declared.rows.Parts.{Parts}
 use Rattle.treasury_core.specs.declared.transfer.Transfer.{Transfer}
 use Rattle.treasury_core.specs.Federation.{Branch, Federation}
 use Rattle.treasury_core.specs.Good.{IsGoodRecord, IsGoodBranch, IsGoodState}
-use Rattle.treasury_core.specs.Rows.{unit_rows, transfer_row, rows, HasShortLock, HasShortLocks}
-use Rattle.treasury_core.specs.Drafted.{IsFault, IsNamed}
+use Rattle.treasury_core.specs.Rows.{unit_rows, rows, HasShortLock, HasShortLocks}
+use Rattle.treasury_core.specs.Drafted.{IsFault}
 use Rattle.treasury_core.proofs.ChangeLemmas.{all_weaker}
 use Rattle.treasury_core.proofs.BranchRowLemmas.{AreGood, HaveRows}
 use Rattle.treasury_core.proofs.TransferRowLemmas.{all_named}
+use Rattle.treasury_core.proofs.PartRowLemmas.{HaveRows as AreSent}
 
 -- what the styles, branches and transfers of the rows are
 abbrev pub OnlyStyles : Parts → List Style → Type 0
@@ -27,7 +29,7 @@ abbrev pub OnlyBranches : Parts → List Style → List Branch → Type 0
 OnlyBranches parts styles bs = (xs : List Branch) → HaveRows styles parts.branches parts.entries xs → xs ≡ bs
 
 abbrev pub OnlyTransfers : Parts → List Branch → List Transfer → Type 0
-OnlyTransfers parts bs ts = (xs : List Transfer) → AllByRecursion (IsNamed bs) xs × (map (transfer_row bs) xs ≡ parts.transfers) → xs ≡ ts
+OnlyTransfers parts bs ts = (xs : List Transfer) → AreSent bs parts.transfers parts.receipts xs → xs ≡ ts
 
 pub good_records : (f : Federation) → IsGoodState f → AreGood f.styles f.branches
 good_records f good = all_weaker (IsGoodBranch f.styles) (λ (b : Branch). AllByRecursion (IsGoodRecord f.styles) b.records) f.branches (λ b h. h.records) good.branches
@@ -39,9 +41,9 @@ pub state_branches : (parts : Parts) (styles : List Style) (f : Federation) → 
 state_branches parts styles f good e s =
     subst (λ (ss : List Style). HaveRows ss parts.branches parts.entries f.branches) s (good_records f good, (ap (λ (p : Parts). p.branches) e, ap (λ (p : Parts). p.entries) e))
 
-pub state_transfers : (parts : Parts) (bs : List Branch) (f : Federation) → IsGoodState f → rows f ≡ parts → f.branches ≡ bs → AllByRecursion (IsNamed bs) f.transfers × (map (transfer_row bs) f.transfers ≡ parts.transfers)
+pub state_transfers : (parts : Parts) (bs : List Branch) (f : Federation) → IsGoodState f → rows f ≡ parts → f.branches ≡ bs → AreSent bs parts.transfers parts.receipts f.transfers
 state_transfers parts bs f good e b =
-    subst (λ (xs : List Branch). AllByRecursion (IsNamed xs) f.transfers × (map (transfer_row xs) f.transfers ≡ parts.transfers)) b (all_named f good, ap (λ (p : Parts). p.transfers) e)
+    subst (λ (xs : List Branch). AreSent xs parts.transfers parts.receipts f.transfers) b (all_named f good, (good.ids, (ap (λ (p : Parts). p.transfers) e, ap (λ (p : Parts). p.receipts) e)))
 
 pub drafted_only : (parts : Parts) (styles : List Style) (bs : List Branch) (ts : List Transfer) → OnlyStyles parts styles → OnlyBranches parts styles bs → OnlyTransfers parts bs ts
     → (f : Federation) → IsGoodState f → rows f ≡ parts → f ≡ record { styles = styles; branches = bs; transfers = ts }
@@ -68,11 +70,8 @@ pub only_branches : (parts : Parts) (rs : List BranchRow) (es : List EntryRow) (
     → ((xs : List Branch) → HaveRows styles rs es xs → xs ≡ bs) → OnlyBranches parts styles bs
 only_branches parts rs es styles bs e f h xs p = h xs (p.0, (p.1.0 ∙ sym e, p.1.1 ∙ sym f))
 
-abbrev pub AreNamed : List Branch → List TransferRow → List Transfer → Type 0
-AreNamed bs rs ts = AllByRecursion (IsNamed bs) ts × (map (transfer_row bs) ts ≡ rs)
-
-pub only_transfers : (parts : Parts) (rs : List TransferRow) (ys bs : List Branch) (ts : List Transfer) → ys ≡ bs → rs ≡ parts.transfers → ((xs : List Transfer) → AreNamed ys rs xs → xs ≡ ts) → OnlyTransfers parts bs ts
-only_transfers parts rs ys bs ts e f h xs p = h xs (subst (λ (zs : List Branch). AreNamed zs rs xs) (sym e) (p.0, p.1 ∙ sym f))
+pub only_transfers : (parts : Parts) (rs : List TransferRow) (ps : List PartRow) (ys bs : List Branch) (ts : List Transfer) → ys ≡ bs → rs ≡ parts.transfers → ps ≡ parts.receipts → ((xs : List Transfer) → AreSent ys rs ps xs → xs ≡ ts) → OnlyTransfers parts bs ts
+only_transfers parts rs ps ys bs ts e f g h xs p = h xs (subst (λ (zs : List Branch). AreSent zs rs ps xs) (sym e) (p.0, (p.1.0, (p.1.1.0 ∙ sym f, p.1.1.1 ∙ sym g))))
 
 pub styles_damage : (parts : Parts) (us : List UnitRow) (e : Cause) → us ≡ parts.units → IsFault (λ (ss : List Style). AreStyles ss × (unit_rows ss ≡ us)) e → IsDamage parts e
 styles_damage parts us e a fault =
@@ -87,12 +86,12 @@ branches_damage parts rs es styles e a b s fault =
     (f.branches, (short, (p.0, (p.1.0 ∙ sym a, p.1.1 ∙ sym b)))))
     fault
 
-pub transfers_damage : (parts : Parts) (rs : List TransferRow) (ys bs : List Branch) (styles : List Style) (e : Cause) → ys ≡ bs → rs ≡ parts.transfers → OnlyStyles parts styles → OnlyBranches parts styles bs
-    → IsFault (AreNamed ys rs) e → IsDamage parts e
-transfers_damage parts rs ys bs styles e a b s t fault =
-    damage_of parts (AreNamed ys rs) e
+pub transfers_damage : (parts : Parts) (rs : List TransferRow) (ps : List PartRow) (ys bs : List Branch) (styles : List Style) (e : Cause) → ys ≡ bs → rs ≡ parts.transfers → ps ≡ parts.receipts → OnlyStyles parts styles → OnlyBranches parts styles bs
+    → IsFault (AreSent ys rs ps) e → IsDamage parts e
+transfers_damage parts rs ps ys bs styles e a b c s t fault =
+    damage_of parts (AreSent ys rs ps) e
     (λ f good short h.
     let there = t f.branches (state_branches parts styles f good h (s f.styles (state_styles parts f good h))) in
     let p = state_transfers parts bs f good h there in
-    (f.transfers, subst (λ (zs : List Branch). AreNamed zs rs f.transfers) (sym a) (p.0, p.1 ∙ sym b)))
+    (f.transfers, subst (λ (zs : List Branch). AreSent zs rs ps f.transfers) (sym a) (p.0, (p.1.0, (p.1.1.0 ∙ sym b, p.1.1.1 ∙ sym c)))))
     fault

@@ -1,5 +1,5 @@
 -- the records of transfers of one branch are in no other, which refuses them from a file
-use Rattle.std.proofs.Common.{◌≡◌, ◌⊎◌, ℕ, Bool, true, false, ◌||◌, ◌&&◌, cond, List, [], ◌∷◌, ◌++◌, refl, ap, ◌∙◌, sym, subst, inl, inr, append_assoc, Option, Some, None, Err}
+use Rattle.std.proofs.Common.{◌≡◌, ◌⊎◌, ℕ, Bool, true, false, ◌||◌, ◌&&◌, cond, List, [], ◌∷◌, ◌++◌, map, refl, ap, ◌∙◌, sym, subst, inl, inr, append_assoc, Option, Some, None, Err}
 use Rattle.std.specs.Prelude.{if◌then◌else◌}
 use Rattle.std.specs.List.{AllByRecursion}
 use Rattle.std.specs.Option.{option_or}
@@ -12,21 +12,24 @@ use Rattle.book_core.specs.declared.refusal.Refusal.TheVariants.{Plain}
 use Rattle.journal_format.specs.declared.txn.Txn.{Txn}
 use Rattle.journal_format.specs.declared.txn.Located.{Located}
 use Rattle.treasury_core.specs.declared.record.Record.{Record}
-use Rattle.treasury_core.specs.declared.transfer.Receipt.{Receipt}
+use Rattle.treasury_core.specs.declared.transfer.Part.{Part}
 use Rattle.treasury_core.specs.declared.transfer.Transfer.{Transfer}
 use Rattle.treasury_core.specs.declared.command.Command.TheVariants as cmd
 use Rattle.treasury_core.specs.Federation.{Branch, Federation, has_branch, records_in, records_of, lock_of}
 use Rattle.treasury_core.specs.Mark.{is_held, held, is_repeat, is_product_mark, is_of_transfer, is_transfer_mark, is_closing_mark, is_closing}
-use Rattle.treasury_core.specs.Transfer.{asked, out_records, in_records, out_mark, in_mark}
+use Rattle.treasury_core.specs.Transfer.{asked, out_records, in_records, receipts_of, out_mark, in_mark, receipt_record}
 use Rattle.treasury_core.specs.Step.{number_in, unbalanced, recorded_in, records_from, records_in_file, refusal_of, refused_in, reply}
 use Rattle.treasury_core.specs.Good.{IsGoodRecord, IsGoodState}
 use Rattle.treasury_core.specs.History.{IsAmong, IsOwn, IsOwnJournal, IsNew}
 use Rattle.treasury_core.proofs.BytesLemmas.{same_bytes, self_bytes, or_true}
 use Rattle.treasury_core.proofs.HeldLemmas.{repeat_held}
-use Rattle.treasury_core.proofs.AskedLemmas.{HaveOwnIds, no_out, no_in}
+use Rattle.treasury_core.specs.Fair.{IsMarked}
+use Rattle.treasury_core.proofs.MarkLemmas.{id_no_colon}
+use Rattle.treasury_core.proofs.AskedLemmas.{HaveOwnIds, none_append, none_out_at, out_of_in, no_out, no_in}
+use Rattle.treasury_core.proofs.PassLemmas.{skip}
 use Rattle.treasury_core.proofs.WayLemmas.{never_both}
 use Rattle.treasury_core.proofs.GetsLemmas.{held-filter}
-use Rattle.treasury_core.proofs.FairLemmas.{found}
+use Rattle.treasury_core.proofs.FairLemmas.{found, good_marked}
 use Rattle.treasury_core.proofs.OrderLemmas.{own_ids}
 use Rattle.treasury_core.proofs.FileLemmas.{neither_refusal, not_refused}
 use Rattle.treasury_core.proofs.DispatchLemmas.{IsWhole, all_whole}
@@ -34,28 +37,39 @@ use Rattle.treasury_core.proofs.OwnLemmas.{of_branch, among_any, recorded_own, b
 
 -- ---- what transfers ask for in two branches has different marks
 
-out_elsewhere_at : (t : Transfer) (rest : List Record) (b : Bool) (o : Option Receipt) → held rest (out_mark t) ≡ None → held (in_records t b o ++ rest) (out_mark t) ≡ None
-out_elsewhere_at t rest true (Some r) h = h
-out_elsewhere_at t rest true None h = h
-out_elsewhere_at t rest false o h = h
+out_elsewhere_at : (t : Transfer) (rest : List Record) (b : Bool) (ps : List Part) → held rest (out_mark t) ≡ None → held (in_records t b ps ++ rest) (out_mark t) ≡ None
+out_elsewhere_at t rest b ps h = none_append (in_records t b ps) rest (out_mark t) (out_of_in t t.id b ps) h
 
 out_elsewhere : (t : Transfer) (ts : List Transfer) (name : List ℕ) → HaveOwnIds (t ∷ ts) → bytes_eq t.source name ≡ false → held (asked (t ∷ ts) name) (out_mark t) ≡ None
-out_elsewhere t ts name own e = rw e (out_elsewhere_at t (asked ts name) (bytes_eq t.target name) t.receipt (no_out ts name t.id own.0))
+out_elsewhere t ts name own e =
+    ap (λ (b : Bool). held (out_records t b ++ (in_records t (bytes_eq t.target name) (receipts_of t) ++ asked ts name)) (out_mark t)) e
+    ∙ out_elsewhere_at t (asked ts name) (bytes_eq t.target name) (receipts_of t) (no_out ts name t.id own.0)
 
-in_elsewhere_at : (t : Transfer) (rest : List Record) (a : Bool) → held rest (in_mark t) ≡ None → held (out_records t a ++ rest) (in_mark t) ≡ None
-in_elsewhere_at t rest true h = h
-in_elsewhere_at t rest false h = h
+in_elsewhere : (t : Transfer) (ts : List Transfer) (name key : List ℕ) → AllByRecursion IsMarked (t ∷ ts) → HaveOwnIds (t ∷ ts) → bytes_eq t.target name ≡ false → held (asked (t ∷ ts) name) (in_mark t.id key) ≡ None
+in_elsewhere t ts name key marked own e =
+    ap (λ (b : Bool). held (out_records t (bytes_eq t.source name) ++ (in_records t b (receipts_of t) ++ asked ts name)) (in_mark t.id key)) e
+    ∙ none_append (out_records t (bytes_eq t.source name)) (asked ts name) (in_mark t.id key) (none_out_at t t.id key (bytes_eq t.source name)) (no_in ts name t.id key marked.1 (id_no_colon t.id marked.0.id) own.0)
 
-in_elsewhere : (t : Transfer) (ts : List Transfer) (name : List ℕ) → HaveOwnIds (t ∷ ts) → bytes_eq t.target name ≡ false → held (asked (t ∷ ts) name) (in_mark t) ≡ None
-in_elsewhere t ts name own e = rw e (in_elsewhere_at t (asked ts name) (bytes_eq t.source name) (no_in ts name t.id own.0))
+-- a mark that none of its records has is passed over
+none_out : (t : Transfer) (m : List ℕ) (a : Bool) → bytes_eq (out_mark t) m ≡ false → held (out_records t a) m ≡ None
+none_out t m true e = rw e refl
+none_out t m false e = refl
 
-pass_other : (t : Transfer) (rest : List Record) (m : List ℕ) (a b : Bool) (o : Option Receipt) → bytes_eq (out_mark t) m ≡ false → bytes_eq (in_mark t) m ≡ false → held (out_records t a ++ (in_records t b o ++ rest)) m ≡ held rest m
-pass_other t rest m true true (Some r) e f = rw (e, f) refl
-pass_other t rest m true true None e f = rw e refl
-pass_other t rest m true false o e f = rw e refl
-pass_other t rest m false true (Some r) e f = rw f refl
-pass_other t rest m false true None e f = refl
-pass_other t rest m false false o e f = refl
+none_in : (t : Transfer) (m : List ℕ) (b : Bool) (ps : List Part) → held (map (receipt_record t) ps) m ≡ None → held (in_records t b ps) m ≡ None
+none_in t m true ps h = h
+none_in t m false ps h = refl
+
+pass_other : (t : Transfer) (rest : List Record) (m : List ℕ) (a b : Bool) (ps : List Part) → bytes_eq (out_mark t) m ≡ false → held (map (receipt_record t) ps) m ≡ None → held (out_records t a ++ (in_records t b ps ++ rest)) m ≡ held rest m
+pass_other t rest m a b ps e f = skip (out_records t a) (in_records t b ps ++ rest) m (none_out t m a e) ∙ skip (in_records t b ps) rest m (none_in t m b ps f)
+
+-- the mark of a receipt is one of its transfer
+mark_at : (t : Transfer) (p : Part) (m : List ℕ) (r : Record) (o : Option Record) (c : Bool) → bytes_eq (in_mark t.id p.key) m ≡ c → cond c (Some (receipt_record t p)) o ≡ Some r → (o ≡ Some r → (key : List ℕ) × (in_mark t.id key ≡ m)) → (key : List ℕ) × (in_mark t.id key ≡ m)
+mark_at t p m r o true e h k = (p.key, same_bytes (in_mark t.id p.key) m e)
+mark_at t p m r o false e h k = k h
+
+mark_in : (t : Transfer) (ps : List Part) (m : List ℕ) (r : Record) → held (map (receipt_record t) ps) m ≡ Some r → (key : List ℕ) × (in_mark t.id key ≡ m)
+mark_in t [] m r h = absurd cc
+mark_in t (p ∷ ps) m r h = mark_at t p m r (held (map (receipt_record t) ps) m) (bytes_eq (in_mark t.id p.key) m) refl h (mark_in t ps m r)
 
 -- one of two branches has none of that mark
 abbrev IsInOne : List Transfer → List ℕ → List ℕ → List ℕ → Type 0
@@ -66,25 +80,27 @@ one_of_out t ts from to m false b own e f n same = inl (subst (λ (k : List ℕ)
 one_of_out t ts from to m true false own e f n same = inr (subst (λ (k : List ℕ). held (asked (t ∷ ts) to) k ≡ None) same (out_elsewhere t ts to own f))
 one_of_out t ts from to m true true own e f n same = absurd (let k : true ≡ false = sym (rw (e, f) refl) ∙ n in cc)
 
-one_of_in : (t : Transfer) (ts : List Transfer) (from to m : List ℕ) (a b : Bool) → HaveOwnIds (t ∷ ts) → bytes_eq t.target from ≡ a → bytes_eq t.target to ≡ b → (bytes_eq t.target from && bytes_eq t.target to) ≡ false → in_mark t ≡ m → IsInOne (t ∷ ts) from to m
-one_of_in t ts from to m false b own e f n same = inl (subst (λ (k : List ℕ). held (asked (t ∷ ts) from) k ≡ None) same (in_elsewhere t ts from own e))
-one_of_in t ts from to m true false own e f n same = inr (subst (λ (k : List ℕ). held (asked (t ∷ ts) to) k ≡ None) same (in_elsewhere t ts to own f))
-one_of_in t ts from to m true true own e f n same = absurd (let k : true ≡ false = sym (rw (e, f) refl) ∙ n in cc)
+one_of_in : (t : Transfer) (ts : List Transfer) (from to key m : List ℕ) (a b : Bool) → AllByRecursion IsMarked (t ∷ ts) → HaveOwnIds (t ∷ ts) → bytes_eq t.target from ≡ a → bytes_eq t.target to ≡ b → (bytes_eq t.target from && bytes_eq t.target to) ≡ false → in_mark t.id key ≡ m → IsInOne (t ∷ ts) from to m
+one_of_in t ts from to key m false b marked own e f n same = inl (subst (λ (k : List ℕ). held (asked (t ∷ ts) from) k ≡ None) same (in_elsewhere t ts from key marked own e))
+one_of_in t ts from to key m true false marked own e f n same = inr (subst (λ (k : List ℕ). held (asked (t ∷ ts) to) k ≡ None) same (in_elsewhere t ts to key marked own f))
+one_of_in t ts from to key m true true marked own e f n same = absurd (let k : true ≡ false = sym (rw (e, f) refl) ∙ n in cc)
 
-later : (t : Transfer) (ts : List Transfer) (from to m : List ℕ) → bytes_eq (out_mark t) m ≡ false → bytes_eq (in_mark t) m ≡ false → IsInOne ts from to m → IsInOne (t ∷ ts) from to m
-later t ts from to m e f (inl h) = inl (pass_other t (asked ts from) m (bytes_eq t.source from) (bytes_eq t.target from) t.receipt e f ∙ h)
-later t ts from to m e f (inr h) = inr (pass_other t (asked ts to) m (bytes_eq t.source to) (bytes_eq t.target to) t.receipt e f ∙ h)
+later : (t : Transfer) (ts : List Transfer) (from to m : List ℕ) → bytes_eq (out_mark t) m ≡ false → held (map (receipt_record t) (receipts_of t)) m ≡ None → IsInOne ts from to m → IsInOne (t ∷ ts) from to m
+later t ts from to m e f (inl h) = inl (pass_other t (asked ts from) m (bytes_eq t.source from) (bytes_eq t.target from) (receipts_of t) e f ∙ h)
+later t ts from to m e f (inr h) = inr (pass_other t (asked ts to) m (bytes_eq t.source to) (bytes_eq t.target to) (receipts_of t) e f ∙ h)
 
-in_one_at : (t : Transfer) (ts : List Transfer) (from to m : List ℕ) (x y : Bool) → bytes_eq (out_mark t) m ≡ x → bytes_eq (in_mark t) m ≡ y → HaveOwnIds (t ∷ ts) → bytes_eq from to ≡ false → IsInOne ts from to m → IsInOne (t ∷ ts) from to m
-in_one_at t ts from to m true y e f own apart h =
+in_one_at : (t : Transfer) (ts : List Transfer) (from to m : List ℕ) (x : Bool) (o : Option Record) → bytes_eq (out_mark t) m ≡ x → held (map (receipt_record t) (receipts_of t)) m ≡ o → AllByRecursion IsMarked (t ∷ ts) → HaveOwnIds (t ∷ ts) → bytes_eq from to ≡ false → IsInOne ts from to m → IsInOne (t ∷ ts) from to m
+in_one_at t ts from to m true o e f marked own apart h =
     one_of_out t ts from to m (bytes_eq t.source from) (bytes_eq t.source to) own refl refl (never_both t.source from to apart) (same_bytes (out_mark t) m e)
-in_one_at t ts from to m false true e f own apart h =
-    one_of_in t ts from to m (bytes_eq t.target from) (bytes_eq t.target to) own refl refl (never_both t.target from to apart) (same_bytes (in_mark t) m f)
-in_one_at t ts from to m false false e f own apart h = later t ts from to m e f h
+in_one_at t ts from to m false (Some r) e f marked own apart h =
+    let key = mark_in t (receipts_of t) m r f in
+    one_of_in t ts from to key.0 m (bytes_eq t.target from) (bytes_eq t.target to) marked own refl refl (never_both t.target from to apart) key.1
+in_one_at t ts from to m false None e f marked own apart h = later t ts from to m e f h
 
-in_one : (ts : List Transfer) (from to m : List ℕ) → HaveOwnIds ts → bytes_eq from to ≡ false → IsInOne ts from to m
-in_one [] from to m own apart = inl refl
-in_one (t ∷ ts) from to m own apart = in_one_at t ts from to m (bytes_eq (out_mark t) m) (bytes_eq (in_mark t) m) refl refl own apart (in_one ts from to m own.1 apart)
+in_one : (ts : List Transfer) (from to m : List ℕ) → AllByRecursion IsMarked ts → HaveOwnIds ts → bytes_eq from to ≡ false → IsInOne ts from to m
+in_one [] from to m marked own apart = inl refl
+in_one (t ∷ ts) from to m marked own apart =
+    in_one_at t ts from to m (bytes_eq (out_mark t) m) (held (map (receipt_record t) (receipts_of t)) m) refl refl marked own apart (in_one ts from to m marked.1 own.1 apart)
 
 -- ---- a record of a transfer is in one branch
 
@@ -110,7 +126,7 @@ not_elsewhere f from to r good here there apart among transfer =
     let b = found (IsWhole f.styles f.transfers) f.branches to whole there in
     let own : IsAmong r a.branch.records = subst (IsAmong r) a.same among in
     let holds : is_held a.branch.records r.mark ≡ true = among_any (λ (x : Record). bytes_eq x.mark r.mark) a.branch.records r (self_bytes r.mark) own in
-    by_case (in_one f.transfers from to r.mark (own_ids f.transfers good.ids) apart) a.branch b.branch a.holds b.holds a.named b.named b.same transfer holds
+    by_case (in_one f.transfers from to r.mark (good_marked f.branches f.transfers good.transfers) (own_ids f.transfers good.ids) apart) a.branch b.branch a.holds b.holds a.named b.named b.same transfer holds
   where
     by_case : IsInOne f.transfers from to r.mark → (a b : Branch) → IsWhole f.styles f.transfers a → IsWhole f.styles f.transfers b → a.name ≡ from → b.name ≡ to → records_in f.branches to ≡ b.records → is_of_transfer r ≡ true
         → is_held a.records r.mark ≡ true → is_held (records_in f.branches to) r.mark ≡ false

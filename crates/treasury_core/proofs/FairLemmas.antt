@@ -17,8 +17,9 @@ use Rattle.book_core.specs.declared.place.Until.TheVariants.{Through}
 use Rattle.book_core.specs.Balance.{balance}
 use Rattle.treasury_core.specs.Good.{IsGoodBranch, IsGoodTransfer, IsCarried, IsGoodState}
 use Rattle.treasury_core.specs.History.{AddsUp}
-use Rattle.treasury_core.specs.Fair.{HasNoColon, IsFair}
+use Rattle.treasury_core.specs.Fair.{HasNoColon, IsMarked, IsFair}
 use Rattle.treasury_core.proofs.BytesLemmas.{same_bytes}
+use Rattle.treasury_core.proofs.ChangeLemmas.{all_weaker}
 use Rattle.treasury_core.proofs.OrderLemmas.{own_ids}
 use Rattle.treasury_core.proofs.WayLemmas.{IsInStep, AddUp, adds_up, open_sum_low}
 
@@ -55,13 +56,17 @@ names_of Q (b ∷ bs) f h = (f b h.0, names_of Q bs f h.1)
 
 fair_of : (bs : List Branch) (t : Transfer) → AllByRecursion (λ (b : Branch). HasNoColon b.name) bs → IsGoodTransfer bs t → IsFair t
 fair_of bs t names h = record {
+  marked = record { id = h.id; parts = h.parts };
   positive = h.positive;
   apart = h.apart;
   payer = h.payer;
   source = known HasNoColon bs t.source names h.source;
   target = known HasNoColon bs t.target names h.target;
-  later = h.later;
+  rest = h.rest;
 }
+
+pub good_marked : (bs : List Branch) (ts : List Transfer) → AllByRecursion (IsGoodTransfer bs) ts → AllByRecursion IsMarked ts
+good_marked bs ts h = all_weaker (IsGoodTransfer bs) IsMarked ts (λ t k. record { id = k.id; parts = k.parts }) h
 
 pub all_fair : (bs : List Branch) (ts : List Transfer) → AllByRecursion (λ (b : Branch). HasNoColon b.name) bs → AllByRecursion (IsGoodTransfer bs) ts → AllByRecursion IsFair ts
 all_fair bs [] names h = tt

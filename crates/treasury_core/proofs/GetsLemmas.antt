@@ -1,20 +1,23 @@
 -- a branch that gets the record of a transfer
 use Rattle.std.proofs.Common.{◌≡◌, ℕ, Bool, true, false, cond, List, [], ◌∷◌, ◌++◌, refl, ap, ◌∙◌, sym, subst, Option, Some, None}
-use Rattle.std.specs.Prelude.{filter, find, codes}
+use Rattle.std.specs.Prelude.{filter, find}
 use Rattle.std.specs.List.{list_any, AllByRecursion}
 use Rattle.std.specs.Str.{bytes_eq}
 use Rattle.std.proofs.lemmas.List.Elements.{filter-append}
 use Rattle.treasury_core.specs.declared.record.Record.{Record}
+use Rattle.treasury_core.specs.declared.transfer.Part.{Part}
 use Rattle.treasury_core.specs.declared.transfer.Transfer.{Transfer}
 use Rattle.treasury_core.specs.Mark.{held, is_transfer_mark, is_of_transfer}
-use Rattle.treasury_core.specs.Transfer.{asked, out_records, in_records, in_mark, has_id}
+use Rattle.treasury_core.specs.Transfer.{asked, out_records, in_records, receipts_of, in_mark, has_id}
 use Rattle.treasury_core.specs.Federation.{Branch}
 use Rattle.treasury_core.specs.Joined.{with_records}
 use Rattle.treasury_core.proofs.WayLemmas.{IsClear, IsInStep}
 use Rattle.treasury_core.proofs.BytesLemmas.{same_bytes}
 use Rattle.treasury_core.proofs.HeldLemmas.{held_push, own_push}
-use Rattle.treasury_core.proofs.AskedLemmas.{HaveOwnIds, no_in}
-use Rattle.treasury_core.proofs.PassLemmas.{pass_in, in_none, same_transfer}
+use Rattle.treasury_core.specs.Fair.{HasNoColon, IsMarked}
+use Rattle.treasury_core.proofs.MarkLemmas.{id_no_colon}
+use Rattle.treasury_core.proofs.AskedLemmas.{HaveOwnIds, none_append, none_out_at, none_of_key, no_in}
+use Rattle.treasury_core.proofs.PassLemmas.{pass_in, same_transfer}
 
 all_push : (P : Record → Type 0) (rs : List Record) (r : Record) → AllByRecursion P rs → P r → AllByRecursion P (rs ++ r ∷ [])
 all_push P [] r h p = (p, tt)
@@ -46,19 +49,26 @@ gets ts ts' d r h own new after =
 pub keeps : (ts ts' : List Transfer) (d : Branch) → asked ts' d.name ≡ asked ts d.name → IsInStep ts d → IsInStep ts' d
 keeps ts ts' d e h = record { own_marks = h.own_marks; asked_for = λ m. h.asked_for m ∙ ap (λ (xs : List Record). held xs m) (sym e); clear = h.clear; named = h.named }
 
--- nothing is received of a transfer without receipt
-skip_out : (t : Transfer) (rest : List Record) (id : List ℕ) (a : Bool) → held (out_records t a ++ rest) (codes "in:" ++ id) ≡ held rest (codes "in:" ++ id)
-skip_out t rest id true = refl
-skip_out t rest id false = refl
+-- nothing is received under a key that no receipt of a transfer has
+none_own : (t : Transfer) (key : List ℕ) (b : Bool) (ps : List Part) → HasNoColon t.id → list_any (λ (x : Part). bytes_eq x.key key) ps ≡ false → held (in_records t b ps) (in_mark t.id key) ≡ None
+none_own t key true ps h e = none_of_key t key ps h e
+none_own t key false ps h e = refl
 
-no_receipt_at : (t x : Transfer) (xs : List Transfer) (name : List ℕ) (c : Bool) → bytes_eq x.id t.id ≡ c → cond c (Some x) (find (has_id t.id) xs) ≡ Some t → t.receipt ≡ None → list_any (has_id x.id) xs ≡ false → (find (has_id t.id) xs ≡ Some t → held (asked xs name) (in_mark t) ≡ None) → held (asked (x ∷ xs) name) (in_mark t) ≡ None
-no_receipt_at t x xs name true g e n own h =
-    let P : Transfer → Type 0 = λ y. held (asked (y ∷ xs) name) (in_mark t) ≡ None in
-    subst P (sym (same_transfer x t e)) (rw n (skip_out t (in_records t (bytes_eq t.target name) None ++ asked xs name) t.id (bytes_eq t.source name)
-    ∙ ap (λ (ys : List Record). held (ys ++ asked xs name) (in_mark t)) (in_none t (bytes_eq t.target name))
-    ∙ no_in xs name t.id (ap (λ (k : List ℕ). list_any (has_id k) xs) (sym (same_bytes x.id t.id g)) ∙ own)))
-no_receipt_at t x xs name false g e n own h = pass_in x (asked xs name) t.id (bytes_eq x.source name) (bytes_eq x.target name) x.receipt g ∙ h e
+-- no receipt of the transfer has the key
+abbrev pub IsFresh : Transfer → List ℕ → Type 0
+IsFresh t key = list_any (λ (x : Part). bytes_eq x.key key) (receipts_of t) ≡ false
 
-pub no_receipt : (t : Transfer) (ts : List Transfer) (name : List ℕ) → find (has_id t.id) ts ≡ Some t → t.receipt ≡ None → HaveOwnIds ts → held (asked ts name) (in_mark t) ≡ None
-no_receipt t [] name e n h = refl
-no_receipt t (x ∷ xs) name e n h = no_receipt_at t x xs name (bytes_eq x.id t.id) refl e n h.0 (λ g. no_receipt t xs name g n h.1)
+no_receipt_at : (t x : Transfer) (key : List ℕ) (xs : List Transfer) (name : List ℕ) (c : Bool) → bytes_eq x.id t.id ≡ c → AllByRecursion IsMarked (x ∷ xs) → HasNoColon t.id → cond c (Some x) (find (has_id t.id) xs) ≡ Some t → IsFresh t key
+    → list_any (has_id x.id) xs ≡ false → (find (has_id t.id) xs ≡ Some t → held (asked xs name) (in_mark t.id key) ≡ None) → held (asked (x ∷ xs) name) (in_mark t.id key) ≡ None
+no_receipt_at t x key xs name true g marked l e fresh own h =
+    let P : Transfer → Type 0 = λ y. held (asked (y ∷ xs) name) (in_mark t.id key) ≡ None in
+    subst P (sym (same_transfer x t e))
+    (none_append (out_records t (bytes_eq t.source name)) _ (in_mark t.id key) (none_out_at t t.id key (bytes_eq t.source name))
+    (none_append (in_records t (bytes_eq t.target name) (receipts_of t)) (asked xs name) (in_mark t.id key) (none_own t key (bytes_eq t.target name) (receipts_of t) l fresh)
+    (no_in xs name t.id key marked.1 l (ap (λ (k : List ℕ). list_any (has_id k) xs) (sym (same_bytes x.id t.id g)) ∙ own))))
+no_receipt_at t x key xs name false g marked l e fresh own h =
+    pass_in x (asked xs name) t.id key (bytes_eq x.source name) (bytes_eq x.target name) (receipts_of x) (id_no_colon x.id marked.0.id) l g ∙ h e
+
+pub no_receipt : (t : Transfer) (key : List ℕ) (ts : List Transfer) (name : List ℕ) → AllByRecursion IsMarked ts → HasNoColon t.id → find (has_id t.id) ts ≡ Some t → IsFresh t key → HaveOwnIds ts → held (asked ts name) (in_mark t.id key) ≡ None
+no_receipt t key [] name marked l e fresh h = refl
+no_receipt t key (x ∷ xs) name marked l e fresh h = no_receipt_at t x key xs name (bytes_eq x.id t.id) refl marked l e fresh h.0 (λ g. no_receipt t key xs name marked.1 l g fresh h.1)

@@ -1,17 +1,19 @@
 -- commodities, branches and records stay where they are
-use Rattle.std.proofs.Common.{◌≡◌, ℕ, Bool, true, false, List, [], ◌∷◌, ◌++◌, refl, ap, ◌∙◌, sym, subst, append_assoc, append-nil, Ok, Err}
+use Rattle.std.proofs.Common.{◌≡◌, ℕ, Bool, true, false, List, [], ◌∷◌, ◌++◌, refl, ap, ◌∙◌, sym, subst, append_assoc, append-nil, Option, Some, None, Ok, Err}
 use Rattle.std.specs.Prelude.{if◌then◌else◌, Result}
 use Rattle.std.specs.Str.{bytes_eq}
 use Rattle.book_core.specs.declared.refusal.Refusal.{Refusal}
 use Rattle.treasury_core.specs.declared.command.Answer.{Answer}
 use Rattle.treasury_core.specs.declared.command.Answer.TheVariants.{Done, Entered, Repeated}
+use Rattle.treasury_core.specs.declared.transfer.Transfer.{Transfer}
+use Rattle.treasury_core.specs.declared.command.Receive.{Receive}
 use Rattle.treasury_core.specs.declared.command.Command.{Command}
 use Rattle.treasury_core.specs.declared.command.Command.TheVariants as cmd
 use Rattle.treasury_core.specs.Federation.{Branch, Federation, records_of}
 use Rattle.treasury_core.specs.Joined.{new_branch, with_records, with_lock, changed}
-use Rattle.treasury_core.specs.Transfer.{dispatch_record}
+use Rattle.treasury_core.specs.Transfer.{dispatch_record, receipt_record}
 use Rattle.treasury_core.specs.Closing.{closing_in}
-use Rattle.treasury_core.specs.Step.{done, after, delta, new_records, transfer_of, transfer_at, receipt_records, closing_records}
+use Rattle.treasury_core.specs.Step.{done, after, delta, new_records, transfer_of, transfer_at, receipt_of, with_receipt_of, closing_records}
 use Rattle.treasury_core.specs.History.{Turn, after_turn, IsRun, state_after, records_among, names_of, Grows, HasGrown}
 use Rattle.treasury_core.proofs.ChangeLemmas.{KeepsName}
 use Rattle.treasury_core.proofs.HistoryLemmas.{after_records}
@@ -38,17 +40,25 @@ names_push (b ∷ bs) name = ap (λ (ns : List (List ℕ)). b.name ∷ ns) (name
 unchanged : (xs ys : List (List ℕ)) → ys ≡ xs → Grows xs ys
 unchanged xs ys e = subst (Grows xs) (sym e) (stays xs)
 
+received_names : (f : Federation) (r : Receive) (o : Option Transfer) → Grows (names_of f.branches) (names_of (with_receipt_of f r o).branches)
+received_names f r None = stays (names_of f.branches)
+received_names f r (Some t) = unchanged (names_of f.branches) _ (same_names (with_records (receipt_record t (receipt_of t r) ∷ [])) r.branch f.branches (λ b. refl))
+
 done_names : (f : Federation) (c : Command) → Grows (names_of f.branches) (names_of (done f c).branches)
 unfolding done
 done_names f (cmd.Branch name) = (name ∷ [], names_push f.branches name)
 done_names f (cmd.Commodity style) = stays (names_of f.branches)
 done_names f (cmd.Enter name file) = unchanged (names_of f.branches) _ (same_names (with_records (new_records f name file)) name f.branches (λ b. refl))
 done_names f (cmd.Dispatch d) = unchanged (names_of f.branches) _ (same_names (with_records (dispatch_record (transfer_of d) ∷ [])) d.source f.branches (λ b. refl))
-done_names f (cmd.Receive r) = unchanged (names_of f.branches) _ (same_names (with_records (receipt_records r (transfer_at f r.id))) r.branch f.branches (λ b. refl))
+done_names f (cmd.Receive r) = received_names f r (transfer_at f r.id)
 done_names f (cmd.Lock name day) = unchanged (names_of f.branches) _ (same_names (with_lock day) name f.branches (λ b. refl))
-done_names f (cmd.Close name day) =
-    let rs = closing_records day (closing_in f name day) in
-    unchanged (names_of f.branches) _ (same_names (with_lock day) name (changed (with_records rs) name f.branches) (λ b. refl) ∙ same_names (with_records rs) name f.branches (λ b. refl))
+done_names f (cmd.Close x) =
+    let rs = closing_records x.day (closing_in f x.branch x.day x.choice) in
+    unchanged (names_of f.branches) _ (same_names (with_lock x.day) x.branch (changed (with_records rs) x.branch f.branches) (λ b. refl) ∙ same_names (with_records rs) x.branch f.branches (λ b. refl))
+
+received_styles : (f : Federation) (r : Receive) (o : Option Transfer) → Grows f.styles (with_receipt_of f r o).styles
+received_styles f r None = stays f.styles
+received_styles f r (Some t) = stays f.styles
 
 done_styles : (f : Federation) (c : Command) → Grows f.styles (done f c).styles
 unfolding done
@@ -56,9 +66,9 @@ done_styles f (cmd.Branch name) = stays f.styles
 done_styles f (cmd.Commodity style) = (style ∷ [], refl)
 done_styles f (cmd.Enter name file) = stays f.styles
 done_styles f (cmd.Dispatch d) = stays f.styles
-done_styles f (cmd.Receive r) = stays f.styles
+done_styles f (cmd.Receive r) = received_styles f r (transfer_at f r.id)
 done_styles f (cmd.Lock name day) = stays f.styles
-done_styles f (cmd.Close name day) = stays f.styles
+done_styles f (cmd.Close x) = stays f.styles
 
 after_styles : (f : Federation) (c : Command) (r : Result Answer Refusal) → Grows f.styles (after f c r).styles
 after_styles f c (Ok Done) = done_styles f c

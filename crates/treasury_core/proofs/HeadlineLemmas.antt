@@ -1,11 +1,11 @@
 -- what every run keeps
 use Rattle.std.proofs.Common.{◌≡◌, ℕ, List, [], ◌∷◌, refl, sym, subst, subst₂, Ok, Err}
 use Rattle.std.specs.Prelude.{Result}
-use Rattle.money_core.specs.declared.day.Day.{Day}
 use Rattle.book_core.specs.declared.refusal.Refusal.{Refusal}
 use Rattle.journal_format.specs.declared.txn.Located.{Located}
 use Rattle.treasury_core.specs.declared.command.Answer.{Answer}
 use Rattle.treasury_core.specs.declared.command.Answer.TheVariants.{Done, Entered, Repeated}
+use Rattle.treasury_core.specs.declared.command.Close.{Close}
 use Rattle.treasury_core.specs.declared.command.Command.{Command}
 use Rattle.treasury_core.specs.declared.command.Command.TheVariants as cmd
 use Rattle.treasury_core.specs.Federation.{Federation}
@@ -20,7 +20,7 @@ use Rattle.treasury_core.proofs.ReplyLemmas.{replied, accepted_new, after_good, 
 use Rattle.treasury_core.proofs.OwnLemmas.{accepted_counts}
 use Rattle.treasury_core.proofs.EnteredLemmas.{entered_records}
 use Rattle.treasury_core.proofs.SoundLemmas.{good_balances, good_holds}
-use Rattle.treasury_core.proofs.AcceptedClosing.{closing_adds_one, closing_locked, closing_zero, closing_stays, closing_untouched, closing_elsewhere}
+use Rattle.treasury_core.proofs.AcceptedClosing.{closing_adds_one, closing_locked, closing_apart, closing_zero, closing_stays, closing_untouched, closing_elsewhere}
 
 -- ---- refusals and repeats
 
@@ -58,33 +58,34 @@ files_bring f (t ∷ ts) run =
 
 -- ---- accepted closings
 
-module _ (f : Federation) (name : List ℕ) (day : Day) (later : List Turn) (good : IsGoodState f) where
-  closes_step : reply f (cmd.Close name day) ≡ Ok Done → IsRun (step f (cmd.Close name day)).next later
-      → Closes f name day (step f (cmd.Close name day)).next (state_after (step f (cmd.Close name day)).next later)
+module _ (f : Federation) (x : Close) (later : List Turn) (good : IsGoodState f) where
+  closes_step : reply f (cmd.Close x) ≡ Ok Done → IsRun (step f (cmd.Close x)).next later
+      → Closes f x (step f (cmd.Close x)).next (state_after (step f (cmd.Close x)).next later)
   closes_step h run = record {
-    adds = closing_adds_one f name day h;
-    locks = closing_locked f name day h;
-    zero = λ account unit is. closing_zero f name day account unit good h is;
-    stays = λ account unit is. closing_stays f name day later account unit good h run is;
-    untouched = λ account unit on other apart. closing_untouched f name day account unit on good h other apart;
-    elsewhere = λ other apart. closing_elsewhere f name other day h apart;
+    adds = closing_adds_one f x h;
+    locks = closing_locked f x h;
+    apart = closing_apart f x h;
+    zero = λ account unit is. closing_zero f x account unit good h is;
+    stays = λ account unit is. closing_stays f x later account unit good h run is;
+    untouched = λ account unit on other apart. closing_untouched f x account unit on good h other apart;
+    elsewhere = λ other apart. closing_elsewhere f x other h apart;
   }
 
-  closes_reply : Replies f (cmd.Close name day) (Ok Done) → IsRun (after f (cmd.Close name day) (Ok Done)) later
-      → Closes f name day (after f (cmd.Close name day) (Ok Done)) (state_after (after f (cmd.Close name day) (Ok Done)) later)
+  closes_reply : Replies f (cmd.Close x) (Ok Done) → IsRun (after f (cmd.Close x) (Ok Done)) later
+      → Closes f x (after f (cmd.Close x) (Ok Done)) (state_after (after f (cmd.Close x) (Ok Done)) later)
   closes_reply h =
-      let is = replied f (cmd.Close name day) Done h in
-      subst (λ (r : Result Answer Refusal). IsRun (after f (cmd.Close name day) r) later → Closes f name day (after f (cmd.Close name day) r) (state_after (after f (cmd.Close name day) r) later)) is (closes_step is)
+      let is = replied f (cmd.Close x) Done h in
+      subst (λ (r : Result Answer Refusal). IsRun (after f (cmd.Close x) r) later → Closes f x (after f (cmd.Close x) r) (state_after (after f (cmd.Close x) r) later)) is (closes_step is)
 
-  closes_turn : (c : Command) (r : Result Answer Refusal) → c ≡ cmd.Close name day → r ≡ Ok Done → Replies f c r → IsRun (after f c r) later → Closes f name day (after f c r) (state_after (after f c r) later)
+  closes_turn : (c : Command) (r : Result Answer Refusal) → c ≡ cmd.Close x → r ≡ Ok Done → Replies f c r → IsRun (after f c r) later → Closes f x (after f c r) (state_after (after f c r) later)
   closes_turn c r is_close is_done =
-      subst₂ (λ (c : Command) (r : Result Answer Refusal). Replies f c r → IsRun (after f c r) later → Closes f name day (after f c r) (state_after (after f c r) later))
+      subst₂ (λ (c : Command) (r : Result Answer Refusal). Replies f c r → IsRun (after f c r) later → Closes f x (after f c r) (state_after (after f c r) later))
       (sym is_close) (sym is_done) closes_reply
 
 closings_close : (f : Federation) (turns : List Turn) → IsGoodState f → IsRun f turns → ClosingsClose f turns
 closings_close f [] good run = tt
 closings_close f (t ∷ ts) good run = (
-  (λ name day is_close is_done. closes_turn f name day ts good t.command t.reply is_close is_done run.1 run.2),
+  (λ x is_close is_done. closes_turn f x ts good t.command t.reply is_close is_done run.1 run.2),
   closings_close (after_turn f t) ts (after_good f t.command t.reply good run.0 run.1) run.2,
 )
 

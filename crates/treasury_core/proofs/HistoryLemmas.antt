@@ -1,5 +1,5 @@
 -- the records of a branch are its old ones and those that were added
-use Rattle.std.proofs.Common.{◌≡◌, ◌+ℤ◌, ℕ, Bool, true, false, ◌||◌, List, [], ◌∷◌, ◌++◌, map, refl, ap, ◌∙◌, sym, append_assoc, append-nil, inl, inr, Ok, Err}
+use Rattle.std.proofs.Common.{◌≡◌, ◌+ℤ◌, ℕ, Bool, true, false, ◌||◌, List, [], ◌∷◌, ◌++◌, map, refl, ap, ◌∙◌, sym, append_assoc, append-nil, inl, inr, Option, Some, None, Ok, Err}
 use Rattle.std.specs.Prelude.{if◌then◌else◌, Result, not, ⊤}
 use Rattle.std.specs.List.{list_any}
 use Rattle.std.specs.Str.{bytes_eq}
@@ -21,11 +21,12 @@ use Rattle.treasury_core.specs.declared.delta.Addition.TheVariants as add
 use Rattle.treasury_core.specs.declared.command.Command.{Command}
 use Rattle.treasury_core.specs.declared.command.Command.TheVariants as cmd
 use Rattle.treasury_core.specs.declared.command.Receive.{Receive}
-use Rattle.treasury_core.specs.Transfer.{dispatch_record}
+use Rattle.treasury_core.specs.declared.transfer.Transfer.{Transfer}
+use Rattle.treasury_core.specs.Transfer.{dispatch_record, receipt_record}
 use Rattle.treasury_core.specs.Federation.{Branch, Federation, has_name, has_branch, records_in, records_of, entries, book_of}
 use Rattle.treasury_core.specs.Joined.{new_branch, with_records, with_lock, changed}
 use Rattle.treasury_core.specs.Closing.{closing_in}
-use Rattle.treasury_core.specs.Step.{reply, done, added, after, delta, new_records, transfer_of, receipt_records, transfer_at, closing_records}
+use Rattle.treasury_core.specs.Step.{reply, done, added, after, delta, new_records, transfer_of, receipt_of, receipt_additions, with_receipt_of, transfer_at, closing_records}
 use Rattle.treasury_core.specs.History.{Turn, Replies, IsRun, state_after, history, record_if, records_among}
 use Rattle.treasury_core.proofs.BytesLemmas.{same_bytes, third_bytes}
 
@@ -102,7 +103,7 @@ HasTarget f (cmd.Enter name file) = has_branch f name ≡ true
 HasTarget f (cmd.Dispatch d) = has_branch f d.source ≡ true
 HasTarget f (cmd.Receive r) = has_branch f r.branch ≡ true
 HasTarget f (cmd.Lock name day) = ⊤
-HasTarget f (cmd.Close name day) = has_branch f name ≡ true
+HasTarget f (cmd.Close x) = has_branch f x.branch ≡ true
 
 there_if : (t : Bool) (e : Refusal) (x : Result Answer Refusal) (a : Answer) → (if not t then Err e else x) ≡ Ok a → t ≡ true
 there_if true e x a h = refl
@@ -116,18 +117,15 @@ has_target f (cmd.Enter name file) a h = there_if (has_branch f name) _ _ a h
 has_target f (cmd.Dispatch d) a h = there_if (has_branch f d.source) _ _ a h
 has_target f (cmd.Receive r) a h = there_if (has_branch f r.branch) _ _ a h
 has_target f (cmd.Lock name day) a h = tt
-has_target f (cmd.Close name day) a h = there_if (has_branch f name) _ _ a h
+has_target f (cmd.Close x) a h = there_if (has_branch f x.branch) _ _ a h
 
 -- what a receipt adds
-pub among-received : (r : Receive) (rs : List Record) (name : List ℕ) → records_among name (map (λ (x : Record). add.Record r.branch x) rs ++ add.Received r.id r.day r.account ∷ []) ≡ own_or (bytes_eq r.branch name) rs
-among-received r rs name =
-    among-append name (map (λ (x : Record). add.Record r.branch x) rs) (add.Received r.id r.day r.account ∷ []) ∙ append-nil _ ∙ among-records r.branch name rs
-
-received_records : (f : Federation) (r : Receive) (rs : List Record) (name : List ℕ) → has_branch f r.branch ≡ true
-    → records_in (changed (with_records rs) r.branch f.branches) name ≡ records_of f name ++ records_among name (map (λ (x : Record). add.Record r.branch x) rs ++ add.Received r.id r.day r.account ∷ [])
-received_records f r rs name e =
-    records-entered rs f.branches r.branch name e
-    ∙ ap (λ (xs : List Record). records_of f name ++ xs) (sym (among-received r rs name))
+received_records : (f : Federation) (r : Receive) (o : Option Transfer) (name : List ℕ) → has_branch f r.branch ≡ true
+    → records_of (with_receipt_of f r o) name ≡ records_of f name ++ records_among name (receipt_additions r o)
+received_records f r None name e = sym (append-nil (records_of f name))
+received_records f r (Some t) name e =
+    records-entered (receipt_record t (receipt_of t r) ∷ []) f.branches r.branch name e
+    ∙ ap (λ (xs : List Record). records_of f name ++ xs) (sym (append-nil _))
 
 -- what a closing adds
 pub among-closed : (other : List ℕ) (day : Day) (rs : List Record) (name : List ℕ) → records_among name (map (λ (x : Record). add.Record other x) rs ++ add.Locked other day ∷ []) ≡ own_or (bytes_eq other name) rs
@@ -143,12 +141,12 @@ done_records f (cmd.Enter other file) name e =
 done_records f (cmd.Dispatch d) name e =
     records-entered (dispatch_record (transfer_of d) ∷ []) f.branches d.source name e
     ∙ ap (λ (xs : List Record). records_of f name ++ xs) (sym (append-nil _))
-done_records f (cmd.Receive r) name e = received_records f r (receipt_records r (transfer_at f r.id)) name e
+done_records f (cmd.Receive r) name e = received_records f r (transfer_at f r.id) name e
 done_records f (cmd.Lock other day) name e = records-locked f.branches day other name ∙ sym (append-nil (records_of f name))
-done_records f (cmd.Close other day) name e =
-    let rs = closing_records day (closing_in f other day) in
-    records-locked (changed (with_records rs) other f.branches) day other name
-    ∙ (records-entered rs f.branches other name e ∙ ap (λ (xs : List Record). records_of f name ++ xs) (sym (among-closed other day rs name)))
+done_records f (cmd.Close x) name e =
+    let rs = closing_records x.day (closing_in f x.branch x.day x.choice) in
+    records-locked (changed (with_records rs) x.branch f.branches) x.day x.branch name
+    ∙ (records-entered rs f.branches x.branch name e ∙ ap (λ (xs : List Record). records_of f name ++ xs) (sym (among-closed x.branch x.day rs name)))
 
 abbrev no_memory : Result Answer Refusal
 no_memory = Err (Plain OutOfMemory)

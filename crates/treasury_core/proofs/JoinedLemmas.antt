@@ -16,8 +16,8 @@ use Rattle.treasury_core.specs.declared.command.Command.{Command}
 use Rattle.treasury_core.specs.declared.command.Command.TheVariants as cmd
 use Rattle.treasury_core.specs.Federation.{Branch, Federation}
 use Rattle.treasury_core.specs.Closing.{closing_in}
-use Rattle.treasury_core.specs.Joined.{with_records, changed, with_entered, with_locked, with_received, joined, joined_one}
-use Rattle.treasury_core.specs.Step.{done, added, after, delta, new_records, receipt_of, receipt_records, transfer_at, closing_records}
+use Rattle.treasury_core.specs.Joined.{with_records, changed, with_entered, with_locked, joined, joined_one}
+use Rattle.treasury_core.specs.Step.{done, added, after, delta, new_records, receipt_additions, with_receipt_of, transfer_at, closing_records}
 use Rattle.treasury_core.specs.History.{Turn, state_after, history}
 
 -- one list of records is another
@@ -53,9 +53,8 @@ joined_records name (r ∷ rs) f =
     joined_records name rs (with_entered f name (r ∷ []))
     ∙ ap (λ (bs : List Branch). let g : Federation = record f { branches = bs } in g) (changed-more name r rs f.branches)
 
-received_joined : (f : Federation) (r : Receive) (o : Option Transfer) → with_received (with_entered f r.branch (receipt_records r o)) r.id (receipt_of r)
-    ≡ joined f (map (λ (x : Record). add.Record r.branch x) (receipt_records r o) ++ add.Received r.id r.day r.account ∷ [])
-received_joined f r None = ap (λ (g : Federation). with_received g r.id (receipt_of r)) (with_none f r.branch)
+received_joined : (f : Federation) (r : Receive) (o : Option Transfer) → with_receipt_of f r o ≡ joined f (receipt_additions r o)
+received_joined f r None = refl
 received_joined f r (Some t) = refl
 
 closed_joined : (f : Federation) (name : List ℕ) (day : Day) (o : Option Txn) → with_locked (with_entered f name (closing_records day o)) name day
@@ -71,7 +70,7 @@ done_joined f (cmd.Enter name file) = sym (joined_records name (new_records f na
 done_joined f (cmd.Dispatch d) = refl
 done_joined f (cmd.Receive r) = received_joined f r (transfer_at f r.id)
 done_joined f (cmd.Lock name day) = refl
-done_joined f (cmd.Close name day) = closed_joined f name day (closing_in f name day)
+done_joined f (cmd.Close x) = closed_joined f x.branch x.day (closing_in f x.branch x.day x.choice)
 
 pub after_joined : (f : Federation) (c : Command) (r : Result Answer Refusal) → after f c r ≡ joined f (delta f c r)
 after_joined f c (Ok Done) = done_joined f c

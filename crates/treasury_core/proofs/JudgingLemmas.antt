@@ -15,15 +15,17 @@ use Rattle.book_core.specs.GoodBook.{IsGoodBook, verdict}
 use Rattle.book_core.proofs.AccountListLemmas.{is_less}
 use Rattle.book_core.proofs.GoodBookLemmas.{verdict_good}
 use Rattle.treasury_core.specs.declared.record.Record.{Record}
+use Rattle.treasury_core.specs.declared.transfer.Part.{Part}
 use Rattle.treasury_core.specs.declared.transfer.Transfer.{Transfer}
 use Rattle.treasury_core.specs.Federation.{Branch, Federation, most_branches}
 use Rattle.treasury_core.specs.Mark.{has_mark, held, HaveOwnMarks}
 use Rattle.treasury_core.specs.Transfer.{has_id}
-use Rattle.treasury_core.specs.Good.{IsGoodBranch, IsGoodTransfer, IsCarried, HaveOwnNames, AreAscending, IsGoodState}
-use Rattle.treasury_core.specs.Room.{is_before}
+use Rattle.treasury_core.specs.Good.{IsGoodBranch, IsGoodTransfer, IsCarried, HaveOwnNames, AreAscending, AreKeyed, IsGoodState}
+use Rattle.treasury_core.specs.Room.{is_before, is_key_before}
 use Rattle.treasury_core.proofs.BytesLemmas.{self_bytes, other_bytes}
 use Rattle.treasury_core.proofs.ChangeLemmas.{all_weaker}
 use Rattle.treasury_core.proofs.HeldLemmas.{none_tail, own_push}
+use Rattle.treasury_core.proofs.PartLemmas.{keys_after}
 use Rattle.treasury_core.proofs.OrderLemmas.{AreBehind, all_after, not_less, other_than}
 use Rattle.treasury_core.proofs.TransferReplyLemmas.{transfer_small}
 
@@ -52,6 +54,31 @@ pub one_ascends : (ts : List Transfer) → length ts ≤ 1 → AreAscending ts
 one_ascends [] h = tt
 one_ascends (t ∷ []) h = (tt, tt)
 one_ascends (t ∷ u ∷ ts) h = absurd (omega (arith, h))
+
+-- and parts
+pub keys_ascend : (a b : Part) (ps : List Part) → is_key_before b.key a ≡ true → AreKeyed (b ∷ ps) → AreKeyed (a ∷ b ∷ ps)
+keys_ascend a b ps e h = let first = is_less (name_cmp a.key b.key) e in ((first, keys_after a.key b.key ps first h.0), h)
+
+pub keys_descend : (a b : Part) (ps : List Part) → is_key_before b.key a ≡ false → AreKeyed (a ∷ b ∷ ps) → ⊥
+keys_descend a b ps e h = not_less a.key b.key e h.0.0
+
+pub keys_ascend_next : (ps : List Part) (i : ℕ) (a b : Part) → 1 ≤ i → i < length ps → a ≡ get_or ps (i - 1) a → b ≡ get_or ps i b → is_key_before b.key a ≡ true
+    → (AreKeyed (drop (i - 1) ps) ↔ AreKeyed ps) → AreKeyed (drop (i + 1 - 1) ps) ↔ AreKeyed ps
+keys_ascend_next ps i a b low high ea eb e h =
+    let rest = drop (suc i) ps in
+    let next : i + 1 - 1 ≡ i = omega arith in
+    let back : suc (i - 1) ≡ i = omega arith in
+    let before : i - 1 < length ps = omega arith in
+    let one : drop (i + 1 - 1) ps ≡ b ∷ rest = ap (λ (n : ℕ). drop n ps) next ∙ (drop-cons ps i b high ∙ ap (λ (x : Part). x ∷ rest) (sym eb)) in
+    let two : drop (i - 1) ps ≡ a ∷ b ∷ rest =
+    drop-cons ps (i - 1) a before ∙ (ap (λ (x : Part). x ∷ drop (suc (i - 1)) ps) (sym ea)
+    ∙ (ap (λ (n : ℕ). a ∷ drop n ps) (back ∙ sym next) ∙ ap (λ (xs : List Part). a ∷ xs) one)) in
+    (λ k. h.0 (subst AreKeyed (sym two) (keys_ascend a b rest e (subst AreKeyed one k))), λ k. subst AreKeyed (sym one) (subst AreKeyed two (h.1 k)).1)
+
+pub one_key_ascends : (ps : List Part) → length ps ≤ 1 → AreKeyed ps
+one_key_ascends [] h = tt
+one_key_ascends (p ∷ []) h = (tt, tt)
+one_key_ascends (p ∷ q ∷ ps) h = absurd (omega (arith, h))
 
 -- each is found by its ID
 found_at : (t x : Transfer) (ts : List Transfer) → name_cmp t.id x.id ≡ Less → find (has_id x.id) ts ≡ Some x → find (has_id x.id) (t ∷ ts) ≡ Some x

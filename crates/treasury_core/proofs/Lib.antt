@@ -13,7 +13,9 @@ pub mod DecideLemmas
 pub mod HistoryLemmas
 pub mod JoinedLemmas
 pub mod LookupLemmas
+pub mod MarkLemmas
 pub mod AskedLemmas
+pub mod PartLemmas
 pub mod ShareLemmas
 pub mod WayLemmas
 pub mod PassLemmas
@@ -21,6 +23,7 @@ pub mod GetsLemmas
 pub mod TransferLemmas
 pub mod OrderLemmas
 pub mod FairLemmas
+pub mod ReceiveLemmas
 pub mod KeepLemmas
 pub mod DispatchLemmas
 pub mod ProductLemmas
@@ -34,6 +37,9 @@ pub mod EnteredLemmas
 pub mod SoundLemmas
 pub mod LateEntryLemmas
 pub mod WorkedHistory
+pub mod WorkedState
+pub mod WorkedChoice
+pub mod WorkedParts
 pub mod RoomLemmas
 pub mod PlaceLemmas
 pub mod BackLemmas
@@ -49,6 +55,7 @@ pub mod UnitRowLemmas
 pub mod EntryRowLemmas
 pub mod BranchRowLemmas
 pub mod TransferRowLemmas
+pub mod PartRowLemmas
 pub mod DraftedLemmas
 pub mod RowsLawLemmas
 pub mod SameRowLemmas
@@ -56,6 +63,7 @@ pub mod AccountOrder
 pub mod ClosingSums
 pub mod ClosingLoops
 pub mod ClosingLemmas
+pub mod ChoiceLemmas
 pub mod ClosingPrinted
 pub mod ClosingReply
 pub mod CloseLemmas

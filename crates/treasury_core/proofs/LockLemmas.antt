@@ -17,16 +17,17 @@ use Rattle.treasury_core.specs.declared.record.Record.{Record}
 use Rattle.treasury_core.specs.declared.transfer.Transfer.{Transfer}
 use Rattle.treasury_core.specs.declared.command.Answer.{Answer}
 use Rattle.treasury_core.specs.declared.command.Answer.TheVariants.{Done, Entered, Repeated}
+use Rattle.treasury_core.specs.declared.command.Receive.{Receive}
 use Rattle.treasury_core.specs.declared.command.Command.{Command}
 use Rattle.treasury_core.specs.declared.command.Command.TheVariants as cmd
 use Rattle.treasury_core.specs.Federation.{Branch, Federation, records_of, lock_in, lock_of, entries, book_of}
 use Rattle.treasury_core.specs.Joined.{new_branch, with_records, with_lock, changed}
-use Rattle.treasury_core.specs.Transfer.{dispatch_record}
+use Rattle.treasury_core.specs.Transfer.{dispatch_record, receipt_record}
 use Rattle.treasury_core.specs.Closing.{closing_in}
-use Rattle.treasury_core.specs.Step.{is_locked, goes_back, reply, done, added, after, delta, new_records, transfer_of, transfer_at, receipt_records, closing_records}
+use Rattle.treasury_core.specs.Step.{is_locked, goes_back, reply, done, added, after, delta, new_records, transfer_of, transfer_at, receipt_of, receipt_additions, with_receipt_of, closing_records}
 use Rattle.treasury_core.specs.History.{Turn, Replies, after_turn, IsRun, state_after, records_among, IsNew}
 use Rattle.treasury_core.proofs.BytesLemmas.{same_bytes}
-use Rattle.treasury_core.proofs.HistoryLemmas.{own_or, after_records, among-records, among-received, among-closed, entries-append}
+use Rattle.treasury_core.proofs.HistoryLemmas.{own_or, after_records, among-records, among-closed, entries-append}
 use Rattle.treasury_core.proofs.ClosingRecord.{made_on}
 use Rattle.treasury_core.proofs.KeepLemmas.{later_lock}
 use Rattle.treasury_core.proofs.ReplyLemmas.{IsDone, replied, lock_forward, accepted_new, sent, taken, unlocked_forward, shut}
@@ -73,19 +74,23 @@ locked_stays : (bs : List Branch) (day d : Day) (other name : List ℕ) → goes
 locked_stays [] day d other name g h = h
 locked_stays (b ∷ bs) day d other name g h = changed_lock day d b bs other name (bytes_eq b.name other) g (λ e k. locked_stays bs day d other name e k) h
 
+received_locked : (f : Federation) (x : Receive) (o : Option Transfer) (name : List ℕ) (d : Day) → is_locked (lock_of f name) d ≡ true → is_locked (lock_of (with_receipt_of f x o) name) d ≡ true
+received_locked f x None name d h = h
+received_locked f x (Some t) name d h = ap (λ (o : Option Day). is_locked o d) (lock-entered (receipt_record t (receipt_of t x) ∷ []) f.branches x.branch name) ∙ h
+
 done_locked : (f : Federation) (c : Command) (a : Answer) (name : List ℕ) (d : Day) → IsDone a → reply f c ≡ Ok a → is_locked (lock_of f name) d ≡ true → is_locked (lock_of (done f c) name) d ≡ true
 unfolding done
 done_locked f (cmd.Branch other) a name d is e h = ap (λ (o : Option Day). is_locked o d) (lock-branch f.branches other name) ∙ h
 done_locked f (cmd.Commodity style) a name d is e h = h
 done_locked f (cmd.Enter other file) a name d is e h = ap (λ (o : Option Day). is_locked o d) (lock-entered (new_records f other file) f.branches other name) ∙ h
 done_locked f (cmd.Dispatch x) a name d is e h = ap (λ (o : Option Day). is_locked o d) (lock-entered (dispatch_record (transfer_of x) ∷ []) f.branches x.source name) ∙ h
-done_locked f (cmd.Receive x) a name d is e h = ap (λ (o : Option Day). is_locked o d) (lock-entered (receipt_records x (transfer_at f x.id)) f.branches x.branch name) ∙ h
+done_locked f (cmd.Receive x) a name d is e h = received_locked f x (transfer_at f x.id) name d h
 done_locked f (cmd.Lock other day) a name d is e h = locked_stays f.branches day d other name (lock_forward f other day a is e) h
-done_locked f (cmd.Close other day) a name d is e h =
-    let rs = closing_records day (closing_in f other day) in
-    locked_stays (changed (with_records rs) other f.branches) day d other name
-    (ap (λ (o : Option Day). goes_back o day) (lock-entered rs f.branches other other) ∙ unlocked_forward (lock_of f other) day (shut f other day a is e).unlocked)
-    (ap (λ (o : Option Day). is_locked o d) (lock-entered rs f.branches other name) ∙ h)
+done_locked f (cmd.Close x) a name d is e h =
+    let rs = closing_records x.day (closing_in f x.branch x.day x.choice) in
+    locked_stays (changed (with_records rs) x.branch f.branches) x.day d x.branch name
+    (ap (λ (o : Option Day). goes_back o x.day) (lock-entered rs f.branches x.branch x.branch) ∙ unlocked_forward (lock_of f x.branch) x.day (shut f x a is e).unlocked)
+    (ap (λ (o : Option Day). is_locked o d) (lock-entered rs f.branches x.branch name) ∙ h)
 
 after_locked : (f : Federation) (c : Command) (r : Result Answer Refusal) (name : List ℕ) (d : Day) → Replies f c r → is_locked (lock_of f name) d ≡ true → is_locked (lock_of (after f c r) name) d ≡ true
 after_locked f c (Ok Done) name d r h = done_locked f c Done name d tt (replied f c Done r) h
@@ -147,16 +152,18 @@ added_nothing f (cmd.Dispatch d) a name day reach account unit is e h =
     ∙ own_nothing f d.source name (dispatch_record (transfer_of d) ∷ []) day reach account unit h ((sent f d a is e).unlocked, tt)
 added_nothing f (cmd.Receive r) a name day reach account unit is e h =
     let got = taken f r a is e in
-    ap (moved name day reach account unit) (among-received r (receipt_records r (transfer_at f r.id)) name)
-    ∙ own_nothing f r.branch name (receipt_records r (transfer_at f r.id)) day reach account unit h
-    (subst (λ (o : Option Transfer). AllByRecursion (IsBehind (lock_of f r.branch)) (receipt_records r o)) (sym got.found) (got.unlocked, tt))
+    let x = receipt_record got.transfer (receipt_of got.transfer r) in
+    subst (λ (o : Option Transfer). moved name day reach account unit (records_among name (receipt_additions r o)) ≡ pos 0) (sym got.found)
+    (ap (moved name day reach account unit) (append-nil (own_or (bytes_eq r.branch name) (x ∷ [])))
+    ∙ own_nothing f r.branch name (x ∷ []) day reach account unit h (got.unlocked, tt))
 added_nothing f (cmd.Lock other on) a name day reach account unit is e h = balance-nil reach account unit (Through day)
-added_nothing f (cmd.Close other on) a name day reach account unit is e h =
-    let got = shut f other on a is e in
-    ap (moved name day reach account unit) (among-closed other on (closing_records on (closing_in f other on)) name)
-    ∙ own_nothing f other name (closing_records on (closing_in f other on)) day reach account unit h
-    (subst (λ (o : Option Txn). AllByRecursion (IsBehind (lock_of f other)) (closing_records on o)) (sym got.closes)
-    (ap (λ (d : Day). is_locked (lock_of f other) d) (made_on f other on got.txn got.closes) ∙ got.unlocked, tt))
+added_nothing f (cmd.Close x) a name day reach account unit is e h =
+    let got = shut f x a is e in
+    let rs = closing_records x.day (closing_in f x.branch x.day x.choice) in
+    ap (moved name day reach account unit) (among-closed x.branch x.day rs name)
+    ∙ own_nothing f x.branch name rs day reach account unit h
+    (subst (λ (o : Option Txn). AllByRecursion (IsBehind (lock_of f x.branch)) (closing_records x.day o)) (sym got.closes)
+    (ap (λ (d : Day). is_locked (lock_of f x.branch) d) (made_on f x.branch x.day x.choice got.txn got.closes) ∙ got.unlocked, tt))
 
 delta_nothing : (f : Federation) (c : Command) (r : Result Answer Refusal) (name : List ℕ) (day : Day) (reach : Reach) (account : List ℕ) (unit : Commodity) → Replies f c r → is_locked (lock_of f name) day ≡ true
     → balance reach (entries (records_among name (delta f c r))) account unit (Through day) ≡ pos 0

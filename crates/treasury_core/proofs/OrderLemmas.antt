@@ -9,7 +9,7 @@ use Rattle.std.proofs.lemmas.Map.Text.{is_eq-slice_cmp}
 use Rattle.book_core.specs.Account.{name_cmp}
 use Rattle.book_core.proofs.AccountListLemmas.{names_total, is_less, name_after}
 use Rattle.treasury_core.specs.declared.transfer.Transfer.{Transfer}
-use Rattle.treasury_core.specs.declared.transfer.Receipt.{Receipt}
+use Rattle.treasury_core.specs.declared.transfer.Part.{Part}
 use Rattle.treasury_core.specs.Transfer.{has_id}
 use Rattle.treasury_core.specs.Joined.{inserted, received, with_receipt}
 use Rattle.treasury_core.specs.Good.{AreAscending}
@@ -54,19 +54,19 @@ sorted_inserted t [] e h = (tt, tt)
 sorted_inserted t (x ∷ xs) e h = let n = neither (bytes_eq x.id t.id) (list_any (has_id t.id) xs) e in sorted_at t x xs (is_lt (name_cmp x.id t.id)) refl n.0 h (sorted_inserted t xs n.1 h.1)
 
 -- a receipt leaves the IDs
-behind_at : (id : List ℕ) (r : Receipt) (x : Transfer) (xs ys : List Transfer) (c : Bool) → AreBehind id (x ∷ xs) → AreBehind id ys → AreBehind id (if c then with_receipt r x ∷ xs else x ∷ ys)
+behind_at : (id : List ℕ) (r : Part) (x : Transfer) (xs ys : List Transfer) (c : Bool) → AreBehind id (x ∷ xs) → AreBehind id ys → AreBehind id (if c then with_receipt r x ∷ xs else x ∷ ys)
 behind_at id r x xs ys true h i = h
 behind_at id r x xs ys false h i = (h.0, i)
 
-behind_received : (id of : List ℕ) (r : Receipt) (ts : List Transfer) → AreBehind id ts → AreBehind id (received of r ts)
+behind_received : (id of : List ℕ) (r : Part) (ts : List Transfer) → AreBehind id ts → AreBehind id (received of r ts)
 behind_received id of r [] h = tt
 behind_received id of r (x ∷ xs) h = behind_at id r x xs (received of r xs) (bytes_eq x.id of) h (behind_received id of r xs h.1)
 
-received_at : (id : List ℕ) (r : Receipt) (x : Transfer) (xs ys : List Transfer) (c : Bool) → AreAscending (x ∷ xs) → AreBehind x.id ys → AreAscending ys → AreAscending (if c then with_receipt r x ∷ xs else x ∷ ys)
+received_at : (id : List ℕ) (r : Part) (x : Transfer) (xs ys : List Transfer) (c : Bool) → AreAscending (x ∷ xs) → AreBehind x.id ys → AreAscending ys → AreAscending (if c then with_receipt r x ∷ xs else x ∷ ys)
 received_at id r x xs ys true h k i = h
 received_at id r x xs ys false h k i = (k, i)
 
-pub sorted_received : (id : List ℕ) (r : Receipt) (ts : List Transfer) → AreAscending ts → AreAscending (received id r ts)
+pub sorted_received : (id : List ℕ) (r : Part) (ts : List Transfer) → AreAscending ts → AreAscending (received id r ts)
 sorted_received id r [] h = tt
 sorted_received id r (x ∷ xs) h = received_at id r x xs (received id r xs) (bytes_eq x.id id) h (behind_received x.id id r xs h.0) (sorted_received id r xs h.1)
 
@@ -87,7 +87,7 @@ pub uninserted : (t : Transfer) (ts : List Transfer) → AreAscending (inserted 
 uninserted t [] h = tt
 uninserted t (x ∷ xs) h = uninserted_at t x xs (is_lt (name_cmp x.id t.id)) (uninserted t xs) h
 
-behind_open : (id of : List ℕ) (r : Receipt) (ts : List Transfer) → AreBehind id (received of r ts) → AreBehind id ts
+behind_open : (id of : List ℕ) (r : Part) (ts : List Transfer) → AreBehind id (received of r ts) → AreBehind id ts
 behind_open id of r [] h = tt
 behind_open id of r (x ∷ xs) h = by_test (bytes_eq x.id of) (behind_open id of r xs) h
   where
@@ -95,10 +95,10 @@ behind_open id of r (x ∷ xs) h = by_test (bytes_eq x.id of) (behind_open id of
     by_test true k h = h
     by_test false k h = (h.0, k h.1)
 
-unreceived_at : (id : List ℕ) (r : Receipt) (x : Transfer) (xs : List Transfer) (c : Bool) → (AreAscending (received id r xs) → AreAscending xs) → AreAscending (if c then with_receipt r x ∷ xs else x ∷ received id r xs) → AreAscending (x ∷ xs)
+unreceived_at : (id : List ℕ) (r : Part) (x : Transfer) (xs : List Transfer) (c : Bool) → (AreAscending (received id r xs) → AreAscending xs) → AreAscending (if c then with_receipt r x ∷ xs else x ∷ received id r xs) → AreAscending (x ∷ xs)
 unreceived_at id r x xs true k h = h
 unreceived_at id r x xs false k h = (behind_open x.id id r xs h.0, k h.1)
 
-pub unreceived : (id : List ℕ) (r : Receipt) (ts : List Transfer) → AreAscending (received id r ts) → AreAscending ts
+pub unreceived : (id : List ℕ) (r : Part) (ts : List Transfer) → AreAscending (received id r ts) → AreAscending ts
 unreceived id r [] h = tt
 unreceived id r (x ∷ xs) h = unreceived_at id r x xs (bytes_eq x.id id) (unreceived id r xs) h

@@ -1,5 +1,5 @@
 -- the transactions of transfers can be printed, and do what their two postings say
-use Rattle.std.proofs.Common.{◌≡◌, ◌≤◌, ◌<◌, ◌+◌, ◌-◌, ◌&&◌, ◌||◌, ◌==◌, nat_eq, ℕ, zero, suc, Bool, true, false, List, [], ◌∷◌, ◌++◌, length, ℤ, pos, ◌+ℤ◌, ◌-ℤ◌, refl, ap, ◌∙◌, sym, arith, Some, None, length-append, append_assoc}
+use Rattle.std.proofs.Common.{◌≡◌, ◌≤◌, ◌<◌, ◌+◌, ◌-◌, ◌&&◌, ◌||◌, ◌==◌, nat_eq, ℕ, zero, suc, Bool, true, false, List, [], ◌∷◌, ◌++◌, length, ℤ, pos, ◌+ℤ◌, ◌-ℤ◌, refl, ap, ◌∙◌, sym, subst, arith, Some, None, length-append, append_assoc, append-nil}
 use Rattle.std.specs.Prelude.{codes, not, nat_lt, nat_le, slice_index, unsigned_abs, if◌then◌else◌}
 use Rattle.std.specs.List.{list_all, slice_split, All, AllByRecursion}
 use Rattle.std.specs.Char.{is_ascii_lowercase}
@@ -33,10 +33,10 @@ use Rattle.journal_format.proofs.SizeLemmas.{body_size, head_is, header_small, p
 use Rattle.journal_format.specs.BodySize.{postings_size, remarks_size}
 use Rattle.journal_balance.specs.Legs.{leg}
 use Rattle.journal_balance.proofs.WrittenLemmas.{legs_of-written}
-use Rattle.treasury_core.specs.declared.transfer.Receipt.{Receipt}
+use Rattle.treasury_core.specs.declared.transfer.Part.{Part}
 use Rattle.treasury_core.specs.declared.transfer.Transfer.{Transfer}
 use Rattle.treasury_core.specs.Federation.{is_name_byte, is_branch_name}
-use Rattle.treasury_core.specs.Transfer.{is_id, is_id_byte, posting, product_record, transit_account, out_mark, in_mark, dispatch_record, receipt_record}
+use Rattle.treasury_core.specs.Transfer.{is_id, is_id_byte, is_all, is_key, posting, product_record, transit_account, out_mark, mark_tail, in_mark, text_tail, in_text, dispatch_record, receipt_record}
 use Rattle.treasury_core.specs.Good.{IsGoodRecord}
 
 -- ---- bytes
@@ -123,6 +123,14 @@ name_word name h =
     let few = leb-true (length name) 32 one.1 in
     (record { plain = all_plain is_name_byte plain_name name two.1; some = some_from name two.0; few = omega (arith, few) }, few)
 
+pub key_word : (key : List ℕ) → is_key key ≡ true → (IsWord key) × (length key ≤ 32)
+key_word key h =
+    let one = and_parts (nat_lt 0 (length key) && nat_le (length key) 32 && list_all is_id_byte key) (not (is_all key)) h in
+    let two = and_parts (nat_lt 0 (length key) && nat_le (length key) 32) (list_all is_id_byte key) one.0 in
+    let three = and_parts (nat_lt 0 (length key)) (nat_le (length key) 32) two.0 in
+    let few = leb-true (length key) 32 three.1 in
+    (record { plain = all_plain is_id_byte plain_id key two.1; some = ltb-true 0 (length key) three.0; few = omega (arith, few) }, few)
+
 -- ---- marks
 
 mark_of_id : (front id : List ℕ) → list_all is_mark_byte front ≡ true → length front ≤ 30 → IsWord id → is_mark (front ++ id) ≡ true
@@ -134,6 +142,23 @@ mark_of_id front id h l w =
     let few : nat_lt (length (front ++ id)) 101 ≡ true = grind (arith, nat_tests) in
     and_from (nat_lt 0 (length (front ++ id)) && nat_lt (length (front ++ id)) 101) (list_all is_mark_byte (front ++ id)) (and_from _ _ some few)
     (list_all-append is_mark_byte front id ∙ and_from (list_all is_mark_byte front) (list_all is_mark_byte id) h (passes_all is_mark_byte (λ b p. p.mark) id w.plain))
+
+-- `in:ID:KEY` has at most 100 bytes
+mark_of_part : (id key : List ℕ) → IsWord id → IsWord key → length key ≤ 32 → is_mark (codes "in:" ++ (id ++ (58 ∷ key))) ≡ true
+mark_of_part id key v w few =
+    let text = codes "in:" ++ (id ++ (58 ∷ key)) in
+    let size = length-append id (58 ∷ key) in
+    let high : 0 < length text = omega arith in
+    let some : nat_lt 0 (length text) ≡ true = grind (arith, nat_tests) in
+    let low : length text < 101 = omega (arith, size, v.few, few) in
+    let short : nat_lt (length text) 101 ≡ true = grind (arith, nat_tests) in
+    and_from (nat_lt 0 (length text) && nat_lt (length text) 101) (list_all is_mark_byte text) (and_from _ _ some short)
+    (list_all-append is_mark_byte (codes "in:") (id ++ (58 ∷ key)) ∙ and_from _ _ refl
+    (list_all-append is_mark_byte id (58 ∷ key) ∙ and_from _ _ (passes_all is_mark_byte (λ b p. p.mark) id v.plain) (and_from _ _ refl (passes_all is_mark_byte (λ b p. p.mark) key w.plain))))
+
+in_mark_fits : (id key : List ℕ) (b : Bool) → is_all key ≡ b → (b ≡ false → is_key key ≡ true) → IsWord id → is_mark (codes "in:" ++ (id ++ mark_tail b key)) ≡ true
+in_mark_fits id key true e h w = ap (λ (xs : List ℕ). is_mark (codes "in:" ++ xs)) (append-nil id) ∙ mark_of_id (codes "in:") id refl (omega arith) w
+in_mark_fits id key false e h w = let k = key_word key (h refl) in mark_of_part id key w k.0 k.1
 
 -- ---- descriptions
 
@@ -162,7 +187,7 @@ pub record IsDescribed (text : List ℕ) : Type 0 where
   pub few : length text ≤ 500
 
 -- `transfer ID to NAME`, `transfer ID from NAME`
-described : (middle id name : List ℕ) → list_all is_clean middle ≡ true → has_no 59 middle ≡ true → list_all is_low middle ≡ true → length middle ≤ 10 → IsWord id → IsWord name
+described : (middle id name : List ℕ) → list_all is_clean middle ≡ true → has_no 59 middle ≡ true → list_all is_low middle ≡ true → length middle ≤ 60 → IsWord id → IsWord name
     → IsDescribed (codes "transfer " ++ (id ++ (middle ++ name)))
 described middle id name clean free low l v w =
     let first = codes "transfer " in
@@ -177,6 +202,25 @@ described middle id name clean free low l v w =
       utf8 = utf8_low text (all_both is_low (λ b p. p.low) first middle id name refl low v w);
       few = omega (arith, size);
     }
+
+-- what stands between the ID and the key
+middle_all : (p : ℕ → Bool) → ((b : ℕ) → IsPlain b → p b ≡ true) → (name : List ℕ) → list_all p (codes " from ") ≡ true → list_all p (codes " part ") ≡ true → IsWord name → list_all p (codes " from " ++ (name ++ codes " part ")) ≡ true
+middle_all p f name h k w =
+    list_all-append p (codes " from ") (name ++ codes " part ") ∙ and_from _ _ h (list_all-append p name (codes " part ") ∙ and_from _ _ (passes_all p f name w.plain) k)
+
+-- `transfer ID from NAME part KEY`
+part_described : (id name key : List ℕ) → IsWord id → IsWord name → length name ≤ 32 → IsWord key → IsDescribed (codes "transfer " ++ (id ++ (codes " from " ++ (name ++ (codes " part " ++ key)))))
+part_described id name key v w few k =
+    let middle = codes " from " ++ (name ++ codes " part ") in
+    let size = length-append name (codes " part ") in
+    let whole : middle ++ key ≡ codes " from " ++ (name ++ (codes " part " ++ key)) = ap (λ (xs : List ℕ). codes " from " ++ xs) (append_assoc name (codes " part ") key) in
+    subst (λ (xs : List ℕ). IsDescribed (codes "transfer " ++ (id ++ xs))) whole
+    (described middle id key (middle_all is_clean (λ b p. p.clean) name refl refl w) (middle_all (λ b. not (b == 59)) (λ b p. p.no_semicolon) name refl refl w) (middle_all is_low (λ b p. p.low) name refl refl w) (omega (arith, size, few)) v k)
+
+in_described : (id name key : List ℕ) (b : Bool) → (b ≡ false → is_key key ≡ true) → IsWord id → IsWord name → length name ≤ 32 → IsDescribed (codes "transfer " ++ (id ++ (codes " from " ++ (name ++ text_tail b key))))
+in_described id name key true h v w few =
+    subst (λ (xs : List ℕ). IsDescribed (codes "transfer " ++ (id ++ (codes " from " ++ xs)))) (sym (append-nil name)) (described (codes " from ") id name refl refl refl (omega arith) v w)
+in_described id name key false h v w few = part_described id name key v w few (key_word key (h refl)).0
 
 -- ---- the transit account
 
@@ -335,20 +379,24 @@ amount_of styles account unit q h =
     let three = and_parts (is_amount styles unit q && true) _ two.1 in
     (and_parts (is_amount styles unit q) _ three.0).0
 
-pub receipt_good : (styles : List Style) (t : Transfer) (r : Receipt) → AreStyles styles → is_id t.id ≡ true → is_branch_name t.source ≡ true → is_branch_name t.target ≡ true → IsGoodRecord styles (dispatch_record t)
-    → IsDayNumber r.day → is_account r.payee ≡ true → is_utf8 r.payee ≡ true → IsGoodRecord styles (receipt_record t r)
-receipt_good styles t r are id_fits source_fits target_fits sent day payee utf8 =
+-- the same amount, or less
+amount_less : (styles : List Style) (unit : Commodity) (q z : ℤ) → is_amount styles unit z ≡ true → unsigned_abs q ≤ limit → is_amount styles unit q ≡ true
+amount_less styles unit q z h small = and_from (nat_lt unit.0 (length styles)) (nat_le (unsigned_abs q) limit) (and_parts (nat_lt unit.0 (length styles)) _ h).0 (grind (arith, nat_tests))
+
+pub receipt_good : (styles : List Style) (t : Transfer) (p : Part) → AreStyles styles → is_id t.id ≡ true → is_branch_name t.source ≡ true → is_branch_name t.target ≡ true → IsGoodRecord styles (dispatch_record t)
+    → (is_all p.key ≡ false → is_key p.key ≡ true) → unsigned_abs p.qty ≤ limit → IsDayNumber p.day → is_account p.payee ≡ true → is_utf8 p.payee ≡ true → IsGoodRecord styles (receipt_record t p)
+receipt_good styles t p are id_fits source_fits target_fits sent key small day payee utf8 =
     let id = id_word t.id id_fits in
     let source = name_word t.source source_fits in
     let target = name_word t.target target_fits in
     let dispatched = and_parts (is_posting styles (posting (leg (transit_account t.source t.target) t.unit t.qty))) _ sent.printable.postings in
-    pair_good styles (in_mark t) r.day (codes "transfer " ++ (t.id ++ (codes " from " ++ t.source))) r.payee (transit_account t.source t.target) t.unit t.qty are (record {
-      mark_fits = mark_of_id (codes "in:") t.id refl (omega arith) id;
+    pair_good styles (in_mark t.id p.key) p.day (in_text t p.key) p.payee (transit_account t.source t.target) t.unit p.qty are (record {
+      mark_fits = in_mark_fits t.id p.key (is_all p.key) refl key id;
       day_fits = day;
-      described = described (codes " from ") t.id t.source refl refl refl (omega arith) id source.0;
+      described = in_described t.id t.source p.key (is_all p.key) key id source.0 source.1;
       first = payee;
       first_utf8 = utf8;
       second = transit_is_account t.source t.target source.0 target.0 source.1 target.1;
       second_utf8 = transit_is_utf8 t.source t.target source.0 target.0;
-      amount = amount_of styles (transit_account t.source t.target) t.unit t.qty dispatched.0;
+      amount = amount_less styles t.unit p.qty t.qty (amount_of styles (transit_account t.source t.target) t.unit t.qty dispatched.0) small;
     })

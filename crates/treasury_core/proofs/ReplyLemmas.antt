@@ -1,9 +1,10 @@
 -- what an accepted command was, and that it leaves a good state good
-use Rattle.std.proofs.Common.{◌≡◌, ◌≤◌, ℕ, Bool, true, false, ◌||◌, cond, List, [], ◌∷◌, ◌++◌, length, ℤ, pos, ◌<ℤ◌, refl, ap, ◌∙◌, sym, subst, arith, inl, inr, Option, Some, None, Ok, Err, nat_le, nat_lt}
-use Rattle.std.specs.Prelude.{if◌then◌else◌, Result, not, ⊤, find, is_some, int_le, int_lt, unsigned_abs}
+use Rattle.std.proofs.Common.{◌≡◌, ◌≤◌, ℕ, Bool, true, false, ◌||◌, cond, List, [], ◌∷◌, ◌++◌, length, ℤ, pos, ◌<ℤ◌, refl, ap, ◌∙◌, sym, subst, arith, inl, inr, Option, Some, None, Ok, Err, nat_le, nat_lt, ◌≤ℤ◌}
+use Rattle.std.specs.Prelude.{if◌then◌else◌, Result, not, ⊤, find, is_some, int_le, int_lt, unsigned_abs, nat_eq}
+use Rattle.std.specs.Cmp.Lexicographic.{pointwise}
 use Rattle.std.specs.List.{list_any, AllByRecursion}
 use Rattle.std.specs.Str.{bytes_eq}
-use Rattle.std.proofs.lemmas.Bool.{leb-false, and_from}
+use Rattle.std.proofs.lemmas.Bool.{leb-false, leb-true, and_from}
 use Rattle.std.proofs.lemmas.Bool.Decides.{nat_tests}
 use Rattle.std.proofs.lemmas.Int.{ints}
 use Rattle.money_core.specs.declared.style.Style.{Style}
@@ -12,7 +13,7 @@ use Rattle.money_core.specs.declared.unit.Unit.{Unit as Commodity}
 use Rattle.money_core.specs.declared.unit.Declared.{Declared}
 use Rattle.money_core.specs.declared.unit.Declared.TheVariants.{New, Same}
 use Rattle.money_core.specs.declared.cause.Cause.{Cause}
-use Rattle.money_core.specs.declared.cause.Cause.TheVariants.{OutOfMemory, Limit}
+use Rattle.money_core.specs.declared.cause.Cause.TheVariants.{MarkClash, OutOfMemory, Limit}
 use Rattle.money_core.specs.Style.{declared, is_style}
 use Rattle.money_core.specs.Amount.{limit}
 use Rattle.money_core.specs.AmountText.{IsDeclared}
@@ -25,33 +26,40 @@ use Rattle.std.proofs.lemmas.Bool.{and_parts}
 use Rattle.journal_format.specs.declared.txn.Txn.{Txn}
 use Rattle.journal_format.specs.declared.txn.Located.{Located}
 use Rattle.journal_format.specs.Pieces.{posting_limit}
-use Rattle.journal_format.specs.Printable.{is_amount}
+use Rattle.journal_format.specs.Printable.{is_amount, is_posting}
+use Rattle.journal_balance.specs.Legs.{leg}
 use Rattle.treasury_core.specs.declared.record.Record.{Record}
-use Rattle.treasury_core.specs.declared.transfer.Receipt.{Receipt}
+use Rattle.treasury_core.specs.declared.transfer.Part.{Part}
 use Rattle.treasury_core.specs.declared.transfer.Transfer.{Transfer}
 use Rattle.treasury_core.specs.declared.command.Answer.{Answer}
 use Rattle.treasury_core.specs.declared.command.Answer.TheVariants.{Done, Entered, Repeated}
+use Rattle.treasury_core.specs.declared.command.AskedPart.{AskedPart}
 use Rattle.treasury_core.specs.declared.command.Dispatch.{Dispatch}
 use Rattle.treasury_core.specs.declared.command.Receive.{Receive}
+use Rattle.treasury_core.specs.declared.command.Close.{Close}
 use Rattle.treasury_core.specs.declared.command.Command.{Command}
 use Rattle.treasury_core.specs.declared.command.Command.TheVariants as cmd
 use Rattle.treasury_core.specs.Federation.{Branch, Federation, is_branch_name, has_branch, records_in, records_of, lock_of, entries, book_of}
-use Rattle.treasury_core.specs.Mark.{is_held, HaveOwnMarks}
-use Rattle.treasury_core.specs.Transfer.{is_id, is_account_text, is_reserved, has_id, dispatch_record, receipt_record}
+use Rattle.treasury_core.specs.Mark.{held, is_held, HaveOwnMarks}
+use Rattle.treasury_core.specs.Transfer.{is_id, is_account_text, is_reserved, has_id, dispatch_record, receipt_record, all_key, is_all, is_key, receipts_of, left_of, posting, transit_account}
+use Rattle.treasury_core.specs.Choice.{choice_comments, choice_refusal}
 use Rattle.treasury_core.specs.Closing.{close_mark, closing_record, closing_answer, closing_in}
 use Rattle.treasury_core.specs.Joined.{with_entered, with_locked, with_received}
-use Rattle.treasury_core.specs.Step.{unless, reply, done, after, new_records, records_in_file, unbalanced, refused_in, is_lock, goes_back, is_locked, commodity_reply, transfer_at, transfer_of, is_dispatched_so, receipt_of, is_received_so, receipt_reply, receipt_records, entering_refusal, closing_records}
+use Rattle.treasury_core.specs.Step.{unless, reply, done, after, new_records, records_in_file, unbalanced, refused_in, is_lock, goes_back, is_locked, commodity_reply, transfer_at, transfer_of, is_dispatched_so, receipt_of, is_received_so, receipt_reply, entering_refusal, close_refusal, closed_reply, closing_records, key_of, qty_of, has_key, is_too_much, has_bad_key, has_nothing_left, receipt_refusal, held_reply, with_receipt_of}
 use Rattle.treasury_core.specs.Good.{Fits, IsGoodBranch, IsGoodRecord, IsGoodTransfer, IsGoodState}
 use Rattle.treasury_core.specs.History.{Turn, Replies, after_turn, IsRun, state_after, IsNew}
 use Rattle.treasury_core.proofs.FileLemmas.{records_good, all-new, own-new, all_fresh, neither_refusal}
-use Rattle.treasury_core.proofs.BytesLemmas.{same_bytes}
+use Rattle.treasury_core.proofs.BytesLemmas.{same_bytes, neither}
+use Rattle.treasury_core.proofs.MarkLemmas.{not_all}
+use Rattle.treasury_core.proofs.PartLemmas.{le_from, left_high, small_from}
+use Rattle.treasury_core.proofs.ReceiveLemmas.{IsReceipt}
 use Rattle.treasury_core.proofs.FairLemmas.{known, names_of}
 use Rattle.treasury_core.proofs.KeepLemmas.{good_branch, good_style, own_entries, good_entered, good_locked, good_closed}
-use Rattle.treasury_core.proofs.HeldLemmas.{own_push, not_held}
+use Rattle.treasury_core.proofs.HeldLemmas.{own_push}
 use Rattle.treasury_core.proofs.ClosingReply.{not_more}
 use Rattle.treasury_core.proofs.ClosingRecord.{closing_record_good, closing_record_own}
 use Rattle.treasury_core.proofs.DispatchLemmas.{good_dispatched, good_received, dispatch_written}
-use Rattle.treasury_core.proofs.ProductLemmas.{IsWritable, dispatch_good, receipt_good}
+use Rattle.treasury_core.proofs.ProductLemmas.{IsWritable, dispatch_good, amount_of, receipt_good}
 
 -- an answer to a command that is done
 abbrev pub IsDone : Answer → Type 0
@@ -208,13 +216,17 @@ sent f d a is h =
       passes = unlocked.1;
     }
 
-none_found_at : (t u : Bool) (x : Transfer) (o : Option Transfer) → cond t (Some x) o ≡ None → (o ≡ None → u ≡ false) → (t || u) ≡ false
+none_found_at : {X : Type 0} (t u : Bool) (x : X) (o : Option X) → cond t (Some x) o ≡ None → (o ≡ None → u ≡ false) → (t || u) ≡ false
 none_found_at true u x o h k = absurd cc
 none_found_at false u x o h k = k h
 
-none_found : (p : Transfer → Bool) (ts : List Transfer) → find p ts ≡ None → list_any p ts ≡ false
+none_found : {X : Type 0} (p : X → Bool) (ts : List X) → find p ts ≡ None → list_any p ts ≡ false
 none_found p [] h = refl
 none_found p (t ∷ ts) h = none_found_at (p t) (list_any p ts) t (find p ts) h (none_found p ts)
+
+-- nothing is at most a positive amount
+no_parts : (q : ℤ) → int_le (pos 1) q ≡ true → int_le (pos 0) q ≡ true
+no_parts q h = grind (arith, ints)
 
 positive_from : (q : ℤ) → int_le q (pos 0) ≡ false → int_le (pos 1) q ≡ true
 positive_from q h = let k : pos 0 <ℤ q = grind (arith, ints) in grind (arith, ints)
@@ -247,7 +259,7 @@ unfolding done
 done_dispatch f d a is good fits h =
     let s = sent f d a is h in
     let positive = positive_from d.qty s.positive in
-    let fair : IsGoodTransfer f.branches (transfer_of d) = record { id = s.id; source = s.source; target = s.target; apart = s.apart; positive = positive; payer = s.clear; later = tt } in
+    let fair : IsGoodTransfer f.branches (transfer_of d) = record { id = s.id; source = s.source; target = s.target; apart = s.apart; positive = positive; payer = s.clear; parts = record { keys = tt; keyed = tt; each = tt; within = no_parts d.qty positive }; rest = tt } in
     good_dispatched f (transfer_of d) good refl fair (none_found (has_id d.id) f.transfers s.free) (dispatch_record_good f d good fits s.source s.target s.id s.account) s.passes
 
 -- a receipt that was accepted
@@ -255,36 +267,72 @@ pub record IsTaken (f : Federation) (r : Receive) : Type 0 where
   pub transfer : Transfer
   pub found : transfer_at f r.id ≡ Some transfer
   pub target : bytes_eq transfer.target r.branch ≡ true
-  pub none : transfer.receipt ≡ None
+  pub may : IsReceipt transfer (receipt_of transfer r)
   pub account : is_account_text r.account ≡ true
-  pub clear : is_reserved r.account ≡ false
-  pub late : int_lt r.day.0 transfer.day.0 ≡ false
   pub unlocked : is_locked (lock_of f r.branch) r.day ≡ false
-  pub passes : verdict (book_of f r.branch ++ (receipt_record transfer (receipt_of r)).entry ∷ []) ≡ None
+  pub passes : verdict (book_of f r.branch ++ (receipt_record transfer (receipt_of transfer r)).entry ∷ []) ≡ None
 
-not_received : (o : Option Receipt) → is_some o ≡ false → o ≡ None
-not_received None h = refl
-not_received (Some r) h = absurd cc
+late_from : (s r : ℤ) → int_lt r s ≡ false → int_le s r ≡ true
+late_from s r h = grind (arith, ints)
 
-taken_at : (f : Federation) (r : Receive) (a : Answer) (o : Option Transfer) → IsDone a → transfer_at f r.id ≡ o → receipt_reply f r o ≡ Ok a → IsTaken f r
-taken_at f r a None is e h = absurd cc
-taken_at f r a (Some t) is e h =
+-- what is asked for, by whether a part is
+not_false : (b : Bool) → not b ≡ false → b ≡ true
+not_false true h = refl
+not_false false h = absurd cc
+
+key_at : (o : Option AskedPart) → has_bad_key o ≡ false → is_all (key_of o) ≡ false → is_key (key_of o) ≡ true
+key_at None h e = absurd (let k : true ≡ false = e in cc)
+key_at (Some a) h e = not_false (is_key a.key) h
+
+whole_at : (t : Transfer) (o : Option AskedPart) → has_bad_key o ≡ false → is_all (key_of o) ≡ true → qty_of t o ≡ left_of t
+whole_at t None h e = refl
+whole_at t (Some a) h e = absurd (let k : true ≡ false = sym e ∙ not_all a.key (not_false (is_key a.key) h) in cc)
+
+at_most : (y z : ℤ) → int_lt y z ≡ false → z ≤ℤ y
+at_most y z h = grind (arith, ints)
+
+within_at : (t : Transfer) (o : Option AskedPart) → is_too_much t o ≡ false → qty_of t o ≤ℤ left_of t
+within_at t None h = omega (arith, ints)
+within_at t (Some a) h = at_most (left_of t) a.qty (neither (not (nat_eq a.unit.0 t.unit.0)) (int_lt (left_of t) a.qty) h).1
+
+-- what is asked for may come, where no case of its refusal applies
+pub may_receive : (t : Transfer) (r : Receive) → has_bad_key r.part ≡ false → find (has_key (key_of r.part)) (receipts_of t) ≡ None → is_reserved r.account ≡ false → int_le (qty_of t r.part) (pos 0) ≡ false
+    → is_too_much t r.part ≡ false → int_lt r.day.0 t.day.0 ≡ false → IsReceipt t (receipt_of t r)
+may_receive t r bad none clear some enough late = record {
+  key = key_at r.part bad;
+  whole = whole_at t r.part bad;
+  fresh = none_found (has_key (key_of r.part)) (receipts_of t) none;
+  part = record { positive = positive_from (qty_of t r.part) some; later = late_from t.day.0 r.day.0 late; payee = clear };
+  within = within_at t r.part enough;
+}
+
+-- a receipt whose key has none yet
+abbrev IsOpen : Federation → Transfer → Receive → Option Part → Type 0
+IsOpen f t r o = (o ≡ None) × (receipt_refusal (lock_of f r.branch) (records_of f r.branch) t r ≡ None)
+
+open_at : (f : Federation) (t : Transfer) (r : Receive) (a : Answer) (o : Option Part) → IsDone a → held_reply f t r o ≡ Ok a → IsOpen f t r o
+open_at f t r a (Some p) is h = absurd (let k = (not_repeated (is_received_so t r p) _ a is h).1 in cc)
+open_at f t r a None is h =
+    let some = passes (has_nothing_left t r.part) _ _ a h in
+    (refl, no_refusal Done a _ some.1)
+
+taken_at : (f : Federation) (r : Receive) (a : Answer) (o : Option Transfer) → IsDone a → has_bad_key r.part ≡ false → transfer_at f r.id ≡ o → receipt_reply f r o ≡ Ok a → IsTaken f r
+taken_at f r a None is bad e h = absurd cc
+taken_at f r a (Some t) is bad e h =
     let target = holds (bytes_eq t.target r.branch) _ _ a h in
-    let fresh = not_repeated (is_received_so r t.receipt) _ a is target.1 in
-    let none = passes (is_some t.receipt) _ _ a fresh.1 in
-    let unrefused = no_refusal Done a _ none.1 in
-    let account = keeps_to (is_account_text r.account) _ _ unrefused in
+    let fresh = open_at f t r a (find (has_key (key_of r.part)) (receipts_of t)) is target.1 in
+    let account = keeps_to (is_account_text r.account) _ _ fresh.1 in
     let clear = misses (is_reserved r.account) _ _ account.1 in
-    let late = misses (int_lt r.day.0 t.day.0) _ _ clear.1 in
+    let some = misses (int_le (qty_of t r.part) (pos 0)) _ _ clear.1 in
+    let enough = misses (is_too_much t r.part) _ _ some.1 in
+    let late = misses (int_lt r.day.0 t.day.0) _ _ enough.1 in
     let unlocked = misses (is_locked (lock_of f r.branch) r.day) _ _ late.1 in
     record {
       transfer = t;
       found = e;
       target = target.0;
-      none = not_received t.receipt none.0;
+      may = may_receive t r bad fresh.0 clear.0 some.0 enough.0 late.0;
       account = account.0;
-      clear = clear.0;
-      late = late.0;
       unlocked = unlocked.0;
       passes = unlocked.1;
     }
@@ -294,10 +342,8 @@ unfolding reply
 taken f r a is h =
     let branch = holds (has_branch f r.branch) _ _ a h in
     let id = holds (is_id r.id) _ _ a branch.1 in
-    taken_at f r a (transfer_at f r.id) is refl id.1
-
-late_from : (s r : ℤ) → int_lt r s ≡ false → int_le s r ≡ true
-late_from s r h = grind (arith, ints)
+    let bad = passes (has_bad_key r.part) _ _ a id.1 in
+    taken_at f r a (transfer_at f r.id) is bad.0 refl bad.1
 
 pub found_transfer : (P : Transfer → Type 0) (id : List ℕ) (ts : List Transfer) (t : Transfer) → find (has_id id) ts ≡ Some t → AllByRecursion P ts → P t × (t.id ≡ id)
 found_transfer P id [] t e h = absurd cc
@@ -307,77 +353,113 @@ found_transfer P id (x ∷ xs) t e h = found_at (bytes_eq x.id id) refl e (found
     found_at true g e k h = subst (λ y. P y × (y.id ≡ id)) (let s : x ≡ t = cc in s) (h.0, same_bytes x.id id g)
     found_at false g e k h = k e h.1
 
+-- the quantity of a transfer is within the limit
+pub amount_small : (f : Federation) (t : Transfer) → IsGoodRecord f.styles (dispatch_record t) → unsigned_abs t.qty ≤ limit
+amount_small f t written =
+    let account = transit_account t.source t.target in
+    let first = (and_parts (is_posting f.styles (posting (leg account t.unit t.qty))) _ written.printable.postings).0 in
+    leb-true (unsigned_abs t.qty) limit (and_parts _ _ (amount_of f.styles account t.unit t.qty first)).1
+
+-- and so is what is received of it
+receipt_small : (f : Federation) (t : Transfer) (p : Part) → IsGoodTransfer f.branches t → IsGoodRecord f.styles (dispatch_record t) → IsReceipt t p → unsigned_abs p.qty ≤ limit
+receipt_small f t p fair written may =
+    let low = le_from (pos 1) p.qty may.part.positive in
+    let amount = le_from (pos 1) t.qty fair.positive in
+    let high = left_high t fair.parts (omega (arith, ints)) in
+    let within = may.within in
+    small_from p.qty t.qty (omega (arith, ints)) (omega (arith, ints)) (amount_small f t written)
+
 -- the record of a receipt can be printed, and has its entry
-pub receipt_record_good : (f : Federation) (r : Receive) (t : Transfer) → IsGoodState f → Fits f.styles (cmd.Receive r) → transfer_at f r.id ≡ Some t → is_account_text r.account ≡ true
-    → IsGoodRecord f.styles (receipt_record t (receipt_of r))
-receipt_record_good f r t good fits found written =
+pub receipt_record_good : (f : Federation) (r : Receive) (t : Transfer) → IsGoodState f → Fits f.styles (cmd.Receive r) → transfer_at f r.id ≡ Some t → IsReceipt t (receipt_of t r) → is_account_text r.account ≡ true
+    → IsGoodRecord f.styles (receipt_record t (receipt_of t r))
+receipt_record_good f r t good fits found may written =
     let fair = found_transfer (IsGoodTransfer f.branches) r.id f.transfers t found good.transfers in
     let here : find (has_id t.id) f.transfers ≡ Some t = ap (λ (m : List ℕ). find (has_id m) f.transfers) fair.1 ∙ found in
     let account = and_parts (is_account r.account) (is_utf8 r.account) written in
-    receipt_good f.styles t (receipt_of r) good.styles fair.0.id (name_known f t.source good fair.0.source) (name_known f t.target good fair.0.target) (dispatch_written f t good here fair.0) fits.day account.0 account.1
+    let sent = dispatch_written f t good here fair.0 in
+    receipt_good f.styles t (receipt_of t r) good.styles fair.0.id (name_known f t.source good fair.0.source) (name_known f t.target good fair.0.target) sent may.key
+    (receipt_small f t (receipt_of t r) fair.0 sent may) fits.day account.0 account.1
 
 received_good : (f : Federation) (r : Receive) (a : Answer) → IsGoodState f → Fits f.styles (cmd.Receive r) → (got : IsTaken f r)
-    → IsGoodState (with_received (with_entered f r.branch (receipt_record got.transfer (receipt_of r) ∷ [])) r.id (receipt_of r))
+    → IsGoodState (with_received (with_entered f r.branch (receipt_record got.transfer (receipt_of got.transfer r) ∷ [])) r.id (receipt_of got.transfer r))
 received_good f r a good fits got =
     let t = got.transfer in
+    let p = receipt_of t r in
     let fair = found_transfer (IsGoodTransfer f.branches) r.id f.transfers t got.found good.transfers in
     let here : find (has_id t.id) f.transfers ≡ Some t = ap (λ (m : List ℕ). find (has_id m) f.transfers) fair.1 ∙ got.found in
     let name = same_bytes t.target r.branch got.target in
-    let written = receipt_record_good f r t good fits got.found got.account in
-    let passes_ : verdict (book_of f t.target ++ (receipt_record t (receipt_of r)).entry ∷ []) ≡ None = ap (λ (m : List ℕ). verdict (book_of f m ++ (receipt_record t (receipt_of r)).entry ∷ [])) name ∙ got.passes in
-    let result = good_received f t (receipt_of r) good here got.none fair.0 (late_from t.day.0 r.day.0 got.late, got.clear) written passes_ in
-    let P : List ℕ → List ℕ → Type 0 = λ m n. IsGoodState (with_received (with_entered f m (receipt_record t (receipt_of r) ∷ [])) n (receipt_of r)) in
+    let written = receipt_record_good f r t good fits got.found got.may got.account in
+    let passes_ : verdict (book_of f t.target ++ (receipt_record t p).entry ∷ []) ≡ None = ap (λ (m : List ℕ). verdict (book_of f m ++ (receipt_record t p).entry ∷ [])) name ∙ got.passes in
+    let result = good_received f t p good here fair.0 got.may written passes_ in
+    let P : List ℕ → List ℕ → Type 0 = λ m n. IsGoodState (with_received (with_entered f m (receipt_record t p ∷ [])) n p) in
     subst (λ m. P m r.id) name (subst (λ n. P t.target n) fair.1 result)
 
 done_receive : (f : Federation) (r : Receive) (a : Answer) → IsDone a → IsGoodState f → Fits f.styles (cmd.Receive r) → reply f (cmd.Receive r) ≡ Ok a → IsGoodState (done f (cmd.Receive r))
 unfolding done
 done_receive f r a is good fits h =
     let got = taken f r a is h in
-    subst (λ (o : Option Transfer). IsGoodState (with_received (with_entered f r.branch (receipt_records r o)) r.id (receipt_of r))) (sym got.found) (received_good f r a good fits got)
+    subst (λ (o : Option Transfer). IsGoodState (with_receipt_of f r o)) (sym got.found) (received_good f r a good fits got)
 
 -- a closing that was accepted
-pub record IsShut (f : Federation) (name : List ℕ) (day : Day) : Type 0 where
+pub record IsShut (f : Federation) (x : Close) : Type 0 where
   pub txn : Txn
-  pub there : has_branch f name ≡ true
-  pub fresh : is_held (records_of f name) (close_mark day) ≡ false
-  pub unlocked : is_locked (lock_of f name) day ≡ false
-  pub closes : closing_in f name day ≡ Some txn
+  pub there : has_branch f x.branch ≡ true
+  pub fresh : held (records_of f x.branch) (close_mark x.day) ≡ None
+  pub chosen : choice_refusal x.choice ≡ None
+  pub unlocked : is_locked (lock_of f x.branch) x.day ≡ false
+  pub closes : closing_in f x.branch x.day x.choice ≡ Some txn
   pub few : length txn.postings ≤ posting_limit
-  pub passes : verdict (book_of f name ++ entries (closing_record day txn ∷ [])) ≡ None
+  pub passes : verdict (book_of f x.branch ++ entries (closing_record x.day txn ∷ [])) ≡ None
 
 limited : (held : List Record) (day : Day) (t : Txn) (b : Bool) → entering_refusal held day (if b then Err (Plain Limit) else Ok t) ≡ None → (b ≡ false) × (verdict (entries held ++ entries (closing_record day t ∷ [])) ≡ None)
 limited held day t true h = absurd cc
 limited held day t false h = (refl, h)
 
-shut_at : (f : Federation) (name : List ℕ) (day : Day) (o : Option Txn) → has_branch f name ≡ true → is_held (records_of f name) (close_mark day) ≡ false → is_locked (lock_of f name) day ≡ false → closing_in f name day ≡ o
-    → entering_refusal (records_of f name) day (closing_answer o) ≡ None → IsShut f name day
-shut_at f name day None there fresh unlocked e h = absurd cc
-shut_at f name day (Some t) there fresh unlocked e h =
-    let parts = limited (records_of f name) day t (nat_lt posting_limit (length t.postings)) h in
-    record { txn = t; there = there; fresh = fresh; unlocked = unlocked; closes = e; few = not_more (length t.postings) parts.0; passes = parts.1 }
+shut_at : (f : Federation) (x : Close) (o : Option Txn) → has_branch f x.branch ≡ true → held (records_of f x.branch) (close_mark x.day) ≡ None → choice_refusal x.choice ≡ None → is_locked (lock_of f x.branch) x.day ≡ false
+    → closing_in f x.branch x.day x.choice ≡ o → entering_refusal (records_of f x.branch) x.day (closing_answer o) ≡ None → IsShut f x
+shut_at f x None there fresh chosen unlocked e h = absurd cc
+shut_at f x (Some t) there fresh chosen unlocked e h =
+    let parts = limited (records_of f x.branch) x.day t (nat_lt posting_limit (length t.postings)) h in
+    record { txn = t; there = there; fresh = fresh; chosen = chosen; unlocked = unlocked; closes = e; few = not_more (length t.postings) parts.0; passes = parts.1 }
 
-pub shut : (f : Federation) (name : List ℕ) (day : Day) (a : Answer) → IsDone a → reply f (cmd.Close name day) ≡ Ok a → IsShut f name day
+-- a day that was closed before is answered without anything done
+abbrev again : Bool → Result Answer Refusal
+again t = if t then Ok Repeated else Err (Plain MarkClash)
+
+not_again : (t : Bool) (a : Answer) → IsDone a → again t ≡ Ok a → ⊥
+not_again true Done d h = cc
+not_again true (Entered new repeated) d h = cc
+not_again true Repeated d h = d
+not_again false a d h = cc
+
+closed_fresh : (f : Federation) (x : Close) (o : Option Record) (a : Answer) → IsDone a → closed_reply f x o ≡ Ok a
+    → (o ≡ None) × (close_refusal (lock_of f x.branch) (records_of f x.branch) x (closing_in f x.branch x.day x.choice) ≡ None)
+closed_fresh f x None a is h = (refl, no_refusal Done a _ h)
+closed_fresh f x (Some r) a is h = absurd (not_again (pointwise bytes_eq r.txn.comments (choice_comments x.choice)) a is h)
+
+pub shut : (f : Federation) (x : Close) (a : Answer) → IsDone a → reply f (cmd.Close x) ≡ Ok a → IsShut f x
 unfolding reply
-shut f name day a is h =
-    let there = holds (has_branch f name) _ _ a h in
-    let fresh = not_repeated (is_held (records_of f name) (close_mark day)) _ a is there.1 in
-    let none = no_refusal Done a _ fresh.1 in
-    let unlocked = misses (is_locked (lock_of f name) day) _ _ none in
-    shut_at f name day (closing_in f name day) there.0 fresh.0 unlocked.0 refl unlocked.1
+shut f x a is h =
+    let there = holds (has_branch f x.branch) _ _ a h in
+    let fresh = closed_fresh f x (held (records_of f x.branch) (close_mark x.day)) a is there.1 in
+    let parts = neither_refusal (choice_refusal x.choice) _ fresh.1 in
+    let unlocked = misses (is_locked (lock_of f x.branch) x.day) _ _ parts.1 in
+    shut_at f x (closing_in f x.branch x.day x.choice) there.0 fresh.0 parts.0 unlocked.0 refl unlocked.1
 
 -- a day that is not locked is behind the lock day
 pub unlocked_forward : (lock : Option Day) (day : Day) → is_locked lock day ≡ false → goes_back lock day ≡ false
 unlocked_forward None day h = refl
 unlocked_forward (Some lock) day h = grind (arith, ints)
 
-done_close : (f : Federation) (name : List ℕ) (day : Day) (a : Answer) → IsDone a → IsGoodState f → Fits f.styles (cmd.Close name day) → reply f (cmd.Close name day) ≡ Ok a → IsGoodState (done f (cmd.Close name day))
+done_close : (f : Federation) (x : Close) (a : Answer) → IsDone a → IsGoodState f → Fits f.styles (cmd.Close x) → reply f (cmd.Close x) ≡ Ok a → IsGoodState (done f (cmd.Close x))
 unfolding done
-done_close f name day a is good fits h =
-    let s = shut f name day a is h in
-    let r = closing_record day s.txn in
-    let marks = own_push (records_of f name) r (own_marks_of f name good) (not_held (records_of f name) (close_mark day) s.fresh) in
-    subst (λ (o : Option Txn). IsGoodState (with_locked (with_entered f name (closing_records day o)) name day)) (sym s.closes)
-    (good_closed f name day (r ∷ []) good (unlocked_forward (lock_of f name) day s.unlocked) marks (closing_record_good f name day s.txn good fits s.closes s.few, tt) (closing_record_own f name day s.txn s.closes, tt) s.passes)
+done_close f x a is good fits h =
+    let s = shut f x a is h in
+    let r = closing_record x.day s.txn in
+    let marks = own_push (records_of f x.branch) r (own_marks_of f x.branch good) s.fresh in
+    subst (λ (o : Option Txn). IsGoodState (with_locked (with_entered f x.branch (closing_records x.day o)) x.branch x.day)) (sym s.closes)
+    (good_closed f x.branch x.day (r ∷ []) good (unlocked_forward (lock_of f x.branch) x.day s.unlocked) marks
+    (closing_record_good f x.branch x.day x.choice s.txn good fits s.chosen s.closes s.few, tt) (closing_record_own f x.branch x.day x.choice s.txn s.chosen s.closes, tt) s.passes)
 
 -- all commands
 done_good : (f : Federation) (c : Command) (a : Answer) → IsDone a → IsGoodState f → Fits f.styles c → reply f c ≡ Ok a → IsGoodState (done f c)
@@ -387,7 +469,7 @@ done_good f (cmd.Enter name file) a is good fits h = done_enter f name file a go
 done_good f (cmd.Dispatch d) a is good fits h = done_dispatch f d a is good fits h
 done_good f (cmd.Receive r) a is good fits h = done_receive f r a is good fits h
 done_good f (cmd.Lock name day) a is good fits h = done_lock f name day a is good h
-done_good f (cmd.Close name day) a is good fits h = done_close f name day a is good fits h
+done_good f (cmd.Close x) a is good fits h = done_close f x a is good fits h
 
 abbrev no_memory : Result Answer Refusal
 no_memory = Err (Plain OutOfMemory)

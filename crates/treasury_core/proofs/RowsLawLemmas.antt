@@ -24,17 +24,22 @@ use Rattle.treasury_core.specs.declared.rows.BranchRow.{BranchRow}
 use Rattle.treasury_core.specs.declared.rows.EntryRow.{EntryRow}
 use Rattle.treasury_core.specs.declared.rows.TransferRow.{TransferRow}
 use Rattle.treasury_core.specs.declared.rows.Parts.{Parts}
+use Rattle.treasury_core.specs.declared.transfer.Part.{Part}
 use Rattle.treasury_core.specs.declared.transfer.Receipt.{Receipt}
 use Rattle.treasury_core.specs.declared.transfer.Transfer.{Transfer}
 use Rattle.treasury_core.specs.Federation.{Branch, Federation, has_name, name_place}
+use Rattle.treasury_core.specs.Transfer.{has_id}
 use Rattle.treasury_core.specs.Good.{IsGoodRecord, IsGoodTransfer, IsGoodState}
-use Rattle.treasury_core.specs.Rows.{truth, unit_row, branch_row, branch_rows_from, entry_row, entry_rows_from, entry_rows_in, transfer_row, rows}
+use Rattle.treasury_core.specs.Rows.{truth, unit_row, branch_row, branch_rows_from, entry_row, entry_rows_from, entry_rows_in, transfer_row, part_row, part_rows, rows}
 use Rattle.treasury_core.proofs.ChangeLemmas.{all_weaker}
 use Rattle.treasury_core.proofs.DraftLemmas.{numbered, heads, tails}
 use Rattle.treasury_core.proofs.UnitRowLemmas.{same_style}
 use Rattle.treasury_core.proofs.EntryRowLemmas.{IsBodyOf, ReadsRow, printable_unmarked, body_reads, record_only}
 use Rattle.treasury_core.proofs.BranchRowLemmas.{AreGood, own_rows, other_rows}
+use Rattle.treasury_core.proofs.AskedLemmas.{HaveOwnIds}
+use Rattle.treasury_core.proofs.OrderLemmas.{own_ids}
 use Rattle.treasury_core.proofs.TransferRowLemmas.{unnumbered, name_found}
+use Rattle.treasury_core.proofs.PartRowLemmas.{IsOf, same_part, own_rows as part_own_rows, other_rows as part_other_rows}
 use Rattle.treasury_core.proofs.DraftedLemmas.{good_records}
 
 -- lists with the same rows are equal, where items are
@@ -101,7 +106,7 @@ same_record styles are b n r s good other e =
     ∙ ap (λ (o : Option (List ℕ)). let x : Record = record { mark = s.mark; txn = marked s.txn o; entry = s.entry } in x) (sym other.marked)
 
 -- branches
-same_split : (P : EntryRow → Type 0) (a b c d : List EntryRow) → AllByRecursion P a → AllByRecursion (λ r. P r → ⊥) b → AllByRecursion P c → AllByRecursion (λ r. P r → ⊥) d → a ++ b ≡ c ++ d → (a ≡ c) × (b ≡ d)
+same_split : {T : Type 0} (P : T → Type 0) (a b c d : List T) → AllByRecursion P a → AllByRecursion (λ r. P r → ⊥) b → AllByRecursion P c → AllByRecursion (λ r. P r → ⊥) d → a ++ b ≡ c ++ d → (a ≡ c) × (b ≡ d)
 same_split P [] b [] d h i j k e = (refl, e)
 same_split P [] b (y ∷ c) d h i j k e = absurd ((subst (AllByRecursion (λ r. P r → ⊥)) e i).0 j.0)
 same_split P (x ∷ a) b [] d h i j k e = absurd ((subst (AllByRecursion (λ r. P r → ⊥)) (sym e) k).0 h.0)
@@ -158,19 +163,20 @@ same_receipt (Some c) (Some d) e f =
 abbrev pub IsThere : List Branch → Transfer → Type 0
 IsThere bs t = (list_any (has_name t.source) bs ≡ true) × (list_any (has_name t.target) bs ≡ true)
 
-same_transfer_of : (t u : Transfer) → t.id ≡ u.id → t.source ≡ u.source → t.target ≡ u.target → t.unit ≡ u.unit → t.qty ≡ u.qty → t.day ≡ u.day → t.payer ≡ u.payer → t.receipt ≡ u.receipt → t ≡ u
-same_transfer_of t u a b c d e f g h =
+same_transfer_of : (t u : Transfer) → t.id ≡ u.id → t.source ≡ u.source → t.target ≡ u.target → t.unit ≡ u.unit → t.qty ≡ u.qty → t.day ≡ u.day → t.payer ≡ u.payer → t.parts ≡ u.parts → t.receipt ≡ u.receipt → t ≡ u
+same_transfer_of t u a b c d e f g i h =
     ap (λ (x : List ℕ). let y : Transfer = record t { id = x } in y) a
     ∙ ap (λ (x : List ℕ). let y : Transfer = record t { id = u.id; source = x } in y) b
     ∙ ap (λ (x : List ℕ). let y : Transfer = record t { id = u.id; source = u.source; target = x } in y) c
     ∙ ap (λ (x : Commodity). let y : Transfer = record t { id = u.id; source = u.source; target = u.target; unit = x } in y) d
     ∙ ap (λ (x : ℤ). let y : Transfer = record t { id = u.id; source = u.source; target = u.target; unit = u.unit; qty = x } in y) e
     ∙ ap (λ (x : Day). let y : Transfer = record t { id = u.id; source = u.source; target = u.target; unit = u.unit; qty = u.qty; day = x } in y) f
-    ∙ ap (λ (x : List ℕ). let y : Transfer = record u { payer = x; receipt = t.receipt } in y) g
+    ∙ ap (λ (x : List ℕ). let y : Transfer = record u { payer = x; parts = t.parts; receipt = t.receipt } in y) g
+    ∙ ap (λ (x : List Part). let y : Transfer = record u { parts = x; receipt = t.receipt } in y) i
     ∙ ap (λ (x : Option Receipt). let y : Transfer = record u { receipt = x } in y) h
 
-same_row : (bs : List Branch) (n : ℕ) (t u : Transfer) → IsThere bs t → IsThere bs u → transfer_row bs t ≡ transfer_row bs u → t ≡ u
-same_row bs n t u h k e =
+same_row : (bs : List Branch) (t u : Transfer) → IsThere bs t → IsThere bs u → transfer_row bs t ≡ transfer_row bs u → t.parts ≡ u.parts → t ≡ u
+same_row bs t u h k e parts =
     same_transfer_of t u (ap (λ (r : TransferRow). r.id) e)
     (same_name bs t.source u.source h.0 k.0 (same_pos (name_place bs t.source) (name_place bs u.source) (ap (λ (r : TransferRow). r.source) e)))
     (same_name bs t.target u.target h.1 k.1 (same_pos (name_place bs t.target) (name_place bs u.target) (ap (λ (r : TransferRow). r.target) e)))
@@ -178,14 +184,31 @@ same_row bs n t u h k e =
     (ap (λ (r : TransferRow). r.qty) e)
     (ap (λ (z : ℤ). let x : Day = record { 0 = z } in x) (ap (λ (r : TransferRow). r.dispatched) e))
     (ap (λ (r : TransferRow). r.payer) e)
+    parts
     (same_receipt t.receipt u.receipt (ap (λ (r : TransferRow). r.received) e) (ap (λ (r : TransferRow). r.payee) e))
 
 there : (bs : List Branch) (ts : List Transfer) → AllByRecursion (IsGoodTransfer bs) ts → AllByRecursion (IsThere bs) ts
 there bs ts h = all_weaker (IsGoodTransfer bs) (IsThere bs) ts (λ t k. (k.source, k.target)) h
 
-same_transfers : (bs : List Branch) (ts us : List Transfer) → AllByRecursion (IsThere bs) ts → AllByRecursion (IsThere bs) us → map (transfer_row bs) ts ≡ map (transfer_row bs) us → ts ≡ us
-same_transfers bs ts us h k e =
-    same_numbered (λ (n : ℕ). transfer_row bs) (IsThere bs) (same_row bs) 0 ts us h k (unnumbered (transfer_row bs) 0 ts ∙ (e ∙ sym (unnumbered (transfer_row bs) 0 us)))
+-- the rows of parts at the front are those of the first transfer, and the others those of the next ones
+same_front : (id : List ℕ) (ps qs : List Part) (ts us : List Transfer) → list_any (has_id id) ts ≡ false → list_any (has_id id) us ≡ false → map (part_row id) ps ++ part_rows ts ≡ map (part_row id) qs ++ part_rows us
+    → (ps ≡ qs) × (part_rows ts ≡ part_rows us)
+same_front id ps qs ts us h k e =
+    let split = same_split (IsOf id) (map (part_row id) ps) (part_rows ts) (map (part_row id) qs) (part_rows us) (part_own_rows id ps) (part_other_rows id ts h) (part_own_rows id qs) (part_other_rows id us k) e in
+    (same_numbered (λ (n : ℕ). part_row id) (λ p. Unit {0}) (λ n p q h k f. same_part id p q f) 0 ps qs (all_any ps) (all_any qs) (unnumbered (part_row id) 0 ps ∙ (split.0 ∙ sym (unnumbered (part_row id) 0 qs))), split.1)
+
+same_transfers : (bs : List Branch) (ts us : List Transfer) → AllByRecursion (IsThere bs) ts → AllByRecursion (IsThere bs) us → HaveOwnIds ts → HaveOwnIds us → map (transfer_row bs) ts ≡ map (transfer_row bs) us → part_rows ts ≡ part_rows us → ts ≡ us
+same_transfers bs [] [] h k m n e f = refl
+same_transfers bs [] (u ∷ us) h k m n e f = absurd cc
+same_transfers bs (t ∷ ts) [] h k m n e f = absurd cc
+same_transfers bs (t ∷ ts) (u ∷ us) h k m n e f =
+    let row = heads (transfer_row bs t) (transfer_row bs u) (map (transfer_row bs) ts) (map (transfer_row bs) us) e in
+    let id : t.id ≡ u.id = ap (λ (r : TransferRow). r.id) row in
+    let here : map (part_row t.id) t.parts ++ part_rows ts ≡ map (part_row t.id) u.parts ++ part_rows us = f ∙ ap (λ (k : List ℕ). map (part_row k) u.parts ++ part_rows us) (sym id) in
+    let both = same_front t.id t.parts u.parts ts us m.0 (ap (λ (k : List ℕ). list_any (has_id k) us) id ∙ n.0) here in
+    let first = same_row bs t u h.0 k.0 row both.0 in
+    let others = same_transfers bs ts us h.1 k.1 m.1 n.1 (tails (transfer_row bs t) (transfer_row bs u) (map (transfer_row bs) ts) (map (transfer_row bs) us) e) both.1 in
+    ap (λ (x : Transfer). x ∷ ts) first ∙ ap (λ (xs : List Transfer). u ∷ xs) others
 
 pub same_state : (f g : Federation) → IsGoodState f → IsGoodState g → rows f ≡ rows g → f ≡ g
 same_state f g good other e =
@@ -195,7 +218,7 @@ same_state f g good other e =
     let branches = same_branches g.styles other.styles 0 f.branches g.branches records (good_records g other) (ap (λ (p : Parts). p.branches) e) entered in
     let mine = subst (λ (bs : List Branch). AllByRecursion (IsThere bs) f.transfers) branches (there f.branches f.transfers good.transfers) in
     let sent = subst (λ (bs : List Branch). map (transfer_row bs) f.transfers ≡ map (transfer_row g.branches) g.transfers) branches (ap (λ (p : Parts). p.transfers) e) in
-    let transfers = same_transfers g.branches f.transfers g.transfers mine (there g.branches g.transfers other.transfers) sent in
+    let transfers = same_transfers g.branches f.transfers g.transfers mine (there g.branches g.transfers other.transfers) (own_ids f.transfers good.ids) (own_ids g.transfers other.ids) sent (ap (λ (p : Parts). p.receipts) e) in
     ap (λ (x : List Style). let y : Federation = record { styles = x; branches = f.branches; transfers = f.transfers } in y) styles
     ∙ ap (λ (x : List Branch). let y : Federation = record { styles = g.styles; branches = x; transfers = f.transfers } in y) branches
     ∙ ap (λ (x : List Transfer). let y : Federation = record { styles = g.styles; branches = g.branches; transfers = x } in y) transfers

@@ -3,7 +3,7 @@ use Rattle.std.proofs.Common.{◌≡◌, ◌<◌, ◌≤◌, ◌+◌, ℕ, zero,
 use Rattle.std.specs.Prelude.{◌↔◌, IsTrue, if◌then◌else◌}
 use Rattle.std.specs.Str.{bytes_eq}
 use Rattle.std.specs.List.{slice_get}
-use Rattle.std.proofs.lemmas.List.{drop_all, take-append-drop}
+use Rattle.std.proofs.lemmas.List.{drop_all, take-append-drop, length-map}
 use Rattle.treasury_core.specs.declared.record.Record.{Record}
 use Rattle.treasury_core.specs.declared.transfer.Transfer.{Transfer}
 use Rattle.treasury_core.specs.Federation.{Branch, Federation, name_place}
@@ -16,7 +16,7 @@ use Rattle.treasury_core.specs.declared.rows.ClaimRow.{ClaimRow}
 use Rattle.treasury_core.specs.declared.rows.TransferRow.{TransferRow}
 use Rattle.treasury_core.specs.declared.rows.PartRow.{PartRow}
 use Rattle.treasury_core.specs.declared.rows.Parts.{Parts}
-use Rattle.treasury_core.specs.Rows.{unit_rows, branch_rows_from, entry_row, entry_rows_from, entry_rows_in, leg_rows_in, claim_rows_in, transfer_row, rows}
+use Rattle.treasury_core.specs.Rows.{unit_rows, branch_rows_from, entry_row, entry_rows_from, entry_rows_in, leg_rows_in, claim_rows_in, transfer_row, part_row, part_rows, rows}
 use Rattle.treasury_core.proofs.BranchRowLemmas.{AreGood}
 use Rattle.treasury_core.proofs.BytesLemmas.{same_bytes, self_bytes}
 use Rattle.treasury_core.specs.Drafted.{record_rows_from, record_rows_in}
@@ -170,6 +170,47 @@ same_parts p q a b c d e f g =
     ∙ ap (λ (x : List TransferRow). let y : Parts = record q { transfers = x; receipts = p.receipts } in y) f
     ∙ ap (λ (x : List PartRow). let y : Parts = record q { receipts = x } in y) g
 
+-- whether all rows are those of the parts of transfers, as far as that is still open
+abbrev pub PartsLeft : ℕ → List Transfer → List PartRow → List PartRow → Type 0
+PartsLeft i ts list left = (part_rows (drop i ts) ≡ left) ↔ (part_rows ts ≡ list)
+
+pub parts_start : (ts : List Transfer) (list : List PartRow) → PartsLeft 0 ts list list
+parts_start ts list = (λ e. e, λ e. e)
+
+parts_first : (ts : List Transfer) (i : ℕ) (t : Transfer) → i < length ts → t ≡ get_or ts i t → part_rows (drop i ts) ≡ map (part_row t.id) t.parts ++ part_rows (drop (i + 1) ts)
+parts_first ts i t h is = ap part_rows (less ts i t h is)
+
+pub parts_next : (ts : List Transfer) (i count : ℕ) (t : Transfer) (list left : List PartRow) → i < length ts → t ≡ get_or ts i t → map (part_row t.id) t.parts ≡ take count left → PartsLeft i ts list left → PartsLeft (i + 1) ts list (drop count left)
+parts_next ts i count t list left h is own walk =
+    let front = parts_first ts i t h is in
+    let rest = part_rows (drop (i + 1) ts) in
+    let whole : left ≡ map (part_row t.id) t.parts ++ drop count left = sym (split_at count left) ∙ ap (λ xs. xs ++ drop count left) (sym own) in (
+      λ e. walk.0 (front ∙ (ap (λ xs. map (part_row t.id) t.parts ++ xs) e ∙ sym whole)),
+      λ e. append_same (map (part_row t.id) t.parts) rest (drop count left) (sym front ∙ (walk.1 e ∙ whole)),
+    )
+
+pub parts_other : (ts : List Transfer) (i count : ℕ) (t : Transfer) (list left : List PartRow) → i < length ts → t ≡ get_or ts i t → count ≡ length t.parts → (map (part_row t.id) t.parts ≡ take count left → ⊥) → PartsLeft i ts list left → part_rows ts ≡ list → ⊥
+parts_other ts i count t list left h is size other walk e =
+    let own = map (part_row t.id) t.parts in
+    let rest = part_rows (drop (i + 1) ts) in
+    let whole : left ≡ own ++ rest = sym (walk.1 e) ∙ parts_first ts i t h is in
+    let long : count ≡ length own = size ∙ sym (length-map t.parts (part_row t.id)) in
+    other (sym (ap (take count) whole ∙ (ap (λ (k : ℕ). take k (own ++ rest)) long ∙ take_own own rest)))
+
+pub parts_short : (ts : List Transfer) (i count : ℕ) (t : Transfer) (list left : List PartRow) → i < length ts → t ≡ get_or ts i t → count ≡ length t.parts → length left < count → PartsLeft i ts list left → part_rows ts ≡ list → ⊥
+parts_short ts i count t list left h is size few walk e =
+    let own = map (part_row t.id) t.parts in
+    let rest = part_rows (drop (i + 1) ts) in
+    let whole = ap (λ xs. length xs) (sym (walk.1 e) ∙ parts_first ts i t h is) in
+    let long = length_own own rest in
+    let sized = length-map t.parts (part_row t.id) in
+    omega (arith, whole, long, size, sized, few)
+
+pub parts_end : (ts : List Transfer) (i : ℕ) (list left : List PartRow) → length ts ≤ i → PartsLeft i ts list left → (left ≡ []) ↔ (part_rows ts ≡ list)
+parts_end ts i list left h walk =
+    let none : part_rows (drop i ts) ≡ [] = ap part_rows (drop_all i ts h) in
+    (λ e. walk.0 (none ∙ sym e), λ e. sym (walk.1 e) ∙ none)
+
 -- nothing stands past the end
 pub none_past : {X : Type 0} (xs : List X) (i : ℕ) → slice_get xs i ≡ None → length xs ≤ i
 none_past [] i e = omega arith
@@ -228,10 +269,10 @@ pub claims_of_rows : (f : Federation) (parts : Parts) (styles : List Style) (xs 
 claims_of_rows f parts styles xs ts h e = ap (claim_rows_in 0) h.branched ∙ ap (λ (p : Parts). p.claims) e
 
 pub all_rows : (f : Federation) (parts : Parts) (styles : List Style) (xs : List Branch) (ts : List Transfer) → Seen f styles xs ts → unit_rows styles ≡ parts.units → branch_rows_from 0 xs ≡ parts.branches
-    → rows_of_entries styles xs ≡ parts.entries → leg_rows_in 0 xs ≡ parts.legs → claim_rows_in 0 xs ≡ parts.claims → map (transfer_row xs) ts ≡ parts.transfers → parts.receipts ≡ [] → rows f ≡ parts
-all_rows f parts styles xs ts h u b e l c t none =
+    → rows_of_entries styles xs ≡ parts.entries → leg_rows_in 0 xs ≡ parts.legs → claim_rows_in 0 xs ≡ parts.claims → map (transfer_row xs) ts ≡ parts.transfers → part_rows ts ≡ parts.receipts → rows f ≡ parts
+all_rows f parts styles xs ts h u b e l c t p =
     same_parts (rows f) parts (ap unit_rows (sym h.styled) ∙ u) (ap (branch_rows_from 0) (sym h.branched) ∙ b)
     (ap (λ (ss : List Style). entry_rows_in ss 0 f.branches) (sym h.styled) ∙ (ap (entry_rows_in styles 0) (sym h.branched) ∙ (sym (single_in styles 0 xs) ∙ e)))
     (ap (leg_rows_in 0) (sym h.branched) ∙ l) (ap (claim_rows_in 0) (sym h.branched) ∙ c)
     (ap (λ (us : List Transfer). map (transfer_row f.branches) us) (sym h.sent) ∙ (ap (λ (ys : List Branch). map (transfer_row ys) ts) (sym h.branched) ∙ t))
-    (sym none)
+    (ap part_rows (sym h.sent) ∙ p)

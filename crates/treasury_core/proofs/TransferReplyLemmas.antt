@@ -1,32 +1,40 @@
 -- what a dispatch and a receipt are answered, case by case
-use Rattle.std.proofs.Common.{◌≡◌, ◌⊎◌, ◌≤◌, ℕ, Bool, true, false, List, [], ◌∷◌, refl, ap, ◌∙◌, sym, subst, inl, inr, Option, Some, None, Ok, Err}
-use Rattle.std.specs.Prelude.{Result, IfOk, IfErr, OnOk, MatchResult, find, unsigned_abs, not}
+use Rattle.std.proofs.Common.{◌≡◌, ◌⊎◌, ◌≤◌, ◌≤ℤ◌, pos, ℕ, Bool, true, false, ◌&&◌, cond, List, [], ◌∷◌, refl, ap, ◌∙◌, sym, subst, inl, inr, arith, Option, Some, None, Ok, Err}
+use Rattle.std.specs.Prelude.{Result, IfOk, IfErr, IfSome, OnOk, MatchResult, find, unsigned_abs, not, if◌then◌else◌}
+use Rattle.std.specs.Option.{option_map, option_or}
+use Rattle.std.specs.Ordering.{int_eq}
+use Rattle.std.specs.List.{list_any}
+use Rattle.std.proofs.lemmas.List.Folds.{find-append}
 use Rattle.std.specs.Str.{bytes_eq}
-use Rattle.std.proofs.lemmas.Bool.{and_parts, leb-true}
+use Rattle.std.proofs.lemmas.Int.{ints}
+use Rattle.money_core.specs.declared.style.Style.{Style}
+use Rattle.money_core.specs.AmountText.{IsDeclared}
 use Rattle.money_core.specs.declared.cause.Cause.TheVariants.{OutOfMemory, UnknownBranch, SameBranch, BadId, MarkClash, UnknownTransfer, WrongBranch, AlreadyReceived}
 use Rattle.money_core.specs.Amount.{limit}
 use Rattle.book_core.specs.declared.refusal.Refusal.{Refusal}
 use Rattle.book_core.specs.declared.refusal.Refusal.TheVariants.{Plain}
-use Rattle.journal_format.specs.Printable.{is_posting}
-use Rattle.journal_balance.specs.Legs.{leg}
+use Rattle.treasury_core.specs.declared.transfer.Part.{Part}
 use Rattle.treasury_core.specs.declared.transfer.Receipt.{Receipt}
 use Rattle.treasury_core.specs.declared.transfer.Transfer.{Transfer}
 use Rattle.treasury_core.specs.declared.command.Answer.{Answer}
 use Rattle.treasury_core.specs.declared.command.Answer.TheVariants.{Done, Repeated}
 use Rattle.treasury_core.specs.declared.delta.Addition.{Addition}
 use Rattle.treasury_core.specs.declared.delta.Addition.TheVariants as add
+use Rattle.treasury_core.specs.declared.command.AskedPart.{AskedPart}
 use Rattle.treasury_core.specs.declared.command.Dispatch.{Dispatch}
 use Rattle.treasury_core.specs.declared.command.Receive.{Receive}
 use Rattle.treasury_core.specs.declared.command.Command.{Command}
 use Rattle.treasury_core.specs.declared.command.Command.TheVariants as cmd
 use Rattle.treasury_core.specs.Federation.{Branch, Federation, has_branch}
-use Rattle.treasury_core.specs.Transfer.{is_id, has_id, transit_account, posting, dispatch_record, receipt_record}
-use Rattle.treasury_core.specs.Step.{unless, transfer_at, transfer_of, is_dispatched_so, dispatch_refusal, receipt_of, is_received_so, receipt_refusal, receipt_reply, reply, added, delta, Decides}
-use Rattle.treasury_core.specs.Good.{IsGoodTransfer, IsGoodState}
+use Rattle.treasury_core.specs.Transfer.{is_id, all_key, is_all, is_key, rest_part, of_rest, receipts_of, has_id, dispatch_record, receipt_record}
+use Rattle.treasury_core.specs.Step.{unless, transfer_at, transfer_of, is_dispatched_so, dispatch_refusal, key_of, qty_of, receipt_of, has_key, is_amount_so, is_received_so, has_bad_key, has_nothing_left, receipt_refusal, held_reply, receipt_reply, reply, added, delta, Decides}
+use Rattle.treasury_core.specs.Good.{HasGoodParts, IsGoodTransfer, IsGoodState, IsReceive}
 use Rattle.treasury_core.proofs.FindLemmas.{IsThere}
 use Rattle.treasury_core.proofs.DispatchLemmas.{dispatch_written}
-use Rattle.treasury_core.proofs.ProductLemmas.{amount_of}
-use Rattle.treasury_core.proofs.ReplyLemmas.{found_transfer}
+use Rattle.treasury_core.proofs.BytesLemmas.{neither, other_bytes}
+use Rattle.treasury_core.proofs.MarkLemmas.{not_all, none_all}
+use Rattle.treasury_core.proofs.PartLemmas.{le_from, left_low, left_high, small_from}
+use Rattle.treasury_core.proofs.ReplyLemmas.{found_transfer, amount_small}
 
 -- what was tested of equal texts, and looked up
 pub same_test : {x y a b : List ℕ} {t : Bool} → x ≡ a → y ≡ b → bytes_eq x y ≡ t → bytes_eq a b ≡ t
@@ -121,14 +129,19 @@ pub bad_receipt_id : (f : Federation) (r : Receive) → has_branch f r.branch �
 unfolding reply
 bad_receipt_id f r b i = rw (b, i) refl
 
--- a receipt whose branch and ID are as they have to be
+pub bad_key : (f : Federation) (r : Receive) → has_branch f r.branch ≡ true → is_id r.id ≡ true → has_bad_key r.part ≡ true → reply f (cmd.Receive r) ≡ Err (Plain BadId)
+unfolding reply
+bad_key f r b i k = rw (b, i, k) refl
+
+-- a receipt whose branch, ID and key are as they have to be
 pub record IsClaimed (f : Federation) (r : Receive) : Type 0 where
   pub branch : has_branch f r.branch ≡ true
   pub id : is_id r.id ≡ true
+  pub key : has_bad_key r.part ≡ false
 
 claimed : (f : Federation) (r : Receive) (o : Option Transfer) → IsClaimed f r → transfer_at f r.id ≡ o → reply f (cmd.Receive r) ≡ receipt_reply f r o
 unfolding reply
-claimed f r o h at = rw (h.branch, h.id, at) refl
+claimed f r o h at = rw (h.branch, h.id, h.key, at) refl
 
 pub no_transfer : (f : Federation) (r : Receive) → IsClaimed f r → transfer_at f r.id ≡ None → reply f (cmd.Receive r) ≡ Err (Plain UnknownTransfer)
 no_transfer f r h at = claimed f r None h at
@@ -136,27 +149,116 @@ no_transfer f r h at = claimed f r None h at
 pub wrong_branch : (f : Federation) (r : Receive) (t : Transfer) → IsClaimed f r → transfer_at f r.id ≡ Some t → bytes_eq t.target r.branch ≡ false → reply f (cmd.Receive r) ≡ Err (Plain WrongBranch)
 wrong_branch f r t h at other = claimed f r (Some t) h at ∙ rw other refl
 
-pub received_so : (f : Federation) (r : Receive) (t : Transfer) (p : Receipt) → IsClaimed f r → transfer_at f r.id ≡ Some t → bytes_eq t.target r.branch ≡ true → t.receipt ≡ Some p → is_received_so r (Some p) ≡ true
-    → reply f (cmd.Receive r) ≡ Ok Repeated
-received_so f r t p h at own got so = claimed f r (Some t) h at ∙ rw (own, got, so) refl
+-- whether the receipt of a key is what is asked for, if it has one
+abbrev pub so_held : Transfer → Receive → Option Bool
+so_held t r = option_map (is_received_so t r) (find (has_key (key_of r.part)) (receipts_of t))
 
-pub received_other : (f : Federation) (r : Receive) (t : Transfer) (p : Receipt) → IsClaimed f r → transfer_at f r.id ≡ Some t → bytes_eq t.target r.branch ≡ true → t.receipt ≡ Some p → is_received_so r (Some p) ≡ false
-    → reply f (cmd.Receive r) ≡ Err (Plain AlreadyReceived)
-received_other f r t p h at own got so = claimed f r (Some t) h at ∙ rw (own, got, so) refl
+none_by_any : {X : Type 0} (p : X → Bool) (xs : List X) → list_any p xs ≡ false → find p xs ≡ None
+none_by_any p [] e = refl
+none_by_any p (x ∷ xs) e =
+    let n = neither (p x) (list_any p xs) e in
+    ap (λ (b : Bool). cond b (Some x) (find p xs)) n.0 ∙ none_by_any p xs n.1
 
-pub received_new : (f : Federation) (r : Receive) (t : Transfer) (b : Branch) → IsClaimed f r → transfer_at f r.id ≡ Some t → bytes_eq t.target r.branch ≡ true → t.receipt ≡ None → IsThere f.branches r.branch b
+and_true : (b : Bool) → (b && true) ≡ b
+and_true true = refl
+and_true false = refl
+
+-- without a part it is that of the rest
+so_all : (t : Transfer) (r : Receive) (o : Option Receipt) → HasGoodParts t → r.part ≡ None → t.receipt ≡ o → so_held t r ≡ option_map (is_received_so t r) (find (has_key all_key) (of_rest t o))
+so_all t r o good whole is =
+    ap (λ (x : Option AskedPart). option_map (is_received_so t r) (find (has_key (key_of x)) (receipts_of t))) whole
+    ∙ ap (option_map (is_received_so t r))
+    (find-append (has_key all_key) t.parts (of_rest t t.receipt)
+    ∙ (ap (λ (x : Option Part). option_or x (find (has_key all_key) (of_rest t t.receipt))) (none_by_any (has_key all_key) t.parts (none_all t.parts good.keys))
+    ∙ ap (λ (x : Option Receipt). find (has_key all_key) (of_rest t x)) is))
+
+pub so_rest_none : (t : Transfer) (r : Receive) → HasGoodParts t → r.part ≡ None → t.receipt ≡ None → so_held t r ≡ None
+so_rest_none t r good whole is = so_all t r None good whole is
+
+pub so_rest_some : (t : Transfer) (r : Receive) (x : Receipt) → HasGoodParts t → r.part ≡ None → t.receipt ≡ Some x → so_held t r ≡ Some (int_eq x.day.0 r.day.0 && bytes_eq x.payee r.account)
+so_rest_some t r x good whole is =
+    so_all t r (Some x) good whole is
+    ∙ ap (λ (b : Bool). let o : Option Bool = Some b in o)
+    (ap (λ (o : Option AskedPart). (int_eq x.day.0 r.day.0 && bytes_eq x.payee r.account) && is_amount_so t (rest_part t x) o) whole ∙ and_true (int_eq x.day.0 r.day.0 && bytes_eq x.payee r.account))
+
+-- with one it is among the parts
+no_rest_key : (t : Transfer) (key : List ℕ) (o : Option Receipt) → is_all key ≡ false → find (has_key key) (of_rest t o) ≡ None
+no_rest_key t key None e = refl
+no_rest_key t key (Some x) e = ap (λ (b : Bool). cond b (Some (rest_part t x)) None) (other_bytes key all_key e)
+
+or_none : (o : Option Part) → option_or o None ≡ o
+or_none None = refl
+or_none (Some p) = refl
+
+not_no : (b : Bool) → not b ≡ false → b ≡ true
+not_no true h = refl
+not_no false h = absurd cc
+
+pub so_part : (t : Transfer) (r : Receive) (a : AskedPart) → r.part ≡ Some a → has_bad_key r.part ≡ false → so_held t r ≡ option_map (is_received_so t r) (find (has_key a.key) t.parts)
+so_part t r a is fits =
+    let key : is_key a.key ≡ true = not_no (is_key a.key) (ap has_bad_key (sym is) ∙ fits) in
+    ap (λ (x : Option AskedPart). option_map (is_received_so t r) (find (has_key (key_of x)) (receipts_of t))) is
+    ∙ ap (option_map (is_received_so t r))
+    (find-append (has_key a.key) t.parts (of_rest t t.receipt)
+    ∙ (ap (option_or (find (has_key a.key) t.parts)) (no_rest_key t a.key t.receipt (not_all a.key key)) ∙ or_none (find (has_key a.key) t.parts)))
+
+-- a claimed transfer of the branch
+pub record IsAimed (f : Federation) (r : Receive) (t : Transfer) : Type 0 where
+  pub claimed : IsClaimed f r
+  pub at : transfer_at f r.id ≡ Some t
+  pub own : bytes_eq t.target r.branch ≡ true
+
+aimed : (f : Federation) (r : Receive) (t : Transfer) → IsAimed f r t → reply f (cmd.Receive r) ≡ held_reply f t r (find (has_key (key_of r.part)) (receipts_of t))
+aimed f r t h = claimed f r (Some t) h.claimed h.at ∙ rw h.own refl
+
+held_at : (f : Federation) (t : Transfer) (r : Receive) (o : Option Part) (b : Bool) → option_map (is_received_so t r) o ≡ Some b → held_reply f t r o ≡ (if b then Ok Repeated else Err (Plain AlreadyReceived))
+held_at f t r None b e = absurd cc
+held_at f t r (Some p) b e =
+    let same : is_received_so t r p ≡ b = cc in
+    ap (λ (c : Bool). if c then Ok Repeated else Err (Plain AlreadyReceived)) same
+
+none_at : (t : Transfer) (r : Receive) (o : Option Part) → option_map (is_received_so t r) o ≡ None → o ≡ None
+none_at t r None e = refl
+none_at t r (Some p) e = absurd cc
+
+pub received_so : (f : Federation) (r : Receive) (t : Transfer) → IsAimed f r t → so_held t r ≡ Some true → reply f (cmd.Receive r) ≡ Ok Repeated
+received_so f r t h so = aimed f r t h ∙ held_at f t r (find (has_key (key_of r.part)) (receipts_of t)) true so
+
+pub received_other : (f : Federation) (r : Receive) (t : Transfer) → IsAimed f r t → so_held t r ≡ Some false → reply f (cmd.Receive r) ≡ Err (Plain AlreadyReceived)
+received_other f r t h so = aimed f r t h ∙ held_at f t r (find (has_key (key_of r.part)) (receipts_of t)) false so
+
+-- the reply where the key has no receipt
+unheld : (f : Federation) (r : Receive) (t : Transfer) → IsAimed f r t → so_held t r ≡ None → reply f (cmd.Receive r) ≡ held_reply f t r None
+unheld f r t h none = aimed f r t h ∙ ap (held_reply f t r) (none_at t r (find (has_key (key_of r.part)) (receipts_of t)) none)
+
+pub received_all : (f : Federation) (r : Receive) (t : Transfer) → IsAimed f r t → so_held t r ≡ None → has_nothing_left t r.part ≡ true → reply f (cmd.Receive r) ≡ Err (Plain AlreadyReceived)
+received_all f r t h none nothing = unheld f r t h none ∙ rw nothing refl
+
+pub received_new : (f : Federation) (r : Receive) (t : Transfer) (b : Branch) → IsAimed f r t → so_held t r ≡ None → has_nothing_left t r.part ≡ false → IsThere f.branches r.branch b
     → reply f (cmd.Receive r) ≡ unless Done (receipt_refusal b.locked b.records t r)
-received_new f r t b h at own none there = claimed f r (Some t) h at ∙ rw (own, none, there.records, there.lock) refl
+received_new f r t b h none some there = unheld f r t h none ∙ rw (some, there.records, there.lock) refl
 
-pub receipt_adds : (f : Federation) (r : Receive) (t : Transfer) → transfer_at f r.id ≡ Some t → added f (cmd.Receive r) ≡ add.Record r.branch (receipt_record t (receipt_of r)) ∷ add.Received r.id r.day r.account ∷ []
+pub receipt_adds : (f : Federation) (r : Receive) (t : Transfer) → transfer_at f r.id ≡ Some t → added f (cmd.Receive r) ≡ add.Record r.branch (receipt_record t (receipt_of t r)) ∷ add.Received r.id (receipt_of t r) ∷ []
 unfolding added
 receipt_adds f r t at = rw at refl
+
+pub transfer_good : (f : Federation) (id : List ℕ) (t : Transfer) → IsGoodState f → transfer_at f id ≡ Some t → IsGoodTransfer f.branches t
+transfer_good f id t good at = (found_transfer (IsGoodTransfer f.branches) id f.transfers t at good.transfers).0
 
 -- the amount of a transfer is within the limit
 pub transfer_small : (f : Federation) (id : List ℕ) (t : Transfer) → IsGoodState f → transfer_at f id ≡ Some t → unsigned_abs t.qty ≤ limit
 transfer_small f id t good at =
     let fair = found_transfer (IsGoodTransfer f.branches) id f.transfers t at good.transfers in
     let here : find (has_id t.id) f.transfers ≡ Some t = ap (λ (m : List ℕ). find (has_id m) f.transfers) fair.1 ∙ at in
-    let written = dispatch_written f t good here fair.0 in
-    let first = (and_parts (is_posting f.styles (posting (leg (transit_account t.source t.target) t.unit t.qty))) _ written.printable.postings).0 in
-    leb-true (unsigned_abs t.qty) limit (and_parts _ _ (amount_of f.styles (transit_account t.source t.target) t.unit t.qty first)).1
+    amount_small f t (dispatch_written f t good here fair.0)
+
+-- and so is what is asked of it
+small_at : (styles : List Style) (t : Transfer) (o : Option AskedPart) → IfSome o (λ (a : AskedPart). IsDeclared styles a.unit a.qty) → HasGoodParts t → pos 0 ≤ℤ t.qty → unsigned_abs t.qty ≤ limit → unsigned_abs (qty_of t o) ≤ limit
+small_at styles t None fits good low small = small_from (qty_of t None) t.qty (left_low t good) (left_high t good low) small
+small_at styles t (Some a) fits good low small = fits.size
+
+pub asked_small : (f : Federation) (r : Receive) (t : Transfer) → IsGoodState f → IsReceive f.styles r → transfer_at f r.id ≡ Some t → unsigned_abs (qty_of t r.part) ≤ limit
+asked_small f r t good fits at =
+    let fair = transfer_good f r.id t good at in
+    let amount = le_from (pos 1) t.qty fair.positive in
+    small_at f.styles t r.part fits.part fair.parts (omega (arith, ints)) (transfer_small f r.id t good at)

@@ -1,6 +1,6 @@
 -- transfers, read from their rows
 use Rattle.std.proofs.Common.{◌≡◌, ◌<◌, ◌≤◌, ◌+◌, ◌^◌, ℕ, suc, ℤ, pos, Bool, true, false, ◌||◌, cond, List, [], ◌∷◌, ◌++◌, length, get_or, refl, ap, ◌∙◌, sym, subst, arith, map, inl, inr, ltb, Option, Some, None, Ok, Err, neg_ℤ, ◌≤ℤ◌, FitsSigned, w32}
-use Rattle.std.specs.Prelude.{if◌then◌else◌, find, filter, Result, IfOk}
+use Rattle.std.specs.Prelude.{if◌then◌else◌, find, Result, IfOk, IfSome}
 use Rattle.std.specs.Result.{IsOkUnless}
 use Rattle.std.specs.List.{list_any, slice_get, AllByRecursion}
 use Rattle.std.specs.Str.{bytes_eq}
@@ -17,22 +17,25 @@ use Rattle.journal_lines.proofs.DateLemmas.{day_number_bounds}
 use Rattle.journal_format.specs.Printable.{is_posting, is_amount}
 use Rattle.journal_balance.specs.Legs.{leg}
 use Rattle.treasury_core.specs.declared.record.Record.{Record}
+use Rattle.treasury_core.specs.declared.transfer.Part.{Part}
 use Rattle.treasury_core.specs.declared.transfer.Receipt.{Receipt}
 use Rattle.treasury_core.specs.declared.transfer.Transfer.{Transfer}
 use Rattle.treasury_core.specs.Federation.{Branch, Federation, has_name, name_place}
-use Rattle.treasury_core.specs.Mark.{held, is_of_transfer}
-use Rattle.treasury_core.specs.Transfer.{asked, out_records, in_records, in_mark, has_id, receipt_record, posting, transit_account}
+use Rattle.treasury_core.specs.Mark.{held}
+use Rattle.treasury_core.specs.Transfer.{asked, out_records, in_records, of_rest, receipts_of, has_id, receipt_record, posting, transit_account}
 use Rattle.treasury_core.specs.Good.{IsGoodRecord, IsGoodTransfer, IsGoodState}
-use Rattle.treasury_core.specs.Drafted.{IsFault, IsReading, HasShortReceipt, IsNamed}
+use Rattle.treasury_core.specs.Drafted.{IsFault, IsReading, HasShortReceipt, HaveShortDays, IsNamed}
 use Rattle.treasury_core.specs.Rows.{IsShort}
 use Rattle.treasury_core.proofs.AskedLemmas.{HaveOwnIds}
 use Rattle.treasury_core.proofs.BytesLemmas.{same_bytes, self_bytes, other_bytes, neither}
-use Rattle.treasury_core.proofs.DispatchLemmas.{IsWhole, all_whole, dispatch_written, held_holds}
+use Rattle.treasury_core.proofs.CarriedLemmas.{stand_of}
+use Rattle.treasury_core.proofs.ChangeLemmas.{all_weaker}
+use Rattle.treasury_core.proofs.DispatchLemmas.{IsWhole, all_whole, dispatch_written}
 use Rattle.treasury_core.proofs.DraftLemmas.{numbered}
-use Rattle.treasury_core.proofs.FairLemmas.{found}
-use Rattle.treasury_core.proofs.LookupLemmas.{first_held}
+use Rattle.treasury_core.proofs.FairLemmas.{found, good_marked}
+use Rattle.treasury_core.proofs.JudgedLemmas.{held_all}
 use Rattle.treasury_core.proofs.OrderLemmas.{own_ids}
-use Rattle.treasury_core.proofs.PassLemmas.{pass_in, same_transfer}
+use Rattle.treasury_core.proofs.PassLemmas.{same_transfer}
 use Rattle.treasury_core.proofs.ProductLemmas.{amount_of}
 
 -- the rows of transfers have no number
@@ -86,33 +89,45 @@ all_found : (ts : List Transfer) → HaveOwnIds ts → AllByRecursion (λ (y : T
 all_found [] h = tt
 all_found (t ∷ ts) h = (ap (λ (b : Bool). cond b (Some t) (find (has_id t.id) ts)) (self_bytes t.id), found_more t ts ts h.0 (all_found ts h.1))
 
--- the record of a receipt stands in its target's book
-in_first : (x : Transfer) (rest : List Record) (a b : Bool) (r : Receipt) → b ≡ true → held (out_records x a ++ (in_records x b (Some r) ++ rest)) (in_mark x) ≡ Some (receipt_record x r)
-in_first x rest true true r e = first_held (receipt_record x r) rest
-in_first x rest false true r e = first_held (receipt_record x r) rest
-in_first x rest a false r e = absurd cc
+-- the records of receipts stand in their target's book
+all_front : {X : Type 0} (P : X → Type 0) (xs ys : List X) → AllByRecursion P (xs ++ ys) → AllByRecursion P xs
+all_front P [] ys h = tt
+all_front P (x ∷ xs) ys h = (h.0, all_front P xs ys h.1)
 
-in_at : (t x : Transfer) (xs : List Transfer) (r : Receipt) (c : Bool) → t.receipt ≡ Some r → bytes_eq x.id t.id ≡ c → cond c (Some x) (find (has_id t.id) xs) ≡ Some t
-    → (find (has_id t.id) xs ≡ Some t → held (asked xs t.target) (in_mark t) ≡ Some (receipt_record t r)) → held (asked (x ∷ xs) t.target) (in_mark t) ≡ Some (receipt_record t r)
-in_at t x xs r true o g e h =
-    let same = same_transfer x t e in
-    let P : Transfer → Type 0 = λ y. held (asked (x ∷ xs) y.target) (in_mark y) ≡ Some (receipt_record y r) in
-    let there : x.receipt ≡ Some r = ap (λ (y : Transfer). y.receipt) same ∙ o in
-    subst P same
-    (ap (λ (p : Option Receipt). held (out_records x (bytes_eq x.source x.target) ++ (in_records x (bytes_eq x.target x.target) p ++ asked xs x.target)) (in_mark x)) there
-    ∙ in_first x (asked xs x.target) (bytes_eq x.source x.target) (bytes_eq x.target x.target) r (self_bytes x.target))
-in_at t x xs r false o g e h = pass_in x (asked xs t.target) t.id (bytes_eq x.source t.target) (bytes_eq x.target t.target) x.receipt g ∙ h e
+all_behind : {X : Type 0} (P : X → Type 0) (xs ys : List X) → AllByRecursion P (xs ++ ys) → AllByRecursion P ys
+all_behind P [] ys h = h
+all_behind P (x ∷ xs) ys h = all_behind P xs ys h.1
 
-asked_in : (t : Transfer) (ts : List Transfer) (r : Receipt) → t.receipt ≡ Some r → find (has_id t.id) ts ≡ Some t → held (asked ts t.target) (in_mark t) ≡ Some (receipt_record t r)
-asked_in t [] r o e = absurd cc
-asked_in t (x ∷ xs) r o e = in_at t x xs r (bytes_eq x.id t.id) o refl e (asked_in t xs r o)
+all_in : (P : Record → Type 0) (t : Transfer) (b : Bool) (ps : List Part) → b ≡ true → AllByRecursion P (in_records t b ps) → AllByRecursion P (map (receipt_record t) ps)
+all_in P t true ps e h = h
+all_in P t false ps e h = absurd cc
 
-receipt_written : (f : Federation) (t : Transfer) (r : Receipt) → IsGoodState f → find (has_id t.id) f.transfers ≡ Some t → IsGoodTransfer f.branches t → t.receipt ≡ Some r → IsGoodRecord f.styles (receipt_record t r)
-receipt_written f t r good here fair o =
+receipts_at : (P : Record → Type 0) (t x : Transfer) (xs : List Transfer) (c : Bool) → cond c (Some x) (find (has_id t.id) xs) ≡ Some t → AllByRecursion P (asked (x ∷ xs) t.target)
+    → (find (has_id t.id) xs ≡ Some t → AllByRecursion P (asked xs t.target) → AllByRecursion P (map (receipt_record t) (receipts_of t))) → AllByRecursion P (map (receipt_record t) (receipts_of t))
+receipts_at P t x xs true e h k =
+    let Q : Transfer → Type 0 = λ y. AllByRecursion P (asked (y ∷ xs) t.target) → AllByRecursion P (map (receipt_record t) (receipts_of t)) in
+    subst Q (sym (same_transfer x t e))
+    (λ all. all_in P t (bytes_eq t.target t.target) (receipts_of t) (self_bytes t.target)
+    (all_front P (in_records t (bytes_eq t.target t.target) (receipts_of t)) (asked xs t.target) (all_behind P (out_records t (bytes_eq t.source t.target)) _ all))) h
+receipts_at P t x xs false e h k =
+    k e (all_behind P (in_records x (bytes_eq x.target t.target) (receipts_of x)) (asked xs t.target) (all_behind P (out_records x (bytes_eq x.source t.target)) _ h))
+
+asked_receipts : (P : Record → Type 0) (t : Transfer) (ts : List Transfer) → find (has_id t.id) ts ≡ Some t → AllByRecursion P (asked ts t.target) → AllByRecursion P (map (receipt_record t) (receipts_of t))
+asked_receipts P t [] e h = absurd cc
+asked_receipts P t (x ∷ xs) e h = receipts_at P t x xs (bytes_eq x.id t.id) e h (asked_receipts P t xs)
+
+all_mapped : (P : Record → Type 0) (g : Part → Record) (ps : List Part) → AllByRecursion P (map g ps) → AllByRecursion (λ (p : Part). P (g p)) ps
+all_mapped P g [] h = tt
+all_mapped P g (p ∷ ps) h = (h.0, all_mapped P g ps h.1)
+
+receipts_written : (f : Federation) (t : Transfer) → IsGoodState f → find (has_id t.id) f.transfers ≡ Some t → IsGoodTransfer f.branches t → AllByRecursion (λ (p : Part). IsGoodRecord f.styles (receipt_record t p)) (receipts_of t)
+receipts_written f t good here fair =
     let b = found (IsWhole f.styles f.transfers) f.branches t.target (all_whole f.styles f.transfers f.branches good.branches good.carried) fair.target in
-    let at : held (filter is_of_transfer b.branch.records) (in_mark t) ≡ Some (receipt_record t r) =
-    b.holds.carried (in_mark t) ∙ (ap (λ (n : List ℕ). held (asked f.transfers n) (in_mark t)) b.named ∙ asked_in t f.transfers r o here) in
-    held_holds (IsGoodRecord f.styles) (in_mark t) (receipt_record t r) b.branch.records at b.holds.good.records
+    let P = IsGoodRecord f.styles in
+    let stand = stand_of f.transfers b.branch (good_marked f.branches f.transfers good.transfers) good.ids b.holds.carried in
+    let each : AllByRecursion P (asked f.transfers b.branch.name) =
+    all_weaker (λ (r : Record). held b.branch.records r.mark ≡ Some r) P (asked f.transfers b.branch.name) (λ r h. subst (λ (o : Option Record). IfSome o P) h (held_all P b.branch.records r.mark b.holds.good.records)) stand in
+    all_mapped P (receipt_record t) (receipts_of t) (asked_receipts P t f.transfers here (subst (λ (n : List ℕ). AllByRecursion P (asked f.transfers n)) b.named each))
 
 -- the transfers of a good state can be kept
 short_bounds : (z : ℤ) → neg_ℤ (pos 719_162) ≤ℤ z → z ≤ℤ pos 2_932_896 → FitsSigned w32 z
@@ -121,9 +136,9 @@ short_bounds z low high = omega (arith, ints)
 short_day : (d : Day) → IsDayNumber d → IsShort d
 short_day d h = let low = (day_number_bounds d h).0 in let high = (day_number_bounds d h).1 in short_bounds d.0 low high
 
-short_receipt : (o : Option Receipt) → ((r : Receipt) → o ≡ Some r → IsDayNumber r.day) → HasShortReceipt o
-short_receipt None h = tt
-short_receipt (Some r) h = short_day r.day (h r refl)
+short_receipt : (t : Transfer) (o : Option Receipt) → HaveShortDays (of_rest t o) → HasShortReceipt o
+short_receipt t None h = tt
+short_receipt t (Some r) h = h.0
 
 small_unit : (styles : List Style) (u : Commodity) (q : ℤ) → length styles ≤ 16 → is_amount styles u q ≡ true → u.0 < 2 ^ 16
 small_unit styles u q few h = let lt = ltb-true u.0 (length styles) (and_parts _ _ h).0 in omega (arith, lt, few)
@@ -133,12 +148,14 @@ named_one f t good here fair =
     let written = dispatch_written f t good here fair in
     let account = transit_account t.source t.target in
     let first = (and_parts (is_posting f.styles (posting (leg account t.unit t.qty))) _ written.printable.postings).0 in
+    let short : HaveShortDays (receipts_of t) = all_weaker (λ (p : Part). IsGoodRecord f.styles (receipt_record t p)) (λ (p : Part). IsShort p.day) (receipts_of t) (λ p h. short_day p.day h.printable.header.number) (receipts_written f t good here fair) in
     record {
       source = fair.source;
       target = fair.target;
       unit = small_unit f.styles t.unit t.qty good.styles.few (amount_of f.styles account t.unit t.qty first);
       day = short_day t.day written.printable.header.number;
-      receipt = short_receipt t.receipt (λ r o. (receipt_written f t r good here fair o).printable.header.number);
+      receipt = short_receipt t t.receipt (all_behind (λ (p : Part). IsShort p.day) t.parts (of_rest t t.receipt) short);
+      parts = all_front (λ (p : Part). IsShort p.day) t.parts (of_rest t t.receipt) short;
     }
 
 named_from : (f : Federation) (xs : List Transfer) → IsGoodState f → AllByRecursion (λ (y : Transfer). find (has_id y.id) f.transfers ≡ Some y) xs → AllByRecursion (IsGoodTransfer f.branches) xs → AllByRecursion (IsNamed f.branches) xs

@@ -1,5 +1,5 @@
 -- the accounts of the way add up to what is open
-use Rattle.std.proofs.Common.{◌≡◌, ℕ, Bool, true, false, ◌&&◌, ◌||◌, nat_eq, List, [], ◌∷◌, ◌++◌, ℤ, pos, ◌+ℤ◌, ◌-ℤ◌, ◌≤ℤ◌, ◌<ℤ◌, refl, ap, ◌∙◌, sym, arith, Option, Some, None}
+use Rattle.std.proofs.Common.{◌≡◌, ℕ, Bool, true, false, ◌&&◌, ◌||◌, nat_eq, List, [], ◌∷◌, ◌++◌, map, ℤ, pos, ◌+ℤ◌, ◌-ℤ◌, ◌≤ℤ◌, ◌<ℤ◌, refl, ap, ◌∙◌, sym, arith, Option, Some, None}
 use Rattle.std.specs.Prelude.{if◌then◌else◌, int_le, filter}
 use Rattle.std.specs.List.{list_any, AllByRecursion}
 use Rattle.std.specs.Str.{bytes_eq}
@@ -13,14 +13,18 @@ use Rattle.book_core.specs.declared.account.Reach.TheVariants.{Own}
 use Rattle.book_core.specs.declared.place.Until.TheVariants.{Through}
 use Rattle.book_core.specs.Balance.{balance, sum_in}
 use Rattle.treasury_core.specs.declared.record.Record.{Record}
+use Rattle.treasury_core.specs.declared.transfer.Part.{Part}
 use Rattle.treasury_core.specs.declared.transfer.Receipt.{Receipt}
 use Rattle.treasury_core.specs.declared.transfer.Transfer.{Transfer}
 use Rattle.treasury_core.specs.Mark.{held, HaveOwnMarks, is_of_transfer}
-use Rattle.treasury_core.specs.Transfer.{transit_account, asked, out_records, in_records, dispatch_record, receipt_record, received_by, open_of, is_between, open_amount, is_transit, is_reserved}
+use Rattle.treasury_core.specs.Transfer.{transit_account, asked, out_records, in_records, sum_of, of_rest, receipts_of, left_of, dispatch_record, receipt_record, received_by, open_of, is_between, open_amount, is_transit, is_reserved}
 use Rattle.treasury_core.specs.Federation.{Branch, entries}
-use Rattle.treasury_core.specs.Good.{IsLater}
-use Rattle.treasury_core.specs.Fair.{HasNoColon, IsFair}
+use Rattle.treasury_core.specs.Good.{IsGoodPart, IsGoodRest, HasGoodParts}
+use Rattle.treasury_core.specs.Fair.{HasNoColon, IsMarked, IsFair}
 use Rattle.treasury_core.proofs.BytesLemmas.{same_bytes}
+use Rattle.treasury_core.proofs.ChangeLemmas.{all_weaker, all-append}
+use Rattle.treasury_core.proofs.MarkLemmas.{pair_eq}
+use Rattle.treasury_core.proofs.PartLemmas.{share_high, received_within}
 use Rattle.treasury_core.proofs.LookupLemmas.{total_of, same_total, filter_own, filter_total, total_of-append}
 use Rattle.treasury_core.proofs.AskedLemmas.{HaveOwnIds, asked_own}
 use Rattle.treasury_core.proofs.ShareLemmas.{share, balance-shares}
@@ -39,20 +43,6 @@ pub record IsInStep (ts : List Transfer) (d : Branch) : Type 0 where
 -- the balances of the way in the two books are what is open
 abbrev pub AddUp : List Transfer → Branch → Branch → Type 0
 AddUp ts f t = (unit : Commodity) (day : Day) → balance Own (entries f.records) (transit_account f.name t.name) unit (Through day) +ℤ balance Own (entries t.records) (transit_account f.name t.name) unit (Through day) ≡ open_amount ts f.name t.name unit day
-
--- two names round a colon
-colon_first : (c : ℕ) (b : Bool) → nat_eq c 58 ≡ false → (nat_eq 58 c && b) ≡ false
-colon_first c b e = let f : nat_eq 58 c ≡ false = grind (arith, nat_tests) in ap (λ (x : Bool). x && b) f
-
-first_too : (b p q r : Bool) → p ≡ (q && r) → (b && p) ≡ ((b && q) && r)
-first_too true p q r i = i
-first_too false p q r i = refl
-
-pub pair_eq : (s f x t : List ℕ) → HasNoColon s → HasNoColon f → bytes_eq (s ++ 58 ∷ x) (f ++ 58 ∷ t) ≡ (bytes_eq s f && bytes_eq x t)
-pair_eq [] [] x t h k = refl
-pair_eq [] (c ∷ cs) x t h k = colon_first c (bytes_eq x (cs ++ 58 ∷ t)) k.0
-pair_eq (c ∷ cs) [] x t h k = ap (λ (b : Bool). b && bytes_eq (cs ++ 58 ∷ x) t) h.0
-pair_eq (c ∷ cs) (e ∷ es) x t h k = first_too (nat_eq c e) _ _ _ (pair_eq cs es x t h.1 k.1)
 
 pub way_eq : (s f x t : List ℕ) → HasNoColon s → HasNoColon f → bytes_eq (transit_account s x) (transit_account f t) ≡ (bytes_eq s f && bytes_eq x t)
 way_eq s f x t h k = pair_eq s f x t h k
@@ -87,67 +77,105 @@ share_out f t u d x h k =
     (legs_out (nat_eq x.unit.0 u.0) (bytes_eq (transit_account x.source x.target) (transit_account f t)) (bytes_eq x.payer (transit_account f t)) x.qty (off_way x.payer f t h.payer)
     ∙ ap (λ (b : Bool). if nat_eq x.unit.0 u.0 && b then x.qty else pos 0) (way_eq x.source f x.target t h.source k))
 
-share_in : (f t : List ℕ) (u : Commodity) (d : Day) (x : Transfer) (r : Receipt) → IsFair x → is_reserved r.payee ≡ false → HasNoColon f → share (transit_account f t) u d (receipt_record x r) ≡ at_way (bytes_eq x.source f) (bytes_eq x.target t) (nat_eq x.unit.0 u.0) (int_le r.day.0 d.0) (pos 0 -ℤ x.qty)
-share_in f t u d x r h e k =
-    ap (λ (z : ℤ). if int_le r.day.0 d.0 then z else pos 0)
-    (legs_in (nat_eq x.unit.0 u.0) (bytes_eq (transit_account x.source x.target) (transit_account f t)) (bytes_eq r.payee (transit_account f t)) x.qty (off_way r.payee f t e)
-    ∙ ap (λ (b : Bool). if nat_eq x.unit.0 u.0 && b then pos 0 -ℤ x.qty else pos 0) (way_eq x.source f x.target t h.source k))
+share_in : (f t : List ℕ) (u : Commodity) (d : Day) (x : Transfer) (p : Part) → IsFair x → is_reserved p.payee ≡ false → HasNoColon f → share (transit_account f t) u d (receipt_record x p) ≡ at_way (bytes_eq x.source f) (bytes_eq x.target t) (nat_eq x.unit.0 u.0) (int_le p.day.0 d.0) (pos 0 -ℤ p.qty)
+share_in f t u d x p h e k =
+    ap (λ (z : ℤ). if int_le p.day.0 d.0 then z else pos 0)
+    (legs_in (nat_eq x.unit.0 u.0) (bytes_eq (transit_account x.source x.target) (transit_account f t)) (bytes_eq p.payee (transit_account f t)) p.qty (off_way p.payee f t e)
+    ∙ ap (λ (b : Bool). if nat_eq x.unit.0 u.0 && b then pos 0 -ℤ p.qty else pos 0) (way_eq x.source f x.target t h.source k))
 
 -- of one transfer
-if_zero : (b : Bool) (z : ℤ) → z ≡ pos 0 → (if b then z else pos 0) ≡ pos 0
+pub if_zero : (b : Bool) (z : ℤ) → z ≡ pos 0 → (if b then z else pos 0) ≡ pos 0
 if_zero true z e = e
 if_zero false z e = refl
 
-no_source : (b u d : Bool) (q : ℤ) → at_way false b u d q ≡ pos 0
-no_source b u false q = refl
-no_source b false true q = refl
-no_source b true true q = refl
+-- what receipts take off the way
+abbrev back_of : Bool → ℤ → ℤ
+back_of true z = pos 0 -ℤ z
+back_of false z = pos 0
 
-no_target : (a u d : Bool) (q : ℤ) → at_way a false u d q ≡ pos 0
-no_target a u false q = refl
-no_target a false true q = refl
-no_target true true true q = refl
-no_target false true true q = refl
+out_no_source : (b u d : Bool) (q : ℤ) → at_way false b u d q ≡ pos 0
+out_no_source b u false q = refl
+out_no_source b false true q = refl
+out_no_source b true true q = refl
 
-abbrev pub in_day : Option Receipt → Day → Bool
-in_day None d = false
-in_day (Some r) d = int_le r.day.0 d.0
+out_no_target : (a u d : Bool) (q : ℤ) → at_way a false u d q ≡ pos 0
+out_no_target a u false q = refl
+out_no_target a false true q = refl
+out_no_target true true true q = refl
+out_no_target false true true q = refl
 
-on_way : (u d r : Bool) (q : ℤ) → (at_way true true u d q +ℤ pos 0) +ℤ (pos 0 +ℤ at_way true true u r (pos 0 -ℤ q)) ≡ (if u then (if d then q else pos 0) -ℤ (if r then q else pos 0) else pos 0)
-on_way false false false q = refl
-on_way false false true q = refl
-on_way false true false q = refl
-on_way false true true q = refl
-on_way true false false q = refl
-on_way true true false q = omega (arith, ints)
-on_way true false true q = omega (arith, ints)
-on_way true true true q = omega (arith, ints)
+back_no_source : (b u : Bool) (z : ℤ) → back_of (u && (false && b)) z ≡ pos 0
+back_no_source b true z = refl
+back_no_source b false z = refl
+
+back_no_target : (u : Bool) (z : ℤ) → back_of (u && false) z ≡ pos 0
+back_no_target true z = refl
+back_no_target false z = refl
 
 all_zero : (a b c e : Bool) (v w : ℤ) → v ≡ pos 0 → w ≡ pos 0 → ((if a then v else pos 0) +ℤ (if b then w else pos 0)) +ℤ ((if c then v else pos 0) +ℤ (if e then w else pos 0)) ≡ pos 0
 all_zero a b c e v w h k =
     let i = if_zero a v h in let j = if_zero b w k in let l = if_zero c v h in let m = if_zero e w k in omega (arith, ints)
 
-both : (a1 b1 a2 b2 u d r : Bool) (q : ℤ) → (a1 && a2) ≡ false → (b1 && b2) ≡ false →
-    ((if a1 then at_way a1 b2 u d q else pos 0) +ℤ (if b1 then at_way a1 b2 u r (pos 0 -ℤ q) else pos 0)) +ℤ ((if a2 then at_way a1 b2 u d q else pos 0) +ℤ (if b2 then at_way a1 b2 u r (pos 0 -ℤ q) else pos 0))
-    ≡ (if (a1 && b2) && u then (if d then q else pos 0) -ℤ (if r then q else pos 0) else pos 0)
-both false b1 a2 b2 u d r q e f = all_zero false b1 a2 b2 _ _ (no_source b2 u d q) (no_source b2 u r (pos 0 -ℤ q))
-both true b1 a2 false u d r q e f = all_zero true b1 a2 false _ _ (no_target true u d q) (no_target true u r (pos 0 -ℤ q))
-both true true a2 true u d r q e f = absurd cc
-both true false true true u d r q e f = absurd cc
-both true false false true u d r q e f = on_way u d r q
+on_way : (u d : Bool) (q z : ℤ) → (at_way true true u d q +ℤ pos 0) +ℤ (pos 0 +ℤ back_of (u && true) z) ≡ (if u then (if d then q else pos 0) -ℤ z else pos 0)
+on_way false false q z = refl
+on_way false true q z = refl
+on_way true false q z = omega (arith, ints)
+on_way true true q z = omega (arith, ints)
+
+both : (a1 b1 a2 b2 u d : Bool) (q z : ℤ) → (a1 && a2) ≡ false → (b1 && b2) ≡ false →
+    ((if a1 then at_way a1 b2 u d q else pos 0) +ℤ (if b1 then back_of (u && (a1 && b2)) z else pos 0)) +ℤ ((if a2 then at_way a1 b2 u d q else pos 0) +ℤ (if b2 then back_of (u && (a1 && b2)) z else pos 0))
+    ≡ (if (a1 && b2) && u then (if d then q else pos 0) -ℤ z else pos 0)
+both false b1 a2 b2 u d q z e f = all_zero false b1 a2 b2 _ _ (out_no_source b2 u d q) (back_no_source b2 u z)
+both true b1 a2 false u d q z e f = all_zero true b1 a2 false _ _ (out_no_target true u d q) (back_no_target u z)
+both true true a2 true u d q z e f = absurd cc
+both true false true true u d q z e f = absurd cc
+both true false false true u d q z e f = on_way u d q z
+
+one_back : (s t u b : Bool) (q z : ℤ) → at_way s t u b (pos 0 -ℤ q) +ℤ back_of (u && (s && t)) z ≡ back_of (u && (s && t)) ((if b then q else pos 0) +ℤ z)
+one_back true true true true q z = omega (arith, ints)
+one_back true true true false q z = omega (arith, ints)
+one_back true true false true q z = refl
+one_back true true false false q z = refl
+one_back true false true true q z = refl
+one_back true false true false q z = refl
+one_back true false false true q z = refl
+one_back true false false false q z = refl
+one_back false t true true q z = refl
+one_back false t true false q z = refl
+one_back false t false true q z = refl
+one_back false t false false q z = refl
+
+none_back : (b : Bool) → pos 0 ≡ back_of b (pos 0)
+none_back true = refl
+none_back false = refl
+
+-- the sum law of one transfer's receipts
+pub back_sum : (f t : List ℕ) (u : Commodity) (d : Day) (x : Transfer) (ps : List Part) → IsFair x → AllByRecursion (IsGoodPart x.day) ps → HasNoColon f
+    → total_of (share (transit_account f t) u d) (map (receipt_record x) ps) ≡ back_of (nat_eq x.unit.0 u.0 && (bytes_eq x.source f && bytes_eq x.target t)) (received_by ps d)
+back_sum f t u d x [] h all k = none_back (nat_eq x.unit.0 u.0 && (bytes_eq x.source f && bytes_eq x.target t))
+back_sum f t u d x (p ∷ ps) h all k =
+    let e = share_in f t u d x p h all.0.payee k in
+    let i = back_sum f t u d x ps h all.1 k in
+    let c = one_back (bytes_eq x.source f) (bytes_eq x.target t) (nat_eq x.unit.0 u.0) (int_le p.day.0 d.0) p.qty (received_by ps d) in
+    ap (λ (z : ℤ). z +ℤ total_of (share (transit_account f t) u d) (map (receipt_record x) ps)) e
+    ∙ (ap (λ (z : ℤ). at_way (bytes_eq x.source f) (bytes_eq x.target t) (nat_eq x.unit.0 u.0) (int_le p.day.0 d.0) (pos 0 -ℤ p.qty) +ℤ z) i ∙ c)
+
+-- each receipt is a good one
+rest_good : (t : Transfer) (o : Option Receipt) → IsGoodRest t o → AllByRecursion (IsGoodPart t.day) (of_rest t o)
+rest_good t None h = tt
+rest_good t (Some r) h = (h, tt)
+
+pub all_good : (t : Transfer) → IsFair t → AllByRecursion (IsGoodPart t.day) (receipts_of t)
+all_good t fair = all-append (IsGoodPart t.day) t.parts (of_rest t t.receipt) fair.marked.parts.each (rest_good t t.receipt fair.rest)
 
 sum_out : (f t : List ℕ) (u : Commodity) (d : Day) (x : Transfer) (a : Bool) → IsFair x → HasNoColon f → total_of (share (transit_account f t) u d) (out_records x a) ≡ (if a then at_way (bytes_eq x.source f) (bytes_eq x.target t) (nat_eq x.unit.0 u.0) (int_le x.day.0 d.0) x.qty else pos 0)
 sum_out f t u d x true h k = let e = share_out f t u d x h k in omega (arith, ints)
 sum_out f t u d x false h k = refl
 
-sum_back : (f t : List ℕ) (u : Commodity) (d : Day) (x : Transfer) (b : Bool) (o : Option Receipt) → IsFair x → IsLater x o → HasNoColon f → total_of (share (transit_account f t) u d) (in_records x b o) ≡ (if b then at_way (bytes_eq x.source f) (bytes_eq x.target t) (nat_eq x.unit.0 u.0) (in_day o d) (pos 0 -ℤ x.qty) else pos 0)
-sum_back f t u d x true None h l k = refl
-sum_back f t u d x true (Some r) h l k = let e = share_in f t u d x r h l.1 k in omega (arith, ints)
-sum_back f t u d x false o h l k = refl
-
-received_is : (o : Option Receipt) (d : Day) (q : ℤ) → received_by o d q ≡ (if in_day o d then q else pos 0)
-received_is None d q = refl
-received_is (Some r) d q = refl
+sum_back : (f t : List ℕ) (u : Commodity) (d : Day) (x : Transfer) (b : Bool) → IsFair x → HasNoColon f
+    → total_of (share (transit_account f t) u d) (in_records x b (receipts_of x)) ≡ (if b then back_of (nat_eq x.unit.0 u.0 && (bytes_eq x.source f && bytes_eq x.target t)) (received_by (receipts_of x) d) else pos 0)
+sum_back f t u d x true h k = back_sum f t u d x (receipts_of x) h (all_good x h) k
+sum_back f t u d x false h k = refl
 
 -- no text is two
 pub never_both : (x f t : List ℕ) → bytes_eq f t ≡ false → (bytes_eq x f && bytes_eq x t) ≡ false
@@ -160,16 +188,15 @@ never_both x f t e = by_tests (bytes_eq x f) (bytes_eq x t) refl refl
 
 -- what the records of a transfer for both branches move
 one : (f t : List ℕ) (u : Commodity) (d : Day) (x : Transfer) → IsFair x → HasNoColon f → bytes_eq f t ≡ false →
-    (total_of (share (transit_account f t) u d) (out_records x (bytes_eq x.source f)) +ℤ total_of (share (transit_account f t) u d) (in_records x (bytes_eq x.target f) x.receipt))
-    +ℤ (total_of (share (transit_account f t) u d) (out_records x (bytes_eq x.source t)) +ℤ total_of (share (transit_account f t) u d) (in_records x (bytes_eq x.target t) x.receipt))
+    (total_of (share (transit_account f t) u d) (out_records x (bytes_eq x.source f)) +ℤ total_of (share (transit_account f t) u d) (in_records x (bytes_eq x.target f) (receipts_of x)))
+    +ℤ (total_of (share (transit_account f t) u d) (out_records x (bytes_eq x.source t)) +ℤ total_of (share (transit_account f t) u d) (in_records x (bytes_eq x.target t) (receipts_of x)))
     ≡ (if is_between f t u x then open_of x d else pos 0)
 one f t u d x h k apart =
     let a = sum_out f t u d x (bytes_eq x.source f) h k in
-    let b = sum_back f t u d x (bytes_eq x.target f) x.receipt h h.later k in
+    let b = sum_back f t u d x (bytes_eq x.target f) h k in
     let c = sum_out f t u d x (bytes_eq x.source t) h k in
-    let e = sum_back f t u d x (bytes_eq x.target t) x.receipt h h.later k in
-    let s = both (bytes_eq x.source f) (bytes_eq x.target f) (bytes_eq x.source t) (bytes_eq x.target t) (nat_eq x.unit.0 u.0) (int_le x.day.0 d.0) (in_day x.receipt d) x.qty (never_both x.source f t apart) (never_both x.target f t apart) in
-    rw (a, b, c, e) (s ∙ ap (λ (z : ℤ). if is_between f t u x then (if int_le x.day.0 d.0 then x.qty else pos 0) -ℤ z else pos 0) (sym (received_is x.receipt d x.qty)))
+    let e = sum_back f t u d x (bytes_eq x.target t) h k in
+    rw (a, b, c, e) (both (bytes_eq x.source f) (bytes_eq x.target f) (bytes_eq x.source t) (bytes_eq x.target t) (nat_eq x.unit.0 u.0) (int_le x.day.0 d.0) x.qty (received_by (receipts_of x) d) (never_both x.source f t apart) (never_both x.target f t apart))
 
 -- of all
 parts : (g : Record → ℤ) (xs ys zs : List Record) → total_of g (xs ++ (ys ++ zs)) ≡ (total_of g xs +ℤ total_of g ys) +ℤ total_of g zs
@@ -180,8 +207,8 @@ pub ways : (f t : List ℕ) (u : Commodity) (d : Day) (ts : List Transfer) → A
 ways f t u d [] h k apart = refl
 ways f t u d (x ∷ xs) h k apart =
     let g = share (transit_account f t) u d in
-    let a = parts g (out_records x (bytes_eq x.source f)) (in_records x (bytes_eq x.target f) x.receipt) (asked xs f) in
-    let b = parts g (out_records x (bytes_eq x.source t)) (in_records x (bytes_eq x.target t) x.receipt) (asked xs t) in
+    let a = parts g (out_records x (bytes_eq x.source f)) (in_records x (bytes_eq x.target f) (receipts_of x)) (asked xs f) in
+    let b = parts g (out_records x (bytes_eq x.source t)) (in_records x (bytes_eq x.target t) (receipts_of x)) (asked xs t) in
     let i = ways f t u d xs h.1 k apart in
     let o = one f t u d x h.0 k apart in
     omega (arith, ints)
@@ -210,39 +237,52 @@ clear_all f t u d [] h = tt
 clear_all f t u d (r ∷ rs) h = (clear_share f t u d r h.0, clear_all f t u d rs h.1)
 
 -- the balance of the way in a branch's book is what the transfers ask for
-pub carried : (f t : List ℕ) (u : Commodity) (d : Day) (ts : List Transfer) (b : Branch) → HaveOwnIds ts → IsInStep ts b → balance Own (entries b.records) (transit_account f t) u (Through d) ≡ total_of (share (transit_account f t) u d) (asked ts b.name)
-carried f t u d ts b ids h =
+pub carried : (f t : List ℕ) (u : Commodity) (d : Day) (ts : List Transfer) (b : Branch) → AllByRecursion IsMarked ts → HaveOwnIds ts → IsInStep ts b → balance Own (entries b.records) (transit_account f t) u (Through d) ≡ total_of (share (transit_account f t) u d) (asked ts b.name)
+carried f t u d ts b marked ids h =
     balance-shares (transit_account f t) u d b.records
     ∙ sym (filter_total (share (transit_account f t) u d) is_of_transfer b.records (clear_all f t u d b.records h.clear))
-    ∙ same_total (share (transit_account f t) u d) (filter is_of_transfer b.records) (asked ts b.name) (filter_own is_of_transfer b.records h.own_marks) (asked_own ts b.name ids) h.asked_for
+    ∙ same_total (share (transit_account f t) u d) (filter is_of_transfer b.records) (asked ts b.name) (filter_own is_of_transfer b.records h.own_marks) (asked_own ts b.name marked ids) h.asked_for
+
+pub all_marked : (ts : List Transfer) → AllByRecursion IsFair ts → AllByRecursion IsMarked ts
+all_marked ts fair = all_weaker IsFair IsMarked ts (λ t h. h.marked) fair
 
 -- the law
 pub adds_up : (ts : List Transfer) (f t : Branch) → HaveOwnIds ts → AllByRecursion IsFair ts → IsInStep ts f → IsInStep ts t → bytes_eq f.name t.name ≡ false → AddUp ts f t
 adds_up ts f t ids fair hf ht apart u d =
-    ap (λ (z : ℤ). z +ℤ balance Own (entries t.records) (transit_account f.name t.name) u (Through d)) (carried f.name t.name u d ts f ids hf)
-    ∙ ap (λ (z : ℤ). total_of (share (transit_account f.name t.name) u d) (asked ts f.name) +ℤ z) (carried f.name t.name u d ts t ids ht)
+    ap (λ (z : ℤ). z +ℤ balance Own (entries t.records) (transit_account f.name t.name) u (Through d)) (carried f.name t.name u d ts f (all_marked ts fair) ids hf)
+    ∙ ap (λ (z : ℤ). total_of (share (transit_account f.name t.name) u d) (asked ts f.name) +ℤ z) (carried f.name t.name u d ts t (all_marked ts fair) ids ht)
     ∙ ways f.name t.name u d ts fair hf.named apart
 
 -- what is open is never negative
-le_from : (y z : ℤ) → int_le y z ≡ true → y ≤ℤ z
-le_from y z e = grind (arith, ints)
+-- through a day no more than in all
+pub by_day : (t : Transfer) (d : Day) (ps : List Part) → AllByRecursion (IsGoodPart t.day) ps → received_by ps d ≤ℤ sum_of ps
+by_day t d [] h = omega (arith, ints)
+by_day t d (p ∷ ps) h = let a = share_high (int_le p.day.0 d.0) p.qty h.0.positive in let b = by_day t d ps h.1 in omega (arith, ints)
 
-lt_from : (y z : ℤ) → int_le y z ≡ false → z <ℤ y
-lt_from y z e = grind (arith, ints)
+-- nothing before the dispatch
+not_yet : (s d r : ℤ) → int_le s d ≡ false → int_le s r ≡ true → int_le r d ≡ false
+not_yet s d r e f = grind (arith, ints)
 
-low_at : (q s r d : ℤ) (a b : Bool) → int_le s d ≡ a → int_le r d ≡ b → int_le (pos 1) q ≡ true → int_le s r ≡ true → pos 0 ≤ℤ ((if a then q else pos 0) -ℤ (if b then q else pos 0))
-low_at q s r d true true e f p l = omega (arith, ints)
-low_at q s r d true false e f p l = let h = le_from (pos 1) q p in omega (arith, ints)
-low_at q s r d false false e f p l = omega (arith, ints)
-low_at q s r d false true e f p l = let h = lt_from s d e in let k = le_from r d f in let m = le_from s r l in absurd (omega (arith, ints))
+pub none_before : (t : Transfer) (d : Day) (ps : List Part) → int_le t.day.0 d.0 ≡ false → AllByRecursion (IsGoodPart t.day) ps → received_by ps d ≡ pos 0
+none_before t d [] e h = refl
+none_before t d (p ∷ ps) e h =
+    let a = ap (λ (b : Bool). if b then p.qty else pos 0) (not_yet t.day.0 d.0 p.day.0 e h.0.later) in
+    let b = none_before t d ps e h.1 in
+    omega (arith, ints)
 
-low_none : (q : ℤ) (a : Bool) → int_le (pos 1) q ≡ true → pos 0 ≤ℤ ((if a then q else pos 0) -ℤ pos 0)
-low_none q true p = let h = le_from (pos 1) q p in omega (arith, ints)
-low_none q false p = omega (arith, ints)
+low_at : (t : Transfer) (d : Day) (b : Bool) → int_le t.day.0 d.0 ≡ b → IsFair t → pos 0 ≤ℤ ((if b then t.qty else pos 0) -ℤ received_by (receipts_of t) d)
+low_at t d true e good = let a = by_day t d (receipts_of t) (all_good t good) in let b = received_within t good.marked.parts in omega (arith, ints)
+low_at t d false e good = let a = none_before t d (receipts_of t) e (all_good t good) in omega (arith, ints)
 
-pub open_low : (x : Transfer) (d : Day) (o : Option Receipt) → int_le (pos 1) x.qty ≡ true → IsLater x o → pos 0 ≤ℤ ((if int_le x.day.0 d.0 then x.qty else pos 0) -ℤ received_by o d x.qty)
-open_low x d None p l = low_none x.qty (int_le x.day.0 d.0) p
-open_low x d (Some r) p l = low_at x.qty x.day.0 r.day.0 d.0 (int_le x.day.0 d.0) (int_le r.day.0 d.0) refl refl p l.0
+-- nothing is open before the dispatch
+pub open_before : (t : Transfer) (d : Day) → IsFair t → int_le t.day.0 d.0 ≡ false → open_of t d ≡ pos 0
+open_before t d fair e =
+    let a = ap (λ (b : Bool). (if b then t.qty else pos 0) -ℤ received_by (receipts_of t) d) e in
+    let b = none_before t d (receipts_of t) e (all_good t fair) in
+    omega (arith, ints)
+
+pub open_low : (t : Transfer) (d : Day) → IsFair t → pos 0 ≤ℤ open_of t d
+open_low t d good = low_at t d (int_le t.day.0 d.0) refl good
 
 pub some_low : (b : Bool) (z : ℤ) → pos 0 ≤ℤ z → pos 0 ≤ℤ (if b then z else pos 0)
 some_low true z h = h
@@ -251,7 +291,7 @@ some_low false z h = omega (arith, ints)
 pub open_sum_low : (ts : List Transfer) (f t : List ℕ) (u : Commodity) (d : Day) → AllByRecursion IsFair ts → pos 0 ≤ℤ open_amount ts f t u d
 open_sum_low [] f t u d h = omega (arith, ints)
 open_sum_low (x ∷ xs) f t u d h =
-    let a = some_low (is_between f t u x) (open_of x d) (open_low x d x.receipt h.0.positive h.0.later) in
+    let a = some_low (is_between f t u x) (open_of x d) (open_low x d h.0) in
     let b = open_sum_low xs f t u d h.1 in
     omega (arith, ints)
 

@@ -21,6 +21,7 @@ use Rattle.journal_balance.specs.Legs.{leg, balancing_fault, legs_of}
 use Rattle.treasury_core.specs.declared.record.Record.{Record}
 use Rattle.treasury_core.specs.declared.command.Answer.TheVariants.{Done, Entered, Repeated}
 use Rattle.treasury_core.specs.declared.command.Command.{Command}
+use Rattle.treasury_core.specs.declared.command.Close.{Close as Closing}
 use Rattle.treasury_core.specs.declared.command.Command.TheVariants.{Branch as NewBranch, Enter, Lock, Close}
 use Rattle.treasury_core.specs.declared.delta.Addition.TheVariants as add
 use Rattle.treasury_core.specs.Federation.{Federation, records_of, book_of}
@@ -133,18 +134,22 @@ run refusal = (refl, refl)
 abbrev in_north : Federation → List ℕ → ℤ
 in_north f account = balance Own (book_of f (codes "north")) account euros (Through (day (pos 31)))
 
+-- a closing at the 31st, without a choice
+abbrev north_closed : Closing
+north_closed = record { branch = codes "north"; day = day (pos 31); choice = record { accounts = None; into = None } }
+
 -- the statement, a closing through the 31st, and a branch that is there
 abbrev month : List Turn
 month =
     record { command = into (codes "north") statement; reply = Ok (Entered 1 0) }
-    ∷ record { command = Close (codes "north") (day (pos 31)); reply = Ok Done }
+    ∷ record { command = Close north_closed; reply = Ok Done }
     ∷ record { command = NewBranch (codes "south"); reply = Ok Repeated } ∷ []
 
 -- What the headline says of them: at the end income is at zero. The closing left the bank as it was, and the last turn everything.
 pub headline : (f : Federation) → KeepsBooks f month →
     let entered = state_after f (record { command = into (codes "north") statement; reply = Ok (Entered 1 0) } ∷ []) in
-    let closed = after_turn entered (record { command = Close (codes "north") (day (pos 31)); reply = Ok Done }) in
+    let closed = after_turn entered (record { command = Close north_closed; reply = Ok Done }) in
     (in_north (state_after f month) (codes "income") ≡ pos 0) × (in_north closed (codes "bank") ≡ in_north entered (codes "bank")) × (state_after f month ≡ closed)
 headline f kept =
-    let closing = kept.closings.1.0 (codes "north") (day (pos 31)) refl refl in
+    let closing = kept.closings.1.0 north_closed refl refl in
     (closing.stays (codes "income") euros refl, closing.untouched (codes "bank") euros (day (pos 31)) refl refl, kept.refusals.1.1.0 tt)

@@ -8,11 +8,12 @@ use Rattle.treasury_core.specs.Federation.{Federation, book_of}
 use Rattle.treasury_core.specs.Good.{IsGoodState}
 use Rattle.treasury_core.specs.Closing.{closing}
 
--- the transaction is the closing of a branch of a good state at a day, of the accounts that are selected, into one that is not
+-- the transaction is the closing of a branch of a good state at a day, of the accounts that are selected, into one that is not, whatever its comments
 pub record IsClosing (select : List ℕ → Bool) (into : List ℕ) (f : Federation) (name : List ℕ) (day : Day) (t : Txn) : Type 0 where
   pub good : IsGoodState f
   pub apart : select into ≡ false
-  pub closes : closing select into f.styles (book_of f name) day ≡ Some t
+  pub comments : List (List ℕ)
+  pub closes : closing select into comments f.styles (book_of f name) day ≡ Some t
 
 -- the branch's book with that transaction as its last entry, its postings as they are written
 abbrev pub closed_book : Federation → List ℕ → Txn → List Entry

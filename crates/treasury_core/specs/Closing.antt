@@ -1,9 +1,8 @@
 -- Closing a period: the balances of some accounts through a day are moved to one account (hledger manual, "close", "close --retain"; header, mark,
 -- order and the assertions of zero are own rules).
-use Rattle.std.specs.Prelude.{ℕ, ◌==◌, nat_lt, Bool, not, if◌then◌else◌, List, [], ◌∷◌, ◌++◌, codes, length, filter, ℤ, pos, ◌+ℤ◌, ◌-ℤ◌, Option, Some, None, Result, Ok, Err}
+use Rattle.std.specs.Prelude.{ℕ, nat_lt, Bool, not, if◌then◌else◌, List, [], ◌∷◌, ◌++◌, codes, length, filter, ℤ, pos, ◌+ℤ◌, ◌-ℤ◌, Option, Some, None, Result, Ok, Err}
 use Rattle.std.specs.Ordering.{int_eq}
-use Rattle.std.specs.List.{list_any, flat_map, before_first}
-use Rattle.std.specs.Str.{bytes_eq, str_to_ascii_lowercase}
+use Rattle.std.specs.List.{flat_map}
 use Rattle.money_core.specs.declared.style.Style.{Style}
 use Rattle.money_core.specs.declared.unit.Unit.{Unit as Commodity}
 use Rattle.money_core.specs.declared.day.Day.{Day}
@@ -15,7 +14,6 @@ use Rattle.book_core.specs.declared.claim.ClaimKind.TheVariants.{Exact}
 use Rattle.book_core.specs.declared.entry.Entry.{Entry}
 use Rattle.book_core.specs.declared.refusal.Refusal.{Refusal}
 use Rattle.book_core.specs.declared.refusal.Refusal.TheVariants.{Plain}
-use Rattle.book_core.specs.Account.{colon}
 use Rattle.book_core.specs.Balance.{balance}
 use Rattle.journal_lines.specs.Date.{printed_date}
 use Rattle.journal_format.specs.declared.posting.Posting.{Posting}
@@ -24,26 +22,12 @@ use Rattle.journal_format.specs.Pieces.{posting_limit}
 use Rattle.journal_balance.specs.Legs.{declared}
 use Rattle.journal_balance.specs.Plain.{written_entry}
 use Rattle.treasury_core.specs.declared.record.Record.{Record}
+use Rattle.treasury_core.specs.declared.choice.Choice.{Choice}
 use Rattle.treasury_core.specs.Federation.{Federation, has_branch, book_of}
 use Rattle.treasury_core.specs.Accounts.{book_accounts}
+use Rattle.treasury_core.specs.Choice.{is_selected, target_in, choice_comments, choice_refusal}
 
--- ---- which accounts are closed, and into which
-
--- the part of an account's name before its first colon; the whole name where it has none
-abbrev pub first_part : List ℕ → List ℕ
-first_part account = before_first (λ b. b == colon) account
-
--- the names of revenues and expenses (hledger manual, "Account types")
-abbrev pub retained_names : List (List ℕ)
-retained_names = codes "income" ∷ codes "incomes" ∷ codes "revenue" ∷ codes "revenues" ∷ codes "expense" ∷ codes "expenses" ∷ []
-
--- a revenue or expense account: its first part is one of these names, in small or capital ASCII letters
-abbrev pub is_revenue_or_expense : List ℕ → Bool
-is_revenue_or_expense account = list_any (λ name. bytes_eq (str_to_ascii_lowercase (first_part account)) name) retained_names
-
--- the account that gets what they held
-abbrev pub retained_earnings : List ℕ
-retained_earnings = codes "equity:retained earnings"
+-- ---- which accounts are closed
 
 -- the accounts of a book that are selected, in byte order
 abbrev pub selected : (List ℕ → Bool) → List Entry → List (List ℕ)
@@ -88,18 +72,18 @@ closing_postings b day into accounts units = flat_map (closed_account b day unit
 abbrev pub close_mark : Day → List ℕ
 close_mark day = codes "close:" ++ printed_date day
 
--- a closing with these postings: no status, code or comments
-abbrev pub closing_txn : Day → List Posting → Txn
-closing_txn day ps = record { day = day; status = None; code = None; description = codes "close"; comments = []; mark = Some (close_mark day); postings = ps }
+-- a closing with these comments and postings: no status or code
+abbrev pub closing_txn : Day → List (List ℕ) → List Posting → Txn
+closing_txn day comments ps = record { day = day; status = None; code = None; description = codes "close"; comments = comments; mark = Some (close_mark day); postings = ps }
 
 -- none where nothing is posted
-abbrev pub closing_of : Day → List Posting → Option Txn
-closing_of day [] = None
-closing_of day (p ∷ ps) = Some (closing_txn day (p ∷ ps))
+abbrev pub closing_of : Day → List (List ℕ) → List Posting → Option Txn
+closing_of day comments [] = None
+closing_of day comments (p ∷ ps) = Some (closing_txn day comments (p ∷ ps))
 
--- the closing of a book at a day: of the accounts that are selected, into that one
-unfoldable pub closing : (List ℕ → Bool) → List ℕ → List Style → List Entry → Day → Option Txn
-closing select into styles b day = closing_of day (closing_postings b day into (selected select b) (declared styles))
+-- the closing of a book at a day: of the accounts that are selected, into that one, with these comments
+unfoldable pub closing : (List ℕ → Bool) → List ℕ → List (List ℕ) → List Style → List Entry → Day → Option Txn
+closing select into comments styles b day = closing_of day comments (closing_postings b day into (selected select b) (declared styles))
 
 -- the record of a closing, with its postings as they are written
 abbrev pub closing_record : Day → Txn → Record
@@ -112,10 +96,15 @@ abbrev pub closing_answer : Option Txn → Result Txn Refusal
 closing_answer None = Err (Plain NothingToClose)
 closing_answer (Some t) = if nat_lt posting_limit (length t.postings) then Err (Plain Limit) else Ok t
 
--- the closing of a branch at a day: its revenue and expense accounts, into retained earnings
-abbrev pub closing_in : Federation → List ℕ → Day → Option Txn
-closing_in f name day = closing is_revenue_or_expense retained_earnings f.styles (book_of f name) day
+-- the closing of a branch at a day, as it was chosen
+abbrev pub closing_in : Federation → List ℕ → Day → Choice → Option Txn
+closing_in f name day c = closing (is_selected c.accounts) (target_in c.into) (choice_comments c) f.styles (book_of f name) day
+
+-- the closing, unless the choice is refused
+abbrev pub chosen_answer : Option Refusal → Option Txn → Result Txn Refusal
+chosen_answer (Some refusal) txn = Err refusal
+chosen_answer None txn = closing_answer txn
 
 -- the closing entry that a branch is answered, or the refusal
-unfoldable pub closing_reply : Federation → List ℕ → Day → Result Txn Refusal
-closing_reply f name day = if not (has_branch f name) then Err (Plain UnknownBranch) else closing_answer (closing_in f name day)
+unfoldable pub closing_reply : Federation → List ℕ → Day → Choice → Result Txn Refusal
+closing_reply f name day c = if not (has_branch f name) then Err (Plain UnknownBranch) else chosen_answer (choice_refusal c) (closing_in f name day c)

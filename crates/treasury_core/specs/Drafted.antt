@@ -1,9 +1,10 @@
 -- Mirrors code: what is read from rows, and what an error says of them.
 use Rattle.std.specs.Prelude.{◌≡◌, ◌<◌, ◌^◌, ◌⊎◌, ℕ, true, List, Option, Result, MatchResult, IfSome}
-use Rattle.std.specs.List.{list_any, enumerate_from, flat_map}
+use Rattle.std.specs.List.{list_any, enumerate_from, flat_map, AllByRecursion}
 use Rattle.money_core.specs.declared.cause.Cause.{Cause}
 use Rattle.money_core.specs.declared.cause.Cause.TheVariants.{OutOfMemory, Damaged}
 use Rattle.treasury_core.specs.declared.record.Record.{Record}
+use Rattle.treasury_core.specs.declared.transfer.Part.{Part}
 use Rattle.treasury_core.specs.declared.transfer.Receipt.{Receipt}
 use Rattle.treasury_core.specs.declared.transfer.Transfer.{Transfer}
 use Rattle.treasury_core.specs.Federation.{Branch, has_name}
@@ -25,6 +26,10 @@ IsKeptReading {X = X} K P r = MatchResult r (λ y. (x : X) → P x → x ≡ y) 
 abbrev pub HasShortReceipt : Option Receipt → Type 0
 HasShortReceipt o = IfSome o (λ r. IsShort r.day)
 
+-- the days of parts can be kept
+abbrev pub HaveShortDays : List Part → Type 0
+HaveShortDays ps = AllByRecursion (λ (p : Part). IsShort p.day) ps
+
 -- a transfer between branches that are there, of which commodity and days can be kept
 pub record IsNamed (bs : List Branch) (t : Transfer) : Type 0 where
   pub source : list_any (has_name t.source) bs ≡ true
@@ -32,6 +37,7 @@ pub record IsNamed (bs : List Branch) (t : Transfer) : Type 0 where
   pub unit : t.unit.0 < 2 ^ 16
   pub day : IsShort t.day
   pub receipt : HasShortReceipt t.receipt
+  pub parts : HaveShortDays t.parts
 
 -- the rows of records, some for each, of which the first is the n-th
 abbrev pub record_rows_from : {T : Type 0} → (ℕ → Record → List T) → ℕ → List Record → List T

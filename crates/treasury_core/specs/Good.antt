@@ -1,5 +1,5 @@
 -- When a state is good, and which commands fit (own rules; docs/RULES.md, "Branches", "Books", "Marks and repeats", "Transfers").
-use Rattle.std.specs.Prelude.{◌≡◌, ◌≤◌, ◌<◌, ◌^◌, ℕ, true, false, List, [], ◌∷◌, length, filter, pos, int_le, Option, Some, None, Ok, ⊤}
+use Rattle.std.specs.Prelude.{◌≡◌, ◌≤◌, ◌<◌, ◌^◌, ℕ, true, false, List, [], ◌∷◌, length, filter, pos, int_le, Option, Some, None, Ok, ⊤, IfSome}
 use Rattle.std.specs.List.{list_any, AllByRecursion}
 use Rattle.std.specs.Str.{bytes_eq}
 use Rattle.std.specs.declared.cmp.Ordering.TheVariants.{Less}
@@ -14,15 +14,17 @@ use Rattle.journal_format.specs.declared.txn.Located.{Located}
 use Rattle.journal_format.specs.Printable.{IsPrintable}
 use Rattle.journal_balance.specs.Legs.{legs_of}
 use Rattle.treasury_core.specs.declared.record.Record.{Record}
+use Rattle.treasury_core.specs.declared.transfer.Part.{Part}
 use Rattle.treasury_core.specs.declared.transfer.Receipt.{Receipt}
 use Rattle.treasury_core.specs.declared.transfer.Transfer.{Transfer}
+use Rattle.treasury_core.specs.declared.command.AskedPart.{AskedPart}
 use Rattle.treasury_core.specs.declared.command.Dispatch.{Dispatch}
 use Rattle.treasury_core.specs.declared.command.Receive.{Receive}
 use Rattle.treasury_core.specs.declared.command.Command.{Command}
 use Rattle.treasury_core.specs.declared.command.Command.TheVariants as cmd
 use Rattle.treasury_core.specs.Federation.{Branch, Federation, is_branch_name, most_branches, has_name, entries}
 use Rattle.treasury_core.specs.Mark.{held, HaveOwnMarks, is_of_transfer, is_closing}
-use Rattle.treasury_core.specs.Transfer.{is_id, is_reserved, is_transit, asked}
+use Rattle.treasury_core.specs.Transfer.{is_id, is_reserved, is_transit, is_key, sum_of, rest_part, asked}
 use Rattle.treasury_core.specs.Closing.{close_mark}
 use Rattle.treasury_core.specs.Step.{is_locked}
 
@@ -65,12 +67,30 @@ abbrev pub AreAscending : List Transfer → Type 0
 AreAscending [] = ⊤
 AreAscending (t ∷ ts) = AllByRecursion (λ (x : Transfer). name_cmp t.id x.id ≡ Less) ts × AreAscending ts
 
--- a receipt is no earlier than its dispatch, and its payee is not `assets:transit` or below it
-abbrev pub IsLater : Transfer → Option Receipt → Type 0
-IsLater t None = ⊤
-IsLater t (Some r) = (int_le t.day.0 r.day.0 ≡ true) × (is_reserved r.payee ≡ false)
+-- a receipt of a positive quantity, no earlier than the dispatch, whose payee is not `assets:transit` or below it
+pub record IsGoodPart (dispatched : Day) (p : Part) : Type 0 where
+  pub positive : int_le (pos 1) p.qty ≡ true
+  pub later : int_le dispatched.0 p.day.0 ≡ true
+  pub payee : is_reserved p.payee ≡ false
 
--- a transfer of a positive amount between two branches that differ; neither of its accounts is `assets:transit` or below it
+-- in byte order of their keys, each once
+abbrev pub AreKeyed : List Part → Type 0
+AreKeyed [] = ⊤
+AreKeyed (p ∷ ps) = AllByRecursion (λ (x : Part). name_cmp p.key x.key ≡ Less) ps × AreKeyed ps
+
+-- receipts of parts: each key is well formed and none is `all`, they are in order, each receipt is good, and together they are at most the amount
+pub record HasGoodParts (t : Transfer) : Type 0 where
+  pub keys : AllByRecursion (λ (p : Part). is_key p.key ≡ true) t.parts
+  pub keyed : AreKeyed t.parts
+  pub each : AllByRecursion (IsGoodPart t.day) t.parts
+  pub within : int_le (sum_of t.parts) t.qty ≡ true
+
+-- the receipt of the rest is one of something
+abbrev pub IsGoodRest : Transfer → Option Receipt → Type 0
+IsGoodRest t None = ⊤
+IsGoodRest t (Some r) = IsGoodPart t.day (rest_part t r)
+
+-- a transfer of a positive amount between two branches that differ; neither its payer nor a payee is `assets:transit` or below it, and its receipts are good
 pub record IsGoodTransfer (bs : List Branch) (t : Transfer) : Type 0 where
   pub id : is_id t.id ≡ true
   pub source : list_any (has_name t.source) bs ≡ true
@@ -78,15 +98,16 @@ pub record IsGoodTransfer (bs : List Branch) (t : Transfer) : Type 0 where
   pub apart : bytes_eq t.source t.target ≡ false
   pub positive : int_le (pos 1) t.qty ≡ true
   pub payer : is_reserved t.payer ≡ false
-  pub later : IsLater t t.receipt
+  pub parts : HasGoodParts t
+  pub rest : IsGoodRest t t.receipt
 
 -- looked up by their marks, a branch's records of transfers are just those that the transfers ask for
 abbrev pub IsCarried : List Transfer → Branch → Type 0
 IsCarried ts b = (mark : List ℕ) → held (filter is_of_transfer b.records) mark ≡ held (asked ts b.name) mark
 
 -- a good state: each style is one that a sample has, and no symbol stands twice; at most 32 branches, each good, no name twice; transfers in byte
--- order of their IDs, no ID twice, each good, with its dispatch in its source's book and its receipt, if there is one, in its target's; and no other
--- record has the mark of a transfer
+-- order of their IDs, no ID twice, each good, with its dispatch in its source's book and its receipts in its target's; and no other record has the mark
+-- of a transfer
 pub record IsGoodState (f : Federation) : Type 0 where
   pub styles : AreStyles f.styles
   pub few : length f.branches ≤ most_branches
@@ -106,9 +127,10 @@ pub record IsDispatch (styles : List Style) (d : Dispatch) : Type 0 where
   pub day : IsDayNumber d.day
   pub amount : IsDeclared styles d.unit d.qty
 
--- a receipt on a day of the years 1 to 9999
-pub record IsReceive (r : Receive) : Type 0 where
+-- a receipt on a day of the years 1 to 9999; a part is of an amount of a declared commodity within the limit
+pub record IsReceive (styles : List Style) (r : Receive) : Type 0 where
   pub day : IsDayNumber r.day
+  pub part : IfSome r.part (λ (a : AskedPart). IsDeclared styles a.unit a.qty)
 
 -- what a command has to be that is decided: a style that a sample has, days of the years 1 to 9999, declared commodities, quantities within the limit,
 -- transactions that can be printed
@@ -117,6 +139,6 @@ Fits styles (cmd.Branch name) = ⊤
 Fits styles (cmd.Commodity style) = is_style style ≡ true
 Fits styles (cmd.Enter name file) = IsFile styles file
 Fits styles (cmd.Dispatch d) = IsDispatch styles d
-Fits styles (cmd.Receive r) = IsReceive r
+Fits styles (cmd.Receive r) = IsReceive styles r
 Fits styles (cmd.Lock name day) = IsDayNumber day
-Fits styles (cmd.Close name day) = IsDayNumber day
+Fits styles (cmd.Close c) = IsDayNumber c.day

@@ -12,10 +12,12 @@ use Rattle.book_core.specs.Balance.{balance}
 use Rattle.journal_format.specs.declared.txn.Txn.{Txn}
 use Rattle.journal_format.specs.declared.txn.Located.{Located}
 use Rattle.treasury_core.specs.declared.command.Answer.TheVariants.{Done, Entered}
-use Rattle.treasury_core.specs.declared.command.Command.TheVariants.{Enter, Close}
+use Rattle.treasury_core.specs.declared.command.Close.{Close}
+use Rattle.treasury_core.specs.declared.command.Command.TheVariants as cmd
 use Rattle.treasury_core.specs.Federation.{Federation, has_branch, records_of, lock_of, entries, book_of}
 use Rattle.treasury_core.specs.Transfer.{open_amount}
-use Rattle.treasury_core.specs.Closing.{is_revenue_or_expense, retained_earnings, closing_in, closing_record}
+use Rattle.treasury_core.specs.Choice.{is_selected, target_in}
+use Rattle.treasury_core.specs.Closing.{closing_in, closing_record}
 use Rattle.treasury_core.specs.Joined.{joined}
 use Rattle.treasury_core.specs.Step.{new_records}
 use Rattle.treasury_core.specs.Good.{IsGoodState}
@@ -39,32 +41,33 @@ pub record Brings (f : Federation) (name : List ℕ) (file : List Located) (new 
 abbrev pub FilesBring : Federation → List Turn → Type 0
 FilesBring f [] = ⊤
 FilesBring f (t ∷ ts) =
-    ((name : List ℕ) (file : List Located) (new repeated : ℕ) → t.command ≡ Enter name file → t.reply ≡ Ok (Entered new repeated) → Brings f name file new repeated (after_turn f t))
+    ((name : List ℕ) (file : List Located) (new repeated : ℕ) → t.command ≡ cmd.Enter name file → t.reply ≡ Ok (Entered new repeated) → Brings f name file new repeated (after_turn f t))
     × FilesBring (after_turn f t) ts
 
 -- What a closing does that is accepted in the state `f`, `next` being the state right behind it, and `end` that at the end of the run. The branch gets
--- the closing and is locked through its day. Its revenue and expense accounts are at zero through that day, in `next` and in `end`; of its other
--- accounts only retained earnings move; and nothing of another branch changes.
-pub record Closes (f : Federation) (name : List ℕ) (day : Day) (next end : Federation) : Type 0 where
-  pub adds : (t : Txn) × ((closing_in f name day ≡ Some t) × (records_of next name ≡ records_of f name ++ closing_record day t ∷ []))
-  pub locks : lock_of next name ≡ Some day
-  pub zero : (account : List ℕ) (unit : Commodity) → is_revenue_or_expense account ≡ true → balance Own (book_of next name) account unit (Through day) ≡ pos 0
-  pub stays : (account : List ℕ) (unit : Commodity) → is_revenue_or_expense account ≡ true → balance Own (book_of end name) account unit (Through day) ≡ pos 0
-  pub untouched : (account : List ℕ) (unit : Commodity) (on : Day) → is_revenue_or_expense account ≡ false → bytes_eq retained_earnings account ≡ false
-      → balance Own (book_of next name) account unit (Through on) ≡ balance Own (book_of f name) account unit (Through on)
-  pub elsewhere : (other : List ℕ) → bytes_eq name other ≡ false → (records_of next other ≡ records_of f other) × (lock_of next other ≡ lock_of f other)
+-- the closing and is locked through its day. The accounts that it selects are at zero through that day, in `next` and in `end`; of the other accounts
+-- only the target moves, which it does not select; and nothing of another branch changes.
+pub record Closes (f : Federation) (c : Close) (next end : Federation) : Type 0 where
+  pub adds : (t : Txn) × ((closing_in f c.branch c.day c.choice ≡ Some t) × (records_of next c.branch ≡ records_of f c.branch ++ closing_record c.day t ∷ []))
+  pub locks : lock_of next c.branch ≡ Some c.day
+  pub apart : is_selected c.choice.accounts (target_in c.choice.into) ≡ false
+  pub zero : (account : List ℕ) (unit : Commodity) → is_selected c.choice.accounts account ≡ true → balance Own (book_of next c.branch) account unit (Through c.day) ≡ pos 0
+  pub stays : (account : List ℕ) (unit : Commodity) → is_selected c.choice.accounts account ≡ true → balance Own (book_of end c.branch) account unit (Through c.day) ≡ pos 0
+  pub untouched : (account : List ℕ) (unit : Commodity) (on : Day) → is_selected c.choice.accounts account ≡ false → bytes_eq (target_in c.choice.into) account ≡ false
+      → balance Own (book_of next c.branch) account unit (Through on) ≡ balance Own (book_of f c.branch) account unit (Through on)
+  pub elsewhere : (other : List ℕ) → bytes_eq c.branch other ≡ false → (records_of next other ≡ records_of f other) × (lock_of next other ≡ lock_of f other)
 
 -- along a run each accepted closing does
 abbrev pub ClosingsClose : Federation → List Turn → Type 0
 ClosingsClose f [] = ⊤
 ClosingsClose f (t ∷ ts) =
-    ((name : List ℕ) (day : Day) → t.command ≡ Close name day → t.reply ≡ Ok Done → Closes f name day (after_turn f t) (state_after (after_turn f t) ts))
+    ((c : Close) → t.command ≡ cmd.Close c → t.reply ≡ Ok Done → Closes f c (after_turn f t) (state_after (after_turn f t) ts))
     × ClosingsClose (after_turn f t) ts
 
 -- The headline, of a run from the state `f`. Behind it the state has what the accepted commands added, and nothing else. In each branch every commodity
 -- sums to zero, and each balance has moved by exactly the accepted records. For two branches that differ, their transit account adds up to what was
 -- dispatched and not received yet, which is never negative. Every stored assertion holds at its place. Each accepted closing moved only the accounts
--- that it closes and retained earnings, and these stay closed. And what was refused or repeated changed nothing.
+-- that it selects and its target, and these stay closed. And what was refused or repeated changed nothing.
 pub record KeepsBooks (f : Federation) (turns : List Turn) : Type 0 where
   pub good : IsGoodState (state_after f turns)
   pub accepted : state_after f turns ≡ joined f (history f turns)

@@ -58,7 +58,7 @@ record_if name (add.Commodity style) = []
 record_if name (add.Branch other) = []
 record_if name (add.Record other r) = if bytes_eq other name then r ∷ [] else []
 record_if name (add.Dispatched t) = []
-record_if name (add.Received id day payee) = []
+record_if name (add.Received id p) = []
 record_if name (add.Locked other day) = []
 
 -- the records of the branch of that name among additions, in order

@@ -4,6 +4,7 @@ pub mod Seen
 pub mod Mark
 pub mod Transfer
 pub mod Accounts
+pub mod Choice
 pub mod Closing
 pub mod Joined
 pub mod Step

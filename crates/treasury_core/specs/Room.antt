@@ -5,6 +5,7 @@ use Rattle.std.specs.Ordering.{is_lt}
 use Rattle.money_core.specs.Style.{AreStyles}
 use Rattle.book_core.specs.Account.{name_cmp}
 use Rattle.book_core.specs.GoodBook.{IsFit, IsWithin}
+use Rattle.treasury_core.specs.declared.transfer.Part.{Part}
 use Rattle.treasury_core.specs.declared.transfer.Transfer.{Transfer}
 use Rattle.treasury_core.specs.Federation.{Branch, Federation, entries}
 use Rattle.treasury_core.specs.Good.{AreAscending}
@@ -12,6 +13,10 @@ use Rattle.treasury_core.specs.Good.{AreAscending}
 -- the transfer's ID is before that one
 abbrev pub is_before : List ℕ → Transfer → Bool
 is_before id t = is_lt (name_cmp t.id id)
+
+-- the part's key is before that one
+abbrev pub is_key_before : List ℕ → Part → Bool
+is_key_before key p = is_lt (name_cmp p.key key)
 
 -- a branch whose ledger takes its records: their entries are fit, and within the limits
 pub record HasRoom (b : Branch) : Type 0 where

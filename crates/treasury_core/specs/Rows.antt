@@ -12,6 +12,7 @@ use Rattle.book_core.specs.declared.claim.Placed.{Placed}
 use Rattle.book_core.specs.declared.leg.Leg.{Leg}
 use Rattle.journal_format.specs.CanonicalText.{body_text}
 use Rattle.treasury_core.specs.declared.record.Record.{Record}
+use Rattle.treasury_core.specs.declared.transfer.Part.{Part}
 use Rattle.treasury_core.specs.declared.transfer.Transfer.{Transfer}
 use Rattle.treasury_core.specs.declared.rows.UnitRow.{UnitRow}
 use Rattle.treasury_core.specs.declared.rows.BranchRow.{BranchRow}
@@ -19,6 +20,7 @@ use Rattle.treasury_core.specs.declared.rows.EntryRow.{EntryRow}
 use Rattle.treasury_core.specs.declared.rows.LegRow.{LegRow}
 use Rattle.treasury_core.specs.declared.rows.ClaimRow.{ClaimRow}
 use Rattle.treasury_core.specs.declared.rows.TransferRow.{TransferRow}
+use Rattle.treasury_core.specs.declared.rows.PartRow.{PartRow}
 use Rattle.treasury_core.specs.declared.rows.Parts.{Parts}
 use Rattle.treasury_core.specs.Federation.{Branch, Federation, name_place}
 
@@ -107,8 +109,15 @@ transfer_row bs t = record {
   payee = option_map (λ r. r.payee) t.receipt;
 }
 
--- the rows of a state, each list in the order of its key: commodities and branches are numbered from 0, entries and legs from 1;
--- no transfer is received in parts
+-- the row of a part of the transfer of that ID
+abbrev pub part_row : List ℕ → Part → PartRow
+part_row id p = record { transfer = id; part = p.key; qty = p.qty; received = p.day.0; payee = p.payee }
+
+-- the rows of the parts of transfers: the receipt of the rest has its columns in the transfer's row
+abbrev pub part_rows : List Transfer → List PartRow
+part_rows ts = flat_map (λ (t : Transfer). map (part_row t.id) t.parts) ts
+
+-- the rows of a state, each list in the order of its key: commodities and branches are numbered from 0, entries and legs from 1
 abbrev pub rows : Federation → Parts
 rows f = record {
   units = unit_rows f.styles;
@@ -117,7 +126,7 @@ rows f = record {
   legs = leg_rows_in 0 f.branches;
   claims = claim_rows_in 0 f.branches;
   transfers = map (transfer_row f.branches) f.transfers;
-  receipts = [];
+  receipts = part_rows f.transfers;
 }
 
 -- a day that the state in memory can have: in 32 bits

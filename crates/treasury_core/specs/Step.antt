@@ -1,6 +1,7 @@
 -- What a command is answered, and the state after it (own rules; docs/RULES.md, "Orders"). The cases stand in the order of the refusals.
-use Rattle.std.specs.Prelude.{◌≡◌, ◌⊎◌, ℕ, ◌+◌, ◌-◌, nat_eq, nat_le, Bool, false, ◌&&◌, not, if◌then◌else◌, List, [], ◌∷◌, ◌++◌, map, length, find, pos, int_le, int_lt, Option, Some, None, is_some, Result, Ok, Err}
+use Rattle.std.specs.Prelude.{◌≡◌, ◌⊎◌, ℕ, ℤ, ◌+◌, ◌-◌, nat_eq, nat_le, Bool, true, false, ◌&&◌, ◌||◌, not, if◌then◌else◌, List, [], ◌∷◌, ◌++◌, map, length, find, pos, int_le, int_lt, Option, Some, None, is_some, Result, Ok, Err}
 use Rattle.std.specs.Ordering.{int_eq}
+use Rattle.std.specs.Cmp.Lexicographic.{pointwise}
 use Rattle.std.specs.List.{list_any}
 use Rattle.std.specs.Option.{option_or}
 use Rattle.std.specs.Str.{bytes_eq}
@@ -9,7 +10,7 @@ use Rattle.money_core.specs.declared.day.Day.{Day}
 use Rattle.money_core.specs.declared.unit.Declared.{Declared}
 use Rattle.money_core.specs.declared.unit.Declared.TheVariants.{New, Same}
 use Rattle.money_core.specs.declared.cause.Cause.{Cause}
-use Rattle.money_core.specs.declared.cause.Cause.TheVariants.{UnknownBranch, BranchName, Full, MarkClash, ReservedMark, ReservedAccount, Locked, SameBranch, UnknownTransfer, WrongBranch, AlreadyReceived, TooEarly, LockBack, BadAccount, BadAmount, BadId, OutOfMemory}
+use Rattle.money_core.specs.declared.cause.Cause.TheVariants.{UnknownBranch, BranchName, Full, MarkClash, ReservedMark, ReservedAccount, Locked, SameBranch, UnknownTransfer, WrongBranch, AlreadyReceived, TooEarly, LockBack, BadAccount, BadAmount, BadId, OutOfMemory, TooMuch}
 use Rattle.money_core.specs.Style.{declared}
 use Rattle.book_core.specs.declared.entry.Entry.{Entry}
 use Rattle.book_core.specs.declared.refusal.Refusal.{Refusal}
@@ -20,19 +21,22 @@ use Rattle.journal_format.specs.declared.txn.Located.{Located}
 use Rattle.journal_format.specs.CanonicalText.{body_text, marked}
 use Rattle.journal_balance.specs.Legs.{legs_of}
 use Rattle.treasury_core.specs.declared.record.Record.{Record}
-use Rattle.treasury_core.specs.declared.transfer.Receipt.{Receipt}
+use Rattle.treasury_core.specs.declared.transfer.Part.{Part}
 use Rattle.treasury_core.specs.declared.transfer.Transfer.{Transfer}
 use Rattle.treasury_core.specs.declared.command.Answer.{Answer}
 use Rattle.treasury_core.specs.declared.command.Answer.TheVariants.{Done, Entered, Repeated}
 use Rattle.treasury_core.specs.declared.delta.Addition.{Addition}
 use Rattle.treasury_core.specs.declared.delta.Addition.TheVariants as add
+use Rattle.treasury_core.specs.declared.command.AskedPart.{AskedPart}
 use Rattle.treasury_core.specs.declared.command.Dispatch.{Dispatch}
 use Rattle.treasury_core.specs.declared.command.Receive.{Receive}
+use Rattle.treasury_core.specs.declared.command.Close.{Close}
 use Rattle.treasury_core.specs.declared.command.Command.{Command}
 use Rattle.treasury_core.specs.declared.command.Command.TheVariants as cmd
 use Rattle.treasury_core.specs.Federation.{Federation, is_branch_name, most_branches, has_branch, records_of, lock_of, entries}
-use Rattle.treasury_core.specs.Mark.{is_held, is_repeat, is_product_mark, mark_of, alike}
-use Rattle.treasury_core.specs.Transfer.{is_id, is_account_text, is_reserved, is_transit, has_id, dispatch_record, receipt_record}
+use Rattle.treasury_core.specs.Mark.{held, is_held, is_repeat, is_product_mark, mark_of, alike}
+use Rattle.treasury_core.specs.Transfer.{is_id, is_account_text, is_reserved, is_transit, has_id, dispatch_record, receipt_record, all_key, is_key, receipts_of, left_of}
+use Rattle.treasury_core.specs.Choice.{choice_comments, choice_refusal}
 use Rattle.treasury_core.specs.Closing.{close_mark, closing_record, closing_answer, closing_in}
 use Rattle.treasury_core.specs.Joined.{with_style, with_branch, with_entered, with_locked, with_dispatched, with_received}
 
@@ -166,7 +170,7 @@ transfer_at f id = find (has_id id) f.transfers
 
 -- the transfer that a dispatch asks for
 abbrev pub transfer_of : Dispatch → Transfer
-transfer_of d = record { id = d.id; source = d.source; target = d.target; unit = d.unit; qty = d.qty; day = d.day; payer = d.account; receipt = None }
+transfer_of d = record { id = d.id; source = d.source; target = d.target; unit = d.unit; qty = d.qty; day = d.day; payer = d.account; parts = []; receipt = None }
 
 -- it was dispatched just so
 abbrev pub is_dispatched_so : Dispatch → Option Transfer → Bool
@@ -195,43 +199,89 @@ dispatch_reply f d =
 
 -- ---- Receive
 
+-- the key that is asked for: `all` without a part
+abbrev pub key_of : Option AskedPart → List ℕ
+key_of None = all_key
+key_of (Some a) = a.key
+
+-- the quantity that is asked for: without a part all that is left
+abbrev pub qty_of : Transfer → Option AskedPart → ℤ
+qty_of t None = left_of t
+qty_of t (Some a) = a.qty
+
 -- the receipt that is asked for
-abbrev pub receipt_of : Receive → Receipt
-receipt_of r = record { day = r.day; payee = r.account }
+abbrev pub receipt_of : Transfer → Receive → Part
+receipt_of t r = record { key = key_of r.part; qty = qty_of t r.part; day = r.day; payee = r.account }
+
+-- the receipt is under that key
+abbrev pub has_key : List ℕ → Part → Bool
+has_key key p = bytes_eq p.key key
+
+-- the amount, if one is asked for, is the receipt's
+abbrev pub is_amount_so : Transfer → Part → Option AskedPart → Bool
+is_amount_so t p None = true
+is_amount_so t p (Some a) = nat_eq t.unit.0 a.unit.0 && int_eq p.qty a.qty
 
 -- it was received just so
-abbrev pub is_received_so : Receive → Option Receipt → Bool
-is_received_so r None = false
-is_received_so r (Some held) = int_eq held.day.0 r.day.0 && bytes_eq held.payee r.account
+abbrev pub is_received_so : Transfer → Receive → Part → Bool
+is_received_so t r p = int_eq p.day.0 r.day.0 && bytes_eq p.payee r.account && is_amount_so t p r.part
 
--- why the receipt of a transfer is refused, that was not received yet, by what its target holds, if it is
+-- a part in another commodity, or of more than what is left
+abbrev pub is_too_much : Transfer → Option AskedPart → Bool
+is_too_much t None = false
+is_too_much t (Some a) = not (nat_eq a.unit.0 t.unit.0) || int_lt (left_of t) a.qty
+
+-- a part whose key is not well formed
+abbrev pub has_bad_key : Option AskedPart → Bool
+has_bad_key None = false
+has_bad_key (Some a) = not (is_key a.key)
+
+-- no part is asked for, and nothing is left
+abbrev pub has_nothing_left : Transfer → Option AskedPart → Bool
+has_nothing_left t None = int_le (left_of t) (pos 0)
+has_nothing_left t (Some a) = false
+
+-- why a receipt of a transfer is refused, whose key has none yet, by what its target holds, if it is
 abbrev pub receipt_refusal : Option Day → List Record → Transfer → Receive → Option Refusal
 receipt_refusal lock held t r =
     if not (is_account_text r.account) then Some (Plain BadAccount)
     else if is_reserved r.account then Some (Plain ReservedAccount)
+    else if int_le (qty_of t r.part) (pos 0) then Some (Plain BadAmount)
+    else if is_too_much t r.part then Some (Plain TooMuch)
     else if int_lt r.day.0 t.day.0 then Some (Plain TooEarly)
     else if is_locked lock r.day then Some (Plain Locked)
-    else verdict (entries held ++ entries (receipt_record t (receipt_of r) ∷ []))
+    else verdict (entries held ++ entries (receipt_record t (receipt_of t r) ∷ []))
+
+-- the reply by the receipt that the key has, if it has one
+abbrev pub held_reply : Federation → Transfer → Receive → Option Part → Result Answer Refusal
+held_reply f t r (Some p) = if is_received_so t r p then Ok Repeated else Err (Plain AlreadyReceived)
+held_reply f t r None =
+    if has_nothing_left t r.part then Err (Plain AlreadyReceived)
+    else unless Done (receipt_refusal (lock_of f r.branch) (records_of f r.branch) t r)
 
 -- the reply by the transfer of the ID
 abbrev pub receipt_reply : Federation → Receive → Option Transfer → Result Answer Refusal
 receipt_reply f r None = Err (Plain UnknownTransfer)
 receipt_reply f r (Some t) =
     if not (bytes_eq t.target r.branch) then Err (Plain WrongBranch)
-    else if is_received_so r t.receipt then Ok Repeated
-    else if is_some t.receipt then Err (Plain AlreadyReceived)
-    else unless Done (receipt_refusal (lock_of f r.branch) (records_of f r.branch) t r)
+    else held_reply f t r (find (has_key (key_of r.part)) (receipts_of t))
 
 abbrev pub receive_reply : Federation → Receive → Result Answer Refusal
 receive_reply f r =
     if not (has_branch f r.branch) then Err (Plain UnknownBranch)
     else if not (is_id r.id) then Err (Plain BadId)
+    else if has_bad_key r.part then Err (Plain BadId)
     else receipt_reply f r (transfer_at f r.id)
 
--- the record that a receipt adds, of the transfer of its ID
-abbrev pub receipt_records : Receive → Option Transfer → List Record
-receipt_records r None = []
-receipt_records r (Some t) = receipt_record t (receipt_of r) ∷ []
+-- what a receipt of the transfer of its ID adds
+abbrev pub receipt_additions : Receive → Option Transfer → List Addition
+receipt_additions r None = []
+receipt_additions r (Some t) = add.Record r.branch (receipt_record t (receipt_of t r)) ∷ add.Received r.id (receipt_of t r) ∷ []
+
+-- and the state with it
+abbrev pub with_receipt_of : Federation → Receive → Option Transfer → Federation
+with_receipt_of f r None = f
+with_receipt_of f r (Some t) = with_received (with_entered f r.branch (receipt_record t (receipt_of t r) ∷ [])) r.id (receipt_of t r)
 
 -- ---- Close
 
@@ -241,16 +291,21 @@ entering_refusal held day (Ok t) = verdict (entries held ++ entries (closing_rec
 entering_refusal held day (Err refusal) = Some refusal
 
 -- why a branch is not closed at a day at which it was not closed yet, by what it holds, if it is not
-abbrev pub close_refusal : Option Day → List Record → Day → Option Txn → Option Refusal
-close_refusal lock held day txn =
-    if is_locked lock day then Some (Plain Locked)
-    else entering_refusal held day (closing_answer txn)
+abbrev pub close_refusal : Option Day → List Record → Close → Option Txn → Option Refusal
+close_refusal lock held c txn =
+    option_or (choice_refusal c.choice)
+    (if is_locked lock c.day then Some (Plain Locked)
+    else entering_refusal held c.day (closing_answer txn))
 
-abbrev pub close_reply : Federation → List ℕ → Day → Result Answer Refusal
-close_reply f name day =
-    if not (has_branch f name) then Err (Plain UnknownBranch)
-    else if is_held (records_of f name) (close_mark day) then Ok Repeated
-    else unless Done (close_refusal (lock_of f name) (records_of f name) day (closing_in f name day))
+-- the reply by the record that has the mark of the day, if there is one: what it says was asked has to be what is asked now
+abbrev pub closed_reply : Federation → Close → Option Record → Result Answer Refusal
+closed_reply f c None = unless Done (close_refusal (lock_of f c.branch) (records_of f c.branch) c (closing_in f c.branch c.day c.choice))
+closed_reply f c (Some r) = if pointwise bytes_eq r.txn.comments (choice_comments c.choice) then Ok Repeated else Err (Plain MarkClash)
+
+abbrev pub close_reply : Federation → Close → Result Answer Refusal
+close_reply f c =
+    if not (has_branch f c.branch) then Err (Plain UnknownBranch)
+    else closed_reply f c (held (records_of f c.branch) (close_mark c.day))
 
 -- the record that a closing adds
 abbrev pub closing_records : Day → Option Txn → List Record
@@ -267,7 +322,7 @@ reply f (cmd.Enter name file) = enter_reply f name file
 reply f (cmd.Dispatch d) = dispatch_reply f d
 reply f (cmd.Receive r) = receive_reply f r
 reply f (cmd.Lock name day) = lock_reply f name day
-reply f (cmd.Close name day) = close_reply f name day
+reply f (cmd.Close c) = close_reply f c
 
 -- the state that a command leaves which is done
 unfoldable pub done : Federation → Command → Federation
@@ -275,9 +330,9 @@ done f (cmd.Branch name) = with_branch f name
 done f (cmd.Commodity style) = with_style f style
 done f (cmd.Enter name file) = with_entered f name (new_records f name file)
 done f (cmd.Dispatch d) = with_dispatched (with_entered f d.source (dispatch_record (transfer_of d) ∷ [])) (transfer_of d)
-done f (cmd.Receive r) = with_received (with_entered f r.branch (receipt_records r (transfer_at f r.id))) r.id (receipt_of r)
+done f (cmd.Receive r) = with_receipt_of f r (transfer_at f r.id)
 done f (cmd.Lock name day) = with_locked f name day
-done f (cmd.Close name day) = with_locked (with_entered f name (closing_records day (closing_in f name day))) name day
+done f (cmd.Close c) = with_locked (with_entered f c.branch (closing_records c.day (closing_in f c.branch c.day c.choice))) c.branch c.day
 
 -- the state after a reply: a refusal or a repeat leaves it
 abbrev pub after : Federation → Command → Result Answer Refusal → Federation
@@ -300,9 +355,9 @@ added f (cmd.Branch name) = add.Branch name ∷ []
 added f (cmd.Commodity style) = add.Commodity style ∷ []
 added f (cmd.Enter name file) = map (λ (r : Record). add.Record name r) (new_records f name file)
 added f (cmd.Dispatch d) = add.Record d.source (dispatch_record (transfer_of d)) ∷ add.Dispatched (transfer_of d) ∷ []
-added f (cmd.Receive r) = map (λ (x : Record). add.Record r.branch x) (receipt_records r (transfer_at f r.id)) ++ add.Received r.id r.day r.account ∷ []
+added f (cmd.Receive r) = receipt_additions r (transfer_at f r.id)
 added f (cmd.Lock name day) = add.Locked name day ∷ []
-added f (cmd.Close name day) = map (λ (x : Record). add.Record name x) (closing_records day (closing_in f name day)) ++ add.Locked name day ∷ []
+added f (cmd.Close c) = map (λ (x : Record). add.Record c.branch x) (closing_records c.day (closing_in f c.branch c.day c.choice)) ++ add.Locked c.branch c.day ∷ []
 
 -- what it adds by its reply
 abbrev pub delta : Federation → Command → Result Answer Refusal → List Addition

@@ -1,5 +1,5 @@
 -- Transfers: the records that they ask for, and what is open between two branches (own rules; docs/RULES.md, "Transfers").
-use Rattle.std.specs.Prelude.{ℕ, nat_eq, nat_lt, nat_le, ◌==◌, Bool, true, false, ◌&&◌, ◌||◌, if◌then◌else◌, List, [], ◌∷◌, ◌++◌, codes, length, ℤ, pos, ◌+ℤ◌, ◌-ℤ◌, int_le, Option, Some, None}
+use Rattle.std.specs.Prelude.{ℕ, nat_eq, nat_lt, nat_le, ◌==◌, Bool, true, false, ◌&&◌, ◌||◌, not, if◌then◌else◌, List, [], ◌∷◌, ◌++◌, codes, length, map, ℤ, pos, ◌+ℤ◌, ◌-ℤ◌, int_le, Option, Some, None}
 use Rattle.std.specs.Char.{is_ascii_digit, is_ascii_alphabetic}
 use Rattle.std.specs.List.{list_all}
 use Rattle.std.specs.Str.{bytes_eq, is_utf8}
@@ -11,6 +11,7 @@ use Rattle.journal_lines.specs.AccountName.{is_account, transit}
 use Rattle.journal_format.specs.declared.posting.Posting.{Posting}
 use Rattle.journal_balance.specs.Legs.{leg}
 use Rattle.treasury_core.specs.declared.record.Record.{Record}
+use Rattle.treasury_core.specs.declared.transfer.Part.{Part}
 use Rattle.treasury_core.specs.declared.transfer.Receipt.{Receipt}
 use Rattle.treasury_core.specs.declared.transfer.Transfer.{Transfer}
 
@@ -54,12 +55,67 @@ product_record mark day description x y = record {
   entry = record { day = day; legs = x ∷ y ∷ []; claims = [] };
 }
 
--- the marks of a transfer's records
+-- ---- receipts
+
+-- the greatest number of bytes of a key
+abbrev pub most_key_bytes : ℕ
+most_key_bytes = 32
+
+-- the key of the receipt of all that the others left
+abbrev pub all_key : List ℕ
+all_key = codes "all"
+
+abbrev pub is_all : List ℕ → Bool
+is_all key = bytes_eq key all_key
+
+-- the key of a part: 1 to 32 bytes of an ID, and not `all`
+abbrev pub is_key : List ℕ → Bool
+is_key key = nat_lt 0 (length key) && nat_le (length key) most_key_bytes && list_all is_id_byte key && not (is_all key)
+
+-- what receipts are together
+abbrev pub sum_of : List Part → ℤ
+sum_of [] = pos 0
+sum_of (p ∷ ps) = p.qty +ℤ sum_of ps
+
+-- the receipt under the key `all` is of the amount less all others
+abbrev pub rest_part : Transfer → Receipt → Part
+rest_part t r = record { key = all_key; qty = t.qty -ℤ sum_of t.parts; day = r.day; payee = r.payee }
+
+abbrev pub of_rest : Transfer → Option Receipt → List Part
+of_rest t None = []
+of_rest t (Some r) = rest_part t r ∷ []
+
+-- the receipts of a transfer, each with its key
+abbrev pub receipts_of : Transfer → List Part
+receipts_of t = t.parts ++ of_rest t t.receipt
+
+-- what is left: the amount less all receipts, of any day
+abbrev pub left_of : Transfer → ℤ
+left_of t = t.qty -ℤ sum_of (receipts_of t)
+
+-- ---- the records that a transfer asks for
+
+-- the mark of a dispatch: `out:ID`
 abbrev pub out_mark : Transfer → List ℕ
 out_mark t = codes "out:" ++ t.id
 
-abbrev pub in_mark : Transfer → List ℕ
-in_mark t = codes "in:" ++ t.id
+-- what stands behind the ID in the mark of a receipt: nothing for the key `all`, else a colon and the key
+abbrev pub mark_tail : Bool → List ℕ → List ℕ
+mark_tail true key = []
+mark_tail false key = colon ∷ key
+
+-- the mark of a receipt: `in:ID`, of a part `in:ID:KEY`
+abbrev pub in_mark : List ℕ → List ℕ → List ℕ
+in_mark id key = codes "in:" ++ (id ++ mark_tail (is_all key) key)
+
+-- what stands behind the source in the description of a receipt
+abbrev pub text_tail : Bool → List ℕ → List ℕ
+text_tail true key = []
+text_tail false key = codes " part " ++ key
+
+-- the description of a receipt: `transfer ID from SOURCE`, of a part with ` part KEY` behind it
+abbrev pub in_text : Transfer → List ℕ → List ℕ
+in_text t key = codes "transfer " ++ (t.id ++ (codes " from " ++ (t.source ++ text_tail (is_all key) key)))
 
 -- a dispatch: the amount goes on its way, and the payer pays it
 abbrev pub dispatch_record : Transfer → Record
@@ -67,11 +123,10 @@ dispatch_record t =
     product_record (out_mark t) t.day (codes "transfer " ++ (t.id ++ (codes " to " ++ t.target)))
     (leg (transit_account t.source t.target) t.unit t.qty) (leg t.payer t.unit (pos 0 -ℤ t.qty))
 
--- a receipt: the payee gets the amount, and it is on its way no more
-abbrev pub receipt_record : Transfer → Receipt → Record
-receipt_record t r =
-    product_record (in_mark t) r.day (codes "transfer " ++ (t.id ++ (codes " from " ++ t.source)))
-    (leg r.payee t.unit t.qty) (leg (transit_account t.source t.target) t.unit (pos 0 -ℤ t.qty))
+-- a receipt: the payee gets what was received, and it is on its way no more
+abbrev pub receipt_record : Transfer → Part → Record
+receipt_record t p =
+    product_record (in_mark t.id p.key) p.day (in_text t p.key) (leg p.payee t.unit p.qty) (leg (transit_account t.source t.target) t.unit (pos 0 -ℤ p.qty))
 
 -- the transfer has that ID
 abbrev pub has_id : List ℕ → Transfer → Bool
@@ -82,25 +137,26 @@ abbrev pub out_records : Transfer → Bool → List Record
 out_records t true = dispatch_record t ∷ []
 out_records t false = []
 
--- the record of a receipt, where the branch is the target and there is one
-abbrev pub in_records : Transfer → Bool → Option Receipt → List Record
-in_records t true (Some r) = receipt_record t r ∷ []
-in_records t true None = []
-in_records t false o = []
+-- the records of receipts, where the branch is the target
+abbrev pub in_records : Transfer → Bool → List Part → List Record
+in_records t true ps = map (receipt_record t) ps
+in_records t false ps = []
 
 -- the records that transfers ask for in the branch of that name
 abbrev pub asked : List Transfer → List ℕ → List Record
 asked [] name = []
-asked (t ∷ ts) name = out_records t (bytes_eq t.source name) ++ (in_records t (bytes_eq t.target name) t.receipt ++ asked ts name)
+asked (t ∷ ts) name = out_records t (bytes_eq t.source name) ++ (in_records t (bytes_eq t.target name) (receipts_of t) ++ asked ts name)
 
--- what was received of a quantity through a day
-abbrev pub received_by : Option Receipt → Day → ℤ → ℤ
-received_by None day qty = pos 0
-received_by (Some r) day qty = if int_le r.day.0 day.0 then qty else pos 0
+-- ---- what is open
+
+-- what was received through a day
+abbrev pub received_by : List Part → Day → ℤ
+received_by [] day = pos 0
+received_by (p ∷ ps) day = (if int_le p.day.0 day.0 then p.qty else pos 0) +ℤ received_by ps day
 
 -- what was dispatched and not received through a day
 abbrev pub open_of : Transfer → Day → ℤ
-open_of t day = (if int_le t.day.0 day.0 then t.qty else pos 0) -ℤ received_by t.receipt day t.qty
+open_of t day = (if int_le t.day.0 day.0 then t.qty else pos 0) -ℤ received_by (receipts_of t) day
 
 -- the transfer goes from one branch to the other, in the commodity
 abbrev pub is_between : List ℕ → List ℕ → Commodity → Transfer → Bool

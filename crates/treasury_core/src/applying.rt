@@ -17,7 +17,7 @@ use crate::index::{push_marked, put_place};
 use crate::order::{insert_transfer, receive_transfer};
 use crate::record::Record;
 use crate::state::{Branch, State};
-use crate::transfer::{Receipt, Transfer};
+use crate::transfer::Transfer;
 use book_core::Ledger;
 use money_core::{Cause, Copied, Day, Items, Style, Styles, Text};
 use std::alloc::Global;
@@ -155,10 +155,7 @@ fn apply_one<L: Ledger>(
         Addition::Branch(name) => apply_branch(alloc, branches, places, name),
         Addition::Record(name, row) => apply_record(alloc, branches, places, name.as_str(), row),
         Addition::Dispatched(transfer) => insert_transfer(transfers, transfer),
-        Addition::Received(id, day, payee) => {
-            receive_transfer(transfers, id.as_str(), Receipt { day, payee });
-            Ok(())
-        }
+        Addition::Received(id, part) => receive_transfer(alloc, transfers, id.as_str(), part),
         Addition::Locked(name, day) => {
             apply_lock(branches, places, name.as_str(), day);
             Ok(())

@@ -1,19 +1,22 @@
 //! A branch closed at a day: the closing comes into its book, and it is locked through the day.
 
 ghost use Rattle.std.specs.Prelude.{Ok, Some, None, ◌≡◌, ◌⊎◌, IfOk, IfErr, OnOk};
+ghost use Rattle.std.specs.Cmp.Lexicographic.{pointwise};
+ghost use Rattle.std.specs.Str.{bytes_eq};
 ghost use Rattle.std.specs.Result.{IsOkUnless};
 ghost use Rattle.journal_lines.specs.Date.{IsDayNumber};
 ghost use Rattle.journal_format.specs.Printable.{IsPrintable};
 ghost use Rattle.journal_balance.specs.Legs.{legs_of};
 ghost use Rattle.journal_balance.specs.Plain.{written_entry};
-ghost use Rattle.treasury_core.specs.Mark.{is_held};
+ghost use Rattle.treasury_core.specs.Choice.{choice_comments, choice_refusal};
 ghost use Rattle.treasury_core.specs.Closing.{close_mark, closing_record, closing_answer, closing_in};
 ghost use Rattle.treasury_core.specs.Step.{entering_refusal, close_refusal, added, Decides};
 ghost use Rattle.treasury_core.specs.Seen.{branch_of};
 ghost use Rattle.treasury_core.specs.Kept.{branch_at, IsKept};
 
+use crate::choice::{Choice, choice_comments, choice_refusal};
 use crate::closing::{close_mark, closing_entry};
-use crate::command::Command;
+use crate::command::{Close, Command};
 use crate::decision::{Decision, recorded, repeated, settled};
 use crate::delta::{Addition, Delta};
 use crate::enter::is_locked;
@@ -23,21 +26,16 @@ use crate::state::{Branch, State, find_branch};
 use book_core::{Ledger, Refusal};
 use journal_balance::legs;
 use journal_format::Txn;
-use money_core::{Cause, Copied, Day, Styles, Text};
+use money_core::{Cause, Copied, Day, Same, Styles};
 use std::alloc::Global;
 
-/// Whether the branch was closed at that day.
-fn is_closed<L: Ledger>(alloc: Global, branch: &Branch<L>, day: Day) -> Result<bool, Cause>
-    requires kept { IsKept L.book branch.now }
-    requires day { IsDayNumber day }
-    ensures value { IfOk result (λ is. is ≡ is_held branch.now.records (close_mark day)) }
+/// Whether the record of a closing tells that it was asked for as it is now.
+fn is_asked_again(alloc: Global, row: &Record, choice: &Choice) -> Result<bool, Cause>
+    ensures value { IfOk result (λ is. is ≡ pointwise bytes_eq row.now.txn.comments (choice_comments choice.now)) }
     ensures memory { IsOkUnless result Cause.OutOfMemory }
 {
-    let mark = close_mark(alloc, day)?;
-    match find_mark(&branch.index, branch.records.items(), mark.as_str()) {
-        Some(_) => Ok(true),
-        None => Ok(false),
-    }
+    let comments = choice_comments(alloc, choice)?;
+    Ok(row.txn.comments.is_same(&comments))
 }
 
 /// The record of a closing, whose entry is that of its postings as they are written.
@@ -53,24 +51,25 @@ fn closing_record(alloc: Global, styles: &Styles, day: Day, txn: Txn) -> Result<
     Ok(Record { mark, txn, entry })
 }
 
-/// What the closing adds: its record, where the book stays good with it, and the lock.
+/// What the closing adds, of a choice that is not refused: its record, where the book stays good with it, and the lock.
 fn entered<L: Ledger>(
     alloc: Global,
     state: &State<L>,
     branch: &Branch<L>,
-    name: &Text,
-    day: Day,
+    close: &Close,
 ) -> Result<Delta, Refusal>
-    requires day { IsDayNumber day }
-    requires there { branch_at state.now.branches name.now ≡ Some (branch_of branch.now) }
+    requires day { IsDayNumber close.now.day }
+    requires chosen { choice_refusal close.now.choice ≡ None }
+    requires there { branch_at state.now.branches close.now.branch ≡ Some (branch_of branch.now) }
     requires kept { IsKept L.book branch.now }
-    ensures value { IfOk result (λ delta. delta ≡ added state.now (Command.Close name.now day)) }
-    ensures passes { OnOk result (entering_refusal branch.now.records day (closing_answer (closing_in state.now name.now day)) ≡ None) }
+    ensures value { IfOk result (λ delta. delta ≡ added state.now (Command.Close close.now)) }
+    ensures passes { OnOk result (entering_refusal branch.now.records close.now.day (closing_answer (closing_in state.now close.now.branch close.now.day close.now.choice)) ≡ None) }
     ensures err { IfErr result (λ e. (e ≡ Refusal.Plain Cause.OutOfMemory)
-        ⊎ (entering_refusal branch.now.records day (closing_answer (closing_in state.now name.now day)) ≡ Some e)) }
+        ⊎ (entering_refusal branch.now.records close.now.day (closing_answer (closing_in state.now close.now.branch close.now.day close.now.choice)) ≡ Some e)) }
 {
     state.is_good();
-    let txn = match closing_entry(alloc, state, name.as_str(), day) {
+    let day = close.day;
+    let txn = match closing_entry(alloc, state, close.branch.as_str(), day, &close.choice) {
         Ok(txn) => txn,
         Err(refusal) => return Err(refusal),
     };
@@ -78,11 +77,17 @@ fn entered<L: Ledger>(
         Ok(row) => row,
         Err(cause) => return Err(Refusal::Plain(cause)),
     };
-    let own = match name.copy() {
+    let own = match close.branch.copy() {
         Ok(own) => own,
         Err(cause) => return Err(Refusal::Plain(cause)),
     };
-    recorded(alloc, &branch.ledger, name, row, Addition::Locked(own, day))
+    recorded(
+        alloc,
+        &branch.ledger,
+        &close.branch,
+        row,
+        Addition::Locked(own, day),
+    )
 }
 
 /// What the closing adds of a branch that was not closed at that day; or the first refusal.
@@ -90,39 +95,44 @@ fn judged<L: Ledger>(
     alloc: Global,
     state: &State<L>,
     branch: &Branch<L>,
-    name: &Text,
-    day: Day,
+    close: &Close,
 ) -> Result<Delta, Refusal>
-    requires day { IsDayNumber day }
-    requires there { branch_at state.now.branches name.now ≡ Some (branch_of branch.now) }
+    requires day { IsDayNumber close.now.day }
+    requires there { branch_at state.now.branches close.now.branch ≡ Some (branch_of branch.now) }
     requires kept { IsKept L.book branch.now }
-    ensures value { IfOk result (λ delta. delta ≡ added state.now (Command.Close name.now day)) }
-    ensures passes { OnOk result (close_refusal branch.now.locked branch.now.records day (closing_in state.now name.now day) ≡ None) }
+    ensures value { IfOk result (λ delta. delta ≡ added state.now (Command.Close close.now)) }
+    ensures passes { OnOk result (close_refusal branch.now.locked branch.now.records close.now (closing_in state.now close.now.branch close.now.day close.now.choice) ≡ None) }
     ensures err { IfErr result (λ e. (e ≡ Refusal.Plain Cause.OutOfMemory)
-        ⊎ (close_refusal branch.now.locked branch.now.records day (closing_in state.now name.now day) ≡ Some e)) }
+        ⊎ (close_refusal branch.now.locked branch.now.records close.now (closing_in state.now close.now.branch close.now.day close.now.choice) ≡ Some e)) }
 {
-    if is_locked(branch.locked, day) {
+    if let Some(refusal) = choice_refusal(&close.choice) {
+        return Err(refusal);
+    }
+    if is_locked(branch.locked, close.day) {
         return Err(Refusal::Plain(Cause::Locked));
     }
-    entered(alloc, state, branch, name, day)
+    entered(alloc, state, branch, close)
 }
 
-/// Decides a closing: it is repeated where the branch was closed at that day, whatever its lock.
-pub(crate) fn decide_close<L: Ledger>(
-    alloc: Global,
-    state: &State<L>,
-    name: &Text,
-    day: Day,
-) -> Decision
-    requires { IsDayNumber day }
-    ensures { Decides state.now (Command.Close name.now day) result }
+/// Decides a closing. Where the branch was closed at that day, it is repeated if it was asked for as it is now, whatever
+/// is asked and whatever the lock.
+pub(crate) fn decide_close<L: Ledger>(alloc: Global, state: &State<L>, close: &Close) -> Decision
+    requires { IsDayNumber close.now.day }
+    ensures { Decides state.now (Command.Close close.now) result }
 {
-    let Some(branch) = find_branch(state, name.as_str()) else {
+    let Some(branch) = find_branch(state, close.branch.as_str()) else {
         return Err(Refusal::Plain(Cause::UnknownBranch));
     };
-    match is_closed(alloc, branch, day) {
-        Ok(true) => repeated(alloc),
-        Ok(false) => settled(judged(alloc, state, branch, name, day)),
-        Err(cause) => Err(Refusal::Plain(cause)),
+    let mark = match close_mark(alloc, close.day) {
+        Ok(mark) => mark,
+        Err(cause) => return Err(Refusal::Plain(cause)),
+    };
+    match find_mark(&branch.index, branch.records.items(), mark.as_str()) {
+        None => settled(judged(alloc, state, branch, close)),
+        Some(row) => match is_asked_again(alloc, row, &close.choice) {
+            Ok(true) => repeated(alloc),
+            Ok(false) => Err(Refusal::Plain(Cause::MarkClash)),
+            Err(cause) => Err(Refusal::Plain(cause)),
+        },
     }
 }

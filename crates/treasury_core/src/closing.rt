@@ -1,9 +1,8 @@
-//! The closing of a branch: revenue and expense accounts go to retained earnings.
+//! The closing of a branch: the balances of the accounts that are chosen go to one account.
 
 ghost use Rattle.std.specs.Prelude.{◌≡◌, ◌≤◌, ◌⊎◌, ◌-ℤ◌, ◌++◌, pos, Some, None, Err, IfOk, OnOk};
 ghost use Rattle.std.specs.List.{flat_map};
 ghost use Rattle.std.specs.Result.{IsOkUnless};
-ghost use Rattle.std.specs.Str.{bytes_eq, str_to_ascii_lowercase};
 ghost use Rattle.money_core.specs.declared.unit.Unit.{Unit as Commodity};
 ghost use Rattle.book_core.specs.Balance.{moved, value};
 ghost use Rattle.book_core.specs.GoodBook.{IsGoodBook, most_turnover};
@@ -11,8 +10,10 @@ ghost use Rattle.journal_lines.specs.Date.{IsDayNumber};
 ghost use Rattle.journal_format.specs.Printable.{IsPrintable};
 ghost use Rattle.journal_balance.specs.Legs.{declared};
 ghost use Rattle.journal_balance.specs.Plain.{written_leg, written_legs};
-ghost use Rattle.treasury_core.specs.Closing.{first_part, is_revenue_or_expense, retained_earnings, selected, through, zero_claim, posting_of, closed_account, closing_postings, close_mark, closing_txn, closing_of, closing_answer, closing_reply};
+ghost use Rattle.treasury_core.specs.Choice.{is_selected, target_in, choice_comments};
+ghost use Rattle.treasury_core.specs.Closing.{selected, through, zero_claim, posting_of, closed_account, closing_postings, close_mark, closing_txn, closing_of, closing_answer, closing_reply};
 
+use crate::choice::{Choice, choice_comments, choice_refusal, is_selected, target_of};
 use crate::state::State;
 use book_core::{Claim, ClaimKind, Ledger, Refusal};
 use journal_format::{Posting, Txn};
@@ -22,39 +23,6 @@ use std::alloc::Global;
 
 /// The greatest number of postings of a closing.
 const MAX_POSTINGS: usize = 1_000;
-
-/// The account that gets what revenue and expense accounts held.
-const RETAINED_EARNINGS: &str = "equity:retained earnings";
-
-/// The part of an account's name before its first colon.
-fn first_part(account: &str) -> &str
-    ensures { result.now ≡ first_part account.now }
-{
-    match account.split_once(':') {
-        Some((first, _)) => first,
-        None => account,
-    }
-}
-
-/// Whether the part is that name, in small or capital ASCII letters.
-fn is_named(part: &str, name: &str) -> bool
-    ensures { result ≡ bytes_eq (str_to_ascii_lowercase part.now) (str_to_ascii_lowercase name.now) }
-{
-    part.eq_ignore_ascii_case(name)
-}
-
-/// Whether the account is a revenue or expense account.
-fn is_revenue_or_expense(account: &str) -> bool
-    ensures { result ≡ is_revenue_or_expense account.now }
-{
-    let part = first_part(account);
-    is_named(part, "income")
-        || is_named(part, "incomes")
-        || is_named(part, "revenue")
-        || is_named(part, "revenues")
-        || is_named(part, "expense")
-        || is_named(part, "expenses")
-}
 
 /// Appends a posting of the quantity, where it is not zero.
 fn push_posting(
@@ -135,23 +103,24 @@ fn close_account<L: Ledger>(
     Ok(())
 }
 
-/// The postings that take the balances of revenue and expense accounts through the day to zero.
+/// The postings that take the balances of the accounts that are selected through the day to zero.
 ///
-/// Costs one balance for each of these accounts and each commodity.
+/// Costs one balance for each of these accounts and each commodity, and a look at the list for each account.
 fn close_accounts<L: Ledger>(
     alloc: Global,
     ledger: &L,
     styles: &Styles,
     day: Day,
+    choice: &Choice,
 ) -> Result<Items<Posting>, Cause>
     requires { IsGoodBook (L.book ledger.now) }
     ensures value { IfOk result (λ list. list
-        ≡ flat_map (closed_account (L.book ledger.now) day (declared styles.now)) (selected is_revenue_or_expense (L.book ledger.now))) }
+        ≡ flat_map (closed_account (L.book ledger.now) day (declared styles.now)) (selected (is_selected choice.now.accounts) (L.book ledger.now))) }
     ensures memory { IsOkUnless result Cause.OutOfMemory }
 {
     let mut postings = Items::empty(alloc);
     'accounts: for account in ledger.accounts() {
-        if !is_revenue_or_expense(account.as_str()) {
+        if !is_selected(choice, account.as_str()) {
             continue;
         }
         close_account(alloc, ledger, styles, day, account.as_str(), &mut postings)?;
@@ -182,22 +151,23 @@ fn sum_in(postings: &[Posting], unit: Unit) -> i64
     sum
 }
 
-/// The postings that give retained earnings what the closed accounts lost, in declared order.
+/// The postings that give an account what the closed accounts lost, in declared order.
 fn gaining_account(
     alloc: Global,
     styles: &Styles,
+    into: &str,
     closed: &[Posting],
 ) -> Result<Items<Posting>, Cause>
     requires { (unit : Commodity) → moved unit (written_legs closed.now) ≤ most_turnover }
     ensures value { IfOk result (λ list. list
-        ≡ flat_map (λ (unit : Commodity). posting_of retained_earnings unit (pos 0 -ℤ value unit (written_legs closed.now)) None) (declared styles.now)) }
+        ≡ flat_map (λ (unit : Commodity). posting_of into.now unit (pos 0 -ℤ value unit (written_legs closed.now)) None) (declared styles.now)) }
     ensures memory { IsOkUnless result Cause.OutOfMemory }
 {
     let mut postings = Items::empty(alloc);
     'units: for number in 0..styles.len() {
         let unit = Unit(number as u16);
         let lost = sum_in(closed, unit);
-        push_posting(alloc, RETAINED_EARNINGS, unit, -lost, None, &mut postings)?;
+        push_posting(alloc, into, unit, -lost, None, &mut postings)?;
     }
     Ok(postings)
 }
@@ -208,14 +178,15 @@ fn closing_postings<L: Ledger>(
     ledger: &L,
     styles: &Styles,
     day: Day,
+    choice: &Choice,
 ) -> Result<Items<Posting>, Cause>
     requires { IsGoodBook (L.book ledger.now) }
     ensures value { IfOk result (λ list. list
-        ≡ closing_postings (L.book ledger.now) day retained_earnings (selected is_revenue_or_expense (L.book ledger.now)) (declared styles.now)) }
+        ≡ closing_postings (L.book ledger.now) day (target_in choice.now.into) (selected (is_selected choice.now.accounts) (L.book ledger.now)) (declared styles.now)) }
     ensures memory { IsOkUnless result Cause.OutOfMemory }
 {
-    let closed = close_accounts(alloc, ledger, styles, day)?;
-    let gaining = gaining_account(alloc, styles, closed.items())?;
+    let closed = close_accounts(alloc, ledger, styles, day, choice)?;
+    let gaining = gaining_account(alloc, styles, target_of(choice), closed.items())?;
     let mut postings = closed.into_vec();
     let mut rest = gaining.into_vec();
     postings.append(&mut rest)?;
@@ -235,29 +206,40 @@ pub(crate) fn close_mark(alloc: Global, day: Day) -> Result<Text, Cause>
     Ok(Text::from_string(mark))
 }
 
-/// The transaction of a closing with these postings.
-fn closing_txn(alloc: Global, day: Day, postings: Items<Posting>) -> Result<Txn, Cause>
+/// The transaction of a closing with these postings, and the comments of its choice.
+fn closing_txn(
+    alloc: Global,
+    day: Day,
+    choice: &Choice,
+    postings: Items<Posting>,
+) -> Result<Txn, Cause>
     requires { IsDayNumber day }
-    ensures value { IfOk result (λ txn. txn ≡ closing_txn day postings) }
+    ensures value { IfOk result (λ txn. txn ≡ closing_txn day (choice_comments choice.now) postings) }
     ensures memory { IsOkUnless result Cause.OutOfMemory }
 {
     let mark = close_mark(alloc, day)?;
     let description = Text::of(alloc, "close")?;
+    let comments = choice_comments(alloc, choice)?;
     Ok(Txn {
         day,
         status: None,
         code: None,
         description,
-        comments: Items::empty(alloc),
+        comments,
         mark: Some(mark),
         postings,
     })
 }
 
 /// The transaction of a closing with these postings, where there are some, and at most a thousand.
-pub(crate) fn limited_txn(alloc: Global, day: Day, postings: Items<Posting>) -> Result<Txn, Refusal>
+fn limited_txn(
+    alloc: Global,
+    day: Day,
+    choice: &Choice,
+    postings: Items<Posting>,
+) -> Result<Txn, Refusal>
     requires { IsDayNumber day }
-    ensures { (result ≡ closing_answer (closing_of day postings)) ⊎ (result ≡ Err (Refusal.Plain Cause.OutOfMemory)) }
+    ensures { (result ≡ closing_answer (closing_of day (choice_comments choice.now) postings)) ⊎ (result ≡ Err (Refusal.Plain Cause.OutOfMemory)) }
 {
     let count = postings.items().len();
     if count == 0 {
@@ -266,25 +248,29 @@ pub(crate) fn limited_txn(alloc: Global, day: Day, postings: Items<Posting>) -> 
     if count > MAX_POSTINGS {
         return Err(Refusal::Plain(Cause::Limit));
     }
-    match closing_txn(alloc, day, postings) {
+    match closing_txn(alloc, day, choice, postings) {
         Ok(txn) => Ok(txn),
         Err(cause) => Err(Refusal::Plain(cause)),
     }
 }
 
-/// The transaction by which a branch is closed at a day of the years 1 to 9999: its revenue and expense accounts are
-/// taken to zero through that day, each with an assertion that it is, and `equity:retained earnings` gets what they held.
+/// The transaction by which a branch is closed at a day of the years 1 to 9999: the accounts that are selected are taken
+/// to zero through that day, each with an assertion that it is, and the target gets what they held. Its comments tell the
+/// choice.
 ///
-/// Answers 20 where the branch is not there, 36 where there is nothing to close, 28 where it would have over 1,000
-/// postings, or 40. Costs one balance for each of these accounts and each commodity.
+/// Answers 20 where the branch is not there; of the choice 37 where a listed account or the target is not well formed, 26
+/// where one of them has transit accounts, 37 where the target would be closed itself, 28 where the list has over 880
+/// bytes; 36 where there is nothing to close, 28 where it would have over 1,000 postings, or 40. Costs one balance for
+/// each selected account and each commodity, and a look at the list for each account.
 pub fn closing_entry<L: Ledger>(
     alloc: Global,
     state: &State<L>,
     branch: &str,
     day: Day,
+    choice: &Choice,
 ) -> Result<Txn, Refusal>
     requires { IsDayNumber day }
-    ensures exact { (result ≡ closing_reply state.now branch.now day) ⊎ (result ≡ Err (Refusal.Plain Cause.OutOfMemory)) }
+    ensures exact { (result ≡ closing_reply state.now branch.now day choice.now) ⊎ (result ≡ Err (Refusal.Plain Cause.OutOfMemory)) }
     // It prints and reads back under the state's styles.
     ensures printable { IfOk result (λ txn. IsPrintable state.now.styles txn) }
 {
@@ -292,8 +278,11 @@ pub fn closing_entry<L: Ledger>(
     let Some(ledger) = state.ledger(branch) else {
         return Err(Refusal::Plain(Cause::UnknownBranch));
     };
-    match closing_postings(alloc, ledger, state.styles(), day) {
-        Ok(postings) => limited_txn(alloc, day, postings),
+    if let Some(refusal) = choice_refusal(choice) {
+        return Err(refusal);
+    }
+    match closing_postings(alloc, ledger, state.styles(), day, choice) {
+        Ok(postings) => limited_txn(alloc, day, choice, postings),
         Err(cause) => Err(Refusal::Plain(cause)),
     }
 }

@@ -1,11 +1,14 @@
 //! Commands, and what they are answered.
 
-ghost use Rattle.std.specs.Prelude.{◌↔◌, IsTrue};
+ghost use Rattle.std.specs.Prelude.{◌≡◌, ◌↔◌, IsTrue, IfSome, IfOk};
+ghost use Rattle.std.specs.Result.{IsOkUnless};
 ghost use Rattle.std.specs.List.{AllByRecursion};
+ghost use Rattle.money_core.specs.AmountText.{IsDeclared};
 ghost use Rattle.journal_format.specs.declared.txn.Located.{Located as Found};
 ghost use Rattle.journal_format.specs.Printable.{IsPrintable};
 ghost use Rattle.treasury_core.specs.Good.{Fits, IsDispatch, IsReceive};
 
+use crate::choice::Choice;
 use journal_format::{Located, is_printable};
 use journal_lines::is_day_number;
 use money_core::{Cause, Copied, Day, Items, Style, Styles, Text, Unit, is_declared, is_style};
@@ -27,6 +30,16 @@ pub struct Dispatch {
     pub account: Text,
 }
 
+/// A part of a transfer that is asked for.
+#[derive(Debug, Drop)]
+pub struct AskedPart {
+    /// Its key, unique in the transfer.
+    pub key: Text,
+    pub unit: Unit,
+    /// In smallest units.
+    pub qty: i64,
+}
+
 /// A receipt of a transfer that was dispatched.
 #[derive(Debug, Drop)]
 pub struct Receive {
@@ -37,6 +50,18 @@ pub struct Receive {
     pub day: Day,
     /// The account of the branch that gets the amount.
     pub account: Text,
+    /// None for all that is left.
+    pub part: Option<AskedPart>,
+}
+
+/// The closing of a branch at a day, through which it is locked.
+#[derive(Debug, Drop)]
+pub struct Close {
+    /// The branch, by name.
+    pub branch: Text,
+    pub day: Day,
+    /// What is closed, and into which account.
+    pub choice: Choice,
 }
 
 /// What is asked of the treasury. Branches go by name.
@@ -54,8 +79,8 @@ pub enum Command {
     Receive(Receive),
     /// A lock of the branch of that name through that day.
     Lock(Text, Day),
-    /// The closing of the branch of that name at that day, through which it is locked.
-    Close(Text, Day),
+    /// A branch closed at a day.
+    Close(Close),
 }
 
 /// What a command is answered that is not refused.
@@ -90,12 +115,22 @@ impl Dispatch {
     }
 }
 
+/// Whether the amount of a part that is asked for is one of a declared commodity within the limit.
+fn has_amount(part: &Option<AskedPart>, styles: &Styles) -> bool
+    ensures { IsTrue result ↔ IfSome part.now (λ a. IsDeclared styles.now a.unit a.qty) }
+{
+    match part {
+        None => true,
+        Some(part) => is_declared(part.unit, part.qty, styles),
+    }
+}
+
 impl Receive {
-    /// Whether it can be decided.
-    fn fits(&self) -> bool
-        ensures { IsTrue result ↔ IsReceive self.now }
+    /// Whether it can be decided under the styles.
+    fn fits(&self, styles: &Styles) -> bool
+        ensures { IsTrue result ↔ IsReceive styles.now self.now }
     {
-        is_day_number(self.day)
+        is_day_number(self.day) && has_amount(&self.part, styles)
     }
 }
 
@@ -112,9 +147,9 @@ impl Command {
             Command::Commodity(style) => is_style(style),
             Command::Enter(_, file) => are_printable(file.items(), styles),
             Command::Dispatch(dispatch) => dispatch.fits(styles),
-            Command::Receive(receive) => receive.fits(),
+            Command::Receive(receive) => receive.fits(styles),
             Command::Lock(_, day) => is_day_number(*day),
-            Command::Close(_, day) => is_day_number(*day),
+            Command::Close(close) => is_day_number(close.day),
         }
     }
 }
@@ -137,16 +172,55 @@ impl Copied for Dispatch {
     }
 }
 
+impl Copied for AskedPart {
+    fn copy(&self) -> Result<Self, Cause> {
+        let key = self.key.copy()?;
+        Ok(AskedPart {
+            key,
+            unit: self.unit,
+            qty: self.qty,
+        })
+    }
+}
+
+/// An equal part that is asked for, if there is one.
+fn copied(part: &Option<AskedPart>) -> Result<Option<AskedPart>, Cause>
+    ensures equal { IfOk result (λ copy. copy ≡ part.now) }
+    ensures memory { IsOkUnless result Cause.OutOfMemory }
+{
+    match part {
+        Some(part) => {
+            let copy = part.copy()?;
+            Ok(Some(copy))
+        }
+        None => Ok(None),
+    }
+}
+
 impl Copied for Receive {
     fn copy(&self) -> Result<Self, Cause> {
         let id = self.id.copy()?;
         let branch = self.branch.copy()?;
         let account = self.account.copy()?;
+        let part = copied(&self.part)?;
         Ok(Receive {
             id,
             branch,
             day: self.day,
             account,
+            part,
+        })
+    }
+}
+
+impl Copied for Close {
+    fn copy(&self) -> Result<Self, Cause> {
+        let branch = self.branch.copy()?;
+        let choice = self.choice.copy()?;
+        Ok(Close {
+            branch,
+            day: self.day,
+            choice,
         })
     }
 }
@@ -179,9 +253,9 @@ impl Copied for Command {
                 let name = name.copy()?;
                 Ok(Command::Lock(name, *day))
             }
-            Command::Close(name, day) => {
-                let name = name.copy()?;
-                Ok(Command::Close(name, *day))
+            Command::Close(close) => {
+                let close = close.copy()?;
+                Ok(Command::Close(close))
             }
         }
     }

@@ -373,7 +373,7 @@ fn decided<L: Ledger>(alloc: Global, state: &State<L>, command: &Command) -> Dec
         Command::Dispatch(dispatch) => decide_dispatch(alloc, state, dispatch),
         Command::Receive(receive) => decide_receive(alloc, state, receive),
         Command::Lock(name, day) => decide_lock(alloc, state, name, *day),
-        Command::Close(name, day) => decide_close(alloc, state, name, *day),
+        Command::Close(close) => decide_close(alloc, state, close),
     }
 }
 

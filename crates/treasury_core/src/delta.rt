@@ -3,7 +3,7 @@
 ghost use Rattle.std.specs.Prelude.{◌≡◌};
 
 use crate::record::Record;
-use crate::transfer::Transfer;
+use crate::transfer::{Part, Transfer};
 use money_core::{Cause, Copied, Day, Items, Style, Text};
 use std::marker::Model;
 
@@ -17,8 +17,8 @@ pub enum Addition {
     Record(Text, Record),
     /// A transfer that is on its way.
     Dispatched(Transfer),
-    /// The transfer of that ID was received on that day, into that account.
-    Received(Text, Day, Text),
+    /// A receipt of the transfer of that ID: of a part, or under the key `all` of what was left.
+    Received(Text, Part),
     /// The branch of that name is locked through that day.
     Locked(Text, Day),
 }
@@ -43,10 +43,10 @@ impl Copied for Addition {
                 let transfer = transfer.copy()?;
                 Ok(Addition::Dispatched(transfer))
             }
-            Addition::Received(id, day, payee) => {
+            Addition::Received(id, part) => {
                 let id = id.copy()?;
-                let payee = payee.copy()?;
-                Ok(Addition::Received(id, *day, payee))
+                let part = part.copy()?;
+                Ok(Addition::Received(id, part))
             }
             Addition::Locked(name, day) => {
                 let name = name.copy()?;

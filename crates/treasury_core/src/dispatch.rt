@@ -6,7 +6,7 @@ ghost use Rattle.std.specs.Result.{IsOkUnless};
 ghost use Rattle.money_core.specs.Amount.{limit};
 ghost use Rattle.book_core.specs.GoodBook.{IsGoodBook, verdict};
 ghost use Rattle.treasury_core.specs.Federation.{entries};
-ghost use Rattle.treasury_core.specs.Transfer.{is_id_byte, is_id, dispatch_record};
+ghost use Rattle.treasury_core.specs.Transfer.{is_id_byte, is_id, is_key, dispatch_record};
 ghost use Rattle.treasury_core.specs.Step.{transfer_of, is_dispatched_so, dispatch_refusal, Decides};
 ghost use Rattle.treasury_core.specs.Good.{IsDispatch};
 ghost use Rattle.treasury_core.specs.Kept.{IsKept};
@@ -18,13 +18,16 @@ use crate::enter::{is_account_text, is_locked, is_reserved_account};
 use crate::order::find_transfer;
 use crate::product::dispatch_record;
 use crate::state::{Branch, State, find_branch};
-use crate::transfer::Transfer;
+use crate::transfer::{Transfer, is_all};
 use book_core::{Ledger, Refusal};
-use money_core::{Cause, Copied};
+use money_core::{Cause, Copied, Items};
 use std::alloc::Global;
 
 /// The greatest number of bytes of a transfer's ID.
 const MAX_ID: usize = 64;
+
+/// The greatest number of bytes of a part's key.
+const MAX_KEY: usize = 32;
 
 /// Whether the byte may stand in a transfer's ID.
 fn is_id_byte(byte: u8) -> bool
@@ -51,6 +54,14 @@ pub(crate) fn is_id(id: &[u8]) -> bool
     !id.is_empty() && id.len() <= MAX_ID && has_id_bytes(id)
 }
 
+/// Whether the key of a part is well formed.
+pub(crate) fn is_key(key: &str) -> bool
+    ensures { result ≡ is_key key.now }
+{
+    let bytes = key.as_bytes();
+    !bytes.is_empty() && bytes.len() <= MAX_KEY && has_id_bytes(bytes) && !is_all(key)
+}
+
 /// Whether the transfer was dispatched just so.
 fn is_dispatched_so(dispatch: &Dispatch, transfer: &Transfer) -> bool
     ensures { result ≡ is_dispatched_so dispatch.now (Some transfer.now) }
@@ -64,7 +75,7 @@ fn is_dispatched_so(dispatch: &Dispatch, transfer: &Transfer) -> bool
 }
 
 /// The transfer that is asked for.
-fn transfer_of(dispatch: &Dispatch) -> Result<Transfer, Cause>
+fn transfer_of(alloc: Global, dispatch: &Dispatch) -> Result<Transfer, Cause>
     ensures value { IfOk result (λ t. t ≡ transfer_of dispatch.now) }
     ensures memory { IsOkUnless result Cause.OutOfMemory }
 {
@@ -80,6 +91,7 @@ fn transfer_of(dispatch: &Dispatch) -> Result<Transfer, Cause>
         qty: dispatch.qty,
         day: dispatch.day,
         payer,
+        parts: Items::empty(alloc),
         receipt: None,
     })
 }
@@ -92,7 +104,7 @@ fn sent<L: Ledger>(alloc: Global, source: &Branch<L>, dispatch: &Dispatch) -> Re
     ensures passes { OnOk result (verdict (L.book source.now.ledger ++ entries (dispatch_record (transfer_of dispatch.now) ∷ [])) ≡ None) }
     ensures err { IfErr result (λ e. (e ≡ Refusal.Plain Cause.OutOfMemory) ⊎ (verdict (L.book source.now.ledger ++ entries (dispatch_record (transfer_of dispatch.now) ∷ [])) ≡ Some e)) }
 {
-    let transfer = match transfer_of(dispatch) {
+    let transfer = match transfer_of(alloc, dispatch) {
         Ok(transfer) => transfer,
         Err(cause) => return Err(Refusal::Plain(cause)),
     };

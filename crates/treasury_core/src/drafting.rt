@@ -40,7 +40,12 @@ pub(crate) fn drafted(alloc: Global, parts: &Parts) -> Result<Draft, Cause>
         parts.branches.items(),
         parts.entries.items(),
     )?;
-    let transfers = read_transfers(alloc, branches.items(), parts.transfers.items())?;
+    let transfers = read_transfers(
+        alloc,
+        branches.items(),
+        parts.transfers.items(),
+        parts.receipts.items(),
+    )?;
     Ok(Draft {
         styles,
         branches,

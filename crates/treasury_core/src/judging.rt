@@ -9,6 +9,7 @@ ghost use Rattle.treasury_core.specs.declared.transfer.Transfer.{Transfer as Mov
 ghost use Rattle.treasury_core.specs.Federation.{Branch, has_name, entries};
 ghost use Rattle.treasury_core.specs.Mark.{is_of_transfer};
 ghost use Rattle.treasury_core.specs.Good.{AreAscending, HaveOwnNames, IsCarried, IsGoodBranch, IsGoodRecord, IsGoodState, IsOffTransit};
+ghost use Rattle.treasury_core.specs.Fair.{IsMarked};
 
 mod carried;
 mod closings;
@@ -100,6 +101,7 @@ fn is_good_branch<L: Ledger>(
 ) -> Result<bool, Cause>
     requires records { AllByRecursion (IsGoodRecord styles.now) branch.now.records }
     requires ids { AreAscending transfers.now }
+    requires marked { AllByRecursion IsMarked transfers.now }
     requires small { AllByRecursion (λ (t : Moved). unsigned_abs t.qty ≤ limit) transfers.now }
     ensures value { IfOk result (λ is. IsTrue is ↔ IsGoodBranch styles.now branch.now × IsCarried transfers.now branch.now) }
     ensures memory { IsOkUnless result Cause.OutOfMemory }
@@ -129,6 +131,7 @@ fn are_good_branches<L: Ledger>(
 ) -> Result<bool, Cause>
     requires records { AllByRecursion (λ (b : Branch). AllByRecursion (IsGoodRecord styles.now) b.records) branches.now }
     requires ids { AreAscending transfers.now }
+    requires marked { AllByRecursion IsMarked transfers.now }
     requires small { AllByRecursion (λ (t : Moved). unsigned_abs t.qty ≤ limit) transfers.now }
     ensures value { IfOk result (λ is. IsTrue is ↔ AllByRecursion (λ (b : Branch). IsGoodBranch styles.now b × IsCarried transfers.now b) branches.now) }
     ensures memory { IsOkUnless result Cause.OutOfMemory }

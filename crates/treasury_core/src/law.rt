@@ -24,6 +24,8 @@ ghost use Rattle.journal_format.specs.Printable.{FitsText, IsPrintable, located_
 ghost use Rattle.journal_balance.specs.Legs.{legs_of};
 ghost use Rattle.journal_balance.specs.Plain.{written_entry};
 ghost use Rattle.treasury_core.specs.declared.record.Record.{Record};
+ghost use Rattle.treasury_core.specs.declared.choice.Choice.{Choice};
+ghost use Rattle.treasury_core.specs.declared.command.Close.{Close as Closing};
 ghost use Rattle.treasury_core.specs.declared.command.Command.{Command};
 ghost use Rattle.treasury_core.specs.declared.command.Command.TheVariants.{Enter, Close};
 ghost use Rattle.treasury_core.specs.declared.command.Answer.{Answer};
@@ -35,7 +37,8 @@ ghost use Rattle.treasury_core.specs.Joined.{joined};
 ghost use Rattle.treasury_core.specs.Step.{reply, after, delta, step, new_records, is_locked, unbalanced, refused_in, records_in_file};
 ghost use Rattle.treasury_core.specs.Good.{Fits, IsGoodState};
 ghost use Rattle.treasury_core.specs.Sound.{EachBalances, EachAssertionHolds, BreaksAssertion};
-ghost use Rattle.treasury_core.specs.Closing.{is_revenue_or_expense, retained_earnings, selected, held_in, closing_in, closing_record};
+ghost use Rattle.treasury_core.specs.Choice.{is_selected, target_in, choice_refusal};
+ghost use Rattle.treasury_core.specs.Closing.{selected, held_in, closing_in, closing_record};
 ghost use Rattle.treasury_core.specs.Closed.{IsClosing, closed_book};
 ghost use Rattle.treasury_core.specs.History.{Turn, Replies, IsRun, state_after, history, records_among, IsRefusedOrRepeated, IsNew, IsOwn, IsOwnJournal, AreAmong, txns_in, HasGrown, AddsUp};
 ghost use Rattle.treasury_core.specs.Headline.{KeepsBooks};
@@ -176,13 +179,13 @@ pub fn rows_law()
     ensures { (f g : Federation) → IsGoodState f → IsGoodState g → rows f ≡ rows g → f ≡ g }
 {}
 
-/// A law of closings: what a closing does are the legs and assertions of its postings as they are written, and within the
-/// limit of postings it can be printed. Costs nothing.
+/// A law of closings: what a closing does are the legs and assertions of its postings as they are written. Where its
+/// choice is not refused, and within the limit of postings, it can be printed. Costs nothing.
 pub fn closing_law()
     ensures entry { (select : List ℕ → Bool) (into : List ℕ) (f : Federation) (name : List ℕ) (day : Day) (t : Txn)
         → IsClosing select into f name day t → legs_of f.styles t ≡ Ok (written_entry t) }
-    ensures printable { (f : Federation) (name : List ℕ) (day : Day) (t : Txn) → IsGoodState f → IsDayNumber day
-        → closing_in f name day ≡ Some t → length t.postings ≤ posting_limit → IsPrintable f.styles t }
+    ensures printable { (f : Federation) (name : List ℕ) (day : Day) (c : Choice) (t : Txn) → IsGoodState f → IsDayNumber day → choice_refusal c ≡ None
+        → closing_in f name day c ≡ Some t → length t.postings ≤ posting_limit → IsPrintable f.styles t }
 {}
 
 /// A law of books with their closing: through its day each selected account is at zero in every commodity. Through that
@@ -208,23 +211,25 @@ pub fn closed_law()
 {}
 
 /// A law of accepted closings: the book gets the closing of its branch and nothing else, and is locked through the day.
-/// Through that day each revenue and expense account is at zero in every commodity, and stays so whatever comes later. No
-/// balance moves but theirs and that of `equity:retained earnings`, and nothing in another branch. Costs nothing.
+/// Through that day each account that is selected is at zero in every commodity, and stays so whatever comes later. No
+/// balance moves but theirs and that of the target, which is not selected, and nothing in another branch. Costs nothing.
 pub fn accepted_closing_law()
-    ensures adds { (f : Federation) (name : List ℕ) (day : Day) → reply f (Close name day) ≡ Ok Done
-        → (t : Txn) × ((closing_in f name day ≡ Some t)
-        × (records_of (step f (Close name day)).next name ≡ records_of f name ++ closing_record day t ∷ [])) }
-    ensures locked { (f : Federation) (name : List ℕ) (day : Day) → reply f (Close name day) ≡ Ok Done
-        → lock_of (step f (Close name day)).next name ≡ Some day }
-    ensures zero { (f : Federation) (name : List ℕ) (day : Day) (account : List ℕ) (unit : Commodity) → IsGoodState f
-        → reply f (Close name day) ≡ Ok Done → is_revenue_or_expense account ≡ true
-        → balance Own (book_of (step f (Close name day)).next name) account unit (Through day) ≡ pos 0 }
-    ensures stays { (f : Federation) (name : List ℕ) (day : Day) (turns : List Turn) (account : List ℕ) (unit : Commodity) → IsGoodState f
-        → reply f (Close name day) ≡ Ok Done → IsRun (step f (Close name day)).next turns → is_revenue_or_expense account ≡ true
-        → balance Own (book_of (state_after (step f (Close name day)).next turns) name) account unit (Through day) ≡ pos 0 }
-    ensures untouched { (f : Federation) (name : List ℕ) (day : Day) (account : List ℕ) (unit : Commodity) (on : Day) → IsGoodState f
-        → reply f (Close name day) ≡ Ok Done → is_revenue_or_expense account ≡ false → bytes_eq retained_earnings account ≡ false
-        → balance Own (book_of (step f (Close name day)).next name) account unit (Through on) ≡ balance Own (book_of f name) account unit (Through on) }
-    ensures elsewhere { (f : Federation) (name other : List ℕ) (day : Day) → reply f (Close name day) ≡ Ok Done → bytes_eq name other ≡ false
-        → (records_of (step f (Close name day)).next other ≡ records_of f other) × (lock_of (step f (Close name day)).next other ≡ lock_of f other) }
+    ensures adds { (f : Federation) (x : Closing) → reply f (Close x) ≡ Ok Done
+        → (t : Txn) × ((closing_in f x.branch x.day x.choice ≡ Some t)
+        × (records_of (step f (Close x)).next x.branch ≡ records_of f x.branch ++ closing_record x.day t ∷ [])) }
+    ensures locked { (f : Federation) (x : Closing) → reply f (Close x) ≡ Ok Done
+        → lock_of (step f (Close x)).next x.branch ≡ Some x.day }
+    ensures apart { (f : Federation) (x : Closing) → reply f (Close x) ≡ Ok Done
+        → is_selected x.choice.accounts (target_in x.choice.into) ≡ false }
+    ensures zero { (f : Federation) (x : Closing) (account : List ℕ) (unit : Commodity) → IsGoodState f
+        → reply f (Close x) ≡ Ok Done → is_selected x.choice.accounts account ≡ true
+        → balance Own (book_of (step f (Close x)).next x.branch) account unit (Through x.day) ≡ pos 0 }
+    ensures stays { (f : Federation) (x : Closing) (turns : List Turn) (account : List ℕ) (unit : Commodity) → IsGoodState f
+        → reply f (Close x) ≡ Ok Done → IsRun (step f (Close x)).next turns → is_selected x.choice.accounts account ≡ true
+        → balance Own (book_of (state_after (step f (Close x)).next turns) x.branch) account unit (Through x.day) ≡ pos 0 }
+    ensures untouched { (f : Federation) (x : Closing) (account : List ℕ) (unit : Commodity) (on : Day) → IsGoodState f
+        → reply f (Close x) ≡ Ok Done → is_selected x.choice.accounts account ≡ false → bytes_eq (target_in x.choice.into) account ≡ false
+        → balance Own (book_of (step f (Close x)).next x.branch) account unit (Through on) ≡ balance Own (book_of f x.branch) account unit (Through on) }
+    ensures elsewhere { (f : Federation) (x : Closing) (other : List ℕ) → reply f (Close x) ≡ Ok Done → bytes_eq x.branch other ≡ false
+        → (records_of (step f (Close x)).next other ≡ records_of f other) × (lock_of (step f (Close x)).next other ≡ lock_of f other) }
 {}

@@ -3,6 +3,7 @@
 
 mod applying;
 mod build;
+mod choice;
 mod close;
 mod closing;
 mod command;
@@ -29,8 +30,9 @@ mod transfer;
 mod transit;
 
 pub use applying::apply;
+pub use choice::Choice;
 pub use closing::closing_entry;
-pub use command::{Answer, Command, Dispatch, Receive};
+pub use command::{Answer, AskedPart, Close, Command, Dispatch, Receive};
 pub use decision::{MAX_BRANCHES, decide};
 pub use delta::{Addition, Delta};
 pub use law::{
@@ -42,5 +44,5 @@ pub use mark::mark_of;
 pub use record::Record;
 pub use rows::{BranchRow, ClaimRow, EntryRow, LegRow, PartRow, Parts, TransferRow, UnitRow};
 pub use state::{Branch, State};
-pub use transfer::{Receipt, Transfer};
+pub use transfer::{Part, Receipt, Transfer};
 pub use transit::open_amount;

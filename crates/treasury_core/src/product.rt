@@ -4,10 +4,10 @@ ghost use Rattle.std.specs.Prelude.{◌≡◌, ◌≤◌, unsigned_abs, [], ◌�
 ghost use Rattle.std.specs.Result.{IsOkUnless};
 ghost use Rattle.money_core.specs.Amount.{limit};
 ghost use Rattle.journal_balance.specs.Legs.{leg};
-ghost use Rattle.treasury_core.specs.Transfer.{transit_account, posting, product_record, dispatch_record, receipt_record};
+ghost use Rattle.treasury_core.specs.Transfer.{transit_account, posting, product_record, in_mark, in_text, dispatch_record, receipt_record};
 
 use crate::record::Record;
-use crate::transfer::{Receipt, Transfer};
+use crate::transfer::{Part, Transfer, is_all};
 use book_core::{Entry, Leg};
 use journal_format::{Posting, Txn};
 use money_core::{Cause, Copied, Day, Items, Text, Unit};
@@ -24,24 +24,55 @@ fn transit_account(alloc: Global, from: &Text, to: &Text) -> Result<Text, Cause>
     Ok(Text::from_string(account))
 }
 
-/// The mark of a transfer's record: `out:ID` or `in:ID`.
-fn mark_of(alloc: Global, front: &str, id: &Text) -> Result<Text, Cause>
-    ensures value { IfOk result (λ mark. mark ≡ front.now ++ id.now) }
+/// The mark of a dispatch: `out:ID`.
+fn out_mark(alloc: Global, id: &Text) -> Result<Text, Cause>
+    ensures value { IfOk result (λ mark. mark ≡ codes "out:" ++ id.now) }
     ensures memory { IsOkUnless result Cause.OutOfMemory }
 {
     let id = id.as_str();
-    let mark = format!(in alloc; "{front}{id}")?;
+    let mark = format!(in alloc; "out:{id}")?;
     Ok(Text::from_string(mark))
 }
 
-/// The description of a transfer's record: `transfer ID to BRANCH` or `transfer ID from BRANCH`.
-fn description_of(alloc: Global, id: &Text, link: &str, branch: &Text) -> Result<Text, Cause>
-    ensures value { IfOk result (λ text. text ≡ codes "transfer " ++ (id.now ++ (link.now ++ branch.now))) }
+/// The mark of a receipt: `in:ID`, of a part `in:ID:KEY`.
+fn in_mark(alloc: Global, id: &Text, key: &Text) -> Result<Text, Cause>
+    ensures value { IfOk result (λ mark. mark ≡ in_mark id.now key.now) }
     ensures memory { IsOkUnless result Cause.OutOfMemory }
 {
     let id = id.as_str();
-    let branch = branch.as_str();
-    let text = format!(in alloc; "transfer {id}{link}{branch}")?;
+    let key = key.as_str();
+    if is_all(key) {
+        let mark = format!(in alloc; "in:{id}")?;
+        return Ok(Text::from_string(mark));
+    }
+    let mark = format!(in alloc; "in:{id}:{key}")?;
+    Ok(Text::from_string(mark))
+}
+
+/// The description of a dispatch: `transfer ID to BRANCH`.
+fn out_text(alloc: Global, transfer: &Transfer) -> Result<Text, Cause>
+    ensures value { IfOk result (λ text. text ≡ codes "transfer " ++ (transfer.now.id ++ (codes " to " ++ transfer.now.target))) }
+    ensures memory { IsOkUnless result Cause.OutOfMemory }
+{
+    let id = transfer.id.as_str();
+    let branch = transfer.target.as_str();
+    let text = format!(in alloc; "transfer {id} to {branch}")?;
+    Ok(Text::from_string(text))
+}
+
+/// The description of a receipt: `transfer ID from BRANCH`, of a part with ` part KEY` behind it.
+fn in_text(alloc: Global, transfer: &Transfer, key: &Text) -> Result<Text, Cause>
+    ensures value { IfOk result (λ text. text ≡ in_text transfer.now key.now) }
+    ensures memory { IsOkUnless result Cause.OutOfMemory }
+{
+    let id = transfer.id.as_str();
+    let branch = transfer.source.as_str();
+    let key = key.as_str();
+    if is_all(key) {
+        let text = format!(in alloc; "transfer {id} from {branch}")?;
+        return Ok(Text::from_string(text));
+    }
+    let text = format!(in alloc; "transfer {id} from {branch} part {key}")?;
     Ok(Text::from_string(text))
 }
 
@@ -129,8 +160,8 @@ pub(crate) fn dispatch_record(alloc: Global, transfer: &Transfer) -> Result<Reco
     ensures value { IfOk result (λ row. row ≡ dispatch_record transfer.now) }
     ensures memory { IsOkUnless result Cause.OutOfMemory }
 {
-    let mark = mark_of(alloc, "out:", &transfer.id)?;
-    let description = description_of(alloc, &transfer.id, " to ", &transfer.target)?;
+    let mark = out_mark(alloc, &transfer.id)?;
+    let description = out_text(alloc, transfer)?;
     let transit = transit_account(alloc, &transfer.source, &transfer.target)?;
     let payer = transfer.payer.copy()?;
     let gets = leg(transit, transfer.unit, transfer.qty);
@@ -142,17 +173,17 @@ pub(crate) fn dispatch_record(alloc: Global, transfer: &Transfer) -> Result<Reco
 pub(crate) fn receipt_record(
     alloc: Global,
     transfer: &Transfer,
-    receipt: &Receipt,
+    part: &Part,
 ) -> Result<Record, Cause>
-    requires { unsigned_abs transfer.now.qty ≤ limit }
-    ensures value { IfOk result (λ row. row ≡ receipt_record transfer.now receipt.now) }
+    requires { unsigned_abs part.now.qty ≤ limit }
+    ensures value { IfOk result (λ row. row ≡ receipt_record transfer.now part.now) }
     ensures memory { IsOkUnless result Cause.OutOfMemory }
 {
-    let mark = mark_of(alloc, "in:", &transfer.id)?;
-    let description = description_of(alloc, &transfer.id, " from ", &transfer.source)?;
-    let payee = receipt.payee.copy()?;
+    let mark = in_mark(alloc, &transfer.id, &part.key)?;
+    let description = in_text(alloc, transfer, &part.key)?;
+    let payee = part.payee.copy()?;
     let transit = transit_account(alloc, &transfer.source, &transfer.target)?;
-    let gets = leg(payee, transfer.unit, transfer.qty);
-    let pays = leg(transit, transfer.unit, -transfer.qty);
-    product_record(alloc, mark, receipt.day, description, gets, pays)
+    let gets = leg(payee, transfer.unit, part.qty);
+    let pays = leg(transit, transfer.unit, -part.qty);
+    product_record(alloc, mark, part.day, description, gets, pays)
 }

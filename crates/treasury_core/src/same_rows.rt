@@ -10,15 +10,15 @@ ghost use Rattle.treasury_core.specs.declared.record.Record.{Record as BranchRec
 ghost use Rattle.treasury_core.specs.declared.transfer.Receipt.{Receipt as TransferReceipt};
 ghost use Rattle.treasury_core.specs.Federation.{Branch as FederationBranch, name_place};
 ghost use Rattle.treasury_core.specs.Good.{IsGoodRecord};
-ghost use Rattle.treasury_core.specs.Rows.{truth, kind_number, unit_row, unit_rows, branch_row, branch_rows_from, entry_row, leg_row, claim_row, leg_rows, claim_rows, transfer_row, rows};
+ghost use Rattle.treasury_core.specs.Rows.{truth, kind_number, unit_row, unit_rows, branch_row, branch_rows_from, entry_row, leg_row, claim_row, leg_rows, claim_rows, transfer_row, part_row, part_rows, rows};
 ghost use Rattle.treasury_core.specs.Drafted.{record_rows_from, record_rows_in};
 
 use crate::draft::{Draft, DraftBranch};
 use crate::drafting::{are_equal, is_number, rows_before, rows_from};
 use crate::mark::text_of;
 use crate::record::Record;
-use crate::rows::{BranchRow, ClaimRow, EntryRow, LegRow, Parts, TransferRow, UnitRow};
-use crate::transfer::{Receipt, Transfer};
+use crate::rows::{BranchRow, ClaimRow, EntryRow, LegRow, PartRow, Parts, TransferRow, UnitRow};
+use crate::transfer::{Part, Receipt, Transfer};
 use book_core::{ClaimKind, Leg, Placed};
 use money_core::{Cause, Day, Same, Style, Styles, Text, Unit};
 use std::alloc::Global;
@@ -165,6 +165,51 @@ fn are_transfer_rows(branches: &[DraftBranch], transfers: &[Transfer], list: &[T
         }
     }
     true
+}
+
+/// Whether the row is that of the part of the transfer of that ID.
+fn is_part_row(id: &Text, part: &Part, row: &PartRow) -> bool
+    ensures { IsTrue result ↔ (part_row id.now part.now ≡ row.now) }
+{
+    id.is_same(&row.transfer)
+        && part.key.is_same(&row.part)
+        && row.qty == part.qty
+        && is_day(row.received, part.day)
+        && part.payee.is_same(&row.payee)
+}
+
+/// Whether the rows are those of the parts of the transfer of that ID.
+fn are_own_rows(id: &Text, parts: &[Part], list: &[PartRow]) -> bool
+    ensures { IsTrue result ↔ (map (part_row id.now) parts.now ≡ list.now) }
+{
+    if parts.len() != list.len() {
+        return false;
+    }
+    for (i, part) in parts.iter().enumerate() {
+        if !is_part_row(id, part, &list[i]) {
+            return false;
+        }
+    }
+    true
+}
+
+/// Whether the rows are those of the parts of all transfers.
+fn are_part_rows(transfers: &[Transfer], list: &[PartRow]) -> bool
+    ensures { IsTrue result ↔ (part_rows transfers.now ≡ list.now) }
+{
+    let mut left = list;
+    'transfer: for transfer in transfers {
+        let parts = transfer.parts.items();
+        let count = parts.len();
+        if count > left.len() {
+            return false;
+        }
+        if !are_own_rows(&transfer.id, parts, rows_before(left, count)) {
+            return false;
+        }
+        left = rows_from(left, count);
+    }
+    left.is_empty()
 }
 
 /// Whether the row is that of the leg.
@@ -396,10 +441,6 @@ pub(crate) fn has_rows(alloc: Global, draft: &Draft, parts: &Parts) -> Result<bo
     ensures memory { IsOkUnless result Cause.OutOfMemory }
 {
     let branches = draft.branches.items();
-    let receipts = parts.receipts.items();
-    if !receipts.is_empty() {
-        return Ok(false);
-    }
     if !are_unit_rows(&draft.styles, parts.units.items()) {
         return Ok(false);
     }
@@ -407,6 +448,9 @@ pub(crate) fn has_rows(alloc: Global, draft: &Draft, parts: &Parts) -> Result<bo
         return Ok(false);
     }
     if !are_transfer_rows(branches, draft.transfers.items(), parts.transfers.items()) {
+        return Ok(false);
+    }
+    if !are_part_rows(draft.transfers.items(), parts.receipts.items()) {
         return Ok(false);
     }
     let entries = are_record_rows(alloc, &draft.styles, branches, parts.entries.items())?;

@@ -1,17 +1,58 @@
 //! What is on its way between branches.
 
-ghost use Rattle.std.specs.Prelude.{◌≡◌, ◌≤ℤ◌, ◌&&◌, pos, true, false, if◌then◌else◌};
+ghost use Rattle.std.specs.Prelude.{◌≡◌, ◌≤ℤ◌, ◌&&◌, pos, true, false, int_le, if◌then◌else◌};
 ghost use Rattle.std.specs.List.{AllByRecursion};
 ghost use Rattle.std.specs.Str.{bytes_eq};
 ghost use Rattle.treasury_core.specs.Federation.{has_branch};
-ghost use Rattle.treasury_core.specs.Transfer.{open_amount, open_of, is_between};
+ghost use Rattle.treasury_core.specs.declared.transfer.Part.{Part as TransferPart};
+ghost use Rattle.treasury_core.specs.Transfer.{sum_of, received_by, open_amount, open_of, is_between};
 ghost use Rattle.treasury_core.specs.History.{AddsUp};
 ghost use Rattle.treasury_core.specs.Fair.{IsFair};
 
 use crate::state::State;
-use crate::transfer::Transfer;
+use crate::transfer::{Part, Transfer, rest_of};
 use book_core::Ledger;
 use money_core::{Day, Unit};
+
+/// What was received of a part through the day.
+fn part_by(part: &Part, day: Day) -> i64
+    ensures { result ≡ (if int_le part.now.day.0 day.0 then part.now.qty else pos 0) }
+{
+    if part.day.0 <= day.0 { part.qty } else { 0 }
+}
+
+/// What was received of parts through the day, each of which has a positive quantity.
+fn received_by(parts: &[Part], day: Day) -> i64
+    requires positive { AllByRecursion (λ (p : TransferPart). int_le (pos 1) p.qty ≡ true) parts.now }
+    requires small { sum_of parts.now ≤ℤ pos 9223372036854775807 }
+    ensures { result ≡ received_by parts.now day }
+{
+    let mut sum: i64 = 0;
+    'part: for part in parts {
+        let share = part_by(part, day);
+        sum += share;
+    }
+    sum
+}
+
+/// What is open of a transfer that was dispatched through the day.
+fn open_from(transfer: &Transfer, day: Day) -> i64
+    requires fair { IsFair transfer.now }
+    requires sent { int_le transfer.now.day.0 day.0 ≡ true }
+    ensures { result ≡ open_of transfer.now day }
+{
+    let open = transfer.qty - received_by(transfer.parts.items(), day);
+    match &transfer.receipt {
+        None => open,
+        Some(receipt) => {
+            if receipt.day.0 <= day.0 {
+                open - rest_of(transfer)
+            } else {
+                open
+            }
+        }
+    }
+}
 
 /// What is open of a transfer, if it goes that way.
 fn open_of(transfer: &Transfer, from: &str, to: &str, unit: Unit, day: Day) -> i64
@@ -28,16 +69,7 @@ fn open_of(transfer: &Transfer, from: &str, to: &str, unit: Unit, day: Day) -> i
     if day.0 < transfer.day.0 {
         return 0;
     }
-    match &transfer.receipt {
-        None => transfer.qty,
-        Some(receipt) => {
-            if receipt.day.0 <= day.0 {
-                0
-            } else {
-                transfer.qty
-            }
-        }
-    }
+    open_from(transfer, day)
 }
 
 /// The open amount between two branches, in smallest units.

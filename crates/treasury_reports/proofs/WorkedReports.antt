@@ -107,7 +107,7 @@ abbrev pub day : ℤ → Day
 day n = record { 0 = n }
 
 abbrev pub sent : Transfer
-sent = record { id = codes "t"; source = codes "north"; target = codes "south"; unit = unit 0; qty = pos 5; day = day (pos 3); payer = codes "a"; receipt = Some (record { day = day (pos 4); payee = codes "b" }) }
+sent = record { id = codes "t"; source = codes "north"; target = codes "south"; unit = unit 0; qty = pos 5; day = day (pos 3); payer = codes "a"; parts = []; receipt = Some (record { day = day (pos 4); payee = codes "b" }) }
 
 abbrev pub branch : List ℕ → List Record → Branch
 branch name records = record { name = name; locked = None; records = records }

@@ -5,14 +5,14 @@ use Rattle.std.specs.List.{enumerate_from, flat_map, list_any, AllByRecursion}
 use Rattle.std.specs.Ordering.{is_lt}
 use Rattle.std.proofs.lemmas.List.{map-append, append_assoc, append-nil, length-append, length-map, set_past}
 use Rattle.std.proofs.lemmas.List.Concat.{flat_map_single}
-use Rattle.std.proofs.lemmas.List.Sorted.{IsPermutation-refl, IsPermutation-trans, IsPermutation-cons, IsPermutation-map}
+use Rattle.std.proofs.lemmas.List.Sorted.{IsPermutation-refl, IsPermutation-trans, IsPermutation-cons, IsPermutation-map, IsPermutation-append, IsPermutation-append_right}
 use Rattle.std.proofs.lemmas.Bool.{ltb-true, lt-ltb}
 use Rattle.money_core.specs.declared.day.Day.{Day}
 use Rattle.money_core.specs.declared.style.Style.{Style}
 use Rattle.book_core.specs.Account.{name_cmp}
 use Rattle.journal_format.proofs.MoreStylesLemmas.{printable_stays}
 use Rattle.treasury_core.specs.declared.record.Record.{Record}
-use Rattle.treasury_core.specs.declared.transfer.Receipt.{Receipt}
+use Rattle.treasury_core.specs.declared.transfer.Part.{Part}
 use Rattle.treasury_core.specs.declared.transfer.Transfer.{Transfer}
 use Rattle.treasury_core.specs.declared.delta.Addition.{Addition}
 use Rattle.treasury_core.specs.declared.delta.Addition.TheVariants as add
@@ -23,10 +23,10 @@ use Rattle.treasury_core.specs.declared.rows.TransferRow.{TransferRow}
 use Rattle.treasury_core.specs.Federation.{Branch, Federation, has_name, name_place}
 use Rattle.treasury_core.specs.Good.{IsGoodRecord, IsGoodBranch, IsGoodTransfer, IsGoodState}
 use Rattle.treasury_core.specs.History.{names_of, Grows}
-use Rattle.treasury_core.specs.Joined.{new_branch, with_records, with_lock, changed, inserted, with_receipt, received, with_entered, joined_one, joined}
+use Rattle.treasury_core.specs.Joined.{new_branch, with_records, with_lock, changed, inserted, put_part, parts_with, rest_with, with_receipt, received, with_entered, with_received, joined_one, joined}
 use Rattle.treasury_core.specs.Room.{IsRoomy}
-use Rattle.treasury_core.specs.Rows.{unit_row, branch_row, entry_row, entry_rows_from, leg_rows, claim_rows, transfer_row, rows}
-use Rattle.treasury_core.specs.Transfer.{has_id}
+use Rattle.treasury_core.specs.Rows.{unit_row, branch_row, entry_row, entry_rows_from, leg_rows, claim_rows, transfer_row, part_row, part_rows, rows}
+use Rattle.treasury_core.specs.Transfer.{is_all, has_id}
 use Rattle.treasury_core.proofs.AskedLemmas.{HaveOwnIds}
 use Rattle.treasury_core.proofs.BackLemmas.{room_back}
 use Rattle.treasury_core.proofs.BytesLemmas.{neither, same_bytes}
@@ -34,8 +34,9 @@ use Rattle.treasury_core.proofs.OrderLemmas.{own_ids}
 use Rattle.treasury_store.specs.declared.change.Change.TheVariants as change
 use Rattle.treasury_store.specs.Rows.{Tables, locked, received as takes, joined as written}
 use Rattle.treasury_store.specs.Numbers.{records_each, numbers_of}
-use Rattle.treasury_store.specs.Changes.{Counts, named, place_in, record_changes, changes_by, counted, changes_from, counted_all, style_with, name_with, styles_with, names_with, counts_of, changes_of, numbers_with}
-use Rattle.treasury_store.proofs.SameLemmas.{Same, same_refl, same_trans, same_joined, other_units, other_transfers, joined-append, legs_joined, claims_joined, second_first}
+use Rattle.treasury_store.specs.Store.{Finds, FindsAll}
+use Rattle.treasury_store.specs.Changes.{Counts, named, place_in, record_changes, receipt_change, changes_by, counted, changes_from, counted_all, style_with, name_with, styles_with, names_with, counts_of, changes_of, numbers_with}
+use Rattle.treasury_store.proofs.SameLemmas.{Same, same_refl, same_trans, same_joined, other_units, joined-append, legs_joined, claims_joined, front_past, second_first}
 use Rattle.treasury_store.proofs.NumberedLemmas.{place_named, IsFront, front_place, changed_past, one_more, rows_from, none_more, rows-locked, record_in, branch_rows, branches-entered, none_locked, branch_locked, each-entered, each-locked, names-changed}
 
 -- ---- the rows of a state, with bodies under these styles and transfers between branches of these names
@@ -47,7 +48,7 @@ rows_under S N f = record {
   legs = rows_from leg_rows 0 f.branches;
   claims = rows_from claim_rows 0 f.branches;
   transfers = map (transfer_row (named N)) f.transfers;
-  receipts = [];
+  receipts = part_rows f.transfers;
 }
 
 same_rows : {X : Type 0} (xs ys : List X) → xs ≡ ys → IsPermutation xs ys
@@ -81,19 +82,82 @@ none_taken bs id day payee (x ∷ xs) h =
     ap (λ (c : Bool). cond c (let r : TransferRow = record (transfer_row bs x) { received = Some day; payee = Some payee } in r) (transfer_row bs x) ∷ map (takes id day payee) (map (transfer_row bs) xs)) n.0
     ∙ ap (λ l. transfer_row bs x ∷ l) (none_taken bs id day payee xs n.1)
 
-taken_at : (bs : List Branch) (id : List ℕ) (r : Receipt) (x : Transfer) (xs : List Transfer) (c : Bool) → bytes_eq x.id id ≡ c → list_any (has_id x.id) xs ≡ false
-    → map (takes id r.day.0 r.payee) (map (transfer_row bs) xs) ≡ map (transfer_row bs) (received id r xs)
-    → map (takes id r.day.0 r.payee) (map (transfer_row bs) (x ∷ xs)) ≡ map (transfer_row bs) (if c then with_receipt r x ∷ xs else x ∷ received id r xs)
-taken_at bs id r x xs true e own h =
-    ap (λ (c : Bool). cond c (let y : TransferRow = record (transfer_row bs x) { received = Some r.day.0; payee = Some r.payee } in y) (transfer_row bs x) ∷ map (takes id r.day.0 r.payee) (map (transfer_row bs) xs)) e
-    ∙ ap (λ l. transfer_row bs (with_receipt r x) ∷ l) (none_taken bs id r.day.0 r.payee xs (subst (λ (k : List ℕ). list_any (has_id k) xs ≡ false) (same_bytes x.id id e) own))
-taken_at bs id r x xs false e own h =
-    ap (λ (c : Bool). cond c (let y : TransferRow = record (transfer_row bs x) { received = Some r.day.0; payee = Some r.payee } in y) (transfer_row bs x) ∷ map (takes id r.day.0 r.payee) (map (transfer_row bs) xs)) e
+-- the row of a transfer whose rest is received, and of one of which a part is
+rest_row : (bs : List Branch) (p : Part) (x : Transfer) → is_all p.key ≡ true → transfer_row bs (with_receipt p x) ≡ record (transfer_row bs x) { received = Some p.day.0; payee = Some p.payee }
+rest_row bs p x e = ap (λ (b : Bool). transfer_row bs (record x { parts = parts_with b p x.parts; receipt = rest_with b p x.receipt })) e
+
+part_leaves : (bs : List Branch) (p : Part) (x : Transfer) → is_all p.key ≡ false → transfer_row bs (with_receipt p x) ≡ transfer_row bs x
+part_leaves bs p x e = ap (λ (b : Bool). transfer_row bs (record x { parts = parts_with b p x.parts; receipt = rest_with b p x.receipt })) e
+
+taken_at : (bs : List Branch) (id : List ℕ) (p : Part) (x : Transfer) (xs : List Transfer) (c : Bool) → is_all p.key ≡ true → bytes_eq x.id id ≡ c → list_any (has_id x.id) xs ≡ false
+    → map (takes id p.day.0 p.payee) (map (transfer_row bs) xs) ≡ map (transfer_row bs) (received id p xs)
+    → map (takes id p.day.0 p.payee) (map (transfer_row bs) (x ∷ xs)) ≡ map (transfer_row bs) (if c then with_receipt p x ∷ xs else x ∷ received id p xs)
+taken_at bs id p x xs true all e own h =
+    ap (λ (c : Bool). cond c (let y : TransferRow = record (transfer_row bs x) { received = Some p.day.0; payee = Some p.payee } in y) (transfer_row bs x) ∷ map (takes id p.day.0 p.payee) (map (transfer_row bs) xs)) e
+    ∙ (ap (λ y. y ∷ map (takes id p.day.0 p.payee) (map (transfer_row bs) xs)) (sym (rest_row bs p x all))
+    ∙ ap (λ l. transfer_row bs (with_receipt p x) ∷ l) (none_taken bs id p.day.0 p.payee xs (subst (λ (k : List ℕ). list_any (has_id k) xs ≡ false) (same_bytes x.id id e) own)))
+taken_at bs id p x xs false all e own h =
+    ap (λ (c : Bool). cond c (let y : TransferRow = record (transfer_row bs x) { received = Some p.day.0; payee = Some p.payee } in y) (transfer_row bs x) ∷ map (takes id p.day.0 p.payee) (map (transfer_row bs) xs)) e
     ∙ ap (λ l. transfer_row bs x ∷ l) h
 
-taken : (bs : List Branch) (id : List ℕ) (r : Receipt) (ts : List Transfer) → HaveOwnIds ts → map (takes id r.day.0 r.payee) (map (transfer_row bs) ts) ≡ map (transfer_row bs) (received id r ts)
-taken bs id r [] h = refl
-taken bs id r (x ∷ xs) h = taken_at bs id r x xs (bytes_eq x.id id) refl h.0 (taken bs id r xs h.1)
+taken : (bs : List Branch) (id : List ℕ) (p : Part) (ts : List Transfer) → is_all p.key ≡ true → HaveOwnIds ts → map (takes id p.day.0 p.payee) (map (transfer_row bs) ts) ≡ map (transfer_row bs) (received id p ts)
+taken bs id p [] all h = refl
+taken bs id p (x ∷ xs) all h = taken_at bs id p x xs (bytes_eq x.id id) all refl h.0 (taken bs id p xs all h.1)
+
+-- a part leaves the rows of transfers
+left_at : (bs : List Branch) (id : List ℕ) (p : Part) (x : Transfer) (xs : List Transfer) (c : Bool) → is_all p.key ≡ false → map (transfer_row bs) (received id p xs) ≡ map (transfer_row bs) xs
+    → map (transfer_row bs) (if c then with_receipt p x ∷ xs else x ∷ received id p xs) ≡ map (transfer_row bs) (x ∷ xs)
+left_at bs id p x xs true part h = ap (λ y. y ∷ map (transfer_row bs) xs) (part_leaves bs p x part)
+left_at bs id p x xs false part h = ap (λ l. transfer_row bs x ∷ l) h
+
+left_rows : (bs : List Branch) (id : List ℕ) (p : Part) (ts : List Transfer) → is_all p.key ≡ false → map (transfer_row bs) (received id p ts) ≡ map (transfer_row bs) ts
+left_rows bs id p [] part = refl
+left_rows bs id p (x ∷ xs) part = left_at bs id p x xs (bytes_eq x.id id) part (left_rows bs id p xs part)
+
+-- and is one row more, up to order
+put_permutes : (id : List ℕ) (p : Part) (ps : List Part) → IsPermutation (part_row id p ∷ map (part_row id) ps) (map (part_row id) (put_part p ps))
+put_permutes id p [] = IsPermutation-refl _
+put_permutes id p (x ∷ xs) = by_test (is_lt (name_cmp x.key p.key)) (put_permutes id p xs)
+  where
+    by_test : (c : Bool) → IsPermutation (part_row id p ∷ map (part_row id) xs) (map (part_row id) (put_part p xs))
+        → IsPermutation (part_row id p ∷ part_row id x ∷ map (part_row id) xs) (map (part_row id) (if c then x ∷ put_part p xs else p ∷ x ∷ xs))
+    by_test true h = IsPermutation-trans _ _ _ (second_first (part_row id p) (part_row id x) (map (part_row id) xs)) (IsPermutation-cons (part_row id x) _ _ h)
+    by_test false h = IsPermutation-refl _
+
+more_at : (p : Part) (x : Transfer) (xs : List Transfer) → is_all p.key ≡ false → IsPermutation (part_row x.id p ∷ part_rows (x ∷ xs)) (part_rows (with_receipt p x ∷ xs))
+more_at p x xs part =
+    subst (λ (b : Bool). IsPermutation (part_row x.id p ∷ part_rows (x ∷ xs)) (map (part_row x.id) (parts_with b p x.parts) ++ part_rows xs)) (sym part)
+    (IsPermutation-append (part_row x.id p ∷ map (part_row x.id) x.parts) (map (part_row x.id) (put_part p x.parts)) (part_rows xs) (part_rows xs) (put_permutes x.id p x.parts) (IsPermutation-refl (part_rows xs)))
+
+one_row_more : (id : List ℕ) (p : Part) (ts : List Transfer) → is_all p.key ≡ false → list_any (has_id id) ts ≡ true → IsPermutation (part_row id p ∷ part_rows ts) (part_rows (received id p ts))
+one_row_more id p [] part e = absurd cc
+one_row_more id p (x ∷ xs) part e = by_test (bytes_eq x.id id) refl e (one_row_more id p xs part)
+  where
+    by_test : (b : Bool) → bytes_eq x.id id ≡ b → (b || list_any (has_id id) xs) ≡ true
+        → (list_any (has_id id) xs ≡ true → IsPermutation (part_row id p ∷ part_rows xs) (part_rows (received id p xs)))
+        → IsPermutation (part_row id p ∷ part_rows (x ∷ xs)) (part_rows (if b then with_receipt p x ∷ xs else x ∷ received id p xs))
+    by_test true g k later = subst (λ (m : List ℕ). IsPermutation (part_row m p ∷ part_rows (x ∷ xs)) (part_rows (with_receipt p x ∷ xs))) (same_bytes x.id id g) (more_at p x xs part)
+    by_test false g k later =
+        let front = map (part_row x.id) x.parts in
+        IsPermutation-trans _ _ _ (front_past (part_row id p ∷ []) front (part_rows xs)) (IsPermutation-append_right front _ _ (later k))
+
+-- the receipt of the rest leaves the rows of parts
+rest_leaves : (id : List ℕ) (p : Part) (ts : List Transfer) → is_all p.key ≡ true → part_rows (received id p ts) ≡ part_rows ts
+rest_leaves id p [] all = refl
+rest_leaves id p (x ∷ xs) all = by_test (bytes_eq x.id id) (rest_leaves id p xs all)
+  where
+    by_test : (b : Bool) → part_rows (received id p xs) ≡ part_rows xs → part_rows (if b then with_receipt p x ∷ xs else x ∷ received id p xs) ≡ part_rows (x ∷ xs)
+    by_test true h = ap (λ (b : Bool). map (part_row x.id) (parts_with b p x.parts) ++ part_rows xs) all
+    by_test false h = ap (λ l. map (part_row x.id) x.parts ++ l) h
+
+-- and so does a new transfer
+new_leaves : (t : Transfer) (ts : List Transfer) → t.parts ≡ [] → part_rows (inserted t ts) ≡ part_rows ts
+new_leaves t [] e = ap (λ (ps : List Part). map (part_row t.id) ps ++ []) e
+new_leaves t (x ∷ xs) e = by_test (is_lt (name_cmp x.id t.id)) (new_leaves t xs e)
+  where
+    by_test : (c : Bool) → part_rows (inserted t xs) ≡ part_rows xs → part_rows (if c then x ∷ inserted t xs else t ∷ x ∷ xs) ≡ part_rows (x ∷ xs)
+    by_test true h = ap (λ l. map (part_row x.id) x.parts ++ l) h
+    by_test false h = ap (λ (ps : List Part). map (part_row t.id) ps ++ part_rows (x ∷ xs)) e
 
 -- ---- one addition
 record_written : (e : EntryRow) (ls : List LegRow) (cs : List ClaimRow) (t : Tables)
@@ -128,7 +192,7 @@ module _ (S : List Style) (N : List (List ℕ)) (f : Federation) (more : List (L
   branch_step name = record {
     units = IsPermutation-refl (rows_under S N f).units;
     transfers = IsPermutation-refl (rows_under S N f).transfers;
-    receipts = IsPermutation-refl [];
+    receipts = IsPermutation-refl (rows_under S N f).receipts;
     branches = subst (λ (n : ℕ). IsPermutation (branch_row n (new_branch name) ∷ branch_rows 0 bs) (branch_rows 0 (bs ++ new_branch name ∷ []))) (sym count_of) (one_more branch_row bs (new_branch name));
     entries = same_rows _ _ (sym (sym (alone S (bs ++ new_branch name ∷ [])) ∙ (none_more (entry_alone S) bs name ∙ alone S bs)));
     legs = same_rows _ _ (sym (none_more leg_rows bs name));
@@ -176,25 +240,58 @@ module _ (S : List Style) (N : List (List ℕ)) (f : Federation) (more : List (L
   lock_step name day = record {
     units = IsPermutation-refl (rows_under S N f).units;
     transfers = IsPermutation-refl (rows_under S N f).transfers;
-    receipts = IsPermutation-refl [];
+    receipts = IsPermutation-refl (rows_under S N f).receipts;
     branches = same_rows _ _ (lock_rows name day);
     entries = same_rows _ _ (sym (sym (alone S (changed (with_lock day) name bs)) ∙ (rows-locked (entry_alone S) 0 day name bs ∙ alone S bs)));
     legs = same_rows _ _ (sym (rows-locked leg_rows 0 day name bs));
     claims = same_rows _ _ (sym (rows-locked claim_rows 0 day name bs));
   }
 
-  pub step : (x : Addition) → HaveOwnIds f.transfers → Same (written (changes_by S N (counts_of (numbers_of f)) x) (rows_under S N f)) (rows_under S N (joined_one f x))
-  step (add.Commodity style) h = let t = rows_under S N f in other_units t t _ _ (same_refl t) (one_more unit_row f.styles style)
-  step (add.Branch name) h = branch_step name
-  step (add.Record name r) h = record_step name r (nat_lt (place_in N name) (length (records_each bs))) refl
-  step (add.Dispatched t) h =
+  received_step : (id : List ℕ) (p : Part) (b : Bool) → is_all p.key ≡ b → HaveOwnIds f.transfers → (is_all p.key ≡ false → list_any (has_id id) f.transfers ≡ true)
+      → Same (written (receipt_change b id p ∷ []) (rows_under S N f)) (rows_under S N (with_received f id p))
+  received_step id p true e h found =
+      let t = rows_under S N f in
+      record {
+        units = IsPermutation-refl t.units;
+        branches = IsPermutation-refl t.branches;
+        entries = IsPermutation-refl t.entries;
+        legs = IsPermutation-refl t.legs;
+        claims = IsPermutation-refl t.claims;
+        transfers = same_rows _ _ (taken (named N) id p f.transfers e h);
+        receipts = same_rows _ _ (sym (rest_leaves id p f.transfers e));
+      }
+  received_step id p false e h found =
+      let t = rows_under S N f in
+      record {
+        units = IsPermutation-refl t.units;
+        branches = IsPermutation-refl t.branches;
+        entries = IsPermutation-refl t.entries;
+        legs = IsPermutation-refl t.legs;
+        claims = IsPermutation-refl t.claims;
+        transfers = same_rows _ _ (sym (left_rows (named N) id p f.transfers e));
+        receipts = one_row_more id p f.transfers e (found e);
+      }
+
+  dispatched_step : (t : Transfer) → t.parts ≡ [] → Same (written (changes_by S N (counts_of (numbers_of f)) (add.Dispatched t)) (rows_under S N f)) (rows_under S N (joined_one f (add.Dispatched t)))
+  dispatched_step t e =
       let u = rows_under S N f in
-      other_transfers u u _ _ (same_refl u) (IsPermutation-map (transfer_row (named N)) (t ∷ f.transfers) (inserted t f.transfers) (put_in t f.transfers))
-  step (add.Received id day payee) h =
-      let u = rows_under S N f in
-      let r : Receipt = record { day = day; payee = payee } in
-      other_transfers u u _ _ (same_refl u) (same_rows _ _ (taken (named N) id r f.transfers h))
-  step (add.Locked name day) h = lock_step name day
+      record {
+        units = IsPermutation-refl u.units;
+        branches = IsPermutation-refl u.branches;
+        entries = IsPermutation-refl u.entries;
+        legs = IsPermutation-refl u.legs;
+        claims = IsPermutation-refl u.claims;
+        transfers = IsPermutation-map (transfer_row (named N)) (t ∷ f.transfers) (inserted t f.transfers) (put_in t f.transfers);
+        receipts = same_rows _ _ (sym (new_leaves t f.transfers e));
+      }
+
+  pub step : (x : Addition) → HaveOwnIds f.transfers → Finds f x → Same (written (changes_by S N (counts_of (numbers_of f)) x) (rows_under S N f)) (rows_under S N (joined_one f x))
+  step (add.Commodity style) h found = let t = rows_under S N f in other_units t t _ _ (same_refl t) (one_more unit_row f.styles style)
+  step (add.Branch name) h found = branch_step name
+  step (add.Record name r) h found = record_step name r (nat_lt (place_in N name) (length (records_each bs))) refl
+  step (add.Dispatched t) h found = dispatched_step t found
+  step (add.Received id p) h found = received_step id p (is_all p.key) refl h found
+  step (add.Locked name day) h found = lock_step name day
 
   -- the counts behind it are those of the next state
   one_count : (name : List ℕ) (r : Record) → set (records_each bs) (place_in N name) (suc (get_or (records_each bs) (place_in N name) 0)) ≡ records_each (changed (with_records (r ∷ [])) name bs)
@@ -211,7 +308,7 @@ module _ (S : List Style) (N : List (List ℕ)) (f : Federation) (more : List (L
   count_step (add.Branch name) = ap (counts_as (length f.styles)) (sym (map-append (λ (b : Branch). length b.records) bs (new_branch name ∷ [])))
   count_step (add.Record name r) = ap (counts_as (length f.styles)) (one_count name r)
   count_step (add.Dispatched t) = refl
-  count_step (add.Received id day payee) = refl
+  count_step (add.Received id p) = refl
   count_step (add.Locked name day) = ap (counts_as (length f.styles)) (sym (each-locked day name bs))
 
 -- ---- styles and names grow
@@ -220,7 +317,7 @@ style_joined f (add.Commodity style) = refl
 style_joined f (add.Branch name) = refl
 style_joined f (add.Record name r) = refl
 style_joined f (add.Dispatched t) = refl
-style_joined f (add.Received id day payee) = refl
+style_joined f (add.Received id p) = refl
 style_joined f (add.Locked name day) = refl
 
 pub styles_joined : (xs : List Addition) (f : Federation) → styles_with f.styles xs ≡ (joined f xs).styles
@@ -232,7 +329,7 @@ name_joined f (add.Commodity style) = refl
 name_joined f (add.Branch name) = sym (map-append (λ (b : Branch). b.name) f.branches (new_branch name ∷ []))
 name_joined f (add.Record name r) = sym (names-changed (with_records (r ∷ [])) name f.branches (λ b. refl))
 name_joined f (add.Dispatched t) = refl
-name_joined f (add.Received id day payee) = refl
+name_joined f (add.Received id p) = refl
 name_joined f (add.Locked name day) = sym (names-changed (with_lock day) name f.branches (λ b. refl))
 
 pub names_joined : (xs : List Addition) (f : Federation) → names_with (names_of f.branches) xs ≡ names_of (joined f xs).branches
@@ -247,7 +344,7 @@ style_grows styles (add.Commodity style) = (style ∷ [], refl)
 style_grows styles (add.Branch name) = ([], sym (append-nil styles))
 style_grows styles (add.Record name r) = ([], sym (append-nil styles))
 style_grows styles (add.Dispatched t) = ([], sym (append-nil styles))
-style_grows styles (add.Received id day payee) = ([], sym (append-nil styles))
+style_grows styles (add.Received id p) = ([], sym (append-nil styles))
 style_grows styles (add.Locked name day) = ([], sym (append-nil styles))
 
 pub styles_grow : (xs : List Addition) (styles : List Style) → Grows styles (styles_with styles xs)
@@ -259,7 +356,7 @@ name_grows names (add.Commodity style) = ([], sym (append-nil names))
 name_grows names (add.Branch name) = (name ∷ [], refl)
 name_grows names (add.Record name r) = ([], sym (append-nil names))
 name_grows names (add.Dispatched t) = ([], sym (append-nil names))
-name_grows names (add.Received id day payee) = ([], sym (append-nil names))
+name_grows names (add.Received id p) = ([], sym (append-nil names))
 name_grows names (add.Locked name day) = ([], sym (append-nil names))
 
 names_grow : (xs : List Addition) (names : List (List ℕ)) → Grows names (names_with names xs)
@@ -282,17 +379,17 @@ numbers_joined f xs =
     let counts = all_counted N xs f (names_joined xs f) in
     λ i. record { styles = styles_joined xs f i; names = names_joined xs f i; records = (counts i).records }
 
-all_written : (S : List Style) (N : List (List ℕ)) (xs : List Addition) (f : Federation) → N ≡ names_of (joined f xs).branches → IsRoomy (joined f xs)
+all_written : (S : List Style) (N : List (List ℕ)) (xs : List Addition) (f : Federation) → N ≡ names_of (joined f xs).branches → IsRoomy (joined f xs) → FindsAll f xs
     → Same (written (changes_from S N (counts_of (numbers_of f)) xs) (rows_under S N f)) (rows_under S N (joined f xs))
-all_written S N [] f e room = same_refl (rows_under S N f)
-all_written S N (x ∷ xs) f e room =
+all_written S N [] f e room found = same_refl (rows_under S N f)
+all_written S N (x ∷ xs) f e room found =
     let w = grown (x ∷ xs) f N e in
     let c = counts_of (numbers_of f) in
     let next = joined_one f x in
     let first = changes_by S N c x in
     let rest = changes_from S N (counted N c x) xs in
-    let one = step S N f w.0 w.1 x (own_ids f.transfers (room_back (x ∷ xs) f room).ids) in
-    let later = subst (λ (d : Counts). Same (written (changes_from S N d xs) (rows_under S N next)) (rows_under S N (joined next xs))) (sym (count_step S N f w.0 w.1 x)) (all_written S N xs next e room) in
+    let one = step S N f w.0 w.1 x (own_ids f.transfers (room_back (x ∷ xs) f room).ids) found.0 in
+    let later = subst (λ (d : Counts). Same (written (changes_from S N d xs) (rows_under S N next)) (rows_under S N (joined next xs))) (sym (count_step S N f w.0 w.1 x)) (all_written S N xs next e room found.1) in
     subst (λ u. Same u (rows_under S N (joined next xs))) (sym (joined-append first rest (rows_under S N f)))
     (same_trans (written rest (written first (rows_under S N f))) (written rest (rows_under S N next)) (rows_under S N (joined next xs)) (same_joined rest (written first (rows_under S N f)) (rows_under S N next) one) later)
 
@@ -337,8 +434,8 @@ rows_before f more N others good e =
     λ i. record (rows f) { entries = entries i; transfers = transfers i }
 
 -- The law: written to the rows of a good state, the changes by additions make those of the joined state, if that is good.
-pub writes_joined : (f : Federation) (xs : List Addition) → IsGoodState f → IsGoodState (joined f xs) → IsRoomy (joined f xs) → Same (written (changes_of (numbers_of f) xs) (rows f)) (rows (joined f xs))
-writes_joined f xs good next room =
+pub writes_joined : (f : Federation) (xs : List Addition) → IsGoodState f → IsGoodState (joined f xs) → IsRoomy (joined f xs) → FindsAll f xs → Same (written (changes_of (numbers_of f) xs) (rows f)) (rows (joined f xs))
+writes_joined f xs good next room found =
     let S = styles_with f.styles xs in
     let N = names_with (names_of f.branches) xs in
     let s = styles_grow xs f.styles in
@@ -347,4 +444,4 @@ writes_joined f xs good next room =
     let last = joined f xs in
     let behind : rows_under S N last ≡ rows last =
     ap (λ (styles : List Style). rows_under styles N last) (styles_joined xs f ∙ sym (append-nil last.styles)) ∙ rows_before last [] N [] next (names_joined xs f ∙ sym (append-nil (names_of last.branches))) in
-    subst₂ (λ t u. Same (written (changes_of (numbers_of f) xs) t) u) before behind (all_written S N xs f (names_joined xs f) room)
+    subst₂ (λ t u. Same (written (changes_of (numbers_of f) xs) t) u) before behind (all_written S N xs f (names_joined xs f) room found)

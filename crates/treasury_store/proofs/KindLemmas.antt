@@ -44,11 +44,13 @@ entry_apart (change.Entry e) (change.Entry e2) t h k = absurd (true≢false k)
 entry_apart (change.Entry e) (change.Leg l2) t h k = refl
 entry_apart (change.Entry e) (change.Claim c2) t h k = refl
 entry_apart (change.Entry e) (change.Transfer x2) t h k = refl
+entry_apart (change.Entry e) (change.Part p2) t h k = refl
 entry_apart (change.Entry e) (change.Lock nr2 day2) t h k = refl
 entry_apart (change.Entry e) (change.Receipt id2 day2 payee2) t h k = refl
 entry_apart (change.Leg l) d t h k = absurd (true≢false (sym h))
 entry_apart (change.Claim c) d t h k = absurd (true≢false (sym h))
 entry_apart (change.Transfer x) d t h k = absurd (true≢false (sym h))
+entry_apart (change.Part p) d t h k = absurd (true≢false (sym h))
 entry_apart (change.Lock nr day) d t h k = absurd (true≢false (sym h))
 entry_apart (change.Receipt id day payee) d t h k = absurd (true≢false (sym h))
 
@@ -63,10 +65,12 @@ leg_apart (change.Leg l) (change.Entry e2) t h k = refl
 leg_apart (change.Leg l) (change.Leg l2) t h k = absurd (true≢false k)
 leg_apart (change.Leg l) (change.Claim c2) t h k = refl
 leg_apart (change.Leg l) (change.Transfer x2) t h k = refl
+leg_apart (change.Leg l) (change.Part p2) t h k = refl
 leg_apart (change.Leg l) (change.Lock nr2 day2) t h k = refl
 leg_apart (change.Leg l) (change.Receipt id2 day2 payee2) t h k = refl
 leg_apart (change.Claim c) d t h k = absurd (true≢false (sym h))
 leg_apart (change.Transfer x) d t h k = absurd (true≢false (sym h))
+leg_apart (change.Part p) d t h k = absurd (true≢false (sym h))
 leg_apart (change.Lock nr day) d t h k = absurd (true≢false (sym h))
 leg_apart (change.Receipt id day payee) d t h k = absurd (true≢false (sym h))
 
@@ -82,9 +86,11 @@ claim_apart (change.Claim c) (change.Entry e2) t h k = refl
 claim_apart (change.Claim c) (change.Leg l2) t h k = refl
 claim_apart (change.Claim c) (change.Claim c2) t h k = absurd (true≢false k)
 claim_apart (change.Claim c) (change.Transfer x2) t h k = refl
+claim_apart (change.Claim c) (change.Part p2) t h k = refl
 claim_apart (change.Claim c) (change.Lock nr2 day2) t h k = refl
 claim_apart (change.Claim c) (change.Receipt id2 day2 payee2) t h k = refl
 claim_apart (change.Transfer x) d t h k = absurd (true≢false (sym h))
+claim_apart (change.Part p) d t h k = absurd (true≢false (sym h))
 claim_apart (change.Lock nr day) d t h k = absurd (true≢false (sym h))
 claim_apart (change.Receipt id day payee) d t h k = absurd (true≢false (sym h))
 
@@ -98,6 +104,7 @@ no_entry (change.Claim c) h = refl
 no_entry (change.Unit u) h = refl
 no_entry (change.Branch b) h = refl
 no_entry (change.Transfer x) h = refl
+no_entry (change.Part p) h = refl
 no_entry (change.Lock nr day) h = refl
 no_entry (change.Receipt id day payee) h = refl
 
@@ -108,6 +115,7 @@ no_entry_either (change.Claim c) h = refl
 no_entry_either (change.Unit u) h = refl
 no_entry_either (change.Branch b) h = refl
 no_entry_either (change.Transfer x) h = refl
+no_entry_either (change.Part p) h = refl
 no_entry_either (change.Lock nr day) h = refl
 no_entry_either (change.Receipt id day payee) h = refl
 
@@ -118,6 +126,7 @@ no_leg (change.Claim c) h = refl
 no_leg (change.Unit u) h = refl
 no_leg (change.Branch b) h = refl
 no_leg (change.Transfer x) h = refl
+no_leg (change.Part p) h = refl
 no_leg (change.Lock nr day) h = refl
 no_leg (change.Receipt id day payee) h = refl
 
@@ -142,6 +151,7 @@ others_are (change.Entry e ∷ cs) = others_are cs
 others_are (change.Leg l ∷ cs) = others_are cs
 others_are (change.Claim c ∷ cs) = others_are cs
 others_are (change.Transfer x ∷ cs) = ap (λ l. change.Transfer x ∷ l) (others_are cs)
+others_are (change.Part p ∷ cs) = ap (λ l. change.Part p ∷ l) (others_are cs)
 others_are (change.Lock nr day ∷ cs) = ap (λ l. change.Lock nr day ∷ l) (others_are cs)
 others_are (change.Receipt id day payee ∷ cs) = ap (λ l. change.Receipt id day payee ∷ l) (others_are cs)
 

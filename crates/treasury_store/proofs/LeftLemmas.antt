@@ -1,5 +1,5 @@
 -- What a connection leaves that was open: what it had committed, or what a call commits.
-use Rattle.std.proofs.Common.{◌≡◌, ◌≤◌, ◌⊎◌, List, IsTrue, ap, ◌∙◌, inl, inr, arith}
+use Rattle.std.proofs.Common.{◌≡◌, ◌⊎◌, List, IsTrue, ap, ◌∙◌, inl, inr, arith}
 use Rattle.sqlite.specs.Store.{Ghosts}
 use Rattle.sqlite.specs.Tree.{Trees}
 use Rattle.sqlite.specs.Effect.{Database}
@@ -8,20 +8,18 @@ use Rattle.sqlite.specs.Held.{Held, state}
 use Rattle.treasury_core.specs.declared.command.Command.{Command}
 use Rattle.treasury_core.specs.declared.delta.Addition.{Addition}
 use Rattle.treasury_core.specs.Federation.{Federation}
-use Rattle.treasury_core.specs.Good.{IsGoodState}
 use Rattle.treasury_core.specs.Joined.{joined}
 use Rattle.treasury_core.specs.Rows.{rows}
-use Rattle.treasury_core.specs.Step.{step}
 use Rattle.treasury_store.specs.declared.store.Store.{Store}
-use Rattle.treasury_store.specs.Rows.{Tables, Holds, HoldsFirst, AreTreesOf, AreFirstTreesOf}
+use Rattle.treasury_store.specs.Rows.{Tables, Holds, AreTreesOf}
 use Rattle.treasury_store.specs.Kept.{KeepsTables, ShutsByFault}
 use Rattle.treasury_store.specs.Creating.{has_receipt}
 use Rattle.treasury_store.specs.Upgrading.{KeepsOurs}
 use Rattle.treasury_store.proofs.OpenLemmas.{ours_first, ours_second, not_first, second_more}
 use Rattle.treasury_store.proofs.UpgradeLemmas.{upgraded_holds}
-use Rattle.treasury_store.specs.Store.{TablesAre, IsOf}
+use Rattle.treasury_store.specs.Store.{TablesAre, IsOf, Joins}
 use Rattle.treasury_store.specs.Treasury.{Treasury, SurvivesCommand}
-use Rattle.treasury_store.specs.Left.{LeavesRows, LeavesEither, LeavesSame, FirstTablesAre, LeavesEitherVersion, LeavesJoined, LeavesStep}
+use Rattle.treasury_store.specs.Left.{LeavesRows, LeavesSame, LeavesEitherVersion, LeavesJoined, LeavesStep}
 
 module _ {S : Type 0} (g : Ghosts S) (settled : (s : S) (db : Trees) → IsTrue (g.view s).is_open → g.recovers s db → db ≡ (g.view s).committed) where
   pub leaves_rows : (h : Held S) (t : Tables) → TablesAre g h t → IsTrue (state g h).is_open → LeavesRows g h t
@@ -65,7 +63,7 @@ module _ {S : Type 0} (g : Ghosts S) (settled : (s : S) (db : Trees) → IsTrue 
       ]
 
   pub leaves_joined : (old new : Store S) (xs : List Addition)
-      → Survives (state g old.conn) (state g new.conn) (λ trees. (db : Database) × (trees ≡ db.trees) × ((f : Federation) → IsOf g old f → IsGoodState (joined f xs) → Holds (state g old.conn).now (rows f) → Holds db (rows (joined f xs))))
+      → Survives (state g old.conn) (state g new.conn) (λ trees. (db : Database) × (trees ≡ db.trees) × ((f : Federation) → IsOf g old f → Joins f xs → Holds (state g old.conn).now (rows f) → Holds db (rows (joined f xs))))
       → LeavesJoined g old new xs
   leaves_joined old new xs left is_open f of next clean trees may = elim (leaves_more old.conn new.conn (rows f) _ left is_open of.tables clean trees may) [
     | inl was ↦ inl was

@@ -73,7 +73,7 @@ no_style styles (add.Commodity style) h = absurd (h style refl)
 no_style styles (add.Branch name) h = refl
 no_style styles (add.Record name r) h = refl
 no_style styles (add.Dispatched t) h = refl
-no_style styles (add.Received id day payee) h = refl
+no_style styles (add.Received id p) h = refl
 no_style styles (add.Locked name day) h = refl
 
 pub no_name : (names : List (List ℕ)) (x : Addition) → ((name : List ℕ) → x ≡ add.Branch name → ⊥) → names ≡ name_with names x
@@ -81,7 +81,7 @@ no_name names (add.Commodity style) h = refl
 no_name names (add.Branch name) h = absurd (h name refl)
 no_name names (add.Record name r) h = refl
 no_name names (add.Dispatched t) h = refl
-no_name names (add.Received id day payee) h = refl
+no_name names (add.Received id p) h = refl
 no_name names (add.Locked name day) h = refl
 
 -- ---- one more of the additions that are walked through

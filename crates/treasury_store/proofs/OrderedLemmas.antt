@@ -1,11 +1,14 @@
 -- The rows of a good state are in the order of their keys.
-use Rattle.std.proofs.Common.{◌≡◌, ℕ, ℤ, ◌+◌, ◌<◌, ◌≤◌, pos, List, [], ◌∷◌, ◌++◌, map, length, refl, sym, ap, subst, ◌∙◌, arith, Some, None, Option, Ok}
+use Rattle.std.proofs.Common.{◌≡◌, ℕ, ℤ, ◌+◌, ◌<◌, ◌≤◌, pos, true, false, List, [], ◌∷◌, ◌++◌, map, length, refl, sym, ap, subst, ◌∙◌, arith, Some, None, Option, Ok}
 use Rattle.std.specs.List.{enumerate_from, flat_map, AllByRecursion}
-use Rattle.std.specs.Ordering.{int_cmp, ordering_then}
+use Rattle.std.specs.Ordering.{int_cmp, ordering_then, is_eq}
 use Rattle.std.specs.declared.cmp.Ordering.{Ordering}
-use Rattle.std.specs.declared.cmp.Ordering.TheVariants.{Less, Equal}
+use Rattle.std.specs.declared.cmp.Ordering.TheVariants.{Less, Equal, Greater}
 use Rattle.std.specs.Cmp.{int_cmp_is}
 use Rattle.std.proofs.lemmas.Int.{ints}
+use Rattle.std.proofs.lemmas.Map.Text.{is_eq-slice_cmp}
+use Rattle.book_core.specs.Account.{name_cmp}
+use Rattle.treasury_core.proofs.BytesLemmas.{self_bytes}
 use Rattle.std.proofs.lemmas.List.Concat.{flat_map_single}
 use Rattle.sqlite.specs.Tree.{IsAscending}
 use Rattle.money_core.specs.declared.cause.Cause.{Cause}
@@ -18,6 +21,7 @@ use Rattle.book_core.specs.GoodBook.{AreApart, IsFit}
 use Rattle.journal_format.specs.declared.posting.Posting.{Posting}
 use Rattle.journal_balance.specs.Legs.{posting_legs, placed, claims_among, entry_of, unless, balancing_fault, legs_of}
 use Rattle.treasury_core.specs.declared.record.Record.{Record}
+use Rattle.treasury_core.specs.declared.transfer.Part.{Part}
 use Rattle.treasury_core.specs.declared.transfer.Transfer.{Transfer}
 use Rattle.treasury_core.specs.declared.rows.UnitRow.{UnitRow}
 use Rattle.treasury_core.specs.declared.rows.BranchRow.{BranchRow}
@@ -25,11 +29,12 @@ use Rattle.treasury_core.specs.declared.rows.EntryRow.{EntryRow}
 use Rattle.treasury_core.specs.declared.rows.LegRow.{LegRow}
 use Rattle.treasury_core.specs.declared.rows.ClaimRow.{ClaimRow}
 use Rattle.treasury_core.specs.declared.rows.TransferRow.{TransferRow}
+use Rattle.treasury_core.specs.declared.rows.PartRow.{PartRow}
 use Rattle.treasury_core.specs.Federation.{Branch, Federation, entries}
-use Rattle.treasury_core.specs.Good.{AreAscending, IsGoodRecord, IsGoodBranch, IsGoodState}
-use Rattle.treasury_core.specs.Rows.{unit_row, branch_row, leg_row, leg_rows, claim_row, claim_rows, transfer_row, rows}
+use Rattle.treasury_core.specs.Good.{AreAscending, AreKeyed, IsGoodRecord, IsGoodBranch, IsGoodTransfer, IsGoodState}
+use Rattle.treasury_core.specs.Rows.{unit_row, branch_row, leg_row, leg_rows, claim_row, claim_rows, transfer_row, part_row, part_rows, rows}
 use Rattle.treasury_core.proofs.ChangeLemmas.{all_weaker, all-append}
-use Rattle.treasury_store.specs.Order.{entry_cmp, leg_cmp, claim_cmp, transfer_cmp, InOrder}
+use Rattle.treasury_store.specs.Order.{entry_cmp, leg_cmp, claim_cmp, transfer_cmp, part_cmp, InOrder}
 use Rattle.treasury_store.proofs.NumberedLemmas.{rows_from, rows_in}
 use Rattle.treasury_store.proofs.AdditionLemmas.{entry_alone, alone}
 
@@ -219,6 +224,37 @@ transfers_rise bs (t ∷ ts) h = (behind ts h.0, transfers_rise bs ts h.1)
     behind [] a = tt
     behind (x ∷ xs) a = (a.0, behind xs a.1)
 
+-- ---- receipts of parts
+abbrev PartLess : PartRow → PartRow → Type 0
+PartLess x y = part_cmp x y ≡ Less
+
+is_equal : (o : Ordering) → is_eq o ≡ true → o ≡ Equal
+is_equal Equal h = refl
+is_equal Less h = absurd (let k : false ≡ true = h in cc)
+is_equal Greater h = absurd (let k : false ≡ true = h in cc)
+
+same_name : (id : List ℕ) → name_cmp id id ≡ Equal
+same_name id = is_equal (name_cmp id id) (is_eq-slice_cmp id id ∙ self_bytes id)
+
+parts_at : (id : List ℕ) (ps : List Part) → AreKeyed ps → IsAscending PartLess (map (part_row id) ps)
+parts_at id [] h = tt
+parts_at id (p ∷ ps) h = (behind ps h.0, parts_at id ps h.1)
+  where
+    behind : (xs : List Part) → AllByRecursion (λ (x : Part). name_cmp p.key x.key ≡ Less) xs → AllByRecursion (PartLess (part_row id p)) (map (part_row id) xs)
+    behind [] a = tt
+    behind (x ∷ xs) a = (then_less (name_cmp id id) (name_cmp p.key x.key) (same_name id) a.0, behind xs a.1)
+
+parts_later : (id : List ℕ) (p : Part) (ts : List Transfer) → AllByRecursion (λ (x : Transfer). name_cmp id x.id ≡ Less) ts → AllByRecursion (PartLess (part_row id p)) (part_rows ts)
+parts_later id p [] h = tt
+parts_later id p (t ∷ ts) h =
+    all-append (PartLess (part_row id p)) (map (part_row t.id) t.parts) (part_rows ts) (all_mapped (part_row t.id) (PartLess (part_row id p)) (λ q. first_less (name_cmp id t.id) (name_cmp p.key q.key) h.0) t.parts) (parts_later id p ts h.1)
+
+parts_rise : (ts : List Transfer) → AreAscending ts → AllByRecursion (λ (t : Transfer). AreKeyed t.parts) ts → IsAscending PartLess (part_rows ts)
+parts_rise [] h k = tt
+parts_rise (t ∷ ts) h k =
+    asc_append PartLess (map (part_row t.id) t.parts) (part_rows ts) (parts_at t.id t.parts k.0) (parts_rise ts h.1 k.1)
+    (all_mapped (part_row t.id) (λ (r : PartRow). AllByRecursion (PartLess r) (part_rows ts)) (λ p. parts_later t.id p ts h.0) t.parts)
+
 pub rows_in_order : (f : Federation) → IsGoodState f → InOrder (rows f)
 rows_in_order f good = record {
   units = numbered_rise unit_row (λ (u : UnitRow). u.nr) (λ n x. refl) f.styles;
@@ -227,5 +263,5 @@ rows_in_order f good = record {
   legs = legs_rise f.branches;
   claims = claims_rise f.branches (all_weaker (IsGoodBranch f.styles) (λ (b : Branch). AllByRecursion AreInPlace b.records) f.branches (λ b h. all_in_place f.styles b.records h.records h.book.fit) good.branches);
   transfers = transfers_rise f.branches f.transfers good.ids;
-  receipts = tt;
+  receipts = parts_rise f.transfers good.ids (all_weaker (IsGoodTransfer f.branches) (λ (t : Transfer). AreKeyed t.parts) f.transfers (λ t h. h.parts.keyed) good.transfers);
 }

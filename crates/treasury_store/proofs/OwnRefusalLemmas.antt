@@ -1,11 +1,12 @@
 -- a step is refused by the rules of commands alone
 use Rattle.std.proofs.Common.{◌≡◌, ◌⊎◌, ◌∙◌, inl, inr, ℕ, Bool, true, false, not, List, [], ◌∷◌, ◌++◌, refl, sym, ap, IsTrue, Some, None, Ok, Err, nat_le, nat_lt, length, slice_get, subst}
-use Rattle.std.specs.Prelude.{if◌then◌else◌, Result, Option, IfSome, IfErr, is_some, int_le, int_lt, pos}
-use Rattle.std.specs.List.{list_any}
+use Rattle.std.specs.Prelude.{if◌then◌else◌, Result, Option, IfSome, IfErr, is_some, int_le, int_lt, pos, find}
+use Rattle.std.specs.Cmp.Lexicographic.{pointwise}
+use Rattle.std.specs.List.{list_all, list_any}
 use Rattle.std.specs.Str.{bytes_eq}
 use Rattle.std.specs.Option.{option_or, option_map}
 use Rattle.money_core.specs.declared.cause.Cause.{Cause}
-use Rattle.money_core.specs.declared.cause.Cause.TheVariants.{Full, CommodityExists, UnknownBranch, BranchName, MarkClash, ReservedMark, ReservedAccount, Locked, SameBranch, WrongBranch, AlreadyReceived, TooEarly, LockBack, BadAccount, BadAmount, BadId, Limit, OutOfMemory, Store as Failed, Damaged}
+use Rattle.money_core.specs.declared.cause.Cause.TheVariants.{Full, CommodityExists, UnknownBranch, BranchName, MarkClash, ReservedMark, ReservedAccount, Locked, SameBranch, WrongBranch, AlreadyReceived, TooEarly, TooMuch, LockBack, BadAccount, BadAmount, BadId, Limit, OutOfMemory, Store as Failed, Damaged}
 use Rattle.money_core.specs.declared.style.Style.{Style}
 use Rattle.money_core.specs.declared.day.Day.{Day}
 use Rattle.money_core.specs.declared.unit.Declared.TheVariants.{New, Same}
@@ -20,18 +21,22 @@ use Rattle.journal_format.specs.declared.txn.Txn.{Txn}
 use Rattle.journal_format.specs.declared.txn.Located.{Located}
 use Rattle.journal_format.specs.Pieces.{posting_limit}
 use Rattle.treasury_core.specs.declared.record.Record.{Record}
+use Rattle.treasury_core.specs.declared.transfer.Part.{Part}
 use Rattle.treasury_core.specs.declared.transfer.Transfer.{Transfer}
 use Rattle.treasury_core.specs.declared.command.Answer.{Answer}
 use Rattle.treasury_core.specs.declared.command.Answer.TheVariants.{Done, Repeated}
 use Rattle.treasury_core.specs.declared.command.Dispatch.{Dispatch}
+use Rattle.treasury_core.specs.declared.choice.Choice.{Choice}
 use Rattle.treasury_core.specs.declared.command.Receive.{Receive}
+use Rattle.treasury_core.specs.declared.command.Close.{Close}
 use Rattle.treasury_core.specs.declared.command.Command.{Command}
 use Rattle.treasury_core.specs.declared.command.Command.TheVariants as cmd
 use Rattle.treasury_core.specs.Federation.{Federation, is_branch_name, most_branches, has_branch, records_of, lock_of, entries}
-use Rattle.treasury_core.specs.Mark.{is_held, is_repeat, is_product_mark}
-use Rattle.treasury_core.specs.Transfer.{is_id, is_account_text, is_reserved, is_transit}
+use Rattle.treasury_core.specs.Mark.{held, is_held, is_repeat, is_product_mark}
+use Rattle.treasury_core.specs.Transfer.{is_id, is_account_text, is_reserved, is_transit, receipts_of}
+use Rattle.treasury_core.specs.Choice.{is_selected, target_in, listed, list_text, choice_comments, list_limit, holds_transit, choice_refusal}
 use Rattle.treasury_core.specs.Closing.{close_mark, closing_record, closing_answer, closing_in}
-use Rattle.treasury_core.specs.Step.{unless, reply, commodity_reply, fault_on, unbalanced, barred, refused_in, file_refusal, dispatch_refusal, receipt_refusal, receipt_reply, transfer_at, is_dispatched_so, is_received_so, entering_refusal, close_refusal, is_lock, is_locked, goes_back}
+use Rattle.treasury_core.specs.Step.{unless, reply, commodity_reply, fault_on, unbalanced, barred, refused_in, file_refusal, dispatch_refusal, receipt_refusal, receipt_reply, transfer_at, is_dispatched_so, is_received_so, entering_refusal, close_refusal, closed_reply, is_lock, is_locked, goes_back, held_reply, key_of, qty_of, has_key, is_too_much, has_bad_key, has_nothing_left}
 use Rattle.treasury_store.specs.Store.{AnswersState}
 use Rattle.treasury_store.specs.Treasury.{FailsBy, MayReply, is_by_rules, IsListed}
 
@@ -145,13 +150,18 @@ own_dispatch lock held d =
 own_receipt : (lock : Option Day) (held : List Record) (t : Transfer) (r : Receive) → IsOwnFault (receipt_refusal lock held t r)
 own_receipt lock held t r =
     faults (not (is_account_text r.account)) (Plain BadAccount) _ refl (faults (is_reserved r.account) (Plain ReservedAccount) _ refl
-    (faults (int_lt r.day.0 t.day.0) (Plain TooEarly) _ refl (faults (is_locked lock r.day) (Plain Locked) _ refl (own_verdict _))))
+    (faults (int_le (qty_of t r.part) (pos 0)) (Plain BadAmount) _ refl (faults (is_too_much t r.part) (Plain TooMuch) _ refl
+    (faults (int_lt r.day.0 t.day.0) (Plain TooEarly) _ refl (faults (is_locked lock r.day) (Plain Locked) _ refl (own_verdict _))))))
+
+own_held : (f : Federation) (t : Transfer) (r : Receive) (o : Option Part) → IsOwnReply (held_reply f t r o)
+own_held f t r (Some p) = answers (is_received_so t r p) Repeated _ (err_own _ refl)
+own_held f t r None =
+    refuses (has_nothing_left t r.part) (Plain AlreadyReceived) _ refl (own_unless Done _ (own_receipt (lock_of f r.branch) (records_of f r.branch) t r))
 
 own_received : (f : Federation) (r : Receive) (o : Option Transfer) → IsOwnReply (receipt_reply f r o)
 own_received f r None = err_own _ refl
 own_received f r (Some t) =
-    refuses (not (bytes_eq t.target r.branch)) (Plain WrongBranch) _ refl (answers (is_received_so r t.receipt) Repeated _
-    (refuses (is_some t.receipt) (Plain AlreadyReceived) _ refl (own_unless Done _ (own_receipt (lock_of f r.branch) (records_of f r.branch) t r))))
+    refuses (not (bytes_eq t.target r.branch)) (Plain WrongBranch) _ refl (own_held f t r (find (has_key (key_of r.part)) (receipts_of t)))
 
 abbrev IsOwnAnswer : Result Txn Refusal → Type 0
 IsOwnAnswer r = IfErr r IsOwn
@@ -169,8 +179,19 @@ unfolding IsOwnFault
 own_entering held day (Ok t) own = own_verdict (entries held ++ entries (closing_record day t ∷ []))
 own_entering held day (Err e) own = own
 
-own_close : (lock : Option Day) (held : List Record) (day : Day) (o : Option Txn) → IsOwnFault (close_refusal lock held day o)
-own_close lock held day o = faults (is_locked lock day) (Plain Locked) _ refl (own_entering held day (closing_answer o) (own_closed o))
+own_choice : (c : Choice) → IsOwnFault (choice_refusal c)
+own_choice c =
+    faults (not (list_all is_account_text (listed c.accounts))) (Plain BadAccount) _ refl (faults (not (is_account_text (target_in c.into))) (Plain BadAccount) _ refl
+    (faults (list_any holds_transit (listed c.accounts)) (Plain ReservedAccount) _ refl (faults (is_reserved (target_in c.into)) (Plain ReservedAccount) _ refl
+    (faults (is_selected c.accounts (target_in c.into)) (Plain BadAccount) _ refl (faults (nat_lt list_limit (length (list_text (listed c.accounts)))) (Plain Limit) _ refl none_own)))))
+
+own_close : (lock : Option Day) (held : List Record) (x : Close) (o : Option Txn) → IsOwnFault (close_refusal lock held x o)
+own_close lock held x o =
+    first_of _ _ (own_choice x.choice) (faults (is_locked lock x.day) (Plain Locked) _ refl (own_entering held x.day (closing_answer o) (own_closed o)))
+
+own_closing : (f : Federation) (x : Close) (o : Option Record) → IsOwnReply (closed_reply f x o)
+own_closing f x None = own_unless Done _ (own_close (lock_of f x.branch) (records_of f x.branch) x (closing_in f x.branch x.day x.choice))
+own_closing f x (Some r) = answers (pointwise bytes_eq r.txn.comments (choice_comments x.choice)) Repeated _ (err_own _ refl)
 
 own_reply : (f : Federation) (c : Command) → IsOwnReply (reply f c)
 unfolding reply
@@ -185,13 +206,11 @@ own_reply f (cmd.Dispatch d) =
     (answers (is_dispatched_so d (transfer_at f d.id)) Repeated _ (refuses (is_some (transfer_at f d.id)) (Plain MarkClash) _ refl
     (own_unless Done _ (own_dispatch (lock_of f d.source) (records_of f d.source) d)))))))
 own_reply f (cmd.Receive r) =
-    refuses (not (has_branch f r.branch)) (Plain UnknownBranch) _ refl (refuses (not (is_id r.id)) (Plain BadId) _ refl (own_received f r (transfer_at f r.id)))
+    refuses (not (has_branch f r.branch)) (Plain UnknownBranch) _ refl (refuses (not (is_id r.id)) (Plain BadId) _ refl (refuses (has_bad_key r.part) (Plain BadId) _ refl (own_received f r (transfer_at f r.id))))
 own_reply f (cmd.Lock name day) =
     refuses (not (has_branch f name)) (Plain UnknownBranch) _ refl (answers (is_lock (lock_of f name) day) Repeated _
     (refuses (goes_back (lock_of f name) day) (Plain LockBack) _ refl (ok_own Done)))
-own_reply f (cmd.Close name day) =
-    refuses (not (has_branch f name)) (Plain UnknownBranch) _ refl (answers (is_held (records_of f name) (close_mark day)) Repeated _
-    (own_unless Done _ (own_close (lock_of f name) (records_of f name) day (closing_in f name day))))
+own_reply f (cmd.Close x) = refuses (not (has_branch f x.branch)) (Plain UnknownBranch) _ refl (own_closing f x (held (records_of f x.branch) (close_mark x.day)))
 
 own_is : (r : Result Answer Refusal) → IsOwnReply r → r ≡ Err (Plain Failed) → ⊥
 unfolding IsOwnReply

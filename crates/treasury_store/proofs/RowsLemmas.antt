@@ -20,9 +20,10 @@ use Rattle.treasury_core.specs.declared.rows.EntryRow.{EntryRow}
 use Rattle.treasury_core.specs.declared.rows.LegRow.{LegRow}
 use Rattle.treasury_core.specs.declared.rows.ClaimRow.{ClaimRow}
 use Rattle.treasury_core.specs.declared.rows.TransferRow.{TransferRow}
-use Rattle.treasury_store.specs.Tables.{unit, branch, entry, leg, claim, transfer, store_schema}
-use Rattle.treasury_store.specs.Rows.{Tables, Holds, unit_row, branch_row, entry_row, leg_row, claim_row, transfer_row, part_row, stored_unit, stored_branch, with_unit, with_branch, with_entry, with_leg, with_claim, with_transfer}
-use Rattle.treasury_store.proofs.Texts.{add_unit_text, add_unit_is, unit_terms, add_branch_text, add_branch_is, branch_terms, add_entry_text, add_entry_is, entry_terms, add_leg_text, add_leg_is, leg_terms, add_claim_text, add_claim_is, claim_terms, add_transfer_text, add_transfer_is, transfer_terms}
+use Rattle.treasury_core.specs.declared.rows.PartRow.{PartRow}
+use Rattle.treasury_store.specs.Tables.{unit, branch, entry, leg, claim, transfer, receipt, store_schema}
+use Rattle.treasury_store.specs.Rows.{Tables, Holds, unit_row, branch_row, entry_row, leg_row, claim_row, transfer_row, part_row, stored_unit, stored_branch, with_unit, with_branch, with_entry, with_leg, with_claim, with_transfer, with_part}
+use Rattle.treasury_store.proofs.Texts.{add_unit_text, add_unit_is, unit_terms, add_branch_text, add_branch_is, branch_terms, add_entry_text, add_entry_is, entry_terms, add_leg_text, add_leg_is, leg_terms, add_claim_text, add_claim_is, claim_terms, add_transfer_text, add_transfer_is, transfer_terms, add_part_text, add_part_is, part_terms}
 use Rattle.treasury_store.proofs.RowLemmas.{cast_int, cast_null}
 use Rattle.treasury_store.proofs.AddLemmas.{adds}
 
@@ -172,4 +173,26 @@ module _ (x : TransferRow) where
         numbered = subst (IsShaped shape.Table) (sym (a.others.0 (omega arith))) holds.numbered;
         receipts = subst (λ rs. IsPermutation (map part_row t.receipts) (map (drop 1) rs)) (sym (a.others.1.1.1.1.1.1.1.0 (omega arith))) holds.receipts;
         keyed = subst (IsShaped shape.Table) (sym a.rows) (IsShaped-put_row _ (old.now.trees 12) refl holds.keyed);
+      }
+
+-- ---- receipt
+module _ (p : PartRow) where
+  part_news : (db : Trees) → (edit_of db receipt [] Chosen 0 (value_rows (part_row p) 6 1 part_terms)).news ≡ (Int (next_rowid (db 14)) ∷ part_row p) ∷ []
+  part_news db = simp (cast_int, cast_null)
+
+  pub adds_part : (old new : State) (t : Tables) (count : ℕ) → Holds old.now t → Executes add_part_text (part_row p) old new (Ok count) → Holds new.now (with_part p t)
+  adds_part old new t count holds h =
+      let a = adds store_schema receipt.name receipt.tree receipt.columns receipt.key receipt.primary receipt.uniques receipt.orders add_part_text 7 part_terms 6 (part_row p) (λ db. Int (next_rowid (db 14)) ∷ part_row p) add_part_is.0 add_part_is.1 refl part_news old new count holds.schema h in
+      record {
+        schema = a.schema_is;
+        format = ap (map (λ r. column r 1)) (a.others.0 (omega arith)) ∙ holds.format;
+        units = subst (IsPermutation _) (sym (a.others.1.0 (omega arith))) holds.units;
+        branches = subst (IsPermutation _) (sym (a.others.1.1.0 (omega arith))) holds.branches;
+        entries = subst (λ rs. IsPermutation (map entry_row t.entries) (map (drop 1) rs)) (sym (a.others.1.1.1.0 (omega arith))) holds.entries;
+        legs = subst (λ rs. IsPermutation (map leg_row t.legs) (map (drop 1) rs)) (sym (a.others.1.1.1.1.0 (omega arith))) holds.legs;
+        claims = subst (λ rs. IsPermutation (map claim_row t.claims) (map (drop 1) rs)) (sym (a.others.1.1.1.1.1.0 (omega arith))) holds.claims;
+        transfers = subst (λ rs. IsPermutation (map transfer_row t.transfers) (map (drop 1) rs)) (sym (a.others.1.1.1.1.1.1.0 (omega arith))) holds.transfers;
+        numbered = subst (IsShaped shape.Table) (sym (a.others.0 (omega arith))) holds.numbered;
+        receipts = IsPermutation-trans _ _ _ (IsPermutation-cons (part_row p) _ _ holds.receipts) (IsPermutation-map (drop 1) _ _ a.moved);
+        keyed = subst (IsShaped shape.Table) (sym (a.others.1.1.1.1.1.1.0 (omega arith))) holds.keyed;
       }

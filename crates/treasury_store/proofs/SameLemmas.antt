@@ -9,6 +9,7 @@ use Rattle.treasury_core.specs.declared.rows.EntryRow.{EntryRow}
 use Rattle.treasury_core.specs.declared.rows.LegRow.{LegRow}
 use Rattle.treasury_core.specs.declared.rows.ClaimRow.{ClaimRow}
 use Rattle.treasury_core.specs.declared.rows.TransferRow.{TransferRow}
+use Rattle.treasury_core.specs.declared.rows.PartRow.{PartRow}
 use Rattle.treasury_store.specs.declared.change.Change.{Change}
 use Rattle.treasury_store.specs.declared.change.Change.TheVariants as change
 use Rattle.treasury_store.specs.Rows.{Tables, Holds, stored_unit, stored_branch, entry_row, leg_row, claim_row, transfer_row, part_row, locked, received, changed, joined}
@@ -63,6 +64,9 @@ other_claims t u xs ys h moved = record { units = h.units; branches = h.branches
 pub other_transfers : (t u : Tables) (xs ys : List TransferRow) → Same t u → IsPermutation xs ys → Same (record t { transfers = xs }) (record u { transfers = ys })
 other_transfers t u xs ys h moved = record { units = h.units; branches = h.branches; entries = h.entries; legs = h.legs; claims = h.claims; transfers = moved; receipts = h.receipts }
 
+pub other_receipts : (t u : Tables) (xs ys : List PartRow) → Same t u → IsPermutation xs ys → Same (record t { receipts = xs }) (record u { receipts = ys })
+other_receipts t u xs ys h moved = record { units = h.units; branches = h.branches; entries = h.entries; legs = h.legs; claims = h.claims; transfers = h.transfers; receipts = moved }
+
 pub same_changed : (c : Change) (t u : Tables) → Same t u → Same (changed c t) (changed c u)
 same_changed (change.Unit x) t u h = other_units t u (x ∷ t.units) (x ∷ u.units) h (IsPermutation-cons x t.units u.units h.units)
 same_changed (change.Branch x) t u h = other_branches t u (x ∷ t.branches) (x ∷ u.branches) h (IsPermutation-cons x t.branches u.branches h.branches)
@@ -70,6 +74,7 @@ same_changed (change.Entry x) t u h = other_entries t u (x ∷ t.entries) (x ∷
 same_changed (change.Leg x) t u h = other_legs t u (x ∷ t.legs) (x ∷ u.legs) h (IsPermutation-cons x t.legs u.legs h.legs)
 same_changed (change.Claim x) t u h = other_claims t u (x ∷ t.claims) (x ∷ u.claims) h (IsPermutation-cons x t.claims u.claims h.claims)
 same_changed (change.Transfer x) t u h = other_transfers t u (x ∷ t.transfers) (x ∷ u.transfers) h (IsPermutation-cons x t.transfers u.transfers h.transfers)
+same_changed (change.Part x) t u h = other_receipts t u (x ∷ t.receipts) (x ∷ u.receipts) h (IsPermutation-cons x t.receipts u.receipts h.receipts)
 same_changed (change.Lock nr day) t u h = other_branches t u (map (locked nr day) t.branches) (map (locked nr day) u.branches) h (IsPermutation-map (locked nr day) t.branches u.branches h.branches)
 same_changed (change.Receipt id day payee) t u h =
     other_transfers t u (map (received id day payee) t.transfers) (map (received id day payee) u.transfers) h (IsPermutation-map (received id day payee) t.transfers u.transfers h.transfers)

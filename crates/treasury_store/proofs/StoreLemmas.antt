@@ -17,7 +17,7 @@ use Rattle.treasury_store.specs.declared.store.Store.{Store}
 use Rattle.treasury_store.specs.Rows.{Tables, Holds, joined as written}
 use Rattle.treasury_store.specs.Numbers.{Numbering, numbers_of}
 use Rattle.treasury_store.specs.Changes.{changes_of, numbers_with}
-use Rattle.treasury_store.specs.Store.{IsOf, empty_state}
+use Rattle.treasury_store.specs.Store.{IsOf, empty_state, Joins}
 use Rattle.treasury_store.proofs.SameLemmas.{Same, holds_same}
 use Rattle.treasury_store.proofs.AdditionLemmas.{writes_joined, numbers_joined}
 
@@ -35,11 +35,11 @@ pub some_numbers : (n m : Numbering) → ◌≡◌ {A = Option Numbering} (Some 
 some_numbers n m e = cc
 
 -- the changes written to the rows of the state are the rows of the joined one
-pub holds_joined : (f : Federation) (xs : List Addition) (n : Numbering) (changes : List Change) (db : Database) → IsGoodState f → IsGoodState (joined f xs) → n ≡ numbers_of f → changes ≡ changes_of n xs
+pub holds_joined : (f : Federation) (xs : List Addition) (n : Numbering) (changes : List Change) (db : Database) → IsGoodState f → Joins f xs → n ≡ numbers_of f → changes ≡ changes_of n xs
     → Holds db (written changes (rows f)) → Holds db (rows (joined f xs))
 holds_joined f xs n changes db good next e is h =
     holds_same db (written changes (rows f)) (rows (joined f xs))
-    (subst (λ (cs : List Change). Same (written cs (rows f)) (rows (joined f xs))) (sym (is ∙ ap (λ (m : Numbering). changes_of m xs) e)) (writes_joined f xs good next (good_room (joined f xs) next))) h
+    (subst (λ (cs : List Change). Same (written cs (rows f)) (rows (joined f xs))) (sym (is ∙ ap (λ (m : Numbering). changes_of m xs) e)) (writes_joined f xs good next.good (good_room (joined f xs) next.good) next.found)) h
 
 module _ {S : Type 0} (g : Ghosts S) (old : Store S) (f : Federation) (of : IsOf g old f) where
   -- while the tables stay, so does the state
@@ -55,7 +55,7 @@ module _ {S : Type 0} (g : Ghosts S) (old : Store S) (f : Federation) (of : IsOf
     numbers = numbers ∙ of.numbers;
   }
 
-  module _ (xs : List Addition) (next : IsGoodState (joined f xs)) (n : Numbering) (known : old.numbers ≡ Some n) (changes : List Change) (is : changes ≡ changes_of n xs) where
+  module _ (xs : List Addition) (next : Joins f xs) (n : Numbering) (known : old.numbers ≡ Some n) (changes : List Change) (is : changes ≡ changes_of n xs) where
     same_numbers : n ≡ numbers_of f
     same_numbers = some_numbers n (numbers_of f) (sym known ∙ of.numbers)
 
@@ -68,7 +68,7 @@ module _ {S : Type 0} (g : Ghosts S) (old : Store S) (f : Federation) (of : IsOf
         → (HasCleanDisk (state g new.conn) → (t : Tables) → Holds (state g old.conn).now t → Holds (state g new.conn).now (written changes t) × ((state g new.conn).committed ≡ (state g new.conn).now))
         → IsOf g new (joined f xs)
     becomes_of new numbers clean opened puts = record {
-      good = next;
+      good = next.good;
       tables = λ is_clean is_open.
           let was = of.tables (clean is_clean) (opened is_clean is_open) in
           let put = puts is_clean (rows f) was.0 in
@@ -84,7 +84,7 @@ knows_joined f xs n now known knows =
 -- what a crash leaves are the rows of one of the two states
 pub crash_joined : {S : Type 0} (g : Ghosts S) (old : Store S) (new : Held S) (xs : List Addition) (n : Numbering) → old.numbers ≡ Some n → (changes : List Change) → changes ≡ changes_of n xs
     → Survives (state g old.conn) (state g new) (λ trees. (db : Database) × (trees ≡ db.trees) × ((t : Tables) → Holds (state g old.conn).now t → Holds db (written changes t)))
-    → Survives (state g old.conn) (state g new) (λ trees. (db : Database) × (trees ≡ db.trees) × ((f : Federation) → IsOf g old f → IsGoodState (joined f xs) → Holds (state g old.conn).now (rows f) → Holds db (rows (joined f xs))))
+    → Survives (state g old.conn) (state g new) (λ trees. (db : Database) × (trees ≡ db.trees) × ((f : Federation) → IsOf g old f → Joins f xs → Holds (state g old.conn).now (rows f) → Holds db (rows (joined f xs))))
 crash_joined g old new xs n known changes is left =
     survives_weaker (state g old.conn) (state g new) _ _ (λ clean trees p. (p.0, p.1, λ f of next h. holds_next g old f of xs next n known changes is p.0 (p.2 (rows f) h))) left
 

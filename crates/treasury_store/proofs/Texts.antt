@@ -263,6 +263,16 @@ pub receipt_is : table_defined_by create_receipt_text ≡ Ok (record receipt { t
 unfolding understood everything
 receipt_is = refl
 
+abbrev pub add_part_text : List ℕ
+add_part_text = codes "INSERT INTO receipt (transfer, part, qty, received, payee) VALUES (?1, ?2, ?3, ?4, ?5)"
+
+abbrev pub part_terms : List Term
+part_terms = lit Null ∷ col 0 0 ∷ col 0 1 ∷ col 0 2 ∷ col 0 3 ∷ col 0 4 ∷ []
+
+pub add_part_is : (command_of (understood store_schema add_part_text) ≡ Insert 7 (Values part_terms 6)) × IsPlain (understood store_schema add_part_text)
+unfolding understood everything
+add_part_is = (refl, (refl, refl))
+
 abbrev pub part_rows_text : List ℕ
 part_rows_text = codes "SELECT transfer, part, qty, received, payee FROM receipt ORDER BY transfer, part"
 

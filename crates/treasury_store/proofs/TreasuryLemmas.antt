@@ -1,8 +1,8 @@
 -- what a command makes of a treasury
-use Rattle.std.proofs.Common.{◌≡◌, ℕ, IsTrue, Bool, true, false, List, [], ◌∷◌, refl, ap, ◌∙◌, sym, subst, arith, inl, inr, Some, Ok, Err, ℤ, pos, neg_ℤ, ◌≤ℤ◌, FitsSigned, w32}
+use Rattle.std.proofs.Common.{◌≡◌, ℕ, IsTrue, Bool, true, false, ◌||◌, cond, List, [], ◌∷◌, map, refl, ap, ◌∙◌, sym, subst, arith, inl, inr, Some, None, Ok, Err, ℤ, pos, neg_ℤ, ◌≤ℤ◌, FitsSigned, w32}
 use Rattle.std.proofs.lemmas.Int.{ints}
-use Rattle.std.specs.Prelude.{if◌then◌else◌, Result, Option, IfSome}
-use Rattle.std.specs.List.{AllByRecursion}
+use Rattle.std.specs.Prelude.{if◌then◌else◌, find, Result, Option, IfSome, ⊤}
+use Rattle.std.specs.List.{list_any, AllByRecursion}
 use Rattle.std.specs.Str.{bytes_eq}
 use Rattle.money_core.specs.declared.day.Day.{Day}
 use Rattle.money_core.specs.declared.cause.Cause.{Cause}
@@ -21,12 +21,16 @@ use Rattle.treasury_core.specs.declared.command.Answer.TheVariants.{Done, Entere
 use Rattle.treasury_core.specs.declared.command.Command.{Command}
 use Rattle.treasury_core.specs.declared.command.Command.TheVariants as cmd
 use Rattle.treasury_core.specs.Federation.{Branch, Federation}
+use Rattle.treasury_core.specs.declared.command.Receive.{Receive}
+use Rattle.treasury_core.specs.declared.record.Record.{Record}
+use Rattle.treasury_core.specs.declared.transfer.Transfer.{Transfer}
 use Rattle.treasury_core.specs.declared.delta.Addition.{Addition}
+use Rattle.treasury_core.specs.declared.delta.Addition.TheVariants as add
 use Rattle.treasury_core.specs.Good.{Fits, IsGoodState}
-use Rattle.treasury_core.specs.Joined.{changed, new_branch, with_records, with_lock, joined}
-use Rattle.treasury_core.specs.Step.{reply, after, done, step, new_records, transfer_of, transfer_at, receipt_records, closing_records}
+use Rattle.treasury_core.specs.Joined.{changed, new_branch, with_records, with_lock, joined_one, joined}
+use Rattle.treasury_core.specs.Step.{reply, after, done, added, delta, step, new_records, transfer_of, transfer_at, receipt_of, receipt_additions, with_receipt_of, closing_records}
 use Rattle.treasury_core.specs.Closing.{closing_in}
-use Rattle.treasury_core.specs.Transfer.{dispatch_record}
+use Rattle.treasury_core.specs.Transfer.{has_id, dispatch_record, receipt_record}
 use Rattle.treasury_core.specs.Rows.{HasShortLock, HasShortLocks, rows}
 use Rattle.treasury_core.specs.History.{IsRun, state_after}
 use Rattle.treasury_core.specs.Headline.{KeepsBooks}
@@ -35,7 +39,7 @@ use Rattle.treasury_core.proofs.ChangeLemmas.{all-append}
 use Rattle.treasury_store.specs.declared.store.Store.{Store}
 use Rattle.treasury_store.specs.Rows.{Holds, AreTreesOf}
 use Rattle.treasury_store.specs.Kept.{KeepsTables}
-use Rattle.treasury_store.specs.Store.{IsOf, AnswersState, FailsAs}
+use Rattle.treasury_store.specs.Store.{IsOf, AnswersState, FailsAs, Finds, FindsAll, Joins}
 use Rattle.treasury_store.specs.Treasury.{Treasury, IsTreasuryOf, MayReply, Performs, is_failure, turn_if, SurvivesCommand, IsUnfit}
 
 -- ---- lock days that a table takes
@@ -55,17 +59,21 @@ short_bounds z low high = omega (arith, ints)
 short_day : (day : Day) → IsDayNumber day → FitsSigned w32 day.0
 short_day day number = let bounds = day_number_bounds day number in short_bounds day.0 bounds.0 bounds.1
 
+short_received : (f : Federation) (r : Receive) (o : Option Transfer) → HasShortLocks f → HasShortLocks (with_receipt_of f r o)
+short_received f r None short = short
+short_received f r (Some t) short = short_changed (with_records (receipt_record t (receipt_of t r) ∷ [])) (λ b h. h) r.branch f.branches short
+
 short_done : (f : Federation) (c : Command) → Fits f.styles c → HasShortLocks f → HasShortLocks (done f c)
 unfolding done
 short_done f (cmd.Branch name) fits short = all-append HasShortLock f.branches (new_branch name ∷ []) short (tt, tt)
 short_done f (cmd.Commodity style) fits short = short
 short_done f (cmd.Enter name file) fits short = short_changed (with_records (new_records f name file)) (λ b h. h) name f.branches short
 short_done f (cmd.Dispatch d) fits short = short_changed (with_records (dispatch_record (transfer_of d) ∷ [])) (λ b h. h) d.source f.branches short
-short_done f (cmd.Receive r) fits short = short_changed (with_records (receipt_records r (transfer_at f r.id))) (λ b h. h) r.branch f.branches short
+short_done f (cmd.Receive r) fits short = short_received f r (transfer_at f r.id) short
 short_done f (cmd.Lock name day) fits short = short_changed (with_lock day) (λ b h. short_day day fits) name f.branches short
-short_done f (cmd.Close name day) fits short =
-    let records = closing_records day (closing_in f name day) in
-    short_changed (with_lock day) (λ b h. short_day day fits) name (changed (with_records records) name f.branches) (short_changed (with_records records) (λ b h. h) name f.branches short)
+short_done f (cmd.Close x) fits short =
+    let records = closing_records x.day (closing_in f x.branch x.day x.choice) in
+    short_changed (with_lock x.day) (λ b h. short_day x.day fits) x.branch (changed (with_records records) x.branch f.branches) (short_changed (with_records records) (λ b h. h) x.branch f.branches short)
 
 -- after a command that fits, each lock day is still one that a table takes
 pub short_after : (f : Federation) (c : Command) (r : Result Answer Refusal) → Fits f.styles c → HasShortLocks f → HasShortLocks (after f c r)
@@ -187,8 +195,8 @@ abbrev pub SurvivesChange : {S : Type 0} → Ghosts S → Store S → Held S →
 SurvivesChange g old new f next = Survives (state g old.conn) (state g new) (λ trees. IsOf g old f → Holds (state g old.conn).now (rows f) → AreTreesOf trees (rows next))
 
 -- what is written, whichever way the store is left
-pub survives_write : {S : Type 0} (g : Ghosts S) (old : Store S) (new : Held S) (now : Federation) (xs : List Addition) → IsGoodState (joined now xs)
-    → Survives (state g old.conn) (state g new) (λ trees. (db : Database) × (trees ≡ db.trees) × ((f : Federation) → IsOf g old f → IsGoodState (joined f xs) → Holds (state g old.conn).now (rows f) → Holds db (rows (joined f xs))))
+pub survives_write : {S : Type 0} (g : Ghosts S) (old : Store S) (new : Held S) (now : Federation) (xs : List Addition) → Joins now xs
+    → Survives (state g old.conn) (state g new) (λ trees. (db : Database) × (trees ≡ db.trees) × ((f : Federation) → IsOf g old f → Joins f xs → Holds (state g old.conn).now (rows f) → Holds db (rows (joined f xs))))
     → SurvivesChange g old new now (joined now xs)
 survives_write g old new now xs good left = survives_weaker (state g old.conn) (state g new) _ _ (λ clean trees p of h. (p.0, p.1, p.2 now of good h)) left
 
@@ -216,3 +224,60 @@ module _ {S : Type 0} (g : Ghosts S) (old new : Treasury S) (c : Command) where
       let moved = subst (λ (x : Federation). IsOf g mid.store x → Holds (state g mid.store.conn).now (rows x) → AreTreesOf trees (rows (step x c).next)) same made in
       moved there.store (rows_mid (cleaner clean) f of h))
       held settled
+
+-- ---- what is decided finds what it is of
+
+-- an addition that is no transfer and no receipt
+abbrev IsApart : Addition → Type 0
+IsApart (add.Commodity style) = ⊤
+IsApart (add.Branch name) = ⊤
+IsApart (add.Record name r) = ⊤
+IsApart (add.Dispatched t) = ⊥
+IsApart (add.Received id p) = ⊥
+IsApart (add.Locked name day) = ⊤
+
+finds_apart : (f : Federation) (x : Addition) → IsApart x → Finds f x
+finds_apart f (add.Commodity style) h = tt
+finds_apart f (add.Branch name) h = tt
+finds_apart f (add.Record name r) h = tt
+finds_apart f (add.Dispatched t) h = absurd h
+finds_apart f (add.Received id p) h = absurd h
+finds_apart f (add.Locked name day) h = tt
+
+all_apart : (xs : List Addition) (f : Federation) → AllByRecursion IsApart xs → FindsAll f xs
+all_apart [] f h = tt
+all_apart (x ∷ xs) f h = (finds_apart f x h.0, all_apart xs (joined_one f x) h.1)
+
+records_apart : (name : List ℕ) (rs : List Record) → AllByRecursion IsApart (map (λ (r : Record). add.Record name r) rs)
+records_apart name [] = tt
+records_apart name (r ∷ rs) = (tt, records_apart name rs)
+
+any_found : {X : Type 0} (p : X → Bool) (xs : List X) (x : X) → find p xs ≡ Some x → list_any p xs ≡ true
+any_found p [] x h = absurd cc
+any_found {X} p (y ∷ ys) x h = by_test (p y) h (any_found p ys x)
+  where
+    by_test : (t : Bool) → cond t (Some y) (find p ys) ≡ Some x → (find p ys ≡ Some x → list_any p ys ≡ true) → (t || list_any p ys) ≡ true
+    by_test true e k = refl
+    by_test false e k = k e
+
+finds_receipt : (f : Federation) (r : Receive) (o : Option Transfer) → transfer_at f r.id ≡ o → FindsAll f (receipt_additions r o)
+finds_receipt f r None e = tt
+finds_receipt f r (Some t) e = (tt, (λ part. any_found (has_id r.id) f.transfers t e, tt))
+
+finds_added : (f : Federation) (c : Command) → FindsAll f (added f c)
+unfolding added
+finds_added f (cmd.Branch name) = (tt, tt)
+finds_added f (cmd.Commodity style) = (tt, tt)
+finds_added f (cmd.Enter name file) = all_apart _ f (records_apart name (new_records f name file))
+finds_added f (cmd.Dispatch d) = (tt, (refl, tt))
+finds_added f (cmd.Receive r) = finds_receipt f r (transfer_at f r.id) refl
+finds_added f (cmd.Lock name day) = (tt, tt)
+finds_added f (cmd.Close c) = all_apart _ f (all-append IsApart (map (λ (r : Record). add.Record c.branch r) (closing_records c.day (closing_in f c.branch c.day c.choice))) (add.Locked c.branch c.day ∷ []) (records_apart c.branch _) (tt, tt))
+
+finds_delta : (f : Federation) (c : Command) (a : Answer) → FindsAll f (delta f c (Ok a))
+finds_delta f c Done = finds_added f c
+finds_delta f c (Entered new repeated) = finds_added f c
+finds_delta f c Repeated = tt
+
+pub decided_joins : (f : Federation) (c : Command) (a : Answer) (xs : List Addition) → xs ≡ delta f c (Ok a) → IsGoodState (joined f xs) → Joins f xs
+decided_joins f c a xs is good = record { found = subst (FindsAll f) (sym is) (finds_delta f c a); good = good }

@@ -46,7 +46,7 @@ printed_one styles f (add.Commodity style) h = h
 printed_one styles f (add.Branch name) h = all_front (ArePrinted styles) f.branches (new_branch name ∷ []) h
 printed_one styles f (add.Record name r) h = back_changed (ArePrinted styles) (with_records (r ∷ [])) name f.branches (λ b k. all_front (IsGoodRecord styles) b.records (r ∷ []) k) h
 printed_one styles f (add.Dispatched t) h = h
-printed_one styles f (add.Received id day payee) h = h
+printed_one styles f (add.Received id p) h = h
 printed_one styles f (add.Locked name day) h = back_changed (ArePrinted styles) (with_lock day) name f.branches (λ b k. k) h
 
 printed_back : (styles : List Style) (xs : List Addition) (f : Federation) → AllByRecursion (ArePrinted styles) (joined f xs).branches → AllByRecursion (ArePrinted styles) f.branches
@@ -92,7 +92,7 @@ one_fits styles N more f (add.Record name r) e was room printed =
     let same = place_same [] N f more e name low in
     subst (λ (p : ℕ). IsWritable styles (get_or (records_each f.branches) p 0) r) (sym same) (record_fits styles f name r (omega (arith, same, low)) room printed)
 one_fits styles N more f (add.Dispatched t) e was room printed = tt
-one_fits styles N more f (add.Received id day payee) e was room printed = tt
+one_fits styles N more f (add.Received id p) e was room printed = tt
 one_fits styles N more f (add.Locked name day) e was room printed = tt
 
 all_fit : (styles : List Style) (N : List (List ℕ)) (xs : List Addition) (f : Federation) → N ≡ names_of (joined f xs).branches → IsRoomy (joined f xs) → AllByRecursion (ArePrinted styles) (joined f xs).branches

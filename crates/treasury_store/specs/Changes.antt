@@ -1,15 +1,17 @@
 -- Mirrors code: the changes of the tables by which additions are written. What they make of the rows of a state is said by `commit` alone.
-use Rattle.std.specs.Prelude.{◌≤◌, ◌<◌, ◌^◌, ℕ, suc, pos, if◌then◌else◌, nat_lt, List, [], ◌∷◌, ◌++◌, map, length, slice_index, slice_set, ⊤}
+use Rattle.std.specs.Prelude.{◌≤◌, ◌<◌, ◌^◌, ℕ, Bool, true, false, suc, pos, if◌then◌else◌, nat_lt, List, [], ◌∷◌, ◌++◌, map, length, slice_index, slice_set, ⊤}
 use Rattle.std.specs.List.{AllByRecursion}
 use Rattle.money_core.specs.declared.style.Style.{Style}
 use Rattle.book_core.specs.declared.claim.Placed.{Placed}
 use Rattle.journal_format.specs.Printable.{IsPrintable}
 use Rattle.treasury_core.specs.declared.record.Record.{Record}
+use Rattle.treasury_core.specs.declared.transfer.Part.{Part}
 use Rattle.treasury_core.specs.declared.delta.Addition.{Addition}
 use Rattle.treasury_core.specs.declared.delta.Addition.TheVariants as add
 use Rattle.treasury_core.specs.Federation.{Branch, name_place}
 use Rattle.treasury_core.specs.Joined.{new_branch}
-use Rattle.treasury_core.specs.Rows.{unit_row, branch_row, entry_row, leg_rows, claim_rows, transfer_row}
+use Rattle.treasury_core.specs.Rows.{unit_row, branch_row, entry_row, leg_rows, claim_rows, transfer_row, part_row}
+use Rattle.treasury_core.specs.Transfer.{is_all}
 use Rattle.treasury_store.specs.declared.change.Change.{Change}
 use Rattle.treasury_store.specs.declared.change.Change.TheVariants as change
 use Rattle.treasury_store.specs.Numbers.{Numbering}
@@ -31,6 +33,11 @@ place_in names name = name_place (named names) name
 abbrev pub record_changes : List Style → ℕ → ℕ → Record → List Change
 record_changes styles b n r = change.Entry (entry_row styles b n r) ∷ (map change.Leg (leg_rows b n r) ++ map change.Claim (claim_rows b n r))
 
+-- the change by a receipt of the transfer of that ID: under the key `all` two columns of the transfer's row, else a row of its own
+abbrev pub receipt_change : Bool → List ℕ → Part → Change
+receipt_change true id p = change.Receipt id p.day.0 p.payee
+receipt_change false id p = change.Part (part_row id p)
+
 -- the changes by one addition, under the styles and the names that there are at last
 abbrev pub changes_by : List Style → List (List ℕ) → Counts → Addition → List Change
 changes_by styles names n (add.Commodity style) = change.Unit (unit_row n.units style) ∷ []
@@ -38,7 +45,7 @@ changes_by styles names n (add.Branch name) = change.Branch (branch_row (length 
 changes_by styles names n (add.Record name r) =
     if nat_lt (place_in names name) (length n.records) then record_changes styles (place_in names name) (suc (slice_index n.records (place_in names name))) r else []
 changes_by styles names n (add.Dispatched t) = change.Transfer (transfer_row (named names) t) ∷ []
-changes_by styles names n (add.Received id day payee) = change.Receipt id day.0 payee ∷ []
+changes_by styles names n (add.Received id p) = receipt_change (is_all p.key) id p ∷ []
 changes_by styles names n (add.Locked name day) = change.Lock (pos (place_in names name)) day.0 ∷ []
 
 -- the numbers behind it
@@ -47,7 +54,7 @@ counted names n (add.Commodity style) = record n { units = suc n.units }
 counted names n (add.Branch name) = record n { records = n.records ++ 0 ∷ [] }
 counted names n (add.Record name r) = record n { records = slice_set n.records (place_in names name) (suc (slice_index n.records (place_in names name))) }
 counted names n (add.Dispatched t) = n
-counted names n (add.Received id day payee) = n
+counted names n (add.Received id p) = n
 counted names n (add.Locked name day) = n
 
 -- the changes by a list of additions, in order, and the numbers behind them
@@ -103,7 +110,7 @@ CanWrite styles names n (add.Commodity style) = n.units < 2 ^ 32
 CanWrite styles names n (add.Branch name) = ⊤
 CanWrite styles names n (add.Record name r) = place_in names name < length n.records → IsWritable styles (slice_index n.records (place_in names name)) r
 CanWrite styles names n (add.Dispatched t) = ⊤
-CanWrite styles names n (add.Received id day payee) = ⊤
+CanWrite styles names n (add.Received id p) = ⊤
 CanWrite styles names n (add.Locked name day) = ⊤
 
 abbrev pub CanWriteFrom : List Style → List (List ℕ) → Counts → List Addition → Type 0

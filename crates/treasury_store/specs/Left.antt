@@ -8,13 +8,13 @@ use Rattle.sqlite.specs.Held.{Held, state}
 use Rattle.treasury_core.specs.declared.command.Command.{Command}
 use Rattle.treasury_core.specs.declared.delta.Addition.{Addition}
 use Rattle.treasury_core.specs.Federation.{Federation}
-use Rattle.treasury_core.specs.Good.{IsGoodState, Fits}
+use Rattle.treasury_core.specs.Good.{Fits}
 use Rattle.treasury_core.specs.Joined.{joined}
 use Rattle.treasury_core.specs.Rows.{rows}
 use Rattle.treasury_core.specs.Step.{step}
 use Rattle.treasury_store.specs.declared.store.Store.{Store}
 use Rattle.treasury_store.specs.Rows.{Tables, HoldsFirst, AreTreesOf, AreFirstTreesOf}
-use Rattle.treasury_store.specs.Store.{TablesAre, IsOf}
+use Rattle.treasury_store.specs.Store.{TablesAre, IsOf, Joins}
 use Rattle.treasury_store.specs.Treasury.{Treasury, IsTreasuryOf}
 
 -- whatever is left are these rows
@@ -42,7 +42,7 @@ LeavesEitherVersion g old new =
 -- what a command adds is written to an open store of a state: whatever is left are the rows of that state, or of the one with it
 abbrev pub LeavesJoined : {S : Type 0} → Ghosts S → Store S → Store S → List Addition → Type 0
 LeavesJoined g old new xs =
-    IsTrue (state g old.conn).is_open → (f : Federation) → IsOf g old f → IsGoodState (joined f xs) → LeavesEither g new.conn (rows f) (rows (joined f xs))
+    IsTrue (state g old.conn).is_open → (f : Federation) → IsOf g old f → Joins f xs → LeavesEither g new.conn (rows f) (rows (joined f xs))
 
 -- a command on an open treasury of a state which it fits: whatever is left are the rows of the state before it, or of the one after it
 abbrev pub LeavesStep : {S : Type 0} → Ghosts S → Treasury S → Treasury S → Command → Type 0

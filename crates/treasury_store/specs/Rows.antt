@@ -125,6 +125,9 @@ with_claim c t = record t { claims = c ∷ t.claims }
 abbrev pub with_transfer : TransferRow → Tables → Tables
 with_transfer x t = record t { transfers = x ∷ t.transfers }
 
+abbrev pub with_part : PartRow → Tables → Tables
+with_part p t = record t { receipts = p ∷ t.receipts }
+
 -- the branch of that number is locked through the day, and each other stays
 abbrev pub locked : ℤ → ℤ → BranchRow → BranchRow
 locked nr day b = if int_eq b.nr nr then record b { locked = Some day } else b
@@ -146,6 +149,7 @@ changed (change.Entry e) t = with_entry e t
 changed (change.Leg l) t = with_leg l t
 changed (change.Claim c) t = with_claim c t
 changed (change.Transfer x) t = with_transfer x t
+changed (change.Part p) t = with_part p t
 changed (change.Lock nr day) t = with_lock nr day t
 changed (change.Receipt id day payee) t = with_receipt id day payee t
 

@@ -1,11 +1,16 @@
 -- What a store is of.
-use Rattle.std.specs.Prelude.{◌≡◌, ◌⊎◌, Bool, true, false, [], Some, Result, Err, IsTrue, MatchResult}
+use Rattle.std.specs.Prelude.{◌≡◌, ◌⊎◌, Bool, true, false, List, [], ◌∷◌, Some, Result, Err, IsTrue, MatchResult, ⊤}
+use Rattle.std.specs.List.{list_any}
 use Rattle.money_core.specs.declared.cause.Cause.{Cause}
 use Rattle.money_core.specs.declared.cause.Cause.TheVariants.{OutOfMemory, Store as Failed, Damaged}
 use Rattle.sqlite.specs.Store.{Ghosts}
 use Rattle.sqlite.specs.State.{HasCleanDisk}
 use Rattle.sqlite.specs.Held.{Held, state}
+use Rattle.treasury_core.specs.declared.delta.Addition.{Addition}
+use Rattle.treasury_core.specs.declared.delta.Addition.TheVariants as add
 use Rattle.treasury_core.specs.Federation.{Federation}
+use Rattle.treasury_core.specs.Transfer.{is_all, has_id}
+use Rattle.treasury_core.specs.Joined.{joined_one, joined}
 use Rattle.treasury_core.specs.Good.{IsGoodState}
 use Rattle.treasury_core.specs.Rows.{rows}
 use Rattle.treasury_store.specs.Rows.{Tables, Holds}
@@ -23,6 +28,24 @@ TablesAre g h t = HasCleanDisk (state g h) → IsTrue (state g h).is_open → Ho
 -- the store knows by which numbers the rows of a state go on
 abbrev pub Knows : {S : Type 0} → Store S → Federation → Type 0
 Knows s f = s.numbers ≡ Some (numbers_of f)
+
+-- a new transfer has no receipts of parts yet, and a receipt of a part is of a transfer that is there
+abbrev pub Finds : Federation → Addition → Type 0
+Finds f (add.Commodity style) = ⊤
+Finds f (add.Branch name) = ⊤
+Finds f (add.Record name r) = ⊤
+Finds f (add.Dispatched t) = t.parts ≡ []
+Finds f (add.Received id p) = is_all p.key ≡ false → list_any (has_id id) f.transfers ≡ true
+Finds f (add.Locked name day) = ⊤
+
+abbrev pub FindsAll : Federation → List Addition → Type 0
+FindsAll f [] = ⊤
+FindsAll f (x ∷ xs) = Finds f x × FindsAll (joined_one f x) xs
+
+-- additions that join a state: each finds what it is of, and the state with them is good
+pub record Joins (f : Federation) (xs : List Addition) : Type 0 where
+  pub found : FindsAll f xs
+  pub good : IsGoodState (joined f xs)
 
 -- The store is of a good state: its tables are that state's rows, and new rows are numbered behind these.
 pub record IsOf {S : Type 0} (g : Ghosts S) (s : Store S) (f : Federation) : Type 0 where

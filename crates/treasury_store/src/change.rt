@@ -1,7 +1,7 @@
 //! Changes of the tables' rows.
 
 use money_core::Text;
-use treasury_core::{BranchRow, ClaimRow, EntryRow, LegRow, TransferRow, UnitRow};
+use treasury_core::{BranchRow, ClaimRow, EntryRow, LegRow, PartRow, TransferRow, UnitRow};
 
 /// One row more, or one row that is changed.
 #[derive(Debug, Drop)]
@@ -14,6 +14,8 @@ pub enum Change {
     Transfer(TransferRow),
     /// The branch of that number is locked through the day.
     Lock { branch: i64, day: i64 },
-    /// The transfer of that ID was received on the day, into the account.
+    /// A receipt of a part of a transfer.
+    Part(PartRow),
+    /// What was left of the transfer of that ID was received on the day, into the account.
     Receipt { id: Text, day: i64, payee: Text },
 }

@@ -10,20 +10,21 @@ ghost use Rattle.book_core.specs.declared.claim.Placed.{Placed};
 ghost use Rattle.journal_format.specs.CanonicalText.{body_text};
 ghost use Rattle.journal_format.specs.Printable.{IsPrintable};
 ghost use Rattle.treasury_core.specs.Joined.{new_branch};
-ghost use Rattle.treasury_core.specs.Rows.{truth, kind_number, unit_row, branch_row, entry_row, leg_row, leg_rows, claim_row, transfer_row};
-ghost use Rattle.treasury_store.specs.declared.change.Change.TheVariants.{Leg as LegChange, Claim as ClaimChange, Receipt as ReceiptChange};
-ghost use Rattle.treasury_store.specs.Changes.{named, record_changes, changes_by, counted, changes_from, counted_all, changes_of, numbers_with, styles_with, names_with, counts_of, IsWritable, CanWrite, CanWriteFrom};
+ghost use Rattle.treasury_core.specs.Rows.{truth, kind_number, unit_row, branch_row, entry_row, leg_row, leg_rows, claim_row, transfer_row, part_row};
+ghost use Rattle.treasury_core.specs.Transfer.{is_all};
+ghost use Rattle.treasury_store.specs.declared.change.Change.TheVariants.{Leg as LegChange, Claim as ClaimChange};
+ghost use Rattle.treasury_store.specs.Changes.{named, record_changes, receipt_change, changes_by, counted, changes_from, counted_all, changes_of, numbers_with, styles_with, names_with, counts_of, IsWritable, CanWrite, CanWriteFrom};
 
 use crate::change::Change;
 use crate::numbers::{Numbers, more_names, more_styles, place_of};
 use book_core::{ClaimKind, Leg, Placed};
 use journal_format::{Txn, body};
-use money_core::{Cause, Copied, Day, Items, Mark, Style, Styles, Text, text_of};
+use money_core::{Cause, Copied, Items, Mark, Style, Styles, Text, text_of};
 use std::alloc::Global;
 use std::marker::Model;
 use treasury_core::{
-    Addition, BranchRow, ClaimRow, EntryRow, LegRow, Receipt, Record, Transfer, TransferRow,
-    UnitRow,
+    Addition, BranchRow, ClaimRow, EntryRow, LegRow, Part, PartRow, Receipt, Record, Transfer,
+    TransferRow, UnitRow,
 };
 
 /// How many commodities there are, and how many records each branch has.
@@ -301,16 +302,44 @@ fn transfer_row(names: &[Text], transfer: &Transfer) -> Result<TransferRow, Caus
     })
 }
 
-/// The change by a receipt.
-fn receipt_of(id: &Text, day: Day, payee: &Text) -> Result<Change, Cause>
-    ensures equal { IfOk result (λ change. change ≡ ReceiptChange id.now day.0 payee.now) }
+/// Whether the receipt is that of what was left.
+fn is_all(part: &Part) -> bool
+    ensures { result ≡ is_all part.now.key }
+{
+    part.key.as_str() == "all"
+}
+
+/// The row of a part of the transfer of that ID.
+fn part_row(id: &Text, part: &Part) -> Result<PartRow, Cause>
+    ensures equal { IfOk result (λ row. row ≡ part_row id.now part.now) }
     ensures memory { IsOkUnless result Cause.OutOfMemory }
 {
+    let transfer = id.copy()?;
+    let key = part.key.copy()?;
+    let payee = part.payee.copy()?;
+    Ok(PartRow {
+        transfer,
+        part: key,
+        qty: part.qty,
+        received: i64::from(part.day.0),
+        payee,
+    })
+}
+
+/// The change by a receipt of the transfer of that ID: a row of a part, or two columns of the transfer's row.
+fn receipt_change(id: &Text, part: &Part) -> Result<Change, Cause>
+    ensures equal { IfOk result (λ change. change ≡ receipt_change (is_all part.now.key) id.now part.now) }
+    ensures memory { IsOkUnless result Cause.OutOfMemory }
+{
+    if !is_all(part) {
+        let row = part_row(id, part)?;
+        return Ok(Change::Part(row));
+    }
     let id = id.copy()?;
-    let payee = payee.copy()?;
+    let payee = part.payee.copy()?;
     Ok(Change::Receipt {
         id,
-        day: i64::from(day.0),
+        day: i64::from(part.day.0),
         payee,
     })
 }
@@ -370,8 +399,8 @@ fn add_changes(
             let row = transfer_row(names, transfer)?;
             changes.push(Change::Transfer(row))
         }
-        Addition::Received(id, day, payee) => {
-            let receipt = receipt_of(id, *day, payee)?;
+        Addition::Received(id, part) => {
+            let receipt = receipt_change(id, part)?;
             changes.push(receipt)
         }
         Addition::Locked(name, day) => {

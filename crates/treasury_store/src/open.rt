@@ -123,6 +123,7 @@ pub fn found_version<S: Alter>(conn: &mut Connection<S>) -> Option<i64>
 pub fn open_tables<S: Alter>(conn: &mut Connection<S>) -> Result<bool, Error>
     ensures there { HasCleanDisk (state S.Store conn.new) → IfOk result (λ there. AreOurs (state S.Store conn.old).now.schema → IsTrue there ↔ (IsFirst (state S.Store conn.old).now ⊎ IsSecond (state S.Store conn.old).now)) }
     ensures tables { IfOk result (λ there. IsTrue there → IsTrue (has_all (state S.Store conn.old).now.schema)) }
+    ensures opened { HasCleanDisk (state S.Store conn.new) → IfOk result (λ there. IsTrue there → IsTrue (state S.Store conn.new).is_open) }
     ensures none { has_all (state S.Store conn.old).now.schema ≡ false → (result ≡ Ok false) × (conn.new ≡ conn.old) }
     // Where they are not there, nothing changes, whatever is.
     ensures untouched { HasCleanDisk (state S.Store conn.new) → IfOk result (λ there. there ≡ false → ((state S.Store conn.new).now ≡ (state S.Store conn.old).now) × ((state S.Store conn.new).committed ≡ (state S.Store conn.old).committed)) }

@@ -1,7 +1,7 @@
 //! The store of a treasury: a connection whose tables are the rows of a state.
 
 ghost use Rattle.std.specs.Prelude.{◌≡◌, ◌≤◌, ◌⊎◌, ◌↔◌, [], false, None, Some, Err, OnOk, OnErr, IfOk, IfErr, MatchResult, IsTrue};
-ghost use Rattle.sqlite.specs.State.{HasCleanDisk, Survives};
+ghost use Rattle.sqlite.specs.State.{HasCleanDisk, IsLive, Survives};
 ghost use Rattle.sqlite.specs.Held.{state};
 ghost use Rattle.sqlite.specs.Effect.{Database};
 ghost use Rattle.sqlite_trees.specs.View.{doubt};
@@ -16,7 +16,7 @@ ghost use Rattle.treasury_store.specs.Tables.{no_schema, store_schema};
 ghost use Rattle.treasury_store.specs.Creating.{has_one, has_all, has_counter, Beside, SurvivesMaking};
 ghost use Rattle.treasury_store.specs.Opening.{AreOurs, IsFirst, IsFirstNumbered, IsSecond};
 ghost use Rattle.treasury_store.specs.Upgrading.{Upgrades, KeepsOurs};
-ghost use Rattle.treasury_store.specs.Store.{empty_state, TablesAre, Knows, IsOf, Answers, AnswersState};
+ghost use Rattle.treasury_store.specs.Store.{empty_state, TablesAre, Knows, IsOf, Joins, Answers, AnswersState};
 ghost use Rattle.treasury_store.specs.Left.{LeavesSame, LeavesEitherVersion, LeavesJoined};
 
 use crate::changes::changes_of;
@@ -107,6 +107,8 @@ impl<S: Alter> Store<S> {
         requires { conn.in_transaction ≡ false }
         ensures there { IfOk result (λ s. HasCleanDisk (state S.Store s.conn) → AreOurs (state S.Store conn).now.schema → IsFirst (state S.Store conn).now ⊎ IsSecond (state S.Store conn).now) }
         ensures tables { IfOk result (λ s. IsTrue (has_all (state S.Store conn).now.schema)) }
+        ensures still_open { IfOk result (λ s. HasCleanDisk (state S.Store s.conn) → IsTrue (state S.Store s.conn).is_open) }
+        ensures live { IfOk result (λ s. IsLive (state S.Store s.conn)) }
         // Whichever rows the tables held, in either version: they are the store's.
         ensures opened { IfOk result (λ s. (state S.Store conn).committed ≡ (state S.Store conn).now → (t : Tables) → HoldsEither (state S.Store conn).now t → TablesAre S.Store s.conn t) }
         ensures first { IfOk result (λ s. HasCleanDisk (state S.Store s.conn) → IsFirstNumbered (state S.Store conn).now → Upgrades (state S.Store conn).now (state S.Store s.conn).now × ((state S.Store s.conn).committed ≡ (state S.Store s.conn).now)) }
@@ -128,12 +130,16 @@ impl<S: Alter> Store<S> {
         ensures left_first { MatchResult result (λ s. LeavesEitherVersion S.Store conn s.conn) (λ r. LeavesEitherVersion S.Store conn r.conn) }
     {
         match open_tables(&mut conn) {
-            Ok(true) => Ok(Store {
-                alloc,
-                conn,
-                numbers: None,
-                failed: false,
-            }),
+            Ok(true) => {
+                // What it shows is a database, by this call's contract; so what is left of it can be found again.
+                let _ = conn.schema();
+                Ok(Store {
+                    alloc,
+                    conn,
+                    numbers: None,
+                    failed: false,
+                })
+            }
             Ok(false) => Err(Refused {
                 conn,
                 cause: Cause::Damaged,
@@ -210,12 +216,13 @@ impl<S: Alter> Store<S> {
 
     /// Writes what a decided command adds, in one transaction.
     ///
-    /// It asks that the store knows a state, and that the state with what is added is good. A store of the one is then of
+    /// It asks that the store knows a state, and that what is added joins it: the state with it is good, and each receipt of a part
+    /// is of a transfer that is there. A store of the one is then of
     /// the other, or it answers 40 or 41 and is of the old one. After 41 every later call answers 42, and changes nothing. What a stop or a
     /// crash leaves are the rows of one of the two.
     pub fn commit(&mut self, delta: &Delta) -> Result<(), Cause>
-        requires { (f : Federation) × Knows self.old f × IsGoodState (joined f delta.now) }
-        ensures ok { OnOk result ((f : Federation) → IsOf S.Store self.old f → IsGoodState (joined f delta.now) → IsOf S.Store self.new (joined f delta.now)) }
+        requires { (f : Federation) × Knows self.old f × Joins f delta.now }
+        ensures ok { OnOk result ((f : Federation) → IsOf S.Store self.old f → Joins f delta.now → IsOf S.Store self.new (joined f delta.now)) }
         ensures knows { OnOk result ((f : Federation) → Knows self.old f → Knows self.new (joined f delta.now)) }
         ensures still_open { OnOk result (HasCleanDisk (state S.Store self.new.conn) → IsTrue (state S.Store self.new.conn).is_open) }
         ensures err { OnErr result ((f : Federation) → IsOf S.Store self.old f → IsOf S.Store self.new f) }
@@ -223,7 +230,7 @@ impl<S: Alter> Store<S> {
         ensures answers { self.old.failed ≡ false → Answers result self.new.failed }
         ensures closed { IsTrue self.old.failed → (result ≡ Err Cause.Closed) × (self.new ≡ self.old) }
         ensures crash { Survives (state S.Store self.old.conn) (state S.Store self.new.conn) (λ trees. (db : Database) × (trees ≡ db.trees)
-            × ((f : Federation) → IsOf S.Store self.old f → IsGoodState (joined f delta.now) → Holds (state S.Store self.old.conn).now (rows f) → Holds db (rows (joined f delta.now)))) }
+            × ((f : Federation) → IsOf S.Store self.old f → Joins f delta.now → Holds (state S.Store self.old.conn).now (rows f) → Holds db (rows (joined f delta.now)))) }
         ensures left { LeavesJoined S.Store self.old self.new delta.now }
     {
         if self.failed {

@@ -15,7 +15,7 @@ ghost use Rattle.treasury_store.specs.Tables.{store_schema};
 ghost use Rattle.treasury_store.specs.Rows.{Holds, AreTreesOf, Tables};
 ghost use Rattle.treasury_store.specs.Kept.{KeepsTables, ShutsByFault, StaysAsIs};
 ghost use Rattle.treasury_store.specs.Shown.{ShowsTables, ShowsNoState};
-ghost use Rattle.treasury_store.specs.Store.{TablesAre, Knows, IsOf, Answers, AnswersState, FailsAs};
+ghost use Rattle.treasury_store.specs.Store.{TablesAre, Knows, IsOf, Joins, Answers, AnswersState, FailsAs};
 ghost use Rattle.treasury_store.specs.Treasury.{IsTreasuryOf, MayReply, Performs, turn_if, SurvivesCommand, IsUnfit, AddsNothing, FailsBy, IsListed};
 ghost use Rattle.treasury_store.specs.Left.{LeavesSame, LeavesStep};
 
@@ -80,6 +80,7 @@ impl<S: Alter> Treasury<S> {
         ensures shown { IfOk result (λ t. HasCleanDisk (state S.Store t.store.conn) → (state S.Store store.conn).now.schema ≡ store_schema
             → IfSome t.held (λ s. IsGoodState s × ShowsTables (state S.Store store.conn).now (rows s))) }
         ensures unchanged { IfErr result (λ r. HasCleanDisk (state S.Store r.store.conn) → IsTrue (state S.Store r.store.conn).is_open → StaysAsIs (state S.Store store.conn) (state S.Store r.store.conn)) }
+        ensures kept { IfOk result (λ t. HasCleanDisk (state S.Store t.store.conn) → StaysAsIs (state S.Store store.conn) (state S.Store t.store.conn)) }
         ensures crash { MatchResult result (λ t. KeepsTables S.Store store.conn t.store.conn) (λ r. KeepsTables S.Store store.conn r.store.conn) }
         ensures left { MatchResult result (λ t. LeavesSame S.Store store.conn t.store.conn) (λ r. LeavesSame S.Store store.conn r.store.conn) }
     {
@@ -147,7 +148,7 @@ impl<S: Alter> Treasury<S> {
 
     /// Writes what a command adds to the state, and holds the state with it.
     fn write(&mut self, now: State<DayLedger>, delta: Delta) -> Result<(), Cause>
-        requires good { IsGoodState (joined now delta) }
+        requires good { Joins now delta }
         requires known { Knows self.old.store now }
         ensures ok { OnOk result (IsOf S.Store self.old.store now → IsOf S.Store self.new.store (joined now delta)) }
         ensures ok_held { OnOk result (IfSome self.new.held (λ s. s ≡ joined now delta)) }

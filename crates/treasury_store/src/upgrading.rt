@@ -45,6 +45,7 @@ fn make_second<S: Alter>(tx: &mut Transaction<'_, S>) -> Result<usize, Error>
 /// or a crash leaves is version 1 or version 2, whole.
 pub(crate) fn upgrade<S: Alter>(conn: &mut Connection<S>) -> Result<(), Error>
     ensures made { HasCleanDisk (state S.Store conn.new) → OnOk result (IsFirstNumbered (state S.Store conn.old).now → Upgrades (state S.Store conn.old).now (state S.Store conn.new).now × ((state S.Store conn.new).committed ≡ (state S.Store conn.new).now)) }
+    ensures opened { HasCleanDisk (state S.Store conn.new) → OnOk result (IsTrue (state S.Store conn.new).is_open) }
     ensures unchanged { HasCleanDisk (state S.Store conn.new) → IsTrue (state S.Store conn.new).is_open → OnErr result (((state S.Store conn.new).now ≡ (state S.Store conn.old).now) × ((state S.Store conn.new).committed ≡ (state S.Store conn.old).committed)) }
     ensures crash { Survives (state S.Store conn.old) (state S.Store conn.new) (λ trees. (db : Database) × (trees ≡ db.trees) × (IsFirstNumbered (state S.Store conn.old).now → Upgrades (state S.Store conn.old).now db)) }
 {

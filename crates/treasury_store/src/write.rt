@@ -12,7 +12,7 @@ ghost use Rattle.sqlite.specs.Values.{or_null};
 ghost use Rattle.sqlite.specs.State.{HasCleanDisk, KeepsCommit, Survives};
 ghost use Rattle.sqlite.specs.Held.{state};
 ghost use Rattle.sqlite.specs.Effect.{Database};
-ghost use Rattle.treasury_store.specs.Rows.{Tables, Holds, with_unit, with_branch, with_transfer, with_lock, with_receipt, changed, joined};
+ghost use Rattle.treasury_store.specs.Rows.{Tables, Holds, with_unit, with_branch, with_transfer, with_part, with_lock, with_receipt, changed, joined};
 ghost use Rattle.treasury_store.specs.Kept.{Writes};
 ghost use Rattle.treasury_store.specs.Kinds.{is_single};
 
@@ -23,7 +23,7 @@ use crate::write::legs::{put_leg, put_legs};
 use money_core::Text;
 use sqlite::types::{ToSql, ValueRef};
 use sqlite::{Alter, Connection, Error, ErrorCode, Transaction};
-use treasury_core::{BranchRow, TransferRow, UnitRow};
+use treasury_core::{BranchRow, PartRow, TransferRow, UnitRow};
 
 /// A text as a value; NULL where there is none.
 fn text_or_null(text: &Option<Text>) -> ValueRef<'_>
@@ -89,6 +89,22 @@ fn put_transfer<S: Alter>(tx: &mut Transaction<'_, S>, row: &TransferRow) -> Res
     )
 }
 
+/// Inserts a receipt of a part.
+fn put_part<S: Alter>(tx: &mut Transaction<'_, S>, row: &PartRow) -> Result<usize, Error>
+    ensures same_reference { tx.new.conn.ghost_name ≡ tx.old.conn.ghost_name }
+    ensures writes { Writes S.Store tx.old.conn.now tx.new.conn.now result (with_part row.now) }
+{
+    let transfer = row.transfer.as_str().to_sql();
+    let part = row.part.as_str().to_sql();
+    let qty = row.qty.to_sql();
+    let received = row.received.to_sql();
+    let payee = row.payee.as_str().to_sql();
+    tx.execute(
+        "INSERT INTO receipt (transfer, part, qty, received, payee) VALUES (?1, ?2, ?3, ?4, ?5)",
+        &[transfer, part, qty, received, payee],
+    )
+}
+
 /// Locks the branch of that number through a day.
 fn set_lock<S: Alter>(tx: &mut Transaction<'_, S>, branch: i64, day: i64) -> Result<usize, Error>
     ensures same_reference { tx.new.conn.ghost_name ≡ tx.old.conn.ghost_name }
@@ -99,7 +115,7 @@ fn set_lock<S: Alter>(tx: &mut Transaction<'_, S>, branch: i64, day: i64) -> Res
     tx.execute("UPDATE branch SET locked = ?2 WHERE nr = ?1", &[nr, locked])
 }
 
-/// Keeps the receipt of the transfer of that ID.
+/// Keeps the receipt of what was left of the transfer of that ID.
 fn set_receipt<S: Alter>(
     tx: &mut Transaction<'_, S>,
     id: &str,
@@ -130,6 +146,7 @@ fn put<S: Alter>(tx: &mut Transaction<'_, S>, change: &Change) -> Result<usize, 
         Change::Leg(row) => put_leg(tx, row),
         Change::Claim(row) => put_claim(tx, row),
         Change::Transfer(row) => put_transfer(tx, row),
+        Change::Part(row) => put_part(tx, row),
         Change::Lock { branch, day } => set_lock(tx, *branch, *day),
         Change::Receipt { id, day, payee } => set_receipt(tx, id.as_str(), *day, payee.as_str()),
     }

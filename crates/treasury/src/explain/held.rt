@@ -1,24 +1,24 @@
 //! What stands against a request: what is held, and the forms and limits that its texts have to meet.
 
 use crate::explain::hints::{push_amount_form, push_sample, push_sample_form, push_samples};
-use crate::explain::pieces::{
-    push_amount, push_day, push_line, push_named, push_number, push_shown,
-};
+use crate::explain::pieces::{push_day, push_line, push_named, push_number, push_shown};
 use crate::explain::standing::branch_named;
+use crate::explain::transfers::{part_of, push_id, push_transfer_of};
 use book_core::{Ledger, MAX_ENTRIES};
-use money_core::{Cause, Styles, Text, read_style};
+use money_core::{Cause, Text, read_style};
 use std::alloc::Global;
 use treasury_api::Request;
-use treasury_core::{State, Transfer};
+use treasury_core::State;
 
-/// The forms of a branch's name, of an account, and of a transfer's ID.
+/// The forms of a branch's name, and of an account.
 const NAME_FORM: &[u8] =
     b"a name is a lower-case letter followed by at most 31 lower-case letters, digits or -";
 
-const ACCOUNT_FORM: &[u8] =
+pub const ACCOUNT_FORM: &[u8] =
     b"an account is one or more names joined by single colons, at most 200 bytes in all, with no `;`, no tab, no two spaces in a row, and no space at either end";
 
-const ID_FORM: &[u8] = b"an ID is 1 to 64 ASCII letters, digits or -._";
+/// Said of an account on which no other entry may be.
+pub const TRANSFERS_ONLY: &[u8] = b"only transfers post there";
 
 /// Said where a branch is closed at a day that is locked.
 const CLOSE_FIRST: &[u8] =
@@ -32,15 +32,6 @@ fn branch_of(request: &Request) -> Option<&Text> {
         Request::Receive { branch, .. } => Some(branch),
         Request::Lock { branch, .. } => Some(branch),
         Request::Close { branch, .. } => Some(branch),
-        _ => None,
-    }
-}
-
-/// The ID of the transfer that a request is on.
-fn id_of(request: &Request) -> Option<&Text> {
-    match request {
-        Request::Dispatch { id, .. } => Some(id),
-        Request::Receive { id, .. } => Some(id),
         _ => None,
     }
 }
@@ -94,58 +85,6 @@ pub fn push_lock<L: Ledger>(
         Request::Close { .. } => push_line(CLOSE_FIRST, out),
         _ => Ok(()),
     }
-}
-
-/// Appends what is held of a transfer's receipt.
-fn push_receipt(alloc: Global, transfer: &Transfer, out: &mut Vec<u8>) -> Result<(), Cause> {
-    if let Some(receipt) = &transfer.receipt {
-        out.extend_from_slice(b", received on ")?;
-        push_day(alloc, receipt.day, out)?;
-        out.extend_from_slice(b" into ")?;
-        push_shown(receipt.payee.as_str().as_bytes(), out)?;
-    }
-    out.extend_from_slice(b"\n")?;
-    Ok(())
-}
-
-/// Appends what is held of a transfer.
-fn push_transfer(
-    alloc: Global,
-    styles: &Styles,
-    transfer: &Transfer,
-    out: &mut Vec<u8>,
-) -> Result<(), Cause> {
-    out.extend_from_slice(b"  held: ")?;
-    out.extend_from_slice(transfer.id.as_str().as_bytes())?;
-    out.extend_from_slice(b", ")?;
-    push_amount(alloc, styles, transfer.unit, transfer.qty, out)?;
-    out.extend_from_slice(b" from ")?;
-    out.extend_from_slice(transfer.source.as_str().as_bytes())?;
-    out.extend_from_slice(b" to ")?;
-    out.extend_from_slice(transfer.target.as_str().as_bytes())?;
-    out.extend_from_slice(b", sent on ")?;
-    push_day(alloc, transfer.day, out)?;
-    out.extend_from_slice(b" from ")?;
-    push_shown(transfer.payer.as_str().as_bytes(), out)?;
-    push_receipt(alloc, transfer, out)
-}
-
-/// Appends what is held of the transfer that a request is on.
-fn push_transfer_of<L: Ledger>(
-    alloc: Global,
-    state: &State<L>,
-    request: &Request,
-    out: &mut Vec<u8>,
-) -> Result<(), Cause> {
-    let Some(id) = id_of(request) else {
-        return Ok(());
-    };
-    for transfer in state.transfers() {
-        if transfer.id.as_str() == id.as_str() {
-            return push_transfer(alloc, state.styles(), transfer, out);
-        }
-    }
-    Ok(())
 }
 
 /// Appends how the commodity of a sample is written already.
@@ -211,7 +150,12 @@ fn push_form<L: Ledger>(
         Request::Dispatch { amount, .. } => {
             push_amount_form(alloc, state.styles(), amount.as_str().as_bytes(), out)
         }
-        _ => Ok(()),
+        _ => match part_of(request) {
+            Some(part) => {
+                push_amount_form(alloc, state.styles(), part.amount.as_str().as_bytes(), out)
+            }
+            None => Ok(()),
+        },
     }
 }
 
@@ -237,9 +181,9 @@ pub fn push_held<L: Ledger>(
     match cause {
         Cause::UnknownBranch => push_branches(state, out),
         Cause::BranchName => push_line(NAME_FORM, out),
-        Cause::BadId => push_line(ID_FORM, out),
+        Cause::BadId => push_id(request, out),
         Cause::BadAccount => push_account(request, ACCOUNT_FORM, out),
-        Cause::ReservedAccount => { push_account(request, b"only transfers post there", out) }
+        Cause::ReservedAccount => push_account(request, TRANSFERS_ONLY, out),
         Cause::Amount => push_form(alloc, state, request, out),
         Cause::UnknownCommodity | Cause::Decimals => {
             push_samples(alloc, state.styles(), b"declared", out)
@@ -251,7 +195,7 @@ pub fn push_held<L: Ledger>(
         | Cause::WrongBranch
         | Cause::AlreadyReceived
         | Cause::TooEarly
-        | Cause::TooMuch => push_transfer_of(alloc, state, request, out),
+        | Cause::TooMuch => push_transfer_of(alloc, state, request, cause, out),
         _ => Ok(()),
     }
 }

@@ -3,7 +3,6 @@
 use crate::explain::lines::{is_posting, posting_parts};
 use crate::explain::pieces::push_shown;
 use crate::explain::push_origin;
-use crate::explain::standing::Standing;
 use crate::notes::{Import, MOST, push_more};
 use journal_format::Txn;
 use journal_lines::Lines;
@@ -102,25 +101,18 @@ fn push_of(
     Ok(())
 }
 
-/// Appends the notes of the accounts that an import's new transactions bring.
+/// Appends the notes of the accounts that an import's new transactions bring; their headers stand at these lines.
 pub fn push_accounts(
     alloc: Global,
     import: &Import<'_>,
-    list: &[Standing],
+    lines: &[usize],
     out: &mut Vec<u8>,
 ) -> Result<(), Cause> {
     let mut accounts = new_accounts(alloc, import)?;
     let mut count = 0usize;
-    for standing in list {
-        if standing.is_new() {
-            push_of(
-                import,
-                standing.line,
-                &standing.txn,
-                &mut accounts,
-                &mut count,
-                out,
-            )?;
+    for (place, record) in import.new.iter().enumerate() {
+        if let Some(line) = lines.get(place) {
+            push_of(import, *line, &record.txn, &mut accounts, &mut count, out)?;
         }
     }
     push_more(count, out)

@@ -2,7 +2,7 @@
 
 use crate::explain::pieces::{push_header, push_number};
 use crate::explain::push_origin;
-use crate::explain::standing::{Standing, is_same_text};
+use crate::explain::standing::is_same_text;
 use crate::notes::{Import, MOST, push_more};
 use money_core::{Cause, Styles};
 use std::alloc::Global;
@@ -109,20 +109,6 @@ pub fn find_again(
     Ok(found)
 }
 
-/// The line of the new transaction at that place among the new ones.
-pub fn line_of(list: &[Standing], place: usize) -> usize {
-    let mut at = 0usize;
-    for standing in list {
-        if standing.is_new() {
-            if at == place {
-                return standing.line;
-            }
-            at = at.saturating_add(1);
-        }
-    }
-    0
-}
-
 /// Appends the note of one of them: both headers, and what keeps an edited transaction one.
 fn push_note(
     alloc: Global,
@@ -147,18 +133,20 @@ fn push_note(
     Ok(())
 }
 
-/// Appends the notes of such new records.
+/// Appends the notes of such new records; the headers of all new ones stand at these lines.
 pub fn push_again(
     alloc: Global,
     import: &Import<'_>,
-    list: &[Standing],
+    lines: &[usize],
     found: &[Again],
     out: &mut Vec<u8>,
 ) -> Result<(), Cause> {
     let mut count = 0usize;
     for again in found {
         if count < MOST {
-            push_note(alloc, import, line_of(list, again.new), *again, out)?;
+            if let Some(line) = lines.get(again.new) {
+                push_note(alloc, import, *line, *again, out)?;
+            }
         }
         count = count.saturating_add(1);
     }

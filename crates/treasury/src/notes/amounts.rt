@@ -3,12 +3,10 @@
 use crate::explain::lines::{is_posting, posting_parts};
 use crate::explain::pieces::{push_amount, push_shown};
 use crate::explain::push_origin;
-use crate::explain::standing::Standing;
 use crate::notes::{Import, MOST, push_more};
 use journal_lines::{LineKind, Lines, is_block_end, kind, trim};
 use money_core::{Cause, Styles, Unit, is_price, print_price, read_amount, read_price};
 use std::alloc::Global;
-use std::collections::HashMap;
 
 /// The amounts of a posting's line; what is not there is empty.
 #[derive(Clone, Copy)]
@@ -236,29 +234,24 @@ fn push_line_notes(
     push_note(alloc, styles, origin.as_slice(), parts.asserted, count, out)
 }
 
-/// The lines of the headers, and whether their transactions are new.
-fn headers_of(alloc: Global, list: &[Standing]) -> Result<HashMap<usize, bool>, Cause> {
-    let mut headers = HashMap::new(alloc);
-    for standing in list {
-        let _ = headers.insert(standing.line, standing.is_new())?;
-    }
-    Ok(headers)
-}
-
-/// Appends the notes of the amounts of an import's new transactions.
+/// Appends the notes of the amounts of an import's new transactions; their headers stand at these lines.
 pub fn push_odd_amounts(
     alloc: Global,
     styles: &Styles,
     import: &Import<'_>,
-    list: &[Standing],
+    lines: &[usize],
     out: &mut Vec<u8>,
 ) -> Result<(), Cause> {
-    let headers = headers_of(alloc, list)?;
+    let mut next = 0usize;
     let mut is_new = false;
     let mut count = 0usize;
     for (number, line) in Lines::new(import.text) {
-        if let Some(is) = headers.get(&number) {
-            is_new = *is;
+        if lines.get(next) == Some(&number) {
+            next = next.saturating_add(1);
+            is_new = true;
+        } else {
+            // An entry ends at the first line that is not indented.
+            is_new = is_new && kind(line) == LineKind::Indented;
         }
         if is_new && has_odd(styles, line) {
             push_line_notes(alloc, styles, import.source, number, line, &mut count, out)?;

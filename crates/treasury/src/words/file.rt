@@ -1,21 +1,25 @@
 //! The files that a word names: a journal to be read, and the database of a treasury.
 
-ghost use Rattle.std.specs.Prelude.{◌≡◌, ◌⊎◌, IfOk, IfErr, OnOk};
-ghost use Rattle.sqlite_disk.specs.declared.Files.{Files as Pair};
+ghost use Rattle.std.specs.Prelude.{◌≡◌, ◌≤◌, ◌⊎◌, false, take, IfOk, IfErr, IfSome, MatchResult};
+ghost use Rattle.sqlite_wal.specs.Recovery.{Image};
 ghost use Rattle.sqlite_wal.specs.Files.{image_at};
-ghost use Rattle.sqlite_wal.specs.Reads.{AreClean};
 ghost use Rattle.sqlite.specs.State.{HasCleanDisk};
-ghost use Rattle.sqlite.specs.Held.{IsNew};
+ghost use Rattle.sqlite.specs.Held.{Held, IsNew, state};
 ghost use Rattle.sqlite.specs.Start.{FindsIn};
 ghost use Rattle.sqlite.specs.Files.{file_state, IsOpened};
-ghost use Rattle.treasury.specs.OverFile.{MakesOver};
-ghost use Rattle.treasury.specs.Started.{IsStarted, IsClosedAs};
+ghost use Rattle.sqlite_trees.specs.View.{doubt};
+ghost use Rattle.sqlite_store.specs.declared.store.FileStore.{FileStore};
+ghost use Rattle.treasury.specs.declared.words.left.Left.TheVariants.{Untouched, Closed};
+ghost use Rattle.treasury.specs.Left.{KeepsFile};
+ghost use Rattle.treasury.specs.OverFile.{MakesOver, most_journal};
+ghost use Rattle.treasury.specs.Started.{IsOpenedOn, StartsOn, IsStarted, IsClosedAs, IsUnclosed, unopened_as, IsLeftOpen, IsLeftClosed, IsLeftRefused, IsAsked};
 
 use crate::words::beside::{Look, has_log, look_beside};
+use crate::words::left::{Left, close, leave};
 use crate::words::rehearsal::{rehearse, why_not_made};
 use crate::words::tables::{check_tables, has_receipts, is_taken};
 use money_core::Cause;
-use sqlite::{Alter, Connection, Error, ErrorCode, FileFrom, FileStore, Start};
+use sqlite::{Alter, Connection, Error, ErrorCode, FileFrom, FileStore, Files, Leftover, Start};
 use sqlite_disk::Disk;
 use sqlite_schema::schema::Schema;
 use std::alloc::Global;
@@ -43,6 +47,10 @@ pub const OTHER_ROWS: &str =
 /// Said where tables are to be made that are there.
 const MADE_ALREADY: &str = "the database has tables of a treasury already";
 
+/// Said where the log cannot be copied into the file.
+pub const UNCLOSED: &str =
+    "the file could not be closed: what was answered before stands in its log, beside it; ask again";
+
 /// A treasury on a database file.
 pub type FileTreasury<S> = Treasury<FileStore<FileFrom<S>>>;
 
@@ -61,9 +69,17 @@ pub enum Unopened {
     Strange(Vec<u8>),
 }
 
-/// At most so many bytes of a reader: 45 where it fails.
+/// A database file that serves no word: why, and what is left of it.
+#[derive(Drop)]
+pub struct Unserved<D: Disk> {
+    pub why: Unopened,
+    pub left: Left<D>,
+}
+
+/// At most so many bytes of a reader, to its end: 45 where it fails.
 pub fn read_at_most<R: Read + Drop>(alloc: Global, reader: R, most: u64) -> Result<Vec<u8>, Cause>
-    ensures { IfErr result (λ cause. (cause ≡ Cause.ReadFault) ⊎ (cause ≡ Cause.OutOfMemory)) }
+    ensures bytes { IfOk result (λ bytes. IfSome (R.remaining reader) (λ had. bytes.items ≡ take most had)) }
+    ensures refused { IfErr result (λ cause. (cause ≡ Cause.ReadFault) ⊎ (cause ≡ Cause.OutOfMemory)) }
 {
     let mut bytes = Vec::new(alloc);
     let mut reader = reader.take(most);
@@ -74,14 +90,13 @@ pub fn read_at_most<R: Read + Drop>(alloc: Global, reader: R, most: u64) -> Resu
     }
 }
 
-/// The bytes of a journal's file: 45 where it cannot be read.
-pub fn read_journal_file(rt: &HostRuntime, path: &str) -> Result<Vec<u8>, Cause>
-    ensures { IfErr result (λ cause. (cause ≡ Cause.ReadFault) ⊎ (cause ≡ Cause.OutOfMemory)) }
+/// The bytes of a journal, from the reader of its file: as many as a text may have, and one more, so that a longer one is
+/// seen to be. 45 where it cannot be read.
+pub fn read_journal<R: Read + Drop>(alloc: Global, reader: R) -> Result<Vec<u8>, Cause>
+    ensures bytes { IfOk result (λ bytes. IfSome (R.remaining reader) (λ had. bytes.items ≡ take most_journal had)) }
+    ensures refused { IfErr result (λ cause. (cause ≡ Cause.ReadFault) ⊎ (cause ≡ Cause.OutOfMemory)) }
 {
-    match fs::open(rt, path) {
-        Ok(file) => read_at_most(rt.alloc(), file, MOST_JOURNAL),
-        Err(_) => Err(Cause::ReadFault),
-    }
+    read_at_most(alloc, reader, MOST_JOURNAL)
 }
 
 /// Looks at the file before it is opened, since an opening makes what is not there.
@@ -152,19 +167,42 @@ fn why_unopened(error: Error) -> Unopened {
     }
 }
 
+/// A file that was not opened.
+fn untouched<D: Disk>(why: Unopened) -> Unserved<D>
+    ensures { result.left ≡ Untouched }
+{
+    Unserved {
+        why,
+        left: Left::Untouched,
+    }
+}
+
+/// What is left of a file whose opening failed.
+fn left_unopened<D: Disk>(left: Option<Leftover<D>>) -> Left<D>
+    ensures { result ≡ unopened_as left }
+{
+    match left {
+        Some(rest) => Left::Unopened(rest),
+        None => Left::Untouched,
+    }
+}
+
 /// A connection to the file.
 fn connect<S: Start>(
     rt: &HostRuntime,
     path: &str,
     start: S,
-) -> Result<Connection<FileStore<FileFrom<S>>>, Unopened>
+) -> Result<Connection<FileStore<FileFrom<S>>>, Unserved<FileFrom<S>>>
     ensures new { IfOk result IsNew }
-    ensures opened { IfOk result (λ c. HasCleanDisk (file_state c) → IsOpened c) }
-    ensures found { IfOk result (λ c. HasCleanDisk (file_state c) → FindsIn (image_at S.Start) (file_state c)) }
+    ensures opened { IfOk result (IsOpenedOn ⟦<FileFrom<S> as Disk>⟧ (image_at S.Start)) }
+    ensures refused { IfErr result (λ r. KeepsFile ⟦<FileFrom<S> as Disk>⟧ (image_at S.Start) r.left) }
 {
     match Connection::open_from(rt, path, false, start) {
         Ok(conn) => Ok(conn),
-        Err((error, _left)) => Err(why_unopened(error)),
+        Err((error, left)) => Err(Unserved {
+            why: why_unopened(error),
+            left: left_unopened(left),
+        }),
     }
 }
 
@@ -177,11 +215,13 @@ pub fn unstarted(cause: Cause, damage: &'static str) -> Unopened {
     }
 }
 
-/// Why the tables of a database are not opened.
-pub fn unopened_tables<S: Alter + Drop>(refused: Refused<S>) -> Unopened {
-    let Refused { mut conn, cause } = refused;
+/// Why the tables of a database are not opened. Where that is 43, the version that they name is looked for.
+pub(crate) fn unopened_tables<S: Alter>(conn: &mut Connection<S>, cause: Cause) -> Unopened
+    ensures same { (cause ≡ Cause.Damaged → ⊥) → conn.new ≡ conn.old }
+    ensures clean { doubt (state S.Store conn.old).is_clean ≤ doubt (state S.Store conn.new).is_clean }
+{
     let version = match cause {
-        Cause::Damaged => found_version(&mut conn),
+        Cause::Damaged => found_version(conn),
         _ => None,
     };
     match version {
@@ -190,49 +230,116 @@ pub fn unopened_tables<S: Alter + Drop>(refused: Refused<S>) -> Unopened {
     }
 }
 
-/// Leaves a file whose rows are no state. If its opening made version 2 of its tables, they are copied into the file.
-fn leave<S: Start>(conn: Connection<FileStore<FileFrom<S>>>, is_upgraded: bool) {
+/// What is left of a connection that is neither closed nor copied.
+fn left_open<D: Disk + Drop>(conn: Connection<FileStore<D>>) -> Left<D>
+    ensures { IsLeftOpen conn result }
+{
+    Left::Open(leave(conn))
+}
+
+/// What is left of a connection whose files are closed, where they can be.
+fn left_closed<D: Disk + Drop>(conn: Connection<FileStore<D>>) -> Left<D>
+    ensures { IsLeftClosed conn result }
+{
+    match close(conn) {
+        Ok(files) => Left::Closed(files),
+        Err(store) => Left::Shut(store),
+    }
+}
+
+/// What is left of a database whose tables are not opened. Behind a call that failed version 1 of them may be version 2.
+fn left_refused<D: Disk + Drop>(
+    conn: Connection<FileStore<D>>,
+    cause: Cause,
+    is_first: bool,
+) -> Left<D>
+    ensures { IsLeftRefused conn cause is_first result }
+{
+    match cause {
+        Cause::Damaged => left_open(conn),
+        _ => {
+            if is_first {
+                Left::Shut(leave(conn))
+            } else {
+                left_open(conn)
+            }
+        }
+    }
+}
+
+/// What is left of a database whose rows are no state. If its opening made version 2 of its tables, they are copied into the file.
+fn left_unstarted<D: Disk + Drop>(conn: Connection<FileStore<D>>, is_upgraded: bool) -> Left<D>
+    ensures { IsLeftOpen conn result ⊎ IsLeftClosed conn result }
+{
     if is_upgraded {
-        let _ = close(conn);
+        left_closed(conn)
     } else {
-        drop(conn);
+        left_open(conn)
+    }
+}
+
+/// The treasury whose tables a database has. `is_alone` says that no log stands beside the file.
+fn start_on<D: Disk + Drop>(
+    alloc: Global,
+    conn: Connection<FileStore<D>>,
+    is_alone: bool,
+) -> Result<Treasury<FileStore<D>>, Unserved<D>>
+    requires { conn.in_transaction ≡ false }
+    ensures { MatchResult result (StartsOn D.Disk conn) (λ r. (image : Image) → IsOpenedOn D.Disk image conn → KeepsFile D.Disk image r.left) }
+{
+    match check_tables(alloc, conn.schema(), is_alone) {
+        Ok(()) => {}
+        Err(why) => {
+            return Err(Unserved {
+                why,
+                left: left_open(conn),
+            });
+        }
+    }
+    let is_first = !has_receipts(conn.schema());
+    let store = match Store::open(alloc, conn) {
+        Ok(store) => store,
+        Err(refused) => return Err(without_tables(refused, is_first)),
+    };
+    match Treasury::start(alloc, store) {
+        Ok(treasury) => Ok(treasury),
+        Err(refused) => Err(Unserved {
+            why: unstarted(refused.cause, OTHER_ROWS),
+            left: left_unstarted(refused.store.into_connection(), is_first),
+        }),
+    }
+}
+
+/// A database whose tables are not opened.
+fn without_tables<D: Disk + Drop>(refused: Refused<FileStore<D>>, is_first: bool) -> Unserved<D>
+    ensures { (conn : Held (FileStore D D.Disk)) × IsAsked D.Disk refused.conn refused.cause conn × IsLeftRefused conn refused.cause is_first result.left }
+{
+    let Refused { mut conn, cause } = refused;
+    let why = unopened_tables(&mut conn, cause);
+    Unserved {
+        why,
+        left: left_refused(conn, cause, is_first),
     }
 }
 
 /// The treasury whose tables the file has.
 ///
 /// It answers 43 where the file is not there, is empty, or lacks the tables of a treasury, and makes nothing then; 41
-/// where it cannot be opened as a database; or 40.
+/// where it cannot be opened as a database; or 40. Whatever refuses it, the file holds the rows that it held.
 pub fn open_treasury<S: Start>(
     rt: &HostRuntime,
     path: &str,
     start: S,
-) -> Result<FileTreasury<S>, Unopened>
-    ensures { IfOk result (IsStarted ⟦<FileFrom<S> as Disk>⟧ (image_at S.Start)) }
+) -> Result<FileTreasury<S>, Unserved<FileFrom<S>>>
+    ensures { MatchResult result (IsStarted ⟦<FileFrom<S> as Disk>⟧ (image_at S.Start)) (λ r. KeepsFile ⟦<FileFrom<S> as Disk>⟧ (image_at S.Start) r.left) }
 {
     let is_alone = match look_at_treasury(rt, path) {
         Ok(is_alone) => is_alone,
-        Err(unopened) => return Err(unopened),
+        Err(why) => return Err(untouched(why)),
     };
-    let conn = match connect(rt, path, start) {
-        Ok(conn) => conn,
-        Err(unopened) => return Err(unopened),
-    };
-    match check_tables(rt.alloc(), conn.schema(), is_alone) {
-        Ok(()) => {}
-        Err(unopened) => return Err(unopened),
-    }
-    let is_first = !has_receipts(conn.schema());
-    let store = match Store::open(rt.alloc(), conn) {
-        Ok(store) => store,
-        Err(refused) => return Err(unopened_tables(refused)),
-    };
-    match Treasury::start(rt.alloc(), store) {
-        Ok(treasury) => Ok(treasury),
-        Err(refused) => {
-            leave(refused.store.into_connection(), is_first);
-            Err(unstarted(refused.cause, OTHER_ROWS))
-        }
+    match connect(rt, path, start) {
+        Ok(conn) => start_on(rt.alloc(), conn, is_alone),
+        Err(unserved) => Err(unserved),
     }
 }
 
@@ -246,59 +353,76 @@ fn unmade(cause: Cause, schema: &Schema) -> Unopened {
     }
 }
 
-/// Leaves a database in which no tables were made, and says why. Where they are there, it stays as it is, with its log.
-fn give_up<S: Start>(conn: Connection<FileStore<FileFrom<S>>>, cause: Cause) -> Unopened {
-    let unopened = unmade(cause, conn.schema());
+/// What is left of a database in which no tables were made. Where they are there, it stays as it is, with its log.
+fn left_unmade<D: Disk + Drop>(conn: Connection<FileStore<D>>, cause: Cause) -> Left<D>
+    ensures open { cause ≡ Cause.Damaged → IsLeftOpen conn result }
+    ensures closed { (cause ≡ Cause.Damaged → ⊥) → IsLeftClosed conn result }
+{
     match cause {
-        Cause::Damaged => drop(conn),
-        _ => {
-            let _ = close(conn);
-        }
+        Cause::Damaged => left_open(conn),
+        _ => left_closed(conn),
     }
-    unopened
+}
+
+/// A database in which no tables were made.
+fn give_up<D: Disk + Drop>(conn: Connection<FileStore<D>>, cause: Cause) -> Unserved<D>
+    ensures open { cause ≡ Cause.Damaged → IsLeftOpen conn result.left }
+    ensures closed { (cause ≡ Cause.Damaged → ⊥) → IsLeftClosed conn result.left }
+{
+    let why = unmade(cause, conn.schema());
+    Unserved {
+        why,
+        left: left_unmade(conn, cause),
+    }
+}
+
+/// Makes the tables of a new treasury in a database, and closes it.
+fn make_on<D: Disk + Drop>(
+    alloc: Global,
+    conn: Connection<FileStore<D>>,
+) -> Result<Files<D>, Unserved<D>>
+    requires { conn.in_transaction ≡ false }
+    ensures { (image : Image) → IsOpenedOn D.Disk image conn → MatchResult result (λ files. MakesOver D.Disk image (Closed files)) (λ r. KeepsFile D.Disk image r.left) }
+{
+    let store = match Store::create(alloc, conn) {
+        Ok(store) => store,
+        Err(refused) => return Err(give_up(refused.conn, refused.cause)),
+    };
+    match close(store.into_connection()) {
+        Ok(files) => Ok(files),
+        Err(store) => Err(Unserved {
+            why: Unopened::Unusable(UNCLOSED),
+            left: Left::Shut(store),
+        }),
+    }
 }
 
 /// Makes the tables of a new treasury in the file, which is made where it is not there.
 ///
 /// It answers 43 where the file has such tables already; 41 where it cannot be opened as a database, or a log stands beside
-/// it; or 40.
-pub fn make_tables<S: Start>(rt: &HostRuntime, path: &str, start: S) -> Result<(), Unopened>
-    ensures { OnOk result (MakesOver ⟦<FileFrom<S> as Disk>⟧ (image_at S.Start)) }
+/// it; or 40. Whatever refuses it, the file holds the rows that it held.
+pub fn make_tables<S: Start>(
+    rt: &HostRuntime,
+    path: &str,
+    start: S,
+) -> Result<Files<FileFrom<S>>, Unserved<FileFrom<S>>>
+    ensures { MatchResult result (λ files. MakesOver ⟦<FileFrom<S> as Disk>⟧ (image_at S.Start) (Closed files)) (λ r. KeepsFile ⟦<FileFrom<S> as Disk>⟧ (image_at S.Start) r.left) }
 {
     match look_at_new(rt, path) {
         Ok(()) => {}
-        Err(unopened) => return Err(unopened),
+        Err(why) => return Err(untouched(why)),
     }
-    let conn = match connect(rt, path, start) {
-        Ok(conn) => conn,
-        Err(unopened) => return Err(unopened),
-    };
-    match Store::create(rt.alloc(), conn) {
-        Ok(store) => close(store.into_connection()),
-        Err(refused) => Err(give_up(refused.conn, refused.cause)),
+    match connect(rt, path, start) {
+        Ok(conn) => make_on(rt.alloc(), conn),
+        Err(unserved) => Err(unserved),
     }
 }
 
-/// Closes a connection, so that the file alone is a whole copy: the log is copied into it.
-fn close<S: Start>(conn: Connection<FileStore<FileFrom<S>>>) -> Result<(), Unopened>
-    ensures { OnOk result (IsClosedAs ⟦<FileFrom<S> as Disk>⟧ conn) }
-{
-    // What it shows is a database, by this call's contract; so an opening of the file finds its schema again.
-    let _ = conn.schema();
-    match conn.close_files() {
-        Ok(_closed) => Ok(()),
-        Err((_error, store)) => {
-            drop(store.close());
-            Err(Unopened::Unusable(
-                "the file could not be closed: what was answered before stands in its log, beside it; ask again",
-            ))
-        }
-    }
-}
-
-/// Closes the database of a treasury, so that its file alone is a whole copy.
-pub fn close_treasury<S: Start>(treasury: FileTreasury<S>) -> Result<(), Unopened>
-    ensures { OnOk result (IsClosedAs ⟦<FileFrom<S> as Disk>⟧ treasury.store.conn) }
+/// Closes the database of a treasury, so that its file alone is a whole copy. Where that fails, it is left with its log.
+pub fn close_treasury<D: Disk + Drop>(
+    treasury: Treasury<FileStore<D>>,
+) -> Result<Files<D>, FileStore<D>>
+    ensures { MatchResult result (IsClosedAs D.Disk treasury.store.conn) (IsUnclosed D.Disk treasury.store.conn) }
 {
     close(treasury.into_store().into_connection())
 }

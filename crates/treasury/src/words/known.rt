@@ -71,8 +71,12 @@ const EXAMPLE_DISPATCH: &str =
 
 const ABOUT_RECEIVE: &str = "Receives the money of a transfer in a branch";
 
-const EXAMPLE_RECEIVE: &str =
-    "Example:\n  treasury receive --db books.db --id t7 --branch south --day 2024-03-03 --account assets:bank";
+const EXAMPLE_RECEIVE: &str = r#"Examples:
+  treasury receive --db books.db --id t7 --branch south --day 2024-03-03 --account assets:bank
+  treasury receive --db books.db --id t8 --branch south --day 2024-03-03 --account assets:cash --part first --amount '20.00 EUR'
+
+Without a part everything that is left is received, and the transfer is settled. A transfer that comes in parts has a key
+for each of them: the same key with the same day, account and amount again is a repeat."#;
 
 const ABOUT_TRANSIT: &str = "Reports what is on its way between branches through a day";
 
@@ -86,11 +90,13 @@ const EXAMPLE_LOCK: &str = r#"Example:
 A lock cannot be undone, and never goes back. A branch that is to be closed at that day is closed first: the closing
 locks it as well."#;
 
-const ABOUT_CLOSE: &str = "Closes a branch's revenues and expenses at a day, and locks it";
+const ABOUT_CLOSE: &str =
+    "Closes a branch's revenues and expenses, or other accounts, and locks it";
 
-const EXAMPLE_CLOSE: &str = r#"Example:
+const EXAMPLE_CLOSE: &str = r#"Examples:
   cp books.db before-closing.db
   treasury close --db books.db --branch north --day 2024-12-31
+  treasury close --db books.db --branch north --day 2024-12-31 --accounts 'income:fair;expenses:fair' --into equity:fair
 
 A closing cannot be undone: its entry stays, and the branch is locked through that day for good. A copy of FILE from
 before is the only way back."#;
@@ -122,9 +128,12 @@ const EXAMPLE_RUN: &str = r#"Each line is a request, one JSON object. Requests:
   {"do":"dispatch","id":ID,"from":NAME,"to":NAME,"day":DAY,"amount":AMOUNT,"account":ACCOUNT}
                                                  money sent from the branch's account
   {"do":"receive","id":ID,"branch":NAME,"day":DAY,"account":ACCOUNT}
-                                                 money received into the branch's account
+                                                 money received into the branch's account, everything that is left;
+                                                 with "part":KEY,"amount":AMOUNT a part of it, under that key
   {"do":"lock","branch":NAME,"day":DAY}          no new entries through the day
-  {"do":"close","branch":NAME,"day":DAY}         revenues and expenses to zero through the day, and a lock
+  {"do":"close","branch":NAME,"day":DAY}         revenues and expenses to zero through the day, and a lock;
+                                                 with "accounts":"ACCOUNT;ACCOUNT" these and their subaccounts instead,
+                                                 with "into":ACCOUNT into that account
 
 Reports:
   {"do":"balance","branch":NAME,"day":DAY}       the branch's balances through the day
@@ -153,11 +162,21 @@ const JOURNAL_HELP: &str = "The journal's file, at most 1 MiB; /dev/stdin for st
 
 const TAG_HELP: &str = "Only transactions that have the tag: NAME, or NAME=VALUE";
 
+const ACCOUNTS_HELP: &str =
+    "The accounts that are closed, with their subaccounts, joined by `;`; without it revenues and expenses";
+
+const INTO_HELP: &str = "The account that gets their balances; without it equity:retained earnings";
+
 const PORT_HELP: &str = "The port, 0 to 65535; 0 has the system choose one";
 
 const REQUESTS_HELP: &str = "After how many connections it ends, at most 4294967295";
 
 const ID_HELP: &str = "The transfer: 1 to 64 letters, digits or -._";
+
+const PART_HELP: &str =
+    "A part and its key: 1 to 32 letters, digits or -._; without it everything that is left";
+
+const PART_AMOUNT_HELP: &str = "The amount of the part";
 
 /// An option that may be given, with a value.
 fn optional<'a>(alloc: Global, name: &'a str, value: &'a str, help: &'a str) -> Arg<'a>
@@ -304,15 +323,24 @@ fn dispatch<'a>(alloc: Global) -> Result<Command<'a>, AllocError>
         .arg(account_option(alloc, "The account that pays"))
 }
 
-/// The word `receive`.
-fn receive<'a>(alloc: Global) -> Result<Command<'a>, AllocError>
-    ensures { IfOk result (IsWord (codes "receive") (id ∷ branch ∷ day ∷ account ∷ [])) }
+/// The word `receive`, with what comes where.
+fn coming<'a>(alloc: Global) -> Result<Command<'a>, AllocError>
+    ensures { IfOk result (IsWord (codes "receive") (id ∷ branch ∷ day ∷ [])) }
 {
     word(alloc, "receive", ABOUT_RECEIVE, EXAMPLE_RECEIVE)?
         .arg(option(alloc, "id", "ID", ID_HELP))?
         .arg(branch_option(alloc))?
-        .arg(day_option(alloc))?
-        .arg(account_option(alloc, "The account that is paid"))
+        .arg(day_option(alloc))
+}
+
+/// The word `receive`.
+fn receive<'a>(alloc: Global) -> Result<Command<'a>, AllocError>
+    ensures { IfOk result (IsWord (codes "receive") (id ∷ branch ∷ day ∷ account ∷ optional (codes "part") ∷ optional (codes "amount") ∷ [])) }
+{
+    coming(alloc)?
+        .arg(account_option(alloc, "The account that is paid"))?
+        .arg(optional(alloc, "part", "KEY", PART_HELP))?
+        .arg(optional(alloc, "amount", "AMOUNT", PART_AMOUNT_HELP))
 }
 
 /// The word `transit`.
@@ -333,11 +361,13 @@ fn lock<'a>(alloc: Global) -> Result<Command<'a>, AllocError>
 
 /// The word `close`.
 fn close<'a>(alloc: Global) -> Result<Command<'a>, AllocError>
-    ensures { IfOk result (IsWord (codes "close") (branch ∷ day ∷ [])) }
+    ensures { IfOk result (IsWord (codes "close") (branch ∷ day ∷ optional (codes "accounts") ∷ optional (codes "into") ∷ [])) }
 {
     word(alloc, "close", ABOUT_CLOSE, EXAMPLE_CLOSE)?
         .arg(branch_option(alloc))?
-        .arg(day_option(alloc))
+        .arg(day_option(alloc))?
+        .arg(optional(alloc, "accounts", "LIST", ACCOUNTS_HELP))?
+        .arg(optional(alloc, "into", "ACCOUNT", INTO_HELP))
 }
 
 /// The word `journal`.
@@ -414,7 +444,8 @@ fn run<'a>(alloc: Global) -> Command<'a>
 
 /// With the words that lock a branch.
 fn with_locks<'a>(alloc: Global, command: Command<'a>) -> Result<Command<'a>, AllocError>
-    ensures { IfOk result (HasMore (word (codes "lock") (branch ∷ day ∷ []) ∷ word (codes "close") (branch ∷ day ∷ []) ∷ []) command.entry) }
+    ensures { IfOk result (HasMore (word (codes "lock") (branch ∷ day ∷ [])
+        ∷ word (codes "close") (branch ∷ day ∷ optional (codes "accounts") ∷ optional (codes "into") ∷ []) ∷ []) command.entry) }
 {
     command.subcommand(lock(alloc)?)?.subcommand(close(alloc)?)
 }

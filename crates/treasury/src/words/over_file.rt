@@ -4,33 +4,57 @@ ghost use Rattle.std.specs.Prelude.{◌≡◌, IfOk};
 ghost use Rattle.std.specs.Result.{IsOkUnless};
 ghost use Rattle.clap.specs.Matches.{found_of};
 ghost use Rattle.clap.specs.Walk.{rows_of};
+ghost use Rattle.sqlite_wal.specs.Recovery.{Image};
 ghost use Rattle.sqlite_wal.specs.Files.{image_at};
 ghost use Rattle.treasury_api.specs.declared.request.Request.TheVariants.{Import};
 ghost use Rattle.treasury_api.specs.Request.{HasDayNumbers};
+ghost use Rattle.treasury_api.specs.Left.{LeavesRequest};
+ghost use Rattle.treasury.specs.declared.words.left.Left.TheVariants.{Untouched};
+ghost use Rattle.treasury.specs.Left.{KeepsFile};
 ghost use Rattle.treasury.specs.Word.{SaysTo};
-ghost use Rattle.treasury.specs.OverFile.{IsRefusedBy, IsFileRefused, SaysToInit, SaysOver, SaysToImport, SaysToForm, SaysToWord};
-ghost use Rattle.treasury.specs.Started.{spoken, IsRoom, IsStarted};
+ghost use Rattle.treasury.specs.OverFile.{IsRefusedBy, IsFileRefused, SaysToInit, SaysOver, SaysToJournal, SaysToImport, SaysToForm, SaysToWord};
+ghost use Rattle.treasury.specs.Started.{spoken, IsRoom, IsStarted, refusal_of, IsClosedOrShut};
 
 use crate::explain::{explain, sentence};
 use crate::notes::{held_before, notes_of};
 use crate::words::file::{
-    FileTreasury, Unopened, close_treasury, make_tables, open_treasury, read_journal_file,
+    UNCLOSED, Unopened, Unserved, close_treasury, make_tables, open_treasury, read_journal,
 };
+use crate::words::left::Left;
 use crate::words::said::{Said, done, refused, room_for_line};
-use crate::words::spelling::{form_of_word, value_of};
+use crate::words::spelling::{fault_of, form_of_word, value_of};
 use book_core::Refusal;
 use clap::ArgMatches;
 use money_core::{Cause, Text};
-use sqlite::{Alter, FileFrom, Start};
+use sqlite::{Alter, FileFrom, FileStore, Start};
 use sqlite_disk::Disk;
 use std::alloc::Global;
+use std::fs;
+use std::io::Read;
 use treasury_api::{Bytes, Request, answer, refuse, request_of};
 use treasury_store::Treasury;
+
+/// What is said to a word over a file, and what it leaves of the file.
+#[derive(Drop)]
+pub struct Answered<D: Disk> {
+    pub said: Said,
+    pub left: Left<D>,
+}
+
+/// Said where no file was opened.
+fn before<D: Disk>(said: Said) -> Answered<D>
+    ensures { result ≡ record { said = said; left = Untouched } }
+{
+    Answered {
+        said,
+        left: Left::Untouched,
+    }
+}
 
 /// Said where a file serves no word.
 pub fn refused_file(alloc: Global, room: Vec<u8>, path: &str, unopened: Unopened) -> Said
     requires { IsRoom room }
-    ensures { IsFileRefused (spoken result) }
+    ensures { IsRefusedBy (refusal_of unopened) (spoken result) }
 {
     match unopened {
         Unopened::NoMemory => {
@@ -103,7 +127,8 @@ pub fn answer_word<S: Alter>(
 ) -> Said
     requires room { IsRoom room }
     requires days { HasDayNumbers request.now }
-    ensures { SaysTo S.Store treasury.old request.now result.answer.items result.is_refused treasury.new }
+    ensures says { SaysTo S.Store treasury.old request.now result.answer.items result.is_refused treasury.new }
+    ensures left { LeavesRequest S.Store treasury.old treasury.new request.now }
 {
     let mut text = Vec::new(alloc);
     let held = held_before(treasury, request);
@@ -124,31 +149,70 @@ pub fn answer_word<S: Alter>(
     }
 }
 
+/// What is left of the file of a treasury of which nothing was asked. It is closed, where it can be.
+fn left_unasked<D: Disk + Drop>(treasury: Treasury<FileStore<D>>) -> Left<D>
+    ensures keeps { (image : Image) → IsStarted D.Disk image treasury → KeepsFile D.Disk image result }
+    ensures touched { IsClosedOrShut result }
+{
+    match close_treasury(treasury) {
+        Ok(files) => Left::Closed(files),
+        Err(store) => Left::Shut(store),
+    }
+}
+
 /// Answers the request of a word on the treasury of a file, and closes the file.
 ///
-/// Where it cannot be closed, it answers 41: what the request asks for is done then, or it is not.
-fn answer_on_file<S: Start>(
+/// Where it cannot be closed, it answers 41: what the request asks for is done then, or it is not. Where there is no memory
+/// to say so, nothing is asked, and it answers 40.
+fn answer_on_file<D: Disk + Drop>(
     alloc: Global,
     room: Vec<u8>,
     path: &str,
     request: &Request,
     source: &str,
-    treasury: FileTreasury<S>,
-) -> Said
+    treasury: Treasury<FileStore<D>>,
+) -> Answered<D>
     requires room { IsRoom room }
     requires days { HasDayNumbers request.now }
-    requires started { IsStarted ⟦<FileFrom<S> as Disk>⟧ (image_at S.Start) treasury }
-    ensures { SaysOver ⟦<FileFrom<S> as Disk>⟧ (image_at S.Start) request.now (spoken result) }
+    ensures says { (image : Image) → IsStarted D.Disk image treasury → SaysOver D.Disk image request.now (spoken result.said) result.left }
+    // What is handed back is what was closed, or could not be.
+    ensures touched { IsClosedOrShut result.left }
 {
     let Ok(spare) = room_for_line(alloc) else {
-        let _ = close_treasury(treasury);
-        return refused_file(alloc, room, path, Unopened::NoMemory);
+        return Answered {
+            said: refused_file(alloc, room, path, Unopened::NoMemory),
+            left: left_unasked(treasury),
+        };
     };
     let mut treasury = treasury;
     let said = answer_word(alloc, room, request, source, &mut treasury);
     match close_treasury(treasury) {
-        Ok(()) => said,
-        Err(unopened) => refused_file(alloc, spare, path, unopened),
+        Ok(files) => Answered {
+            said,
+            left: Left::Closed(files),
+        },
+        Err(store) => Answered {
+            said: refused_file(alloc, spare, path, Unopened::Unusable(UNCLOSED)),
+            left: Left::Shut(store),
+        },
+    }
+}
+
+/// Said where a file serves no word, and what is left of it.
+fn refused_by<D: Disk>(
+    alloc: Global,
+    room: Vec<u8>,
+    path: &str,
+    unserved: Unserved<D>,
+) -> Answered<D>
+    requires { IsRoom room }
+    ensures refused { IsFileRefused (spoken result.said) }
+    ensures left { result.left ≡ unserved.left }
+{
+    let Unserved { why, left } = unserved;
+    Answered {
+        said: refused_file(alloc, room, path, why),
+        left,
     }
 }
 
@@ -160,14 +224,14 @@ fn answer_request<S: Start>(
     request: &Request,
     source: &str,
     start: S,
-) -> Said
+) -> Answered<FileFrom<S>>
     requires room { IsRoom room }
     requires days { HasDayNumbers request.now }
-    ensures { SaysOver ⟦<FileFrom<S> as Disk>⟧ (image_at S.Start) request.now (spoken result) }
+    ensures { SaysOver ⟦<FileFrom<S> as Disk>⟧ (image_at S.Start) request.now (spoken result.said) result.left }
 {
     match open_treasury(rt, path, start) {
         Ok(treasury) => answer_on_file(rt.alloc(), room, path, request, source, treasury),
-        Err(unopened) => refused_file(rt.alloc(), room, path, unopened),
+        Err(refused) => refused_by(rt.alloc(), room, path, refused),
     }
 }
 
@@ -184,6 +248,33 @@ fn import_of(alloc: Global, branch: &str, journal: Vec<u8>) -> Result<Request, C
     Ok(Request::Import { branch, journal })
 }
 
+/// Answers `import`, whose journal a reader has. `source` names the journal.
+fn answer_journal<R: Read + Drop, S: Start>(
+    rt: &HostRuntime,
+    room: Vec<u8>,
+    path: &str,
+    branch: &str,
+    source: &str,
+    reader: R,
+    start: S,
+) -> Answered<FileFrom<S>>
+    requires { IsRoom room }
+    ensures { SaysToJournal ⟦<FileFrom<S> as Disk>⟧ (image_at S.Start) branch.now (R.remaining reader) (spoken result.said) result.left }
+{
+    let alloc = rt.alloc();
+    let bytes = match read_journal(alloc, reader) {
+        Ok(bytes) => bytes,
+        Err(cause) => {
+            let reason = "the journal's file cannot be read";
+            return before(refused(alloc, room, cause, source, reason));
+        }
+    };
+    match import_of(alloc, branch, bytes) {
+        Ok(request) => answer_request(rt, room, path, &request, source, start),
+        Err(cause) => before(refused(alloc, room, cause, source, sentence(cause))),
+    }
+}
+
 /// Answers `import`: the journal's file is read before the database is opened.
 fn answer_import<S: Start>(
     rt: &HostRuntime,
@@ -191,27 +282,23 @@ fn answer_import<S: Start>(
     path: &str,
     values: &ArgMatches<'_>,
     start: S,
-) -> Said
+) -> Answered<FileFrom<S>>
     requires { IsRoom room }
-    ensures { SaysToImport ⟦<FileFrom<S> as Disk>⟧ (image_at S.Start) (rows_of (found_of values.now)) (spoken result) }
+    ensures { SaysToImport ⟦<FileFrom<S> as Disk>⟧ (image_at S.Start) (rows_of (found_of values.now)) (spoken result.said) result.left }
 {
     let alloc = rt.alloc();
     let Some(branch) = value_of(values, "branch") else {
-        return lacking(alloc, room, "import");
+        return before(lacking(alloc, room, "import"));
     };
     let Some(journal) = value_of(values, "journal") else {
-        return lacking(alloc, room, "import");
+        return before(lacking(alloc, room, "import"));
     };
-    let bytes = match read_journal_file(rt, journal) {
-        Ok(bytes) => bytes,
-        Err(cause) => {
+    match fs::open(rt, journal) {
+        Ok(file) => answer_journal(rt, room, path, branch, journal, file, start),
+        Err(_) => {
             let reason = "the journal's file cannot be read";
-            return refused(alloc, room, cause, journal, reason);
+            before(refused(alloc, room, Cause::ReadFault, journal, reason))
         }
-    };
-    match import_of(alloc, branch, bytes) {
-        Ok(request) => answer_request(rt, room, path, &request, journal, start),
-        Err(cause) => refused(alloc, room, cause, journal, sentence(cause)),
     }
 }
 
@@ -223,29 +310,36 @@ fn answer_form<S: Start>(
     word: &str,
     values: &ArgMatches<'_>,
     start: S,
-) -> Said
+) -> Answered<FileFrom<S>>
     requires { IsRoom room }
-    ensures { SaysToForm ⟦<FileFrom<S> as Disk>⟧ (image_at S.Start) word.now (rows_of (found_of values.now)) (spoken result) }
+    ensures { SaysToForm ⟦<FileFrom<S> as Disk>⟧ (image_at S.Start) word.now (rows_of (found_of values.now)) (spoken result.said) result.left }
 {
     let alloc = rt.alloc();
     let Some(form) = form_of_word(word, values) else {
-        let reason = "the day is not a date; dates are written as 2024-12-31";
-        return refused(alloc, room, Cause::Request, word, reason);
+        return before(refused(alloc, room, Cause::Request, word, fault_of(values)));
     };
     match request_of(alloc, form) {
         Ok(request) => answer_request(rt, room, path, &request, "", start),
-        Err(cause) => refused(alloc, room, cause, word, sentence(cause)),
+        Err(cause) => before(refused(alloc, room, cause, word, sentence(cause))),
     }
 }
 
 /// Answers `init`: makes the tables of a new treasury.
-fn answer_init<S: Start>(rt: &HostRuntime, room: Vec<u8>, path: &str, start: S) -> Said
+fn answer_init<S: Start>(
+    rt: &HostRuntime,
+    room: Vec<u8>,
+    path: &str,
+    start: S,
+) -> Answered<FileFrom<S>>
     requires { IsRoom room }
-    ensures { SaysToInit ⟦<FileFrom<S> as Disk>⟧ (image_at S.Start) (spoken result) }
+    ensures { SaysToInit ⟦<FileFrom<S> as Disk>⟧ (image_at S.Start) (spoken result.said) result.left }
 {
     match make_tables(rt, path, start) {
-        Ok(()) => done(rt.alloc(), room),
-        Err(unopened) => refused_file(rt.alloc(), room, path, unopened),
+        Ok(files) => Answered {
+            said: done(rt.alloc(), room),
+            left: Left::Closed(files),
+        },
+        Err(refused) => refused_by(rt.alloc(), room, path, refused),
     }
 }
 
@@ -258,12 +352,12 @@ pub fn answer_over_file<S: Start>(
     word: &str,
     values: &ArgMatches<'_>,
     start: S,
-) -> Said
+) -> Answered<FileFrom<S>>
     requires { IsRoom room }
-    ensures { SaysToWord ⟦<FileFrom<S> as Disk>⟧ (image_at S.Start) word.now (rows_of (found_of values.now)) (spoken result) }
+    ensures { SaysToWord ⟦<FileFrom<S> as Disk>⟧ (image_at S.Start) word.now (rows_of (found_of values.now)) (spoken result.said) result.left }
 {
     let Some(path) = value_of(values, "db") else {
-        return lacking(rt.alloc(), room, word);
+        return before(lacking(rt.alloc(), room, word));
     };
     if word == "init" {
         return answer_init(rt, room, path, start);

@@ -13,7 +13,7 @@ use sqlite_disk::Disk;
 use std::alloc::Global;
 use std::fs;
 use treasury_memory::{MemoryDisk, MemoryStore};
-use treasury_store::{Store, Treasury};
+use treasury_store::{Refused, Store, Treasury};
 
 /// The log's salts tell it from an older log. Nobody opens the copies again.
 const SEED: u64 = 0;
@@ -100,6 +100,12 @@ fn connect_copies(rt: &HostRuntime, path: &str) -> Result<Connection<MemoryStore
     }
 }
 
+/// Why the tables of the copies are not opened.
+fn why_refused(refused: Refused<MemoryStore>) -> Unopened {
+    let Refused { mut conn, cause } = refused;
+    unopened_tables(&mut conn, cause)
+}
+
 /// Whether the tables of the copies are those of a treasury: what stands against it.
 fn start_copies(alloc: Global, conn: Connection<MemoryStore>) -> Result<(), Unopened>
     requires { conn.in_transaction ≡ false }
@@ -110,7 +116,7 @@ fn start_copies(alloc: Global, conn: Connection<MemoryStore>) -> Result<(), Unop
     }
     let store = match Store::open(alloc, conn) {
         Ok(store) => store,
-        Err(refused) => return Err(unopened_tables(refused)),
+        Err(refused) => return Err(why_refused(refused)),
     };
     match Treasury::start(alloc, store) {
         Ok(_treasury) => Ok(()),

@@ -4,20 +4,23 @@ ghost use Rattle.std.specs.Prelude.{◌≡◌, ℕ, List, take, None, OnOk, OnEr
 ghost use Rattle.std.specs.Io.KnownBytes.{Appends};
 ghost use Rattle.clap.specs.Matches.{found_of};
 ghost use Rattle.clap.specs.Walk.{Row, rows_of};
+ghost use Rattle.sqlite_wal.specs.Recovery.{Image};
 ghost use Rattle.sqlite_wal.specs.Files.{image_at};
 ghost use Rattle.treasury_api.specs.Web.{HasServed};
-ghost use Rattle.treasury.specs.OverFile.{IsRefusedBy};
+ghost use Rattle.treasury.specs.declared.words.left.Left.TheVariants.{Untouched};
+ghost use Rattle.treasury.specs.OverFile.{IsRefusedBy, IsFileRefused};
 ghost use Rattle.treasury.specs.Serving.{listening, silent, LacksValue};
-ghost use Rattle.treasury.specs.Started.{spoken, IsRoom, IsStarted};
+ghost use Rattle.treasury.specs.Started.{spoken, IsRoom, IsStarted, IsClosedOrShut};
 ghost use Rattle.treasury.specs.ServingParts.{ends_unwritten, IsAnnounced, IsAnnouncedBy, SaysAtEnd, SaysServing};
 
-use crate::words::file::{FileTreasury, close_treasury, open_treasury};
+use crate::words::file::{UNCLOSED, Unopened, Unserved, close_treasury, open_treasury};
+use crate::words::left::Left;
 use crate::words::over_file::{lacking, refused_file};
 use crate::words::said::{Said, refused};
 use crate::words::spelling::value_of;
 use clap::ArgMatches;
 use money_core::Cause;
-use sqlite::{Alter, FileFrom, Start};
+use sqlite::{Alter, FileFrom, FileStore, Start};
 use sqlite_disk::Disk;
 use std::alloc::Global;
 use std::io::{self, Read, Write};
@@ -71,9 +74,10 @@ pub fn is_unwritten(ending: Option<Ending>) -> bool
 
 /// What `serve` comes to: how it ended, where it began, and what is said then.
 #[derive(Drop)]
-pub struct Serving {
+pub struct Serving<D: Disk> {
     pub ending: Option<Ending>,
     pub said: Said,
+    pub left: Left<D>,
 }
 
 /// The port, and for how many connections it is listened on.
@@ -245,36 +249,60 @@ fn said_at_end(alloc: Global, room: Vec<u8>, port: u16, ending: Ending) -> Said
 }
 
 /// Serves over the treasury of a file, and closes the file. Where it cannot be closed, that is what is said.
-fn serve_on_file<W: Write, S: Start>(
+fn serve_on_file<W: Write, D: Disk + Drop>(
     rt: &HostRuntime,
     room: Vec<u8>,
     path: &str,
     wanted: Wanted,
     output: &mut W,
-    treasury: FileTreasury<S>,
-) -> Serving
+    treasury: Treasury<FileStore<D>>,
+) -> Serving<D>
     requires room { IsRoom room }
-    requires started { IsStarted ⟦<FileFrom<S> as Disk>⟧ (image_at S.Start) treasury }
     ensures announced { IsAnnounced W.contents output.old output.new result.ending }
-    ensures says { (values : List Row) → SaysServing ⟦<FileFrom<S> as Disk>⟧ (image_at S.Start) values result.ending (spoken result.said) }
+    ensures says { (image : Image) (values : List Row) → IsStarted D.Disk image treasury → SaysServing D.Disk image values result.ending (spoken result.said) result.left }
+    // What is handed back is what was closed, or could not be.
+    ensures touched { IsClosedOrShut result.left }
 {
     let mut treasury = treasury;
     let ending = serve_port(rt, wanted, output, &mut treasury);
-    let said = match close_treasury(treasury) {
-        Ok(()) => said_at_end(rt.alloc(), room, wanted.port, ending),
-        Err(unopened) => refused_file(rt.alloc(), room, path, unopened),
-    };
-    Serving {
-        ending: Some(ending),
-        said,
+    match close_treasury(treasury) {
+        Ok(files) => Serving {
+            ending: Some(ending),
+            said: said_at_end(rt.alloc(), room, wanted.port, ending),
+            left: Left::Closed(files),
+        },
+        Err(store) => Serving {
+            ending: Some(ending),
+            said: refused_file(rt.alloc(), room, path, Unopened::Unusable(UNCLOSED)),
+            left: Left::Shut(store),
+        },
     }
 }
 
-/// What it comes to where it does not begin.
-fn unbegun(said: Said) -> Serving
-    ensures { result ≡ record { ending = None; said = said } }
+/// What it comes to where a value is lacking.
+fn unbegun<D: Disk>(said: Said) -> Serving<D>
+    ensures { result ≡ record { ending = None; said = said; left = Untouched } }
 {
-    Serving { ending: None, said }
+    Serving {
+        ending: None,
+        said,
+        left: Left::Untouched,
+    }
+}
+
+/// What it comes to where the file serves no word.
+fn refused_by<D: Disk>(alloc: Global, room: Vec<u8>, path: &str, refused: Unserved<D>) -> Serving<D>
+    requires { IsRoom room }
+    ensures refused { IsFileRefused (spoken result.said) }
+    ensures left { result.left ≡ refused.left }
+    ensures ending { result.ending ≡ None }
+{
+    let Unserved { why, left } = refused;
+    Serving {
+        ending: None,
+        said: refused_file(alloc, room, path, why),
+        left,
+    }
 }
 
 /// The port and the number of connections, where both are given.
@@ -302,10 +330,10 @@ pub fn serve_over_file<W: Write, S: Start>(
     values: &ArgMatches<'_>,
     output: &mut W,
     start: S,
-) -> Serving
+) -> Serving<FileFrom<S>>
     requires { IsRoom room }
     ensures announced { IsAnnounced W.contents output.old output.new result.ending }
-    ensures says { SaysServing ⟦<FileFrom<S> as Disk>⟧ (image_at S.Start) (rows_of (found_of values.now)) result.ending (spoken result.said) }
+    ensures says { SaysServing ⟦<FileFrom<S> as Disk>⟧ (image_at S.Start) (rows_of (found_of values.now)) result.ending (spoken result.said) result.left }
 {
     let Some(path) = value_of(values, "db") else {
         return unbegun(lacking(rt.alloc(), room, "serve"));
@@ -315,6 +343,6 @@ pub fn serve_over_file<W: Write, S: Start>(
     };
     match open_treasury(rt, path, start) {
         Ok(treasury) => serve_on_file(rt, room, path, wanted, output, treasury),
-        Err(unopened) => unbegun(refused_file(rt.alloc(), room, path, unopened)),
+        Err(refused) => refused_by(rt.alloc(), room, path, refused),
     }
 }

@@ -4,14 +4,14 @@ ghost use Rattle.std.specs.Prelude.{◌≡◌, codes, option_map, option_copied,
 ghost use Rattle.clap.specs.Matches.{found_of};
 ghost use Rattle.clap.specs.Walk.{first_of, rows_of};
 ghost use Rattle.journal_lines.specs.Date.{IsDayNumber};
-ghost use Rattle.treasury_api.specs.Form.{shown};
+ghost use Rattle.treasury_api.specs.Form.{shown, shown_part};
 ghost use Rattle.treasury_api.specs.Request.{HasDayNumbers};
-ghost use Rattle.treasury.specs.Spelling.{day_in, dispatch_in, receive_in, report_in, request_in};
+ghost use Rattle.treasury.specs.Spelling.{day_in, dispatch_in, part_in, receive_in, report_in, request_in};
 
 use clap::ArgMatches;
 use journal_lines::read_date;
 use money_core::Day;
-use treasury_api::Form;
+use treasury_api::{Form, PartForm};
 
 /// The value of that name.
 pub fn value_of<'a>(values: &ArgMatches<'a>, name: &str) -> Option<&'a str>
@@ -50,6 +50,24 @@ fn dispatch_of<'a>(values: &ArgMatches<'a>) -> Option<Form<'a>>
     })
 }
 
+/// The part that `receive` asks for, if there is one: its key and its amount are both given, or neither.
+fn part_of<'a>(values: &ArgMatches<'a>) -> Option<Option<PartForm<'a>>>
+    ensures { option_map (option_map shown_part) result ≡ part_in (rows_of (found_of values.now)) }
+{
+    let key = value_of(values, "part");
+    let amount = value_of(values, "amount");
+    match key {
+        Some(key) => match amount {
+            Some(amount) => Some(Some(PartForm { key, amount })),
+            None => None,
+        },
+        None => match amount {
+            Some(_) => None,
+            None => Some(None),
+        },
+    }
+}
+
 /// What `receive` asks for.
 fn receive_of<'a>(values: &ArgMatches<'a>) -> Option<Form<'a>>
     ensures value { option_map shown result ≡ receive_in (rows_of (found_of values.now)) }
@@ -59,11 +77,13 @@ fn receive_of<'a>(values: &ArgMatches<'a>) -> Option<Form<'a>>
     let branch = value_of(values, "branch")?;
     let day = day_of(values)?;
     let account = value_of(values, "account")?;
+    let part = part_of(values)?;
     Some(Form::Receive {
         id,
         branch,
         day,
         account,
+        part,
     })
 }
 
@@ -96,8 +116,16 @@ fn report_of<'a>(word: &str, values: &ArgMatches<'a>) -> Option<Form<'a>>
     }
 }
 
+/// Why a word asks for nothing, by its values.
+pub fn fault_of(values: &ArgMatches<'_>) -> &'static str {
+    match day_of(values) {
+        Some(_) => "a part needs its key and its amount; only one of them is given",
+        None => "the day is not a date; dates are written as 2024-12-31",
+    }
+}
+
 /// What the word of a command or a report asks for, `init` and `import` aside: the request that a line of `run` spells whose
-/// keys have these values. Nothing where a value is missing, or a day is no date.
+/// keys have these values. Nothing where a value is missing, a day is no date, or of a part only the key or the amount is given.
 pub fn form_of_word<'a>(word: &str, values: &ArgMatches<'a>) -> Option<Form<'a>>
     ensures value { option_map shown result ≡ request_in word.now (rows_of (found_of values.now)) }
     ensures days { IfSome result (λ form. HasDayNumbers (shown form)) }
@@ -119,7 +147,14 @@ pub fn form_of_word<'a>(word: &str, values: &ArgMatches<'a>) -> Option<Form<'a>>
     } else if word == "close" {
         let branch = value_of(values, "branch")?;
         let day = day_of(values)?;
-        Some(Form::Close { branch, day })
+        let accounts = value_of(values, "accounts");
+        let into = value_of(values, "into");
+        Some(Form::Close {
+            branch,
+            day,
+            accounts,
+            into,
+        })
     } else {
         report_of(word, values)
     }

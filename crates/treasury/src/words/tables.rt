@@ -1,5 +1,8 @@
 //! What a database has otherwise than a treasury has it: tables that are missing, and tables with other columns.
 
+ghost use Rattle.std.specs.Prelude.{◌≡◌};
+ghost use Rattle.treasury_store.specs.Creating.{has_receipt};
+
 use crate::explain::pieces::push_shown;
 use crate::words::file::Unopened;
 use money_core::Cause;
@@ -51,8 +54,16 @@ fn is_ours(name: &[u8]) -> bool {
 }
 
 /// Whether the database has a table of receipts in parts, as version 2 has it.
-pub fn has_receipts(schema: &Schema) -> bool {
-    table_named(schema, RECEIPT.0.as_bytes()).is_some()
+pub(crate) fn has_receipts(schema: &Schema) -> bool
+    ensures { result ≡ has_receipt schema.now }
+{
+    let tables = schema.tables.as_slice();
+    'table: for table in tables {
+        if same_name(table.name.as_slice(), b"receipt".as_slice()) {
+            return true;
+        }
+    }
+    false
 }
 
 /// Whether a table of the database has the name of a treasury's.

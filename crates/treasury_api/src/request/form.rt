@@ -3,12 +3,19 @@
 ghost use Rattle.std.specs.Prelude.{◌≡◌, option_map, option_and_then, IfSome};
 ghost use Rattle.serde_json.specs.View.{view};
 ghost use Rattle.journal_lines.specs.Date.{IsDayNumber};
-ghost use Rattle.treasury_api.specs.Request.{text_at, day_at, key_count, dispatch_at, receive_at, tagged_at, report_form, request_of, HasDayNumbers};
+ghost use Rattle.treasury_api.specs.Request.{text_at, day_at, key_count, dispatch_at, receive_at, part_at, chosen_at, both_at, tagged_at, report_form, close_form, request_of, HasDayNumbers};
 ghost use Rattle.treasury_api.specs.Form.{shown};
 
 use journal_lines::read_date;
 use money_core::Day;
 use serde_json::Value;
+
+/// A part of a transfer whose texts are those of a JSON value.
+#[derive(Clone, Copy, Drop)]
+pub struct PartForm<'a> {
+    pub key: &'a str,
+    pub amount: &'a str,
+}
 
 /// A request whose texts are those of a JSON value.
 #[derive(Clone, Copy, Drop)]
@@ -36,6 +43,7 @@ pub enum Form<'a> {
         branch: &'a str,
         day: Day,
         account: &'a str,
+        part: Option<PartForm<'a>>,
     },
     Lock {
         branch: &'a str,
@@ -44,6 +52,8 @@ pub enum Form<'a> {
     Close {
         branch: &'a str,
         day: Day,
+        accounts: Option<&'a str>,
+        into: Option<&'a str>,
     },
     Balance {
         branch: &'a str,
@@ -123,6 +133,70 @@ fn receive_of<'a>(value: &'a Value) -> Option<Form<'a>>
         branch,
         day,
         account,
+        part: None,
+    })
+}
+
+/// The form of a receipt of a part, where all its keys are there.
+fn part_of<'a>(value: &'a Value) -> Option<Form<'a>>
+    ensures value { option_map shown result ≡ part_at (view value.now) }
+    ensures days { IfSome result (λ form. HasDayNumbers (shown form)) }
+{
+    let id = text_at(value, "id")?;
+    let branch = text_at(value, "branch")?;
+    let day = day_at(value, "day")?;
+    let account = text_at(value, "account")?;
+    let key = text_at(value, "part")?;
+    let amount = text_at(value, "amount")?;
+    Some(Form::Receive {
+        id,
+        branch,
+        day,
+        account,
+        part: Some(PartForm { key, amount }),
+    })
+}
+
+/// The form of a closing with one of the keys of a choice.
+fn chosen_of<'a>(value: &'a Value) -> Option<Form<'a>>
+    ensures value { option_map shown result ≡ chosen_at (view value.now) }
+    ensures days { IfSome result (λ form. HasDayNumbers (shown form)) }
+{
+    let branch = text_at(value, "branch")?;
+    let day = day_at(value, "day")?;
+    match text_at(value, "accounts") {
+        Some(accounts) => Some(Form::Close {
+            branch,
+            day,
+            accounts: Some(accounts),
+            into: None,
+        }),
+        None => {
+            let into = text_at(value, "into")?;
+            Some(Form::Close {
+                branch,
+                day,
+                accounts: None,
+                into: Some(into),
+            })
+        }
+    }
+}
+
+/// The form of a closing with both keys of a choice.
+fn both_of<'a>(value: &'a Value) -> Option<Form<'a>>
+    ensures value { option_map shown result ≡ both_at (view value.now) }
+    ensures days { IfSome result (λ form. HasDayNumbers (shown form)) }
+{
+    let branch = text_at(value, "branch")?;
+    let day = day_at(value, "day")?;
+    let accounts = text_at(value, "accounts")?;
+    let into = text_at(value, "into")?;
+    Some(Form::Close {
+        branch,
+        day,
+        accounts: Some(accounts),
+        into: Some(into),
     })
 }
 
@@ -172,6 +246,30 @@ fn report_of<'a>(word: &str, keys: usize, value: &'a Value) -> Option<Form<'a>>
     }
 }
 
+/// The form of a closing or of a report's word, if the value has one of so many keys.
+fn close_or_report_of<'a>(word: &str, keys: usize, value: &'a Value) -> Option<Form<'a>>
+    requires { keys ≡ key_count (view value.now) }
+    ensures value { option_map shown result ≡ close_form word.now (view value.now) }
+    ensures days { IfSome result (λ form. HasDayNumbers (shown form)) }
+{
+    if word == "close" && keys == 3 {
+        let branch = text_at(value, "branch")?;
+        let day = day_at(value, "day")?;
+        Some(Form::Close {
+            branch,
+            day,
+            accounts: None,
+            into: None,
+        })
+    } else if word == "close" && keys == 4 {
+        chosen_of(value)
+    } else if word == "close" && keys == 5 {
+        both_of(value)
+    } else {
+        report_of(word, keys, value)
+    }
+}
+
 /// The form of a value, if it has one: the word's keys, each with a text, and no further key.
 pub fn form_of<'a>(value: &'a Value) -> Option<Form<'a>>
     ensures value { option_map shown result ≡ request_of (view value.now) }
@@ -193,15 +291,13 @@ pub fn form_of<'a>(value: &'a Value) -> Option<Form<'a>>
         dispatch_of(value)
     } else if word == "receive" && keys == 5 {
         receive_of(value)
+    } else if word == "receive" && keys == 7 {
+        part_of(value)
     } else if word == "lock" && keys == 3 {
         let branch = text_at(value, "branch")?;
         let day = day_at(value, "day")?;
         Some(Form::Lock { branch, day })
-    } else if word == "close" && keys == 3 {
-        let branch = text_at(value, "branch")?;
-        let day = day_at(value, "day")?;
-        Some(Form::Close { branch, day })
     } else {
-        report_of(word, keys, value)
+        close_or_report_of(word, keys, value)
     }
 }

@@ -1,13 +1,13 @@
 //! Requests out of JSON.
 
-ghost use Rattle.std.specs.Prelude.{◌≡◌, ◌⊎◌, Some, None, Ok, Err, IfOk, IfErr, option_copied};
+ghost use Rattle.std.specs.Prelude.{◌≡◌, ◌⊎◌, Some, None, Ok, Err, IfOk, IfErr, option_copied, option_map};
 ghost use Rattle.std.specs.Result.{IsOkUnless};
 ghost use Rattle.treasury_api.specs.Request.{spelled, HasDayNumbers};
-ghost use Rattle.treasury_api.specs.Form.{shown};
+ghost use Rattle.treasury_api.specs.Form.{shown, shown_part};
 
 use crate::bytes::Bytes;
-use crate::request::Request;
-use crate::request::form::{Form, form_of};
+use crate::request::form::{Form, PartForm, form_of};
+use crate::request::{Request, WrittenPart};
 use money_core::{Cause, Text};
 use serde_json::Value;
 use std::alloc::Global;
@@ -21,6 +21,21 @@ fn owned_text(alloc: Global, text: Option<&str>) -> Result<Option<Text>, Cause>
         Some(text) => {
             let text = Text::of(alloc, text)?;
             Ok(Some(text))
+        }
+        None => Ok(None),
+    }
+}
+
+/// A part with texts of its own, if there is one.
+fn owned_part(alloc: Global, part: Option<PartForm>) -> Result<Option<WrittenPart>, Cause>
+    ensures equal { IfOk result (λ owned. owned ≡ option_map shown_part part.entry) }
+    ensures memory { IsOkUnless result Cause.OutOfMemory }
+{
+    match part {
+        Some(part) => {
+            let key = Text::of(alloc, part.key)?;
+            let amount = Text::of(alloc, part.amount)?;
+            Ok(Some(WrittenPart { key, amount }))
         }
         None => Ok(None),
     }
@@ -72,24 +87,39 @@ pub fn request_of(alloc: Global, form: Form) -> Result<Request, Cause>
             branch,
             day,
             account,
+            part,
         } => {
             let id = Text::of(alloc, id)?;
             let branch = Text::of(alloc, branch)?;
             let account = Text::of(alloc, account)?;
+            let part = owned_part(alloc, part)?;
             Ok(Request::Receive {
                 id,
                 branch,
                 day,
                 account,
+                part,
             })
         }
         Form::Lock { branch, day } => {
             let branch = Text::of(alloc, branch)?;
             Ok(Request::Lock { branch, day })
         }
-        Form::Close { branch, day } => {
+        Form::Close {
+            branch,
+            day,
+            accounts,
+            into,
+        } => {
             let branch = Text::of(alloc, branch)?;
-            Ok(Request::Close { branch, day })
+            let accounts = owned_text(alloc, accounts)?;
+            let into = owned_text(alloc, into)?;
+            Ok(Request::Close {
+                branch,
+                day,
+                accounts,
+                into,
+            })
         }
         Form::Balance { branch, day } => {
             let branch = Text::of(alloc, branch)?;

@@ -1,15 +1,17 @@
 //! Whether the records of transfers in a branch are those that the transfers ask for.
 
-ghost use Rattle.std.specs.Prelude.{◌≡◌, ◌↔◌, ◌≤◌, ◌++◌, Some, None, true, IsTrue, IfOk, OnOk, unsigned_abs};
+ghost use Rattle.std.specs.Prelude.{◌≡◌, ◌↔◌, ◌≤◌, ◌++◌, map, Some, None, true, IsTrue, IfOk, OnOk, unsigned_abs};
 ghost use Rattle.std.specs.List.{AllByRecursion};
 ghost use Rattle.std.specs.Result.{IsOkUnless};
 ghost use Rattle.std.specs.Str.{bytes_eq};
 ghost use Rattle.money_core.specs.Amount.{limit};
 ghost use Rattle.treasury_core.specs.declared.record.Record.{Record as Row};
+ghost use Rattle.treasury_core.specs.declared.transfer.Part.{Part as TransferPart};
 ghost use Rattle.treasury_core.specs.declared.transfer.Transfer.{Transfer as Moved};
 ghost use Rattle.treasury_core.specs.Mark.{held, is_held, is_of_transfer};
-ghost use Rattle.treasury_core.specs.Transfer.{asked, in_records, out_records};
-ghost use Rattle.treasury_core.specs.Good.{AreAscending, IsCarried};
+ghost use Rattle.treasury_core.specs.Transfer.{of_rest, receipts_of, asked, in_records, out_records, receipt_record};
+ghost use Rattle.treasury_core.specs.Good.{AreAscending, HasGoodParts, IsCarried};
+ghost use Rattle.treasury_core.specs.Fair.{IsMarked};
 ghost use Rattle.treasury_core.specs.Kept.{IsIndexOf};
 
 use super::is_of_transfer;
@@ -19,7 +21,7 @@ use crate::draft::DraftBranch;
 use crate::index::find_mark;
 use crate::product::{dispatch_record, receipt_record};
 use crate::record::Record;
-use crate::transfer::Transfer;
+use crate::transfer::{Part, Transfer, rest_part};
 use money_core::{Cause, Items};
 use std::alloc::Global;
 use std::collections::HashMap;
@@ -42,39 +44,71 @@ fn add_dispatch(
     rows.push(row)
 }
 
-/// Puts the record of the receipt last, where the branch is the target and there is one.
-fn add_receipt(
+/// Puts the records of the parts last.
+fn add_parts(
     alloc: Global,
     transfer: &Transfer,
-    name: &str,
+    parts: &[Part],
     rows: &mut Items<Record>,
 ) -> Result<(), Cause>
-    requires { unsigned_abs transfer.now.qty ≤ limit }
-    ensures ok { OnOk result (rows.new ≡ rows.old ++ in_records transfer.now (bytes_eq transfer.now.target name.now) transfer.now.receipt) }
+    requires { AllByRecursion (λ (p : TransferPart). unsigned_abs p.qty ≤ limit) parts.now }
+    ensures ok { OnOk result (rows.new ≡ rows.old ++ map (receipt_record transfer.now) parts.now) }
     ensures memory { IsOkUnless result Cause.OutOfMemory }
 {
-    if transfer.target.as_str() != name {
-        return Ok(());
+    'part: for part in parts {
+        let row = receipt_record(alloc, transfer, part)?;
+        rows.push(row)?;
     }
+    Ok(())
+}
+
+/// Puts the record of the receipt of the rest last, if there is one.
+fn add_rest(alloc: Global, transfer: &Transfer, rows: &mut Items<Record>) -> Result<(), Cause>
+    requires parts { HasGoodParts transfer.now }
+    requires small { unsigned_abs transfer.now.qty ≤ limit }
+    ensures ok { OnOk result (rows.new ≡ rows.old ++ map (receipt_record transfer.now) (of_rest transfer.now transfer.now.receipt)) }
+    ensures memory { IsOkUnless result Cause.OutOfMemory }
+{
     match &transfer.receipt {
         None => Ok(()),
         Some(receipt) => {
-            let row = receipt_record(alloc, transfer, receipt)?;
+            let part = rest_part(alloc, transfer, receipt)?;
+            let row = receipt_record(alloc, transfer, &part)?;
             rows.push(row)
         }
     }
 }
 
+/// Puts the records of receipts last, where the branch is the target.
+fn add_receipts(
+    alloc: Global,
+    transfer: &Transfer,
+    name: &str,
+    rows: &mut Items<Record>,
+) -> Result<(), Cause>
+    requires parts { HasGoodParts transfer.now }
+    requires small { unsigned_abs transfer.now.qty ≤ limit }
+    ensures ok { OnOk result (rows.new ≡ rows.old ++ in_records transfer.now (bytes_eq transfer.now.target name.now) (receipts_of transfer.now)) }
+    ensures memory { IsOkUnless result Cause.OutOfMemory }
+{
+    if transfer.target.as_str() != name {
+        return Ok(());
+    }
+    add_parts(alloc, transfer, transfer.parts.items(), rows)?;
+    add_rest(alloc, transfer, rows)
+}
+
 /// The records that the transfers ask for in the branch of that name.
 fn asked(alloc: Global, transfers: &[Transfer], name: &str) -> Result<Items<Record>, Cause>
-    requires { AllByRecursion (λ (t : Moved). unsigned_abs t.qty ≤ limit) transfers.now }
+    requires marked { AllByRecursion IsMarked transfers.now }
+    requires small { AllByRecursion (λ (t : Moved). unsigned_abs t.qty ≤ limit) transfers.now }
     ensures value { IfOk result (λ rows. rows ≡ asked transfers.now name.now) }
     ensures memory { IsOkUnless result Cause.OutOfMemory }
 {
     let mut rows = Items::empty(alloc);
     for transfer in transfers {
         add_dispatch(alloc, transfer, name, &mut rows)?;
-        add_receipt(alloc, transfer, name, &mut rows)?;
+        add_receipts(alloc, transfer, name, &mut rows)?;
     }
     Ok(rows)
 }
@@ -136,6 +170,7 @@ pub(super) fn is_carried(
     index: &HashMap<String, usize>,
 ) -> Result<bool, Cause>
     requires ids { AreAscending transfers.now }
+    requires marked { AllByRecursion IsMarked transfers.now }
     requires small { AllByRecursion (λ (t : Moved). unsigned_abs t.qty ≤ limit) transfers.now }
     requires index { IsIndexOf index.now branch.now.records }
     ensures value { IfOk result (λ is. IsTrue is ↔ IsCarried transfers.now branch.now) }

@@ -1,4 +1,4 @@
-use Rattle.std.proofs.Common.{ℕ, List, subst}
+use Rattle.std.proofs.Common.{ℕ, List, refl, subst}
 use Rattle.clap.specs.Matches.{found_of}
 use Rattle.clap.specs.Walk.{rows_of}
 use Rattle.treasury.specs.OverFile.{Tells}
@@ -8,10 +8,10 @@ use Rattle.treasury.proofs.words.do_over_file.Goals as goal
 
 pub returns-in_default-clause-told : goal.returns-in_default-clause-told
 returns-in_default-clause-told g c =
-    told_40 _ _ g.W.Write.contents c.args.output.now c.write_answer.new.output c.write_answer.result c.args.word.now (rows_of (found_of c.args.values.now)) c.write_answer.ensures
+    told_40 _ _ g.W.Write.contents c.args.output.now c.write_answer.new.output c.write_answer.result c.args.word.now (rows_of (found_of c.args.values.now)) _ refl c.write_answer.ensures
 
 pub returns-clause-told : goal.returns-clause-told
 returns-clause-told g c =
-    told _ _ g.W.Write.contents c.args.output.now c.write_answer-ended.new.output c.write_answer-ended.result c.args.word.now (rows_of (found_of c.args.values.now)) (spoken c.answer_over_file-said.result)
-    (subst (λ (text : List ℕ). Tells g.W.Write.contents c.args.output.now c.write_answer-ended.new.output c.write_answer-ended.result (record { text = text; refused = c.answer_over_file-said.result.is_refused })) c.as_slice.ensures.value c.write_answer-ended.ensures)
+    told _ _ g.W.Write.contents c.args.output.now c.write_answer-status.new.output c.write_answer-status.result c.args.word.now (rows_of (found_of c.args.values.now)) (spoken c.answer_over_file-said.result.said) c.answer_over_file-said.result.left
+    (subst (λ (text : List ℕ). Tells g.W.Write.contents c.args.output.now c.write_answer-status.new.output c.write_answer-status.result (record { text = text; refused = c.answer_over_file-said.result.said.is_refused })) c.as_slice.ensures.value c.write_answer-status.ensures)
     c.answer_over_file-said.ensures

@@ -26,8 +26,8 @@ returns-in-Some-subcommand_matches-clause-word g c =
 
 pub returns-in-Some-subcommand_matches-clause-serve : goal.returns-in-Some-subcommand_matches-clause-serve
 returns-in-Some-subcommand_matches-clause-serve g c =
-    λ values met. served_alike _ _ g.W.Write.contents c.args.output.now c.do_serve.new.output c.do_serve.result
-    (rows_of (found_of c.in-Some-subcommand_matches.values.now)) values
+    λ values met. served_alike _ _ g.W.Write.contents c.args.output.now c.do_serve.new.output c.do_serve.result.status
+    (rows_of (found_of c.in-Some-subcommand_matches.values.now)) values c.do_serve.result.left
     (same_some (rows_of (found_of c.in-Some-subcommand_matches.values.now)) values (sym c.in-Some-subcommand_matches.ensures.rows ∙ ap (λ (o : Option (List ℕ × List Row)). option_map (λ (p : List ℕ × List Row). p.1) o) met))
     c.do_serve.ensures.served
 
@@ -37,7 +37,7 @@ returns-in-Some-subcommand-clause-serve g c =
 
 pub returns-in-Some-subcommand-clause-word : goal.returns-in-Some-subcommand-clause-word
 returns-in-Some-subcommand-clause-word g c =
-    λ word values met other _. told_alike _ _ g.W.Write.contents c.args.output.now c.do_over_file.new.output c.do_over_file.result
-    c.in-Some-subcommand.word.now word (rows_of (found_of c.in-Some-subcommand.values.now)) values
+    λ word values met other _. told_alike _ _ g.W.Write.contents c.args.output.now c.do_over_file.new.output c.do_over_file.result.status
+    c.in-Some-subcommand.word.now word (rows_of (found_of c.in-Some-subcommand.values.now)) values c.do_over_file.result.left
     (met_word c.args.matches.now word c.in-Some-subcommand.word.now values (rows_of (found_of c.in-Some-subcommand.values.now)) met c.in-Some-subcommand.ensures.name c.in-Some-subcommand.ensures.rows)
     c.do_over_file.ensures.told

@@ -1,5 +1,5 @@
-use Rattle.std.proofs.Common.{refl, sym, ◌∙◌, inl}
-use Rattle.treasury.proofs.WordLemmas.{taken, taken_fails, taken_shows_none, named_word, named_rows, fails_by, run_fails, help_shown}
+use Rattle.std.proofs.Common.{◌≡◌, refl, sym, ◌∙◌, inl}
+use Rattle.treasury.proofs.WordLemmas.{taken, taken_untold, untaken, unwritten_on_2, named_word, named_rows, fails_by}
 use Rattle.treasury.proofs.OverFileLemmas.{told_nothing}
 use Rattle.treasury.proofs.ServingLemmas.{served_nothing}
 use Rattle.treasury.proofs.words.run_words.Goals as goal
@@ -35,47 +35,49 @@ pub returns-in-Ok-try_get_matches_from-clause-wrong :
 returns-in-Ok-try_get_matches_from-clause-wrong g c =
     λ others _. absurd (others (taken _ _ c.in-Ok.ensures c.in-Ok-try_get_matches_from.ensures.kinds))
 
-pub returns-in-DisplayHelp-clause-done : goal.returns-in-DisplayHelp-clause-done
-returns-in-DisplayHelp-clause-done g c =
-    λ asks _. absurd (taken_shows_none _ _ (fails_by _ _ _ c.in-Ok.ensures c.in-Err-try_get_matches_from.ensures.kinds) (rw c.kind.ensures at c.in-DisplayHelp.is) asks.0)
+-- what is not taken, or for want of memory
+pub returns-in-Err-try_get_matches_from-clause-done : goal.returns-in-Err-try_get_matches_from-clause-done
+returns-in-Err-try_get_matches_from-clause-done g c = λ asks zero.
+    let told = taken_untold _ _ _ _ _ (fails_by _ _ _ c.in-Ok.ensures c.in-Err-try_get_matches_from.ensures.kinds) asks.0 c.answer_untaken.ensures in
+    let clash : 1 ≡ 0 = sym told.0 ∙ zero in absurd cc
 
-pub returns-in-DisplayHelp-clause-cut_off : goal.returns-in-DisplayHelp-clause-cut_off
-returns-in-DisplayHelp-clause-cut_off g c =
-    λ asks _. absurd (taken_shows_none _ _ (fails_by _ _ _ c.in-Ok.ensures c.in-Err-try_get_matches_from.ensures.kinds) (rw c.kind.ensures at c.in-DisplayHelp.is) asks.0)
+pub returns-in-Err-try_get_matches_from-clause-cut_off : goal.returns-in-Err-try_get_matches_from-clause-cut_off
+returns-in-Err-try_get_matches_from-clause-cut_off g c = λ asks other.
+    let kept = taken_untold _ _ _ _ _ (fails_by _ _ _ c.in-Ok.ensures c.in-Err-try_get_matches_from.ensures.kinds) asks.0 c.answer_untaken.ensures in
+    (kept.0, inl (refl, kept.1))
 
-pub returns-in-DisplayHelp-clause-word : goal.returns-in-DisplayHelp-clause-word
-returns-in-DisplayHelp-clause-word g c =
-    λ word values asks. absurd (taken_shows_none _ _ (fails_by _ _ _ c.in-Ok.ensures c.in-Err-try_get_matches_from.ensures.kinds) (rw c.kind.ensures at c.in-DisplayHelp.is) asks.0)
+pub returns-in-Err-try_get_matches_from-clause-word : goal.returns-in-Err-try_get_matches_from-clause-word
+returns-in-Err-try_get_matches_from-clause-word g c = λ word values asks.
+    let kept = taken_untold _ _ _ _ _ (fails_by _ _ _ c.in-Ok.ensures c.in-Err-try_get_matches_from.ensures.kinds) asks.0 c.answer_untaken.ensures in
+    told_nothing _ _ g.W.Write.contents c.args.output.now c.answer_untaken.new.output c.answer_untaken.result word values _ refl kept.1 kept.0
 
-pub returns-in-DisplayHelp-clause-serve : goal.returns-in-DisplayHelp-clause-serve
-returns-in-DisplayHelp-clause-serve g c =
-    λ values asks. absurd (taken_shows_none _ _ (fails_by _ _ _ c.in-Ok.ensures c.in-Err-try_get_matches_from.ensures.kinds) (rw c.kind.ensures at c.in-DisplayHelp.is) asks.0)
+pub returns-in-Err-try_get_matches_from-clause-serve : goal.returns-in-Err-try_get_matches_from-clause-serve
+returns-in-Err-try_get_matches_from-clause-serve g c = λ values asks.
+    let kept = taken_untold _ _ _ _ _ (fails_by _ _ _ c.in-Ok.ensures c.in-Err-try_get_matches_from.ensures.kinds) asks.0 c.answer_untaken.ensures in
+    served_nothing _ _ g.W.Write.contents c.args.output.now c.answer_untaken.new.output c.answer_untaken.result values _ refl kept.1 kept.0
 
-pub returns-in-DisplayHelp-clause-wrong : goal.returns-in-DisplayHelp-clause-wrong
-returns-in-DisplayHelp-clause-wrong g c =
-    λ _ helpless. absurd (helpless (help_shown _ _ (fails_by _ _ _ c.in-Ok.ensures c.in-Err-try_get_matches_from.ensures.kinds) (rw c.kind.ensures at c.in-DisplayHelp.is)))
+pub returns-in-Err-try_get_matches_from-clause-wrong : goal.returns-in-Err-try_get_matches_from-clause-wrong
+returns-in-Err-try_get_matches_from-clause-wrong g c = λ _ helpless.
+    untaken _ _ _ _ _ (fails_by _ _ _ c.in-Ok.ensures c.in-Err-try_get_matches_from.ensures.kinds) helpless c.answer_untaken.ensures
 
-pub returns : goal.returns
-returns g c = record {
-  done = λ _ zero. cc;
-  cut_off = λ asks _. absurd (c.in_default.not-OutOfMemory (c.kind.ensures ∙ run_fails _ _ (fails_by _ _ _ c.in-Ok.ensures c.in-Err-try_get_matches_from.ensures.kinds) asks));
-  word = λ _ _ asks. absurd (c.in_default.not-OutOfMemory (c.kind.ensures ∙ taken_fails _ _ (fails_by _ _ _ c.in-Ok.ensures c.in-Err-try_get_matches_from.ensures.kinds) asks.0));
-  serve = λ _ asks. absurd (c.in_default.not-OutOfMemory (c.kind.ensures ∙ taken_fails _ _ (fails_by _ _ _ c.in-Ok.ensures c.in-Err-try_get_matches_from.ensures.kinds) asks.0));
-  other = λ _. refl;
-  wrong = λ _ _. (inl refl, refl);
-  usage = λ _. (refl, refl);
-}
+pub returns-in-Err-try_get_matches_from-clause-usage : goal.returns-in-Err-try_get_matches_from-clause-usage
+returns-in-Err-try_get_matches_from-clause-usage g c = λ two.
+    (refl, unwritten_on_2 _ _ _ _ c.answer_untaken.ensures two)
+
+pub returns-in-Err-try_get_matches_from-clause-unused : goal.returns-in-Err-try_get_matches_from-clause-unused
+returns-in-Err-try_get_matches_from-clause-unused g c = λ two taken_all.
+    let told = taken_untold _ _ _ _ _ (fails_by _ _ _ c.in-Ok.ensures c.in-Err-try_get_matches_from.ensures.kinds) taken_all c.answer_untaken.ensures in
+    let clash : 1 ≡ 2 = sym told.0 ∙ two in absurd cc
+
+pub returns-in-Ok-try_get_matches_from-clause-unused : goal.returns-in-Ok-try_get_matches_from-clause-unused
+returns-in-Ok-try_get_matches_from-clause-unused g c = λ two _.
+    named_rows _ _ c.in-Ok-try_get_matches_from.matches c.in-Ok.ensures c.in-Ok-try_get_matches_from.ensures.matches ∙ (c.do_word.ensures.usage two).0
+
+pub returns-in-Ok-try_get_matches_from-clause-usage : goal.returns-in-Ok-try_get_matches_from-clause-usage
+returns-in-Ok-try_get_matches_from-clause-usage g c = λ two. (c.do_word.ensures.usage two).1
 
 pub returns-in-Err-clause-word : goal.returns-in-Err-clause-word
-returns-in-Err-clause-word g c = λ word values _. told_nothing _ _ g.W.Write.contents c.args.output.now c.args.output.now c.status.result word values refl c.status.ensures
-
-pub returns-in-OutOfMemory-clause-word : goal.returns-in-OutOfMemory-clause-word
-returns-in-OutOfMemory-clause-word g c =
-    λ word values _. told_nothing _ _ g.W.Write.contents c.args.output.now c.args.output.now c.status-in-OutOfMemory.result word values refl c.status-in-OutOfMemory.ensures
+returns-in-Err-clause-word g c = λ word values _. told_nothing _ _ g.W.Write.contents c.args.output.now c.args.output.now c.status.result word values _ refl refl c.status.ensures
 
 pub returns-in-Err-clause-serve : goal.returns-in-Err-clause-serve
-returns-in-Err-clause-serve g c = λ values _. served_nothing _ _ g.W.Write.contents c.args.output.now c.args.output.now c.status.result values refl c.status.ensures
-
-pub returns-in-OutOfMemory-clause-serve : goal.returns-in-OutOfMemory-clause-serve
-returns-in-OutOfMemory-clause-serve g c =
-    λ values _. served_nothing _ _ g.W.Write.contents c.args.output.now c.args.output.now c.status-in-OutOfMemory.result values refl c.status-in-OutOfMemory.ensures
+returns-in-Err-clause-serve g c = λ values _. served_nothing _ _ g.W.Write.contents c.args.output.now c.args.output.now c.status.result values _ refl refl c.status.ensures

@@ -1,4 +1,4 @@
-use Rattle.treasury_core.proofs.AcceptedClosing.{closing_adds_one, closing_locked, closing_zero, closing_stays, closing_untouched, closing_elsewhere}
+use Rattle.treasury_core.proofs.AcceptedClosing.{closing_adds_one, closing_locked, closing_apart, closing_zero, closing_stays, closing_untouched, closing_elsewhere}
 use Rattle.treasury_core.proofs.law.accepted_closing_law.Goals as goal
 
 pub returns-clause-adds : goal.returns-clause-adds
@@ -6,6 +6,9 @@ returns-clause-adds c = closing_adds_one
 
 pub returns-clause-locked : goal.returns-clause-locked
 returns-clause-locked c = closing_locked
+
+pub returns-clause-apart : goal.returns-clause-apart
+returns-clause-apart c = closing_apart
 
 pub returns-clause-zero : goal.returns-clause-zero
 returns-clause-zero c = closing_zero

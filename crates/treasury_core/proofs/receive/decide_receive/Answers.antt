@@ -1,14 +1,14 @@
-use Rattle.std.proofs.Common.{◌≡◌, ap, sym, ◌∙◌, inr, true, Some, None}
+use Rattle.std.proofs.Common.{◌≡◌, ap, sym, ◌∙◌, inr, true, false, Bool, Option, Some, None}
 use Rattle.std.specs.Str.{bytes_eq}
 use Rattle.treasury_core.specs.declared.command.Command.TheVariants.{Receive}
 use Rattle.treasury_core.specs.Transfer.{is_id}
-use Rattle.treasury_core.specs.Step.{transfer_at, receipt_refusal}
+use Rattle.treasury_core.specs.Step.{transfer_at, has_bad_key, has_nothing_left, receipt_refusal}
 use Rattle.treasury_core.specs.Good.{IsGoodBranch}
 use Rattle.treasury_core.specs.Seen.{branch_of}
 use Rattle.treasury_core.specs.Kept.{branch_at}
 use Rattle.treasury_core.proofs.FindLemmas.{there, missing}
 use Rattle.treasury_core.proofs.DecideLemmas.{found_holds}
-use Rattle.treasury_core.proofs.TransferReplyLemmas.{IsClaimed, same_test, same_find, not_true, not_false, repeats, settles, no_branch, bad_receipt_id, no_transfer, wrong_branch, received_so, received_other, received_new, receipt_adds, transfer_small}
+use Rattle.treasury_core.proofs.TransferReplyLemmas.{IsClaimed, IsAimed, so_held, same_test, same_find, not_true, not_false, repeats, settles, no_branch, bad_receipt_id, bad_key, no_transfer, wrong_branch, received_so, received_other, received_all, received_new, receipt_adds, transfer_good, asked_small}
 use Rattle.treasury_core.proofs.receive.decide_receive.Goals as goal
 
 pub returns-in_default : goal.returns-in_default
@@ -29,6 +29,16 @@ returns-then-not-is_id g c =
     let branch = (there f.branches r.branch b found).any in
     inr (bad_receipt_id f r branch (ap is_id (sym (c.as_bytes.ensures.value ∙ c.as_str-2.ensures)) ∙ (sym c.is_id.ensures ∙ c.if-not-is_id.true)))
 
+pub returns-then-has_bad_key : goal.returns-then-has_bad_key
+returns-then-has_bad_key g c =
+    let f = c.args.state.now in
+    let r = c.args.receive.now in
+    let b = branch_of c.in-Some.target.now in
+    let found : branch_at f.branches r.branch ≡ Some b =
+    ap (branch_at f.branches) (sym c.as_str.ensures) ∙ c.in-Some.ensures.found in
+    let branch = (there f.branches r.branch b found).any in
+    inr (bad_key f r branch (ap is_id (sym (c.as_bytes.ensures.value ∙ c.as_str-2.ensures)) ∙ (sym c.is_id.ensures ∙ c.if-not-is_id.false)) (sym c.has_bad_key.ensures ∙ c.if-has_bad_key.true))
+
 pub returns-in_default-find_transfer : goal.returns-in_default-find_transfer
 returns-in_default-find_transfer g c =
     let f = c.args.state.now in
@@ -37,7 +47,7 @@ returns-in_default-find_transfer g c =
     let found : branch_at f.branches r.branch ≡ Some b =
     ap (branch_at f.branches) (sym c.as_str.ensures) ∙ c.in-Some.ensures.found in
     let branch = (there f.branches r.branch b found).any in
-    let claimed : IsClaimed f r = record { branch = branch; id = ap is_id (sym (c.as_bytes.ensures.value ∙ c.as_str-2.ensures)) ∙ (sym c.is_id.ensures ∙ c.if-not-is_id.false) } in
+    let claimed : IsClaimed f r = record { branch = branch; id = ap is_id (sym (c.as_bytes.ensures.value ∙ c.as_str-2.ensures)) ∙ (sym c.is_id.ensures ∙ c.if-not-is_id.false); key = sym c.has_bad_key.ensures ∙ c.if-has_bad_key.false } in
     inr (no_transfer f r claimed (same_find (sym c.as_str-3.ensures) (sym c.transfers.ensures) (sym c.in_default-find_transfer.ensures)))
 
 pub returns-then-ne : goal.returns-then-ne
@@ -48,7 +58,7 @@ returns-then-ne g c =
     let found : branch_at f.branches r.branch ≡ Some b =
     ap (branch_at f.branches) (sym c.as_str.ensures) ∙ c.in-Some.ensures.found in
     let branch = (there f.branches r.branch b found).any in
-    let claimed : IsClaimed f r = record { branch = branch; id = ap is_id (sym (c.as_bytes.ensures.value ∙ c.as_str-2.ensures)) ∙ (sym c.is_id.ensures ∙ c.if-not-is_id.false) } in
+    let claimed : IsClaimed f r = record { branch = branch; id = ap is_id (sym (c.as_bytes.ensures.value ∙ c.as_str-2.ensures)) ∙ (sym c.is_id.ensures ∙ c.if-not-is_id.false); key = sym c.has_bad_key.ensures ∙ c.if-has_bad_key.false } in
     let t = c.in-Some-find_transfer.transfer.now in
     let at : transfer_at f r.id ≡ Some t = same_find (sym c.as_str-3.ensures) (sym c.transfers.ensures) (sym c.in-Some-find_transfer.ensures) in
     inr (wrong_branch f r t claimed at (same_test c.as_str-4.ensures c.as_str-5.ensures (not_true c.ne.ensures c.if-ne.true)))
@@ -62,41 +72,82 @@ judged-requires-clause-good g c =
     ap (branch_at f.branches) (sym c.as_str.ensures) ∙ c.in-Some.ensures.found in
     (found_holds (IsGoodBranch f.styles) f.branches r.branch b found c.is_good.ensures.branches).book
 
+pub judged-requires-clause-parts : goal.judged-requires-clause-parts
+judged-requires-clause-parts g c =
+    let f = c.args.state.now in
+    let r = c.args.receive.now in
+    let t = c.in-Some-find_transfer.transfer.now in
+    let at : transfer_at f r.id ≡ Some t = same_find (sym c.as_str-3.ensures) (sym c.transfers.ensures) (sym c.in-Some-find_transfer.ensures) in
+    (transfer_good f r.id t c.is_good.ensures at).parts
+
 pub judged-requires-clause-small : goal.judged-requires-clause-small
 judged-requires-clause-small g c =
     let f = c.args.state.now in
     let r = c.args.receive.now in
     let t = c.in-Some-find_transfer.transfer.now in
     let at : transfer_at f r.id ≡ Some t = same_find (sym c.as_str-3.ensures) (sym c.transfers.ensures) (sym c.in-Some-find_transfer.ensures) in
-    transfer_small f r.id t c.is_good.ensures at
+    asked_small f r t c.is_good.ensures c.requires at
 
-pub returns-then-is_received_so : goal.returns-then-is_received_so
-returns-then-is_received_so g c =
+pub held_so-requires-clause-parts : goal.held_so-requires-clause-parts
+held_so-requires-clause-parts g c =
+    let f = c.args.state.now in
+    let r = c.args.receive.now in
+    let t = c.in-Some-find_transfer.transfer.now in
+    let at : transfer_at f r.id ≡ Some t = same_find (sym c.as_str-3.ensures) (sym c.transfers.ensures) (sym c.in-Some-find_transfer.ensures) in
+    (transfer_good f r.id t c.is_good.ensures at).parts
+
+pub has_nothing_left-requires : goal.has_nothing_left-requires
+has_nothing_left-requires g c =
+    let f = c.args.state.now in
+    let r = c.args.receive.now in
+    let t = c.in-Some-find_transfer.transfer.now in
+    let at : transfer_at f r.id ≡ Some t = same_find (sym c.as_str-3.ensures) (sym c.transfers.ensures) (sym c.in-Some-find_transfer.ensures) in
+    (transfer_good f r.id t c.is_good.ensures at).parts
+
+pub returns-then-is_so : goal.returns-then-is_so
+returns-then-is_so g c =
     let f = c.args.state.now in
     let r = c.args.receive.now in
     let b = branch_of c.in-Some.target.now in
     let found : branch_at f.branches r.branch ≡ Some b =
     ap (branch_at f.branches) (sym c.as_str.ensures) ∙ c.in-Some.ensures.found in
     let branch = (there f.branches r.branch b found).any in
-    let claimed : IsClaimed f r = record { branch = branch; id = ap is_id (sym (c.as_bytes.ensures.value ∙ c.as_str-2.ensures)) ∙ (sym c.is_id.ensures ∙ c.if-not-is_id.false) } in
+    let claimed : IsClaimed f r = record { branch = branch; id = ap is_id (sym (c.as_bytes.ensures.value ∙ c.as_str-2.ensures)) ∙ (sym c.is_id.ensures ∙ c.if-not-is_id.false); key = sym c.has_bad_key.ensures ∙ c.if-has_bad_key.false } in
     let t = c.in-Some-find_transfer.transfer.now in
     let at : transfer_at f r.id ≡ Some t = same_find (sym c.as_str-3.ensures) (sym c.transfers.ensures) (sym c.in-Some-find_transfer.ensures) in
-    let own : bytes_eq t.target r.branch ≡ true = same_test c.as_str-4.ensures c.as_str-5.ensures (not_false c.ne.ensures c.if-ne.false) in
-    repeats f (Receive r) c.repeated.result (received_so f r t c.in-Some-receipt.receipt claimed at own c.in-Some-receipt.is (sym c.is_received_so.ensures ∙ c.if-is_received_so.true)) c.repeated.ensures
+    let aimed : IsAimed f r t = record { claimed = claimed; at = at; own = same_test c.as_str-4.ensures c.as_str-5.ensures (not_false c.ne.ensures c.if-ne.false) } in
+    let so : so_held t r ≡ Some true = sym c.held_so.ensures ∙ (c.in-Some-held_so.is ∙ ap (λ (b : Bool). let o : Option Bool = Some b in o) c.if-is_so.true) in
+    repeats f (Receive r) c.repeated.result (received_so f r t aimed so) c.repeated.ensures
 
-pub returns-in-Some-receipt : goal.returns-in-Some-receipt
-returns-in-Some-receipt g c =
+pub returns-in-Some-held_so : goal.returns-in-Some-held_so
+returns-in-Some-held_so g c =
     let f = c.args.state.now in
     let r = c.args.receive.now in
     let b = branch_of c.in-Some.target.now in
     let found : branch_at f.branches r.branch ≡ Some b =
     ap (branch_at f.branches) (sym c.as_str.ensures) ∙ c.in-Some.ensures.found in
     let branch = (there f.branches r.branch b found).any in
-    let claimed : IsClaimed f r = record { branch = branch; id = ap is_id (sym (c.as_bytes.ensures.value ∙ c.as_str-2.ensures)) ∙ (sym c.is_id.ensures ∙ c.if-not-is_id.false) } in
+    let claimed : IsClaimed f r = record { branch = branch; id = ap is_id (sym (c.as_bytes.ensures.value ∙ c.as_str-2.ensures)) ∙ (sym c.is_id.ensures ∙ c.if-not-is_id.false); key = sym c.has_bad_key.ensures ∙ c.if-has_bad_key.false } in
     let t = c.in-Some-find_transfer.transfer.now in
     let at : transfer_at f r.id ≡ Some t = same_find (sym c.as_str-3.ensures) (sym c.transfers.ensures) (sym c.in-Some-find_transfer.ensures) in
-    let own : bytes_eq t.target r.branch ≡ true = same_test c.as_str-4.ensures c.as_str-5.ensures (not_false c.ne.ensures c.if-ne.false) in
-    inr (received_other f r t c.in-Some-receipt.receipt claimed at own c.in-Some-receipt.is (sym c.is_received_so.ensures ∙ c.if-is_received_so.false))
+    let aimed : IsAimed f r t = record { claimed = claimed; at = at; own = same_test c.as_str-4.ensures c.as_str-5.ensures (not_false c.ne.ensures c.if-ne.false) } in
+    let so : so_held t r ≡ Some false = sym c.held_so.ensures ∙ (c.in-Some-held_so.is ∙ ap (λ (b : Bool). let o : Option Bool = Some b in o) c.if-is_so.false) in
+    inr (received_other f r t aimed so)
+
+pub returns-then-has_nothing_left : goal.returns-then-has_nothing_left
+returns-then-has_nothing_left g c =
+    let f = c.args.state.now in
+    let r = c.args.receive.now in
+    let b = branch_of c.in-Some.target.now in
+    let found : branch_at f.branches r.branch ≡ Some b =
+    ap (branch_at f.branches) (sym c.as_str.ensures) ∙ c.in-Some.ensures.found in
+    let branch = (there f.branches r.branch b found).any in
+    let claimed : IsClaimed f r = record { branch = branch; id = ap is_id (sym (c.as_bytes.ensures.value ∙ c.as_str-2.ensures)) ∙ (sym c.is_id.ensures ∙ c.if-not-is_id.false); key = sym c.has_bad_key.ensures ∙ c.if-has_bad_key.false } in
+    let t = c.in-Some-find_transfer.transfer.now in
+    let at : transfer_at f r.id ≡ Some t = same_find (sym c.as_str-3.ensures) (sym c.transfers.ensures) (sym c.in-Some-find_transfer.ensures) in
+    let aimed : IsAimed f r t = record { claimed = claimed; at = at; own = same_test c.as_str-4.ensures c.as_str-5.ensures (not_false c.ne.ensures c.if-ne.false) } in
+    let none : so_held t r ≡ None = sym c.held_so.ensures ∙ c.in_default-held_so.is in
+    inr (received_all f r t aimed none (sym c.has_nothing_left.ensures ∙ c.if-has_nothing_left.true))
 
 pub returns : goal.returns
 returns g c =
@@ -106,9 +157,11 @@ returns g c =
     let found : branch_at f.branches r.branch ≡ Some b =
     ap (branch_at f.branches) (sym c.as_str.ensures) ∙ c.in-Some.ensures.found in
     let branch = (there f.branches r.branch b found).any in
-    let claimed : IsClaimed f r = record { branch = branch; id = ap is_id (sym (c.as_bytes.ensures.value ∙ c.as_str-2.ensures)) ∙ (sym c.is_id.ensures ∙ c.if-not-is_id.false) } in
+    let claimed : IsClaimed f r = record { branch = branch; id = ap is_id (sym (c.as_bytes.ensures.value ∙ c.as_str-2.ensures)) ∙ (sym c.is_id.ensures ∙ c.if-not-is_id.false); key = sym c.has_bad_key.ensures ∙ c.if-has_bad_key.false } in
     let t = c.in-Some-find_transfer.transfer.now in
     let at : transfer_at f r.id ≡ Some t = same_find (sym c.as_str-3.ensures) (sym c.transfers.ensures) (sym c.in-Some-find_transfer.ensures) in
-    let own : bytes_eq t.target r.branch ≡ true = same_test c.as_str-4.ensures c.as_str-5.ensures (not_false c.ne.ensures c.if-ne.false) in
-    settles f (Receive r) _ (receipt_refusal b.locked b.records t r) c.judged.result c.settled.result (received_new f r t b claimed at own c.in_default-receipt.is (there f.branches r.branch b found)) (receipt_adds f r t at)
+    let aimed : IsAimed f r t = record { claimed = claimed; at = at; own = same_test c.as_str-4.ensures c.as_str-5.ensures (not_false c.ne.ensures c.if-ne.false) } in
+    let none : so_held t r ≡ None = sym c.held_so.ensures ∙ c.in_default-held_so.is in
+    settles f (Receive r) _ (receipt_refusal b.locked b.records t r) c.judged.result c.settled.result
+    (received_new f r t b aimed none (sym c.has_nothing_left.ensures ∙ c.if-has_nothing_left.false) (there f.branches r.branch b found)) (receipt_adds f r t at)
     c.settled.ensures c.judged.ensures.value c.judged.ensures.passes c.judged.ensures.err

@@ -126,3 +126,6 @@ returns-clause-same g c clean ours never =
     let clean_mid : HasCleanDisk (state g.S.Store c.format_rows.new.conn) = omega (arith, c.upgrade.ensures.crash.clean, clean) in
     let same = shown_versions ((state g.S.Store c.args.conn.now).now.trees 0) _ (Int (pos 1)) (c.in_ok-rows.ensures.rows clean_mid (inl has)) in
     absurd (never (record { schema = has; version = same.0 (subst (λ items. map (λ r. column r 0) items ≡ Int (pos 1) ∷ []) c.deref-2.ensures.value (c.is_version-2.ensures.0 one)) }))
+
+pub returns-then-has_receipt-clause-opened : goal.returns-then-has_receipt-clause-opened
+returns-then-has_receipt-clause-opened g c clean there = (c.in_ok-rows.ensures.same clean).0.is_open

@@ -1,4 +1,4 @@
-use Rattle.std.proofs.Common.{◌≡◌, ◌∙◌, sym, subst, arith, rules}
+use Rattle.std.proofs.Common.{◌≡◌, ◌∙◌, IsTrue, sym, subst, arith, rules}
 use Rattle.sqlite.specs.Effect.{Database}
 use Rattle.sqlite.specs.State.{HasCleanDisk, Survives}
 use Rattle.sqlite.specs.Held.{state}
@@ -42,3 +42,11 @@ returns-in_err-commit-clause-crash g c =
     let whole = crashes g.S.Store old last c.commit.new.self.0 P (rw begun at c.make_second.ensures.survives) c.commit.ensures.survives
     (λ clean first. subst (λ h. IsFirstNumbered (state g.S.Store h).now → Upgrades (state g.S.Store h).now (state g.S.Store last).now) begun (c.in_ok-make_second.ensures.makes clean) first) in
     subst (λ h. Survives (state g.S.Store old) (state g.S.Store h) (λ trees. (db : Database) × (trees ≡ db.trees) × P db)) same whole
+
+pub returns-clause-opened : goal.returns-clause-opened
+returns-clause-opened g c clean =
+    let end = c.commit.new.self.0 in
+    let same : end ≡ c.conn-2-1.given.0 = search rules in
+    let late : HasCleanDisk (state g.S.Store end) = search rules in
+    let done = (c.in_ok-commit.ensures.ok late).1 in
+    subst (λ h. IsTrue (state g.S.Store h).is_open) same done.is_open

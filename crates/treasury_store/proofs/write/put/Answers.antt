@@ -36,3 +36,6 @@ returns-in-Receipt-clause-writes g c =
     subst (λ (x : Change). Writes g.S.Store c.args.tx.now.conn.now c.set_receipt.new.tx.conn.now c.set_receipt.result (changed x)) (sym c.in-Receipt.is)
     (subst₂ (λ (id payee : List ℕ). Writes g.S.Store c.args.tx.now.conn.now c.set_receipt.new.tx.conn.now c.set_receipt.result (with_receipt id c.in-Receipt.day payee)) c.as_str.ensures c.as_str-in-Receipt.ensures
     (subst (λ (d : ℤ). Writes g.S.Store c.args.tx.now.conn.now c.set_receipt.new.tx.conn.now c.set_receipt.result (with_receipt c.as_str.result.now d c.as_str-in-Receipt.result.now)) day c.set_receipt.ensures.writes))
+
+pub returns-in-Part-clause-writes : goal.returns-in-Part-clause-writes
+returns-in-Part-clause-writes g c = subst (λ (x : Change). Writes g.S.Store c.args.tx.now.conn.now c.put_part.new.tx.conn.now c.put_part.result (changed x)) (sym c.in-Part.is) c.put_part.ensures.writes

@@ -1,6 +1,9 @@
-use Rattle.treasury.proofs.OverFileLemmas.{makes_if_closed}
+use Rattle.sqlite_wal.specs.Files.{image_at}
+use Rattle.treasury.proofs.LeftLemmas.{keeps_untouched}
 use Rattle.treasury.proofs.words.file.make_tables.Goals as goal
 
-pub returns-in-Ok-create : goal.returns-in-Ok-create
-returns-in-Ok-create g c =
-    makes_if_closed _ c.close.result _ c.in-Ok-connect.conn c.into_connection.result c.in-Ok-create.store c.into_connection.ensures c.in-Ok-connect.ensures.found c.in-Ok-create.ensures.made c.in-Ok-create.ensures.free c.in-Ok-create.ensures.clean c.close.ensures
+pub returns-in-Err : goal.returns-in-Err
+returns-in-Err g c = keeps_untouched _ (image_at g.S.Start) _ c.untouched.ensures
+
+pub returns-in-Ok-connect : goal.returns-in-Ok-connect
+returns-in-Ok-connect g c = c.make_on.ensures (image_at g.S.Start) c.in-Ok-connect.ensures.opened

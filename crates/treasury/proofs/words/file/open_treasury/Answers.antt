@@ -1,7 +1,10 @@
-use Rattle.treasury.proofs.OverFileLemmas.{is_started}
+use Rattle.sqlite_wal.specs.Files.{image_at}
+use Rattle.treasury.proofs.LeftLemmas.{keeps_untouched}
+use Rattle.treasury.proofs.OverFileLemmas.{started_by}
 use Rattle.treasury.proofs.words.file.open_treasury.Goals as goal
 
-pub returns-in-Ok-start : goal.returns-in-Ok-start
-returns-in-Ok-start g c =
-    is_started _ _ c.in-Ok-connect.conn c.in-Ok-open.store c.in-Ok-start.treasury c.in-Ok-connect.ensures.opened c.in-Ok-connect.ensures.found
-    c.in-Ok-open.ensures.opened c.in-Ok-open.ensures.clean c.in-Ok-start.ensures.of c.in-Ok-start.ensures.open c.in-Ok-start.ensures.crash
+pub returns-in-Err : goal.returns-in-Err
+returns-in-Err g c = keeps_untouched _ (image_at g.S.Start) _ c.untouched.ensures
+
+pub returns-in-Ok-connect : goal.returns-in-Ok-connect
+returns-in-Ok-connect g c = started_by _ (λ r. r.left) c.start_on.result (image_at g.S.Start) c.in-Ok-connect.conn c.in-Ok-connect.ensures.opened c.start_on.ensures

@@ -1,8 +1,5 @@
-use Rattle.std.proofs.Common.{sym, inr}
-use Rattle.treasury.specs.Started.{spoken}
-use Rattle.treasury.proofs.OverFileLemmas.{said_alike}
+use Rattle.std.proofs.Common.{None, sym, inl, inr}
 use Rattle.treasury.proofs.words.over_file.answer_import.Goals as goal
 
-pub returns-in-Ok-import_of : goal.returns-in-Ok-import_of
-returns-in-Ok-import_of g c =
-    inr (inr (c.in-Some.branch.now, c.in-Ok.bytes.items, sym c.in-Some.ensures, said_alike _ _ c.in-Ok-import_of.request _ (spoken c.answer_request.result) c.in-Ok-import_of.ensures.request c.answer_request.ensures))
+pub returns-in-Ok : goal.returns-in-Ok
+returns-in-Ok g c = inr (c.in-Some.branch.now, None, sym c.in-Some.ensures, c.answer_journal.ensures)

@@ -4,10 +4,12 @@ use Rattle.std.specs.List.{AllByRecursion}
 use Rattle.money_core.specs.Amount.{limit}
 use Rattle.treasury_core.specs.declared.transfer.Transfer.{Transfer}
 use Rattle.treasury_core.specs.Transfer.{asked}
+use Rattle.treasury_core.specs.Fair.{IsMarked}
 use Rattle.treasury_core.proofs.judging.carried.asked.Given as goal
 
 abbrev pub invariant-loop-transfer : goal.invariant-loop-transfer
 invariant-loop-transfer l = record {
   all : l.rows ++ asked (drop l.transfer-index l.transfers) l.name ≡ asked l.transfers l.name;
+  marked : AllByRecursion IsMarked (drop l.transfer-index l.transfers);
   small : AllByRecursion (λ (t : Transfer). unsigned_abs t.qty ≤ limit) (drop l.transfer-index l.transfers);
 }

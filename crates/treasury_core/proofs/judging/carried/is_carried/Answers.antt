@@ -11,7 +11,7 @@ returns-in_default-clause-value c =
     let b = c.args.branch.now in
     let rows : c.items.result.now ≡ asked ts b.name =
     c.items.ensures ∙ (c.in_ok-rows.ensures.value ∙ ap (asked ts) (c.as_str.ensures ∙ ap (λ (x : Branch). x.name) c.branch.view_is)) in
-    let own : HaveOwnMarks c.items.result.now = subst HaveOwnMarks (sym rows) (own_asked ts b.name c.requires.ids) in
+    let own : HaveOwnMarks c.items.result.now = subst HaveOwnMarks (sym rows) (own_asked ts b.name c.requires.marked c.requires.ids) in
     absurd (when_none c.in_ok-marks.field-0 _ _ c.in_default.is c.in_ok-marks.ensures.value own)
 
 pub returns-then-not-are_held-clause-value : goal.returns-then-not-are_held-clause-value
@@ -22,7 +22,7 @@ returns-then-not-are_held-clause-value c =
     let rows : c.items-2.result.now ≡ asked ts b.name =
     c.items-2.ensures ∙ (c.in_ok-rows.ensures.value ∙ ap (asked ts) (c.as_str.ensures ∙ ap (λ (x : Branch). x.name) c.branch.view_is)) in (
       (λ h. absurd (let k : false ≡ true = h in cc)),
-      (λ carried. absurd (let k : true ≡ false = sym (c.are_held.ensures.1 (moved Stand _ _ _ _ records rows (stand_of ts b c.requires.ids carried))) ∙ c.if-not-are_held.true in cc)),
+      (λ carried. absurd (let k : true ≡ false = sym (c.are_held.ensures.1 (moved Stand _ _ _ _ records rows (stand_of ts b c.requires.marked c.requires.ids carried))) ∙ c.if-not-are_held.true in cc)),
     )
 
 pub returns-clause-value : goal.returns-clause-value

@@ -12,7 +12,7 @@ changes_of-requires g c =
     let f = c.requires.0 in
     let n = c.in-Some.numbers in
     let same : n ≡ numbers_of f = some_numbers n (numbers_of f) (sym c.in-Some.is ∙ c.requires.1) in
-    let fit = subst₂ AreWritable (sym same) (sym c.additions.ensures) (additions_fit f c.args.delta.now c.requires.2) in
+    let fit = subst₂ AreWritable (sym same) (sym c.additions.ensures) (additions_fit f c.args.delta.now c.requires.2.good) in
     record { styles = fit.styles; fit = fit.fit }
 
 pub returns-in-Ok-clause-ok : goal.returns-in-Ok-clause-ok

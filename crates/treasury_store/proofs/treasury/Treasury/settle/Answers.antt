@@ -1,8 +1,11 @@
 use Rattle.std.proofs.Common.{rules, subst}
 use Rattle.treasury_core.specs.Federation.{Federation}
 use Rattle.treasury_store.proofs.OwnRefusalLemmas.{refused_unfailed}
-use Rattle.treasury_store.proofs.TreasuryLemmas.{performs_decided, SurvivesChange}
+use Rattle.treasury_store.proofs.TreasuryLemmas.{performs_decided, SurvivesChange, decided_joins}
 use Rattle.treasury_store.proofs.treasury.Treasury.settle.Goals as goal
+
+pub write-requires-clause-good : goal.write-requires-clause-good
+write-requires-clause-good g c = decided_joins c.args.now c.args.command.now c.in-Ok.answer c.in-Ok.delta c.in-Ok.ensures.decides.1 c.in-Ok.ensures.good
 
 pub returns-in-Ok-write-clause-performs : goal.returns-in-Ok-write-clause-performs
 returns-in-Ok-write-clause-performs g c of short unfailed =

@@ -1,4 +1,4 @@
-use Rattle.std.proofs.Common.{subst, inl, inr}
+use Rattle.std.proofs.Common.{subst}
 use Rattle.treasury_core.specs.Federation.{Federation}
 use Rattle.treasury_store.specs.Store.{IsOf}
 use Rattle.treasury_store.proofs.TreasuryLemmas.{fails_as}
@@ -23,3 +23,6 @@ returns-in-Ok-clause-left g c = c.load.ensures.left
 
 pub returns-in-Err-clause-left : goal.returns-in-Err-clause-left
 returns-in-Err-clause-left g c = c.load.ensures.left
+
+pub returns-in-Ok-clause-kept : goal.returns-in-Ok-clause-kept
+returns-in-Ok-clause-kept g c clean = c.load.ensures.unchanged clean (c.in-Ok.ensures.still_open clean)
