@@ -11,7 +11,7 @@ use clap::{Arg, Command, value_parser};
 use std::alloc::{AllocError, Global};
 
 /// The version that `--version` shows.
-const VERSION: &str = "0.3.0";
+const VERSION: &str = "0.4.0";
 
 /// What the program is for.
 const ABOUT: &str = "Keeps the books of a federation of branches in a database file.";
