@@ -1,7 +1,7 @@
-// Both ends of the connections of bench/serve: `connections ask PORT FILE` sends each request of FILE on a connection of its own, one after
-// another, and prints a line for each: how many nanoseconds went by until all of the reply was there, and the reply's size, its status,
-// and its body up to the first line's end. `connections bare PORT N` serves N connections with as few calls as one can have: it takes what
-// comes, answers `ok`, and waits for the peer's end.
+// Both ends of the connections of bench/serve: `connections ask PORT FILE` sends each request of FILE on a connection
+// of its own, one after another, and prints a line for each: how many nanoseconds went by until all of the reply was
+// there, and the reply's size, its status, and its body up to the first line's end. `connections bare PORT N` serves N
+// connections with as few calls as one can have: it takes what comes, answers `ok`, and waits for the peer's end.
 //
 // FILE has, for each request, a line with its number of bytes, and then these.
 #include <arpa/inet.h>
@@ -74,7 +74,8 @@ static void ask_all(int port, FILE *file) {
 }
 
 static void serve_bare(int port, long connections) {
-    static const char reply[] = "HTTP/1.1 200 OK\r\nContent-Type: text/plain; charset=utf-8\r\nContent-Length: 3\r\nConnection: close\r\n\r\nok\n";
+    static const char reply[] = "HTTP/1.1 200 OK\r\nContent-Type: text/plain; charset=utf-8\r\nContent-Length: 3\r\n"
+                                "Connection: close\r\n\r\nok\n";
     struct sockaddr_in address = address_of(port);
     int on = 1, listener = socket(AF_INET, SOCK_STREAM, 0);
     setsockopt(listener, SOL_SOCKET, SO_REUSEADDR, &on, sizeof on);

@@ -1,9 +1,10 @@
-# Writes the journals of a benchmark, FOLDER/1.journal and so on: a bank statement in order of days, over 28 days of each
-# month of a year, or over the first DAYS of these if DAYS is over 0, and 200 expense accounts, with two postings in each
-# transaction. If EVERY is over 0, the posting to the bank asserts the balance in every EVERYth transaction.
+# Writes the journals of a benchmark, FOLDER/1.journal and so on: a bank statement in order of days, over 28 days of
+# each month of a year, or over the first DAYS of these if DAYS is over 0, and 200 expense accounts, with two postings
+# in each transaction. If EVERY is over 0, the posting to the bank asserts the balance in every EVERYth transaction.
 # Use: awk -v folder=FOLDER -v journals=10 -v transactions=4980 -v every=10 -v days=0 -f bench/statement.awk
-function euros(cents) {
-    return sprintf("%s%d.%02d EUR", cents < 0 ? "-" : "", (cents < 0 ? -cents : cents) / 100, (cents < 0 ? -cents : cents) % 100)
+function euros(cents,  size) {
+    size = cents < 0 ? -cents : cents
+    return sprintf("%s%d.%02d EUR", cents < 0 ? "-" : "", size / 100, size % 100)
 }
 BEGIN {
     all = journals * transactions

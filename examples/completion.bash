@@ -22,7 +22,8 @@ _treasury_options() {
 
 _treasury() {
     local at=${COMP_WORDS[COMP_CWORD]} before=${COMP_WORDS[COMP_CWORD - 1]}
-    local commands="init branch commodity import balance register dispatch receive transit lock close journal serve run help"
+    local commands="init branch commodity import balance register dispatch receive transit lock close journal serve run"
+    commands+=" help"
     COMPREPLY=()
     if [ "$COMP_CWORD" = 1 ]; then
         mapfile -t COMPREPLY < <(compgen -W "$commands --help --version" -- "$at")
@@ -32,7 +33,8 @@ _treasury() {
         mapfile -t COMPREPLY < <(compgen -W "$(_treasury_options "${COMP_WORDS[1]}")" -- "$at")
     else
         case $before in
-        --branch | --id | --from | --to | --day | --amount | --account | --tag | --accounts | --into | --port | --requests) ;;
+        --branch | --id | --from | --to | --day | --amount | --account | --tag | --accounts | --into) ;;
+        --port | --requests) ;;
         *) mapfile -t COMPREPLY < <(compgen -f -- "$at") ;;
         esac
     fi

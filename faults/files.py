@@ -1,5 +1,5 @@
-"""Commands over a file: those of faults/rows.session, and some over databases of version 1, each with the file before it, and what
-SQLite finds before it and after it."""
+"""Commands over a file: those of faults/rows.session, and some over databases of version 1, each with the file before
+it, and what SQLite finds before it and after it."""
 import os
 import re
 import shlex
@@ -14,15 +14,21 @@ import shared
 DONE = re.compile(r"ok ([0-9]+) new, ([0-9]+) repeated\n")
 # What an opening adds to the tables of version 1 (docs/FORMATS.md, "Tables").
 RECEIPT = (
-    "CREATE TABLE receipt (transfer TEXT NOT NULL, part TEXT NOT NULL, qty INTEGER NOT NULL, received INTEGER NOT NULL, "
-    "payee TEXT NOT NULL, PRIMARY KEY (transfer, part)) STRICT"
+    "CREATE TABLE receipt (transfer TEXT NOT NULL, part TEXT NOT NULL, qty INTEGER NOT NULL, "
+    "received INTEGER NOT NULL, payee TEXT NOT NULL, PRIMARY KEY (transfer, part)) STRICT"
 )
-# Databases of version 1 in cases/data; over each, the commands that open it, and their answers, as cases/versions.session has them.
+# Databases of version 1 in cases/data; over each, the commands that open it, and their answers, as
+# cases/versions.session has them.
 OPENINGS = {
     "version_1_transfer": [
-        ("treasury balance --db t.db --branch north --day 2024-03-31",
-         ["          -50.00 EUR  assets:bank", "           50.00 EUR  assets:transit:north:south"]),
-        ("treasury receive --db t.db --id t9 --branch south --day 2024-03-05 --account assets:bank", ["refused 31 UnknownTransfer"]),
+        (
+            "treasury balance --db t.db --branch north --day 2024-03-31",
+            ["          -50.00 EUR  assets:bank", "           50.00 EUR  assets:transit:north:south"],
+        ),
+        (
+            "treasury receive --db t.db --id t9 --branch south --day 2024-03-05 --account assets:bank",
+            ["refused 31 UnknownTransfer"],
+        ),
     ],
     "version_1_year": [
         ("treasury transit --db t.db --day 2024-12-31", ["           10.00 EUR  north to south"]),
@@ -33,7 +39,9 @@ OPENINGS = {
 
 def second(tables):
     """Returns tables of version 1 as an opening leaves them: of version 2, with no receipt in parts."""
-    return sorted((sql, [(2,)] if sql.startswith("CREATE TABLE format ") else rows) for sql, rows in [*tables, (RECEIPT, [])])
+    return sorted(
+        (sql, [(2,)] if sql.startswith("CREATE TABLE format ") else rows) for sql, rows in [*tables, (RECEIPT, [])]
+    )
 
 
 def repeated(words, answer):
@@ -47,8 +55,8 @@ def repeated(words, answer):
 
 
 class Command:
-    """A command over t.db: what it is answered, and answered again; what the folder has before it, and the tables before it and after.
-    Those before it may be there in version 1 or, once they were opened, in version 2."""
+    """A command over t.db: what it is answered, and answered again; what the folder has before it, and the tables
+    before it and after. Those before it may be there in version 1 or, once they were opened, in version 2."""
 
     def __init__(self, title, step):
         self.words, self.answer = shlex.split(step.text)[1:], "".join(line + "\n" for line in step.answer)

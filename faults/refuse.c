@@ -1,5 +1,5 @@
-// Is placed between the built program and the C library, and makes calls fail: of CALL the one whose number is NUMBER, and those after it
-// until TIMES have failed (one, if TIMES is not given); none if NUMBER is 0.
+// Is placed between the built program and the C library, and makes calls fail: of CALL the one whose number is NUMBER,
+// and those after it until TIMES have failed (one, if TIMES is not given); none if NUMBER is 0.
 //
 //   memory  malloc and realloc: there is none
 //   read    a read of standard input fails; if PART is given, each of them takes at most so many bytes
@@ -12,10 +12,10 @@
 //   bytes   a write to standard output that comes to this byte takes those before it, and from then on all of them fail
 //   disk    a call that changes a file (pwrite, ftruncate) or syncs it (fsync, fdatasync) fails
 //   stop    before such a call the process is killed
-//   lose    the same, and each file loses what was changed since its last sync; also when the program has come to its end
+//   lose    the same, and each file loses what was changed since its last sync; also when the program has ended
 //
-// If PAGE names a file of four numbers of 64 bits (calls so far, NUMBER, TIMES, failures), these are read and written there at each
-// call, so that another process sees them, and can change what fails meanwhile.
+// If PAGE names a file of four numbers of 64 bits (calls so far, NUMBER, TIMES, failures), these are read and written
+// there at each call, so that another process sees them, and can change what fails meanwhile.
 #define _GNU_SOURCE
 #include <dlfcn.h>
 #include <errno.h>
@@ -202,7 +202,8 @@ static void lose(void) {
         if (change->file == 0) continue;
         int number = change->file->number;
         if (cut(number, change->length) != 0) abort();
-        if (change->kept > 0 && write_at(number, change->bytes, change->kept, change->at) != (ssize_t)change->kept) abort();
+        if (change->kept == 0) continue;
+        if (write_at(number, change->bytes, change->kept, change->at) != (ssize_t)change->kept) abort();
     }
 }
 
@@ -234,7 +235,9 @@ int ftruncate(int file, off_t length) {
     NEXT(int, ftruncate, int, off_t);
     if (!is_disk_refused()) {
         struct stat state;
-        if (is("lose") && fstat(file, &state) == 0) keep(file, length, state.st_size > length ? state.st_size - length : 0);
+        if (is("lose") && fstat(file, &state) == 0) {
+            keep(file, length, state.st_size > length ? state.st_size - length : 0);
+        }
         return next(file, length);
     }
     errno = EIO;

@@ -30,7 +30,11 @@ def loaded(name):
 def program():
     """Returns the path of the program: PROGRAM, or that of this checkout."""
     named = os.environ.get("PROGRAM")
-    return os.path.abspath(named) if named else subprocess.run([TOP / "bin/program"], check=True, capture_output=True, text=True).stdout.strip()
+    return (
+        os.path.abspath(named)
+        if named
+        else subprocess.run([TOP / "bin/program"], check=True, capture_output=True, text=True).stdout.strip()
+    )
 
 
 @contextlib.contextmanager
@@ -44,7 +48,10 @@ def folder():
 def build(place):
     """Builds faults/refuse.c in the folder, and returns the library's path."""
     library = f"{place}/refuse.so"
-    subprocess.run([os.environ.get("CC", "cc"), "-shared", "-fPIC", "-O1", "-o", library, TOP / "faults/refuse.c", "-ldl"], check=True)
+    subprocess.run(
+        [os.environ.get("CC", "cc"), "-shared", "-fPIC", "-O1", "-o", library, TOP / "faults/refuse.c", "-ldl"],
+        check=True,
+    )
     return library
 
 
@@ -94,7 +101,9 @@ def ran(words, library, call, number, times, **options):
     """Runs the words with these calls failing: what came out, how often it was called, and how often that failed."""
     page, more = Page(number, times), options.pop("more", {})
     try:
-        run = subprocess.run(words, env=environment(library, call, page, **more), capture_output=True, timeout=SECONDS, **options)
+        run = subprocess.run(
+            words, env=environment(library, call, page, **more), capture_output=True, timeout=SECONDS, **options
+        )
         return run, page.seen(), page.failed()
     finally:
         page.close()
@@ -102,5 +111,7 @@ def ran(words, library, call, number, times, **options):
 
 def told(counted, faults):
     """Prints what was tried, and the first things that were wrong; returns whether nothing was."""
-    print(f"{counted}: {f'{len(faults)} wrong' if faults else 'all as they may'}", *faults[:5], sep="\n    ", flush=True)
+    print(
+        f"{counted}: {f'{len(faults)} wrong' if faults else 'all as they may'}", *faults[:5], sep="\n    ", flush=True
+    )
     return not faults

@@ -1,8 +1,9 @@
 #!/usr/bin/env python3
 """Dispatches a transfer exactly once: dispatch.py URL ID FROM TO DAY AMOUNT ACCOUNT [--cut].
 
-Sends the same request again until a whole reply comes. The treasury does it once: if it was done before and its reply got lost, the
-answer is `repeated`. --cut breaks the first connection before its reply, to show that. TREASURY_LOGIN may hold NAME:PASSWORD."""
+Sends the same request again until a whole reply comes. The treasury does it once: if it was done before and its reply
+got lost, the answer is `repeated`. --cut breaks the first connection before its reply, to show that. TREASURY_LOGIN may
+hold NAME:PASSWORD."""
 import base64
 import http.client
 import json
