@@ -1,5 +1,6 @@
 -- what the ledger with sums by day keeps
-use Rattle.std.proofs.Common.{◌≡◌, ℕ, ◌+◌, ◌≤◌, Bool, true, false, List, [], ◌∷◌, ◌++◌, length, nat_eq, refl, ap, ◌∙◌, sym, subst, append-nil, ℤ, pos, ◌+ℤ◌, arith}
+use Rattle.std.proofs.Common.{◌≡◌, ℕ, ◌+◌, ◌≤◌, Bool, true, false, List, [], ◌∷◌, ◌++◌, length, nat_eq, refl, ap, ◌∙◌}
+use Rattle.std.proofs.Common.{sym, subst, append-nil, ℤ, pos, ◌+ℤ◌, arith}
 use Rattle.std.specs.Prelude.{if◌then◌else◌, ◌&&◌}
 use Rattle.std.specs.List.{AllByRecursion}
 use Rattle.std.proofs.lemmas.Int.{ints}
@@ -24,7 +25,8 @@ use Rattle.book_core.proofs.GoodBookLemmas.{fit-append}
 use Rattle.book_core.proofs.BookLemmas.{turnover-append, posted_from-append}
 use Rattle.book_core.proofs.SumLemmas.{total-append, within_meant}
 
-pub fit_add : (es more : List Entry) (e : Entry) → more ≡ es ++ e ∷ [] → AllByRecursion IsFit es → IsFit e → AllByRecursion IsFit more
+pub fit_add : (es more : List Entry) (e : Entry) → more ≡ es ++ e ∷ [] → AllByRecursion IsFit es → IsFit e
+    → AllByRecursion IsFit more
 fit_add es more e d h k = subst (AllByRecursion IsFit) (sym d) (fit-append es (e ∷ []) h (k, tt))
 
 -- ---- sums
@@ -33,27 +35,35 @@ total-counts_in : (reach : Reach) (a : List ℕ) (u : Commodity) (p : Period) (d
     total (counts_in reach a u p) (posted_legs day n k legs) ≡ (if is_in p day n then sum_in reach a u legs else pos 0)
 total-counts_in reach a u p day n k legs = by_period (is_in p day n) refl
   where
-    within : is_in p day n ≡ true → (k : ℕ) (xs : List Leg) → total (counts_in reach a u p) (posted_legs day n k xs) ≡ sum_in reach a u xs
+    within : is_in p day n ≡ true → (k : ℕ) (xs : List Leg)
+        → total (counts_in reach a u p) (posted_legs day n k xs) ≡ sum_in reach a u xs
     within e k [] = refl
-    within e k (x ∷ xs) = rw (within e (k + 1) xs) (ap (λ (t : Bool). (if t then x.qty else pos 0) +ℤ sum_in reach a u xs) (and_in (nat_eq x.unit.0 u.0 && reaches reach a x.account)))
+    within e k (x ∷ xs) = rw (within e (k + 1) xs)
+        (ap (λ (t : Bool). (if t then x.qty else pos 0) +ℤ sum_in reach a u xs)
+        (and_in (nat_eq x.unit.0 u.0 && reaches reach a x.account)))
       where
         and_in : (t : Bool) → (t && is_in p day n) ≡ t
         and_in true = e
         and_in false = refl
 
-    outside : is_in p day n ≡ false → (k : ℕ) (xs : List Leg) → total (counts_in reach a u p) (posted_legs day n k xs) ≡ pos 0
+    outside : is_in p day n ≡ false → (k : ℕ) (xs : List Leg)
+        → total (counts_in reach a u p) (posted_legs day n k xs) ≡ pos 0
     outside e k [] = refl
-    outside e k (x ∷ xs) = rw (outside e (k + 1) xs) (ap (λ (t : Bool). (if t then x.qty else pos 0) +ℤ pos 0) (and_out (nat_eq x.unit.0 u.0 && reaches reach a x.account)))
+    outside e k (x ∷ xs) = rw (outside e (k + 1) xs)
+        (ap (λ (t : Bool). (if t then x.qty else pos 0) +ℤ pos 0)
+        (and_out (nat_eq x.unit.0 u.0 && reaches reach a x.account)))
       where
         and_out : (t : Bool) → (t && is_in p day n) ≡ false
         and_out true = e
         and_out false = refl
 
-    by_period : (t : Bool) → is_in p day n ≡ t → total (counts_in reach a u p) (posted_legs day n k legs) ≡ (if t then sum_in reach a u legs else pos 0)
+    by_period : (t : Bool) → is_in p day n ≡ t
+        → total (counts_in reach a u p) (posted_legs day n k legs) ≡ (if t then sum_in reach a u legs else pos 0)
     by_period true e = within e k legs
     by_period false e = outside e k legs
 
-pub room_for : (reach : Reach) (rows : DaySums) (b : List Entry) (e : Entry) (legs : List Leg) → AreSums reach rows b → IsWithin (b ++ e ∷ []) → legs ≡ e.legs → HasRoomFor rows legs
+pub room_for : (reach : Reach) (rows : DaySums) (b : List Entry) (e : Entry) (legs : List Leg) → AreSums reach rows b
+    → IsWithin (b ++ e ∷ []) → legs ≡ e.legs → HasRoomFor rows legs
 room_for reach rows b e legs sums within f = record {
   sums = λ a u p.
       let w = within_meant reach a u (λ x. is_in p x.place.day x.place.entry) 1 b in
@@ -71,23 +81,32 @@ room_for reach rows b e legs sums within f = record {
     moved_one u = ap (moved u) (append-nil e.legs ∙ sym f)
 
 -- the entry that comes behind the book has the number after its length
-pub sums_add : (reach : Reach) (old now : DaySums) (b : List Entry) (e : Entry) (legs : List Leg) (n : ℕ) → AreSums reach old b → legs ≡ e.legs → n ≡ length b + 1 → AreRaised reach legs e.day n old now → AreSums reach now (b ++ e ∷ [])
+pub sums_add : (reach : Reach) (old now : DaySums) (b : List Entry) (e : Entry) (legs : List Leg) (n : ℕ)
+    → AreSums reach old b → legs ≡ e.legs → n ≡ length b + 1 → AreRaised reach legs e.day n old now
+    → AreSums reach now (b ++ e ∷ [])
 sums_add reach old now b e legs n sums f g raised a u p =
     raised a u p ∙ ap (λ (z : ℤ). z +ℤ (if is_in p e.day n then sum_in reach a u legs else pos 0)) (sums a u p)
-    ∙ ap (λ (z : ℤ). total test (posted b) +ℤ z) (ap (λ (ls : List Leg). if is_in p e.day n then sum_in reach a u ls else pos 0) f ∙ sym (total-counts_in reach a u p e.day n 1 e.legs) ∙ ap (λ (m : ℕ). total test (posted_legs e.day m 1 e.legs)) g ∙ sym (ap (total test) (append-nil (posted_legs e.day (length b + 1) 1 e.legs))))
-    ∙ sym (ap (total test) (posted_from-append 1 b (e ∷ [])) ∙ total-append test (posted b) (posted_from (length b + 1) (e ∷ [])))
+    ∙ ap (λ (z : ℤ). total test (posted b) +ℤ z)
+    (ap (λ (ls : List Leg). if is_in p e.day n then sum_in reach a u ls else pos 0) f ∙ sym
+    (total-counts_in reach a u p e.day n 1 e.legs) ∙ ap (λ (m : ℕ). total test (posted_legs e.day m 1 e.legs)) g ∙
+    sym (ap (total test) (append-nil (posted_legs e.day (length b + 1) 1 e.legs))))
+    ∙ sym (ap (total test) (posted_from-append 1 b (e ∷ [])) ∙ total-append test (posted b)
+    (posted_from (length b + 1) (e ∷ [])))
   where
     test : Posted → Bool
     test = counts_in reach a u p
 
-pub sums_same : (reach : Reach) (old now : DaySums) (b : List Entry) → AreSums reach old b → SameSums old now → AreSums reach now b
+pub sums_same : (reach : Reach) (old now : DaySums) (b : List Entry) → AreSums reach old b → SameSums old now
+    → AreSums reach now b
 sums_same reach old now b sums same a u p = same.sums a u p ∙ sums a u p
 
-pub sums_none : (reach : Reach) (rows : DaySums) → ((a : List ℕ) (u : Commodity) (p : Period) → sum_of rows a u p ≡ pos 0) → AreSums reach rows []
+pub sums_none : (reach : Reach) (rows : DaySums)
+    → ((a : List ℕ) (u : Commodity) (p : Period) → sum_of rows a u p ≡ pos 0) → AreSums reach rows []
 sums_none reach rows e = e
 
 -- through a day: the balance
-pub balance_through : (reach : Reach) (rows : DaySums) (b : List Entry) (a : List ℕ) (u : Commodity) (l : Until) (d : Day) → AreSums reach rows b → l ≡ ThroughDay d → sum_of rows a u (Through d) ≡ balance reach b a u l
+pub balance_through : (reach : Reach) (rows : DaySums) (b : List Entry) (a : List ℕ) (u : Commodity) (l : Until)
+    (d : Day) → AreSums reach rows b → l ≡ ThroughDay d → sum_of rows a u (Through d) ≡ balance reach b a u l
 unfolding balance
 balance_through reach rows b a u l d sums e = sums a u (Through d) ∙ sym (ap (balance reach b a u) e)
 
@@ -95,10 +114,32 @@ pub moved_none : (table : List ℕ) → table ≡ [] → AreMoved table []
 moved_none table e u = ap (λ (t : List ℕ). moved_at t u) e
 
 -- what the entry moves fits the table
-pub moved_room : (table listed seen : List ℕ) (b : List Entry) (e : Entry) (legs : List Leg) → AreMoved table b → ((u : Commodity) → moved_at listed u ≡ moved_at table u) → seen ≡ listed → IsWithin (b ++ e ∷ []) → legs ≡ e.legs → (u : Commodity) → moved_at seen u + moved u legs ≤ most_turnover
+pub moved_room : (table listed seen : List ℕ) (b : List Entry) (e : Entry) (legs : List Leg) → AreMoved table b
+    → ((u : Commodity) → moved_at listed u ≡ moved_at table u) → seen ≡ listed → IsWithin (b ++ e ∷ []) → legs ≡ e.legs
+    → (u : Commodity) → moved_at seen u + moved u legs ≤ most_turnover
 moved_room table listed seen b e legs sums same f within g u =
-    omega (arith, within.small u, turnover-append u b (e ∷ []), ap (moved u) (append-nil e.legs ∙ sym g), ap (λ (t : List ℕ). moved_at t u) f, same u, sums u)
+    omega (
+      arith,
+      within.small u,
+      turnover-append u b (e ∷ []),
+      ap (moved u) (append-nil e.legs ∙ sym g),
+      ap (λ (t : List ℕ). moved_at t u) f,
+      same u,
+      sums u,
+    )
 
-pub moved_add : (table listed seen now : List ℕ) (b more : List Entry) (e : Entry) (legs : List Leg) → AreMoved table b → ((u : Commodity) → moved_at listed u ≡ moved_at table u) → seen ≡ listed → ((u : Commodity) → moved_at now u ≡ moved_at seen u + moved u legs) → more ≡ b ++ e ∷ [] → legs ≡ e.legs → AreMoved now more
+pub moved_add : (table listed seen now : List ℕ) (b more : List Entry) (e : Entry) (legs : List Leg) → AreMoved table b
+    → ((u : Commodity) → moved_at listed u ≡ moved_at table u) → seen ≡ listed
+    → ((u : Commodity) → moved_at now u ≡ moved_at seen u + moved u legs) → more ≡ b ++ e ∷ [] → legs ≡ e.legs
+    → AreMoved now more
 moved_add table listed seen now b more e legs sums same f added d g u =
-    omega (arith, added u, turnover-append u b (e ∷ []), ap (moved u) (append-nil e.legs ∙ sym g), ap (λ (t : List ℕ). moved_at t u) f, same u, sums u, ap (turnover u) d)
+    omega (
+      arith,
+      added u,
+      turnover-append u b (e ∷ []),
+      ap (moved u) (append-nil e.legs ∙ sym g),
+      ap (λ (t : List ℕ). moved_at t u) f,
+      same u,
+      sums u,
+      ap (turnover u) d,
+    )

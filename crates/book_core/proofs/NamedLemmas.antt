@@ -1,8 +1,10 @@
 -- what a failure names stands in the book
-use Rattle.std.proofs.Common.{◌≡◌, ℕ, ◌+◌, ◌≤◌, Bool, true, false, ◌||◌, List, [], ◌∷◌, length, arith, refl, ap, ◌∙◌, sym, subst, nat_eq, nat_lt, Option, Some, None, ℤ, pos, negsuc, ◌⊎◌, inl, inr}
+use Rattle.std.proofs.Common.{◌≡◌, ℕ, ◌+◌, ◌≤◌, Bool, true, false, ◌||◌, List, [], ◌∷◌, length, arith, refl, ap, ◌∙◌}
+use Rattle.std.proofs.Common.{sym, subst, nat_eq, nat_lt, Option, Some, None, ℤ, pos, negsuc, ◌⊎◌, inl, inr}
 use Rattle.std.specs.Prelude.{if◌then◌else◌, option_map, unsigned_abs, Contains}
 use Rattle.std.proofs.lemmas.Int.{ints}
-use Rattle.std.proofs.lemmas.List.Elements.{Contains-append_left, Contains-append_right, Contains-append_cases, Contains-push}
+use Rattle.std.proofs.lemmas.List.Elements.{Contains-append_left, Contains-append_right, Contains-append_cases}
+use Rattle.std.proofs.lemmas.List.Elements.{Contains-push}
 use Rattle.money_core.specs.declared.unit.Unit.{Unit as Commodity}
 use Rattle.money_core.specs.declared.day.Day.{Day}
 use Rattle.money_core.specs.declared.cause.Cause.TheVariants.{Full, Limit}
@@ -16,7 +18,8 @@ use Rattle.book_core.specs.declared.refusal.Failure.{Failure}
 use Rattle.book_core.specs.declared.refusal.Refusal.TheVariants.{Plain, ClaimFailed}
 use Rattle.book_core.specs.declared.place.Until.TheVariants.{At}
 use Rattle.book_core.specs.Book.{legs_of}
-use Rattle.book_core.specs.Claim.{reach_of, balance_at, asserted_on, asserted_claims, asserted_from, failure, FailsInOwn, FailsInOther, IsFirstFailure}
+use Rattle.book_core.specs.Claim.{reach_of, balance_at, asserted_on, asserted_claims, asserted_from, failure}
+use Rattle.book_core.specs.Claim.{FailsInOwn, FailsInOther, IsFirstFailure}
 use Rattle.book_core.specs.GoodBook.{most_entries, most_turnover, HasRoom, is_over, verdict}
 use Rattle.book_core.specs.Named.{units_of, IsOfBook}
 use Rattle.book_core.proofs.SumLemmas.{Within}
@@ -44,20 +47,26 @@ pub record IsOn (es : List Entry) (x : Asserted) : Type 0 where
   pub leg : x.place.leg ≡ placed.leg
   pub claim : x.claim ≡ placed.claim
 
-placed_on : (day : Day) (n : ℕ) (legs : List Leg) (ps : List Placed) (x : Asserted) → Contains (asserted_claims day n legs ps) x → (p : Placed) × Contains ps p × (asserted_on day n legs p ≡ x)
+placed_on : (day : Day) (n : ℕ) (legs : List Leg) (ps : List Placed) (x : Asserted)
+    → Contains (asserted_claims day n legs ps) x → (p : Placed) × Contains ps p × (asserted_on day n legs p ≡ x)
 placed_on day n legs [] x h = absurd (Contains-none x h)
-placed_on day n legs (p ∷ ps) x h = by_case (contains_cons (asserted_on day n legs p) x (asserted_claims day n legs ps) h) (placed_on day n legs ps x)
+placed_on day n legs (p ∷ ps) x h =
+    by_case (contains_cons (asserted_on day n legs p) x (asserted_claims day n legs ps) h) (placed_on day n legs ps x)
   where
     by_case : (asserted_on day n legs p ≡ x) ⊎ Contains (asserted_claims day n legs ps) x →
-        (Contains (asserted_claims day n legs ps) x → (q : Placed) × Contains ps q × (asserted_on day n legs q ≡ x)) → (q : Placed) × Contains (p ∷ ps) q × (asserted_on day n legs q ≡ x)
+        (Contains (asserted_claims day n legs ps) x → (q : Placed) × Contains ps q × (asserted_on day n legs q ≡ x))
+        → (q : Placed) × Contains (p ∷ ps) q × (asserted_on day n legs q ≡ x)
     by_case (inl e) more = (p, Contains-head p ps, e)
     by_case (inr k) more = let m = more k in (m.0, Contains-tail p m.0 ps m.1, m.2)
 
 pub asserted_is_on : (n : ℕ) (es : List Entry) (x : Asserted) → Contains (asserted_from n es) x → IsOn es x
 asserted_is_on n [] x h = absurd (Contains-none x h)
-asserted_is_on n (e ∷ es) x h = by_case (Contains-append_cases (asserted_claims e.day n e.legs e.claims) (asserted_from (n + 1) es) x h) (asserted_is_on (n + 1) es x)
+asserted_is_on n (e ∷ es) x h =
+    by_case (Contains-append_cases (asserted_claims e.day n e.legs e.claims) (asserted_from (n + 1) es) x h)
+    (asserted_is_on (n + 1) es x)
   where
-    by_case : Contains (asserted_claims e.day n e.legs e.claims) x ⊎ Contains (asserted_from (n + 1) es) x → (Contains (asserted_from (n + 1) es) x → IsOn es x) → IsOn (e ∷ es) x
+    by_case : Contains (asserted_claims e.day n e.legs e.claims) x ⊎ Contains (asserted_from (n + 1) es) x
+        → (Contains (asserted_from (n + 1) es) x → IsOn es x) → IsOn (e ∷ es) x
     by_case (inl k) more =
         let p = placed_on e.day n e.legs e.claims x k in
         record {
@@ -71,15 +80,25 @@ asserted_is_on n (e ∷ es) x h = by_case (Contains-append_cases (asserted_claim
         }
     by_case (inr k) more =
         let m = more k in
-        record { entry = m.entry; in_list = Contains-tail e m.entry es m.in_list; placed = m.placed; on_entry = m.on_entry; day = m.day; leg = m.leg; claim = m.claim }
+        record {
+          entry = m.entry;
+          in_list = Contains-tail e m.entry es m.in_list;
+          placed = m.placed;
+          on_entry = m.on_entry;
+          day = m.day;
+          leg = m.leg;
+          claim = m.claim;
+        }
 
 -- a leg in the commodity: the commodity is one of the legs'
 has_leg_unit : (v : Commodity) (xs : List Leg) → has_leg v xs ≡ true → Contains (units_of xs) v
 has_leg_unit v [] h = absurd (cc)
 has_leg_unit v (x ∷ xs) h = by_test (nat_eq x.unit.0 v.0) refl h (has_leg_unit v xs)
   where
-    by_test : (t : Bool) → nat_eq x.unit.0 v.0 ≡ t → (t || has_leg v xs) ≡ true → (has_leg v xs ≡ true → Contains (units_of xs) v) → Contains (x.unit ∷ units_of xs) v
-    by_test true e k more = subst (λ (u : Commodity). Contains (x.unit ∷ units_of xs) u) (one_unit x.unit v e) (Contains-head x.unit (units_of xs))
+    by_test : (t : Bool) → nat_eq x.unit.0 v.0 ≡ t → (t || has_leg v xs) ≡ true
+        → (has_leg v xs ≡ true → Contains (units_of xs) v) → Contains (x.unit ∷ units_of xs) v
+    by_test true e k more = subst (λ (u : Commodity). Contains (x.unit ∷ units_of xs) u) (one_unit x.unit v e)
+        (Contains-head x.unit (units_of xs))
     by_test false e k more = Contains-tail x.unit v (units_of xs) (more k)
 
 abs_within : (m : ℕ) (z : ℤ) → Within m z → unsigned_abs z ≤ m
@@ -97,11 +116,17 @@ failure_named b room f h = named first.fails
     on = asserted_is_on 1 b first.assertion first.in_book
 
     small : (v : Commodity) → f.found ≡ balance_at b first.assertion v → unsigned_abs f.found ≤ most_turnover
-    small v e = subst (λ (z : ℤ). unsigned_abs z ≤ most_turnover) (sym e) (abs_within most_turnover _ (small_within b room (reach_of first.assertion.claim.kind) first.assertion.account v (At first.assertion.place)))
+    small v e = subst (λ (z : ℤ). unsigned_abs z ≤ most_turnover) (sym e)
+        (abs_within most_turnover _
+        (small_within b room (reach_of first.assertion.claim.kind) first.assertion.account v
+        (At first.assertion.place)))
 
-    has_unit : (t : Bool) → has_leg f.unit (legs_of b) ≡ t → FailsInOther b first.assertion f → Contains (units_of (legs_of b)) f.unit
+    has_unit : (t : Bool) → has_leg f.unit (legs_of b) ≡ t → FailsInOther b first.assertion f
+        → Contains (units_of (legs_of b)) f.unit
     has_unit true e k = has_leg_unit f.unit (legs_of b) e
-    has_unit false e k = absurd (k.not_zero (k.found ∙ no_legs (reach_of first.assertion.claim.kind) b first.assertion.account f.unit (At first.assertion.place) e))
+    has_unit false e k = absurd (k.not_zero
+        (k.found ∙ no_legs (reach_of first.assertion.claim.kind) b first.assertion.account f.unit
+        (At first.assertion.place) e))
 
     named : FailsInOwn b first.assertion f ⊎ FailsInOther b first.assertion f → IsOfBook b f
     named (inl k) =
@@ -128,29 +153,36 @@ failure_named b room f h = named first.fails
         }
 
 -- what holds of the commodity of each leg holds of each commodity of the legs
-each_unit : (P : Commodity → Type 0) (xs : List Leg) (v : Commodity) → ((x : Leg) → Contains xs x → P x.unit) → Contains (units_of xs) v → P v
+each_unit : (P : Commodity → Type 0) (xs : List Leg) (v : Commodity) → ((x : Leg) → Contains xs x → P x.unit)
+    → Contains (units_of xs) v → P v
 each_unit P [] v h k = absurd (Contains-none v k)
-each_unit P (x ∷ xs) v h k = by_case (contains_cons x.unit v (units_of xs) k) (each_unit P xs v (λ y l. h y (Contains-tail x y xs l)))
+each_unit P (x ∷ xs) v h k =
+    by_case (contains_cons x.unit v (units_of xs) k) (each_unit P xs v (λ y l. h y (Contains-tail x y xs l)))
   where
     by_case : (x.unit ≡ v) ⊎ Contains (units_of xs) v → (Contains (units_of xs) v → P v) → P v
     by_case (inl e) more = subst P e (h x (Contains-head x xs))
     by_case (inr l) more = more l
 
 -- a leg of a book is one of an entry of it
-each_leg : (P : Commodity → Type 0) (b : List Entry) → ((e : Entry) → Contains b e → (x : Leg) → Contains e.legs x → P x.unit) → (x : Leg) → Contains (legs_of b) x → P x.unit
+each_leg : (P : Commodity → Type 0) (b : List Entry)
+    → ((e : Entry) → Contains b e → (x : Leg) → Contains e.legs x → P x.unit) → (x : Leg) → Contains (legs_of b) x
+    → P x.unit
 each_leg P [] h x k = absurd (Contains-none x k)
-each_leg P (e ∷ es) h x k = by_case (Contains-append_cases e.legs (legs_of es) x k) (each_leg P es (λ f l. h f (Contains-tail e f es l)) x)
+each_leg P (e ∷ es) h x k =
+    by_case (Contains-append_cases e.legs (legs_of es) x k) (each_leg P es (λ f l. h f (Contains-tail e f es l)) x)
   where
     by_case : Contains e.legs x ⊎ Contains (legs_of es) x → (Contains (legs_of es) x → P x.unit) → P x.unit
     by_case (inl l) more = h e (Contains-head e es) x l
     by_case (inr l) more = more l
 
 -- what holds of the commodities of all legs and assertions, as that they are declared, holds of the one that is named
-pub named_unit : (P : Commodity → Type 0) (b : List Entry) (f : Failure) → IsOfBook b f → ((e : Entry) → Contains b e → (x : Leg) → Contains e.legs x → P x.unit) →
+pub named_unit : (P : Commodity → Type 0) (b : List Entry) (f : Failure) → IsOfBook b f
+    → ((e : Entry) → Contains b e → (x : Leg) → Contains e.legs x → P x.unit) →
     ((e : Entry) → Contains b e → (p : Placed) → Contains e.claims p → P p.claim.unit) → P f.unit
 named_unit P b f named legs claims = by_case named.names
   where
-    by_case : ((f.unit ≡ named.assertion.claim.unit) × (f.asserted ≡ named.assertion.claim.qty)) ⊎ (Contains (units_of (legs_of b)) f.unit × (f.asserted ≡ pos 0)) → P f.unit
+    by_case : ((f.unit ≡ named.assertion.claim.unit) × (f.asserted ≡ named.assertion.claim.qty))
+        ⊎ (Contains (units_of (legs_of b)) f.unit × (f.asserted ≡ pos 0)) → P f.unit
     by_case (inl p) = subst P (sym p.0) (claims named.entry named.in_book named.assertion named.on_entry)
     by_case (inr p) = each_unit P (legs_of b) f.unit (each_leg P b legs) p.0
 
@@ -163,7 +195,9 @@ failed_parts b f h = by_tests (nat_lt most_entries (length b)) (is_over b) refl 
     unmapped None e = absurd (cc)
     unmapped (Some g) e = let s : g ≡ f = cc in ap (λ (x : Failure). Some x) s
 
-    by_tests : (t u : Bool) → is_over b ≡ u → (if t then Some (Plain Full) else (if u then Some (Plain Limit) else option_map ClaimFailed (failure b))) ≡ Some (ClaimFailed f) → HasRoom b × (failure b ≡ Some f)
+    by_tests : (t u : Bool) → is_over b ≡ u
+        → (if t then Some (Plain Full) else (if u then Some (Plain Limit) else option_map ClaimFailed (failure b)))
+        ≡ Some (ClaimFailed f) → HasRoom b × (failure b ≡ Some f)
     by_tests true u e k = absurd (cc)
     by_tests false true e k = absurd (cc)
     by_tests false false e k = (room_from b e, unmapped (failure b) k)

@@ -22,4 +22,5 @@ IsListed rows index a = IfSome (row_of index a) (λ n. Contains rows n)
 
 -- the rows of the accounts of legs, and of those above them, are among these
 abbrev pub AreListed : List ℕ → NamedSpots → List Leg → Type 0
-AreListed rows index legs = (x : Leg) → Contains legs x → (a : List ℕ) → is_inside a x.account ≡ true → IsListed rows index a
+AreListed rows index legs =
+    (x : Leg) → Contains legs x → (a : List ℕ) → is_inside a x.account ≡ true → IsListed rows index a

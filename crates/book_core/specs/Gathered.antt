@@ -22,7 +22,8 @@ AreReachedAt b e places = (p : Place) → Contains places p → IsReachedAt b e 
 
 -- those at the spots that a new leg touches have their places here
 abbrev pub HasReached : List Entry → List Entry → List Spot → List Place → Type 0
-HasReached b e spots places = (x : Asserted) → Contains (asserted_from 1 b) x → is_reached b e x ≡ true → Contains spots (spot_at x.place) → Contains places x.place
+HasReached b e spots places = (x : Asserted) → Contains (asserted_from 1 b) x → is_reached b e x ≡ true
+    → Contains spots (spot_at x.place) → Contains places x.place
 
 -- the places are those of the reached assertions, in order, each once; where every assertion of the book held, the
 -- first failure with the new entries is at one of them

@@ -1,7 +1,8 @@
 //! Assertions against the whole book, one after another.
 
 ghost use Rattle.std.specs.Prelude.{◌≡◌, ◌+◌, ◌<◌, ◌^◌, length};
-ghost use Rattle.book_core.specs.Claim.{account_at, fault, earlier, first_fault, asserted_on, asserted_claims, asserted_from, failure, claims_of, counted};
+ghost use Rattle.book_core.specs.Claim.{account_at, fault, earlier, first_fault, asserted_on, asserted_claims};
+ghost use Rattle.book_core.specs.Claim.{asserted_from, failure, claims_of, counted};
 
 use crate::book::Book;
 use crate::claim::Placed;
@@ -62,7 +63,8 @@ fn scan_entry(
     known: Option<Failure>,
     count: &mut Count,
 ) -> Option<Failure>
-    ensures first { result ≡ earlier known (first_fault book.now (asserted_claims entry.now.day number entry.now.legs entry.now.claims)) }
+    ensures first { result ≡ earlier known
+        (first_fault book.now (asserted_claims entry.now.day number entry.now.legs entry.now.claims)) }
     ensures count { count.new.claims ≡ counted count.old.claims (length entry.now.claims) }
 {
     let _start = count.claims;

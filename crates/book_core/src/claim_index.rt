@@ -18,7 +18,8 @@ use std::alloc::Global;
 /// Notes where the assertions of an entry stand. What was noted stays, also where memory is refused (40).
 pub fn put_claims(index: &mut NamedSpots, entry: &Entry, number: usize) -> Result<(), Cause>
     ensures kept { KeepsSpots index.old index.new }
-    ensures put { OnOk result (AreFound index.new (asserted_claims entry.now.day number entry.now.legs entry.now.claims)) }
+    ensures put { OnOk result (AreFound index.new
+        (asserted_claims entry.now.day number entry.now.legs entry.now.claims)) }
     ensures memory { IsOkUnless result Cause.OutOfMemory }
 {
     for placed in entry.claims.items() {

@@ -32,9 +32,9 @@ use std::marker::Model;
 /// `balance` and `balance_in` are one search; `len`, `accounts` and `empty` cost nothing. `check` is one pass over the
 /// new legs for each of their commodities, a search for each account that takes in one of them, and a look at the
 /// assertions of these accounts behind the first new day; then, for each assertion that is reached, a few searches, the
-/// legs of its own entry and a pass over the new ones, and for `==` and `==*` as much for each commodity. Where there are
-/// many of both, it takes sums of the new entries, and passes over none of them. `add` is, for each leg and each account
-/// that takes it in, a search and the days of one row behind the entry's own.
+/// legs of its own entry and a pass over the new ones, and for `==` and `==*` as much for each commodity. Where there
+/// are many of both, it takes sums of the new entries, and passes over none of them. `add` is, for each leg and each
+/// account that takes it in, a search and the days of one row behind the entry's own.
 #[derive(Drop)]
 pub struct DayLedger {
     entries: Vec<Entry>,

@@ -1,5 +1,5 @@
-//! Running sums by day: an entry opens its day and number in the rows of its accounts, which changes no sum, and then raises
-//! them.
+//! Running sums by day: an entry opens its day and number in the rows of its accounts, which changes no sum, and then
+//! raises them.
 
 ghost use Rattle.std.specs.Prelude.{◌≡◌, OnOk, ℕ, List};
 ghost use Rattle.day_sums.specs.declared.period.Period.{Period as Span};
@@ -109,7 +109,8 @@ fn raise_account(
     }
 }
 
-/// Adds the legs to the sums of the accounts whose balance takes them in, from the day's number on, which is open there.
+/// Adds the legs to the sums of the accounts whose balance takes them in, from the day's number on, which is open
+/// there.
 pub fn raise_legs(rows: &mut DaySums, reach: Reach, legs: &[Leg], day: Day, number: u32)
     requires open { AreOpen reach rows.old legs.now day number }
     requires room { HasRoomFor rows.old legs.now }

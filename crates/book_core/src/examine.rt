@@ -18,7 +18,9 @@ use crate::refusal::{Count, Failure};
 /// Why the entry's assertion on the place's leg fails, if it does.
 fn fault_in(book: &DayBook<'_>, entry: &Entry, place: Place) -> Option<Failure>
     requires { AreApart entry.now.claims }
-    ensures { (y : OnLeg) → Contains entry.now.claims y → y.leg ≡ place.leg → result ≡ fault book.now (record { place = place; account = account_at entry.now.legs y.leg; claim = y.claim }) }
+    ensures { (y : OnLeg) → Contains entry.now.claims y → y.leg ≡ place.leg
+        → result ≡ fault book.now
+        (record { place = place; account = account_at entry.now.legs y.leg; claim = y.claim }) }
 {
     for placed in entry.claims.items() {
         if placed.leg == place.leg {

@@ -69,8 +69,8 @@ impl<'a> NewEntries<'a> {
         }
     }
 
-    /// The entries for so many assertions to be judged, with their sums where there are many of both: 40 where memory is
-    /// refused.
+    /// The entries for so many assertions to be judged, with their sums where there are many of both: 40 where memory
+    /// is refused.
     pub fn to_judge(alloc: Global, entries: &'a [Entry], assertions: usize) -> Result<Self, Cause>
         requires { IsWithin entries.now }
         ensures value { IfOk result (λ new. new ≡ entries.now) }
@@ -90,8 +90,8 @@ impl<'a> NewEntries<'a> {
         self.entries
     }
 
-    /// What they add to a balance where they come behind `count` others. By sums it costs what a balance costs, and else
-    /// one pass over the entries.
+    /// What they add to a balance where they come behind `count` others. By sums it costs what a balance costs, and
+    /// else one pass over the entries.
     pub fn sum_behind(&self, query: &Query<'_>, count: usize) -> i64
         requires room { HasRoom self.now }
         requires numbers { count + length self.now < 2 ^ 63 }

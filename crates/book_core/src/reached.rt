@@ -1,6 +1,7 @@
 //! The assertions that new entries reach.
 
-ghost use Rattle.std.specs.Prelude.{◌≡◌, ◌+◌, ◌<◌, ◌≤ℤ◌, ◌^◌, ◌++◌, ◌&&◌, true, nat_eq, length, map, Contains, IsTrue, IfOk, OnOk};
+ghost use Rattle.std.specs.Prelude.{◌≡◌, ◌+◌, ◌<◌, ◌≤ℤ◌, ◌^◌, ◌++◌, ◌&&◌, true, nat_eq, length, map, Contains, IsTrue};
+ghost use Rattle.std.specs.Prelude.{IfOk, OnOk};
 ghost use Rattle.std.specs.Result.{IsOkUnless};
 ghost use Rattle.std.specs.List.{AllByRecursion, list_any};
 ghost use Rattle.book_core.specs.declared.claim.Asserted.{Asserted as Assertion};
@@ -27,7 +28,8 @@ use std::alloc::Global;
 
 /// Whether a leg stands before an assertion's place, where the assertion looks.
 fn touches_leg(place: Place, account: &str, claim: Claim, at: Place, leg: &Leg) -> bool
-    ensures { result ≡ touches (record { place = place; account = account.now; claim = claim }) (record { place = at; leg = leg.now }) }
+    ensures { result ≡ touches (record { place = place; account = account.now; claim = claim })
+        (record { place = at; leg = leg.now }) }
 {
     if is_at_most(place, at) {
         return false;
@@ -40,7 +42,8 @@ fn touches_leg(place: Place, account: &str, claim: Claim, at: Place, leg: &Leg) 
 }
 
 fn touched_by_entry(place: Place, account: &str, claim: Claim, entry: &Entry, number: usize) -> bool
-    ensures { result ≡ list_any (touches (record { place = place; account = account.now; claim = claim })) (posted_legs entry.now.day number 1 entry.now.legs) }
+    ensures { result ≡ list_any (touches (record { place = place; account = account.now; claim = claim }))
+        (posted_legs entry.now.day number 1 entry.now.legs) }
 {
     for (i, leg) in entry.legs.items().iter().enumerate() {
         let at = Place {
@@ -58,7 +61,8 @@ fn touched_by_entry(place: Place, account: &str, claim: Claim, entry: &Entry, nu
 /// Whether one of the legs of the entries, numbered from `first`, touches an assertion.
 fn touched_by(place: Place, account: &str, claim: Claim, entries: &[Entry], first: usize) -> bool
     requires { first + length entries.now < 2 ^ 64 }
-    ensures { result ≡ is_touched (posted_from first entries.now) (record { place = place; account = account.now; claim = claim }) }
+    ensures { result ≡ is_touched (posted_from first entries.now)
+        (record { place = place; account = account.now; claim = claim }) }
 {
     let mut number = first;
     for entry in entries {
@@ -73,7 +77,8 @@ fn touched_by(place: Place, account: &str, claim: Claim, entries: &[Entry], firs
 /// Whether an entry has an assertion on the leg which a leg of the new entries touches.
 fn touched_on(entry: &Entry, number: usize, leg: usize, new: &[Entry], first: usize) -> bool
     requires { first + length new.now < 2 ^ 64 }
-    ensures { result ≡ list_any (λ (x : Assertion). nat_eq x.place.leg leg && is_touched (posted_from first new.now) x) (asserted_claims entry.now.day number entry.now.legs entry.now.claims) }
+    ensures { result ≡ list_any (λ (x : Assertion). nat_eq x.place.leg leg && is_touched (posted_from first new.now) x)
+        (asserted_claims entry.now.day number entry.now.legs entry.now.claims) }
 {
     for placed in entry.claims.items() {
         if placed.leg == leg {
@@ -95,7 +100,8 @@ fn touched_on(entry: &Entry, number: usize, leg: usize, new: &[Entry], first: us
 fn touched_at(old: &[Entry], place: Place, new: &[Entry]) -> bool
     requires { length old.now + length new.now < 2 ^ 63 }
     ensures some { IsTrue result → IsReachedAt old.now new.now place }
-    ensures all { (x : Assertion) → Contains (asserted_from 1 old.now) x → x.place ≡ place → is_touched (posted_from (length old.now + 1) new.now) x ≡ true → IsTrue result }
+    ensures all { (x : Assertion) → Contains (asserted_from 1 old.now) x → x.place ≡ place
+        → is_touched (posted_from (length old.now + 1) new.now) x ≡ true → IsTrue result }
 {
     if place.entry == 0 {
         return false;
@@ -168,7 +174,8 @@ fn touched_places(
     requires index { AreFound index.now (asserted_from 1 old.now) }
     requires numbers { length old.now + length new.now < 2 ^ 63 }
     ensures only { IfOk result (λ v. AreReachedAt old.now new.now v.items) }
-    ensures all { IfOk result (λ v. (x : Assertion) → Contains (asserted_from 1 old.now) x → is_touched (posted_from (length old.now + 1) new.now) x ≡ true → Contains v.items x.place) }
+    ensures all { IfOk result (λ v. (x : Assertion) → Contains (asserted_from 1 old.now) x
+        → is_touched (posted_from (length old.now + 1) new.now) x ≡ true → Contains v.items x.place) }
     ensures memory { IsOkUnless result Cause.OutOfMemory }
 {
     let day = first_day(new);
@@ -182,7 +189,8 @@ fn touched_places(
 
 /// Puts the places of an entry's assertions last.
 fn push_places(places: &mut Vec<Place>, entry: &Entry, number: usize) -> Result<(), Cause>
-    ensures own { OnOk result (places.new.items ≡ places.old.items ++ places_of (asserted_claims entry.now.day number entry.now.legs entry.now.claims)) }
+    ensures own { OnOk result (places.new.items
+        ≡ places.old.items ++ places_of (asserted_claims entry.now.day number entry.now.legs entry.now.claims)) }
     ensures memory { IsOkUnless result Cause.OutOfMemory }
 {
     for placed in entry.claims.items() {

@@ -17,7 +17,8 @@ pub zero_up_to : (m : ℕ) → IsUpTo m (pos 0)
 zero_up_to m = record { low = omega (arith, ints); high = omega (arith, ints) }
 
 pub small_up_to : (m : ℕ) (z : ℤ) → m ≤ 10000000000000000 → IsUpTo m z → IsUpTo 10000000000000000 z
-small_up_to m z l h = let a = h.low in let b = h.high in record { low = omega (arith, ints); high = omega (arith, ints) }
+small_up_to m z l h =
+    let a = h.low in let b = h.high in record { low = omega (arith, ints); high = omega (arith, ints) }
 
 -- a quantity that may count or not
 share_up_to : (m : ℕ) (q : ℤ) (t : Bool) → IsUpTo m q → IsUpTo m (if t then q else pos 0)
@@ -25,10 +26,14 @@ share_up_to m q true h = h
 share_up_to m q false h = zero_up_to m
 
 both_up_to : (m n : ℕ) (z q : ℤ) → IsUpTo m z → IsUpTo n q → IsUpTo (m + n) (z +ℤ q)
-both_up_to m n z q h k = let a = h.low in let b = h.high in let c = k.low in let d = k.high in record { low = omega (arith, ints); high = omega (arith, ints) }
+both_up_to m n z q h k = let a = h.low in let b = h.high in let c = k.low in let d =
+    k.high in record { low = omega (arith, ints); high = omega (arith, ints) }
 
 pub same_up_to : (m : ℕ) (old new : DaySums) → SameSums old new → AreUpTo m old → AreUpTo m new
 same_up_to m old new same h = λ a u p. subst (IsUpTo m) (sym (same.sums a u p)) (h a u p)
 
-pub raised_up_to : (m n : ℕ) (account : List ℕ) (unit : Commodity) (day : Day) (number : ℕ) (q : ℤ) (old new : DaySums) → IsUpTo n q → RaisedSums account unit day number q old new → AreUpTo m old → AreUpTo (m + n) new
-raised_up_to m n account unit day number q old new small raised h = λ a u p. subst (IsUpTo (m + n)) (sym (raised.sums a u p)) (both_up_to m n (sum_of old a u p) (share_of account unit day number q a u p) (h a u p) (share_up_to n q _ small))
+pub raised_up_to : (m n : ℕ) (account : List ℕ) (unit : Commodity) (day : Day) (number : ℕ) (q : ℤ) (old new : DaySums)
+    → IsUpTo n q → RaisedSums account unit day number q old new → AreUpTo m old → AreUpTo (m + n) new
+raised_up_to m n account unit day number q old new small raised h = λ a u p.
+    subst (IsUpTo (m + n)) (sym (raised.sums a u p))
+    (both_up_to m n (sum_of old a u p) (share_of account unit day number q a u p) (h a u p) (share_up_to n q _ small))

@@ -21,7 +21,8 @@ type Move = (&'static str, Unit, i32, u32, i16);
 /// sums that `raise_row` takes.
 fn moved(sums: &mut DaySums, limit: u64, more: &Move) -> Result<u64, Cause>
     requires { (a : List ℕ) (u : Commodity) (p : Span) → IsUpTo limit (sum_of sums.old a u p) }
-    ensures { IfOk result (λ (most : ℕ). (a : List ℕ) (u : Commodity) (p : Span) → IsUpTo most (sum_of sums.new a u p)) }
+    ensures { IfOk result (λ (most : ℕ). (a : List ℕ) (u : Commodity) (p : Span)
+        → IsUpTo most (sum_of sums.new a u p)) }
 {
     if limit > 1_000_000_000_000_000 {
         return Err(Cause::Full);

@@ -1,5 +1,6 @@
 -- A row whose first quantity stands in the row itself.
-use Rattle.std.proofs.Common.{◌≡◌, ℕ, Bool, true, false, ◌&&◌, ◌||◌, List, [], ◌∷◌, refl, ap, ◌∙◌, sym, subst, arith, ℤ, pos, ◌+ℤ◌}
+use Rattle.std.proofs.Common.{◌≡◌, ℕ, Bool, true, false, ◌&&◌, ◌||◌, List, [], ◌∷◌, refl, ap, ◌∙◌, sym, subst, arith, ℤ}
+use Rattle.std.proofs.Common.{pos, ◌+ℤ◌}
 use Rattle.std.specs.Prelude.{if◌then◌else◌, int_le, int_lt, nat_le, cond}
 use Rattle.std.specs.BTreeMap.{is_at}
 use Rattle.std.specs.Ordering.{int_cmp, int_eq, is_eq}
@@ -26,22 +27,30 @@ has_some : (d : ℤ) (ps : List Point) → has d ps ≡ true → is_none ps ≡ 
 has_some d [] h = absurd (cc)
 has_some d (p ∷ ps) h = refl
 
-still_some : (ps qs : List Point) → ((d : ℤ) → has d ps ≡ true → has d qs ≡ true) → is_none ps ≡ false → is_none qs ≡ false
+still_some : (ps qs : List Point) → ((d : ℤ) → has d ps ≡ true → has d qs ≡ true) → is_none ps ≡ false
+    → is_none qs ≡ false
 still_some [] qs h e = absurd (cc)
-still_some (p ∷ ps) qs h e = has_some p.at qs (h p.at (ap (λ (t : Bool). t || has p.at ps) ((Decides-int_eq p.at p.at).1 refl)))
+still_some (p ∷ ps) qs h e =
+    has_some p.at qs (h p.at (ap (λ (t : Bool). t || has p.at ps) ((Decides-int_eq p.at p.at).1 refl)))
 
 same_trans : (r s t : Kept) → SameRow r s → SameRow s t → SameRow r t
 same_trans r s t h k = record { sums = λ p. k.sums p ∙ h.sums p; opened = λ d n e. k.opened d n (h.opened d n e) }
 
 -- another number is opened in a row that has days
-pub opened_full : (v : Kept) (day : Day) (n : ℕ) (q : ℤ) (r s : Kept) → whole day n q r ≡ v → is_none r.0 ≡ false → ((d : ℤ) → has d r.0 ≡ true → has d s.0 ≡ true) → SameRow r s → SameRow v (whole day n q s)
+pub opened_full : (v : Kept) (day : Day) (n : ℕ) (q : ℤ) (r s : Kept) → whole day n q r ≡ v → is_none r.0 ≡ false
+    → ((d : ℤ) → has d r.0 ≡ true → has d s.0 ≡ true) → SameRow r s → SameRow v (whole day n q s)
 opened_full v day n q r s e h days same =
-    subst (λ (x : Kept). SameRow x (whole day n q s)) (sym (whole_full day n q r h) ∙ e) (subst (SameRow r) (sym (whole_full day n q s (still_some r.0 s.0 days h))) same)
+    subst (λ (x : Kept). SameRow x (whole day n q s)) (sym (whole_full day n q r h) ∙ e)
+    (subst (SameRow r) (sym (whole_full day n q s (still_some r.0 s.0 days h))) same)
 
 -- and in one that has none
-pub opened_first : (v : Kept) (day : Day) (n : ℕ) (q : ℤ) (r s t : Kept) (k : ℤ) → whole day n q r ≡ v → is_none r.0 ≡ true → SameRow (one day n q) s → has k s.0 ≡ true → ((d : ℤ) → has d s.0 ≡ true → has d t.0 ≡ true) → SameRow s t → SameRow v (whole day n q t)
+pub opened_first : (v : Kept) (day : Day) (n : ℕ) (q : ℤ) (r s t : Kept) (k : ℤ) → whole day n q r ≡ v
+    → is_none r.0 ≡ true → SameRow (one day n q) s → has k s.0 ≡ true → ((d : ℤ) → has d s.0 ≡ true → has d t.0 ≡ true)
+    → SameRow s t → SameRow v (whole day n q t)
 opened_first v day n q r s t k e h first there days same =
-    subst (λ (x : Kept). SameRow x (whole day n q t)) (sym (whole_first day n q r h) ∙ e) (subst (SameRow (one day n q)) (sym (whole_full day n q t (has_some k t.0 (days k there)))) (same_trans (one day n q) s t first same))
+    subst (λ (x : Kept). SameRow x (whole day n q t)) (sym (whole_first day n q r h) ∙ e)
+    (subst (SameRow (one day n q)) (sym (whole_full day n q t (has_some k t.0 (days k there))))
+    (same_trans (one day n q) s t first same))
 
 -- ---- the first quantity is raised
 either_way : (t u : Bool) → is_eq (cond t Less (cond u Greater Equal)) ≡ is_eq (cond u Less (cond t Greater Equal))
@@ -65,36 +74,52 @@ points_one s ps d = by_test (is_at (int_cmp d) s) refl ∙ ap (λ (t : Bool). if
 pub one_sum : (day : Day) (n : ℕ) (q : ℤ) (p : Period) → row_sum (one day n q) p ≡ (if is_in p day n then q else pos 0)
 one_sum day n q (Before d) = ap (λ (t : Bool). if t then q else pos 0) (sym (lt_le day.0 d.0))
 one_sum day n q (Through d) = refl
-one_sum day n q (Within d k) = ap (λ (ps : List Point). sum_at (pos 0) ps (pos k)) (points_one day.0 (record { at = pos n; sum = q } ∷ []) d.0) ∙ by_day (int_eq day.0 d.0)
+one_sum day n q (Within d k) = ap (λ (ps : List Point). sum_at (pos 0) ps (pos k))
+    (points_one day.0 (record { at = pos n; sum = q } ∷ []) d.0) ∙ by_day (int_eq day.0 d.0)
   where
-    by_day : (t : Bool) → sum_at (pos 0) (if t then record { at = pos n; sum = q } ∷ [] else []) (pos k) ≡ (if t && nat_le n k then q else pos 0)
+    by_day : (t : Bool) → sum_at (pos 0) (if t then record { at = pos n; sum = q } ∷ [] else []) (pos k)
+        ≡ (if t && nat_le n k then q else pos 0)
     by_day true = refl
     by_day false = refl
 
-one_has : (day : Day) (n : ℕ) (q : ℤ) (d : Day) (k : ℕ) → has_number (one day n q) d k ≡ ((int_eq day.0 d.0 || false) && has (pos k) (if int_eq day.0 d.0 then record { at = pos n; sum = q } ∷ [] else []))
-one_has day n q d k = ap (λ (ps : List Point). (int_eq day.0 d.0 || false) && has (pos k) ps) (points_one day.0 (record { at = pos n; sum = q } ∷ []) d.0)
+one_has : (day : Day) (n : ℕ) (q : ℤ) (d : Day) (k : ℕ)
+    → has_number (one day n q) d k
+    ≡ ((int_eq day.0 d.0 || false)
+    && has (pos k) (if int_eq day.0 d.0 then record { at = pos n; sum = q } ∷ [] else []))
+one_has day n q d k = ap (λ (ps : List Point). (int_eq day.0 d.0 || false) && has (pos k) ps)
+    (points_one day.0 (record { at = pos n; sum = q } ∷ []) d.0)
 
 -- what is open is the quantity's own day and number
-its_own : (day : Day) (n : ℕ) (q : ℤ) (d : Day) (k : ℕ) → has_number (one day n q) d k ≡ true → (day.0 ≡ d.0) × (pos n ≡ pos k)
+its_own : (day : Day) (n : ℕ) (q : ℤ) (d : Day) (k : ℕ) → has_number (one day n q) d k ≡ true
+    → (day.0 ≡ d.0) × (pos n ≡ pos k)
 its_own day n q d k h = by_tests (int_eq day.0 d.0) (int_eq (pos n) (pos k)) refl refl (sym (one_has day n q d k) ∙ h)
   where
-    by_tests : (t u : Bool) → int_eq day.0 d.0 ≡ t → int_eq (pos n) (pos k) ≡ u → ((t || false) && has (pos k) (if t then record { at = pos n; sum = q } ∷ [] else [])) ≡ true → (day.0 ≡ d.0) × (pos n ≡ pos k)
+    by_tests : (t u : Bool) → int_eq day.0 d.0 ≡ t → int_eq (pos n) (pos k) ≡ u
+        → ((t || false) && has (pos k) (if t then record { at = pos n; sum = q } ∷ [] else [])) ≡ true
+        → (day.0 ≡ d.0) × (pos n ≡ pos k)
     by_tests true true e f g = ((Decides-int_eq day.0 d.0).0 e, (Decides-int_eq (pos n) (pos k)).0 f)
-    by_tests true false e f g = absurd (let w : has (pos k) (record { at = pos n; sum = q } ∷ []) ≡ false = rw f refl in cc)
+    by_tests true false e f g =
+        absurd (let w : has (pos k) (record { at = pos n; sum = q } ∷ []) ≡ false = rw f refl in cc)
     by_tests false u e f g = absurd (cc)
 
 more : (t : Bool) (a q : ℤ) → (if t then a +ℤ q else pos 0) ≡ (if t then a else pos 0) +ℤ (if t then q else pos 0)
 more true a q = refl
 more false a q = omega (arith, ints)
 
-kept_open : (t : Bool) (n : ℕ) (a b : ℤ) (k : ℕ) → ((t || false) && has (pos k) (if t then record { at = pos n; sum = a } ∷ [] else [])) ≡ ((t || false) && has (pos k) (if t then record { at = pos n; sum = b } ∷ [] else []))
+kept_open : (t : Bool) (n : ℕ) (a b : ℤ) (k : ℕ)
+    → ((t || false) && has (pos k) (if t then record { at = pos n; sum = a } ∷ [] else []))
+    ≡ ((t || false) && has (pos k) (if t then record { at = pos n; sum = b } ∷ [] else []))
 kept_open true n a b k = refl
 kept_open false n a b k = refl
 
-raised_one : (day : Day) (n : ℕ) (a q : ℤ) (d : Day) (k : ℕ) → has_number (one day n a) d k ≡ true → RaisedRow d k q (one day n a) (one day n (a +ℤ q))
+raised_one : (day : Day) (n : ℕ) (a q : ℤ) (d : Day) (k : ℕ) → has_number (one day n a) d k ≡ true
+    → RaisedRow d k q (one day n a) (one day n (a +ℤ q))
 raised_one day n a q d k h = record {
-  sums = λ p. one_sum day n (a +ℤ q) p ∙ more (is_in p day n) a q ∙ ap (λ (z : ℤ). z +ℤ (if is_in p day n then q else pos 0)) (sym (one_sum day n a p)) ∙ ap (λ (t : Bool). row_sum (one day n a) p +ℤ (if t then q else pos 0)) (same p);
-  opened = λ e j g. one_has day n (a +ℤ q) e j ∙ kept_open (int_eq day.0 e.0) n (a +ℤ q) a j ∙ sym (one_has day n a e j) ∙ g;
+  sums = λ p. one_sum day n (a +ℤ q) p ∙ more (is_in p day n) a q ∙ ap
+      (λ (z : ℤ). z +ℤ (if is_in p day n then q else pos 0)) (sym (one_sum day n a p)) ∙ ap
+      (λ (t : Bool). row_sum (one day n a) p +ℤ (if t then q else pos 0)) (same p);
+  opened =
+      λ e j g. one_has day n (a +ℤ q) e j ∙ kept_open (int_eq day.0 e.0) n (a +ℤ q) a j ∙ sym (one_has day n a e j) ∙ g;
 }
   where
     own : (day.0 ≡ d.0) × (pos n ≡ pos k)
@@ -106,17 +131,24 @@ raised_one day n a q d k h = record {
     same : (p : Period) → is_in p day n ≡ is_in p d k
     same (Before e) = ap (λ (z : ℤ). int_lt z e.0) own.0
     same (Through e) = ap (λ (z : ℤ). int_le z e.0) own.0
-    same (Within e j) = ap (λ (z : ℤ). int_eq z e.0 && nat_le n j) own.0 ∙ ap (λ (m : ℕ). int_eq d.0 e.0 && nat_le m j) number
+    same (Within e j) =
+        ap (λ (z : ℤ). int_eq z e.0 && nat_le n j) own.0 ∙ ap (λ (m : ℕ). int_eq d.0 e.0 && nat_le m j) number
 
-pub raised_first : (v : Kept) (day : Day) (n : ℕ) (a q z : ℤ) (r : Kept) (d : Day) (k : ℕ) → whole day n a r ≡ v → is_none r.0 ≡ true → has_number v d k ≡ true → z ≡ a +ℤ q → RaisedRow d k q v (whole day n z r)
+pub raised_first : (v : Kept) (day : Day) (n : ℕ) (a q z : ℤ) (r : Kept) (d : Day) (k : ℕ) → whole day n a r ≡ v
+    → is_none r.0 ≡ true → has_number v d k ≡ true → z ≡ a +ℤ q → RaisedRow d k q v (whole day n z r)
 raised_first v day n a q z r d k e h there sum =
     let f : one day n a ≡ v = sym (whole_first day n a r h) ∙ e in
     subst (λ (x : Kept). RaisedRow d k q x (whole day n z r)) f
-    (subst (RaisedRow d k q (one day n a)) (ap (one day n) (sym sum) ∙ sym (whole_first day n z r h)) (raised_one day n a q d k (ap (λ (x : Kept). has_number x d k) f ∙ there)))
+    (subst (RaisedRow d k q (one day n a)) (ap (one day n) (sym sum) ∙ sym (whole_first day n z r h))
+    (raised_one day n a q d k (ap (λ (x : Kept). has_number x d k) f ∙ there)))
 
 -- the first quantity is small where the sums are
-pub first_small : (v : Kept) (day : Day) (n : ℕ) (a : ℤ) (r : Kept) → whole day n a r ≡ v → is_none r.0 ≡ true → ((p : Period) → IsUpTo 10000000000000000 (row_sum v p)) → IsUpTo 10000000000000000 a
-first_small v day n a r e h small = subst (IsUpTo 10000000000000000) (ap (λ (x : Kept). row_sum x (Through day)) (sym e ∙ whole_first day n a r h) ∙ here (int_le day.0 day.0) (refl_le day.0)) (small (Through day))
+pub first_small : (v : Kept) (day : Day) (n : ℕ) (a : ℤ) (r : Kept) → whole day n a r ≡ v → is_none r.0 ≡ true
+    → ((p : Period) → IsUpTo 10000000000000000 (row_sum v p)) → IsUpTo 10000000000000000 a
+first_small v day n a r e h small =
+    subst (IsUpTo 10000000000000000)
+    (ap (λ (x : Kept). row_sum x (Through day)) (sym e ∙ whole_first day n a r h) ∙ here (int_le day.0 day.0)
+    (refl_le day.0)) (small (Through day))
   where
     refl_le : (z : ℤ) → int_le z z ≡ true
     refl_le z = grind (arith, ints)

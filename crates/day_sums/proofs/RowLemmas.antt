@@ -1,5 +1,6 @@
 -- A row: what opening and raising its parts does to its sums.
-use Rattle.std.proofs.Common.{◌≡◌, ℕ, Bool, true, false, ◌&&◌, List, [], refl, ap, ◌∙◌, sym, subst, arith, ℤ, pos, negsuc, ◌+ℤ◌}
+use Rattle.std.proofs.Common.{◌≡◌, ℕ, Bool, true, false, ◌&&◌, List, [], refl, ap, ◌∙◌, sym, subst, arith, ℤ, pos}
+use Rattle.std.proofs.Common.{negsuc, ◌+ℤ◌}
 use Rattle.std.specs.Prelude.{None, Option, if◌then◌else◌, int_le}
 use Rattle.std.specs.Option.{unwrap_or}
 use Rattle.std.specs.Map.{lookup}
@@ -47,18 +48,25 @@ share q t = if t then q else pos 0
 none_more : (z : ℤ) → z ≡ z +ℤ pos 0
 none_more z = omega (arith, ints)
 
-module _ (r s : Kept) (day : Day) (n : ℕ) (q : ℤ) (days : RaisedPoints day.0 q r.0 s.0) (own : RaisedPoints (pos n) q (points_at r.1 day.0) (points_at s.1 day.0))
+module _ (r s : Kept) (day : Day) (n : ℕ) (q : ℤ) (days : RaisedPoints day.0 q r.0 s.0)
+    (own : RaisedPoints (pos n) q (points_at r.1 day.0) (points_at s.1 day.0))
     (others : (k : ℤ) → int_eq day.0 k ≡ false → points_at s.1 k ≡ points_at r.1 k) where
   -- the sums of a day's own
-  within_raised : (k z : ℤ) → sum_at (pos 0) (points_at s.1 k) z ≡ sum_at (pos 0) (points_at r.1 k) z +ℤ share q (int_eq day.0 k && int_le (pos n) z)
+  within_raised : (k z : ℤ) → sum_at (pos 0) (points_at s.1 k) z
+      ≡ sum_at (pos 0) (points_at r.1 k) z +ℤ share q (int_eq day.0 k && int_le (pos n) z)
   within_raised k z = by_day (int_eq day.0 k) refl
     where
-      by_day : (t : Bool) → int_eq day.0 k ≡ t → sum_at (pos 0) (points_at s.1 k) z ≡ sum_at (pos 0) (points_at r.1 k) z +ℤ share q (t && int_le (pos n) z)
-      by_day true e = subst (λ (j : ℤ). sum_at (pos 0) (points_at s.1 j) z ≡ sum_at (pos 0) (points_at r.1 j) z +ℤ share q (int_le (pos n) z)) ((Decides-int_eq day.0 k).0 e) (own.sums z)
-      by_day false e = ap (λ (ps : List Point). sum_at (pos 0) ps z) (others k e) ∙ none_more (sum_at (pos 0) (points_at r.1 k) z)
+      by_day : (t : Bool) → int_eq day.0 k ≡ t
+          → sum_at (pos 0) (points_at s.1 k) z ≡ sum_at (pos 0) (points_at r.1 k) z +ℤ share q (t && int_le (pos n) z)
+      by_day true e = subst (λ (j : ℤ).
+          sum_at (pos 0) (points_at s.1 j) z ≡ sum_at (pos 0) (points_at r.1 j) z +ℤ share q (int_le (pos n) z))
+          ((Decides-int_eq day.0 k).0 e) (own.sums z)
+      by_day false e =
+          ap (λ (ps : List Point). sum_at (pos 0) ps z) (others k e) ∙ none_more (sum_at (pos 0) (points_at r.1 k) z)
 
   sums_raised : (p : Period) → row_sum s p ≡ row_sum r p +ℤ share q (is_in p day n)
-  sums_raised (Before d) = days.sums (d.0 +ℤ negsuc 0) ∙ ap (λ (t : Bool). sum_at (pos 0) r.0 (d.0 +ℤ negsuc 0) +ℤ share q t) (sym (lt_le day.0 d.0))
+  sums_raised (Before d) = days.sums (d.0 +ℤ negsuc 0) ∙ ap
+      (λ (t : Bool). sum_at (pos 0) r.0 (d.0 +ℤ negsuc 0) +ℤ share q t) (sym (lt_le day.0 d.0))
   sums_raised (Through d) = days.sums d.0
   sums_raised (Within d k) = within_raised d.0 (pos k)
 
@@ -66,35 +74,44 @@ module _ (r s : Kept) (day : Day) (n : ℕ) (q : ℤ) (days : RaisedPoints day.0
   points_kept k z h = by_day (int_eq day.0 k) refl
     where
       by_day : (t : Bool) → int_eq day.0 k ≡ t → has z (points_at s.1 k) ≡ true
-      by_day true e = let f = (Decides-int_eq day.0 k).0 e in subst (λ (j : ℤ). has z (points_at s.1 j) ≡ true) f (own.points z (subst (λ (j : ℤ). has z (points_at r.1 j) ≡ true) (sym f) h))
+      by_day true e = let f = (Decides-int_eq day.0 k).0 e in subst (λ (j : ℤ). has z (points_at s.1 j) ≡ true) f
+          (own.points z (subst (λ (j : ℤ). has z (points_at r.1 j) ≡ true) (sym f) h))
       by_day false e = ap (has z) (others k e) ∙ h
 
   pub raised_row : RaisedRow day n q r s
-  raised_row = record { sums = sums_raised; opened = λ d k. both_true _ _ _ _ (days.points d.0) (points_kept d.0 (pos k)) }
+  raised_row =
+      record { sums = sums_raised; opened = λ d k. both_true _ _ _ _ (days.points d.0) (points_kept d.0 (pos k)) }
 
   pub kept_raised : IsRow r → IsRow s
   kept_raised row k j = within_raised k (negsuc j) ∙ by_day (int_eq day.0 k) (row k j)
     where
-      by_day : (t : Bool) → sum_at (pos 0) (points_at r.1 k) (negsuc j) ≡ pos 0 → sum_at (pos 0) (points_at r.1 k) (negsuc j) +ℤ share q (t && int_le (pos n) (negsuc j)) ≡ pos 0
+      by_day : (t : Bool) → sum_at (pos 0) (points_at r.1 k) (negsuc j) ≡ pos 0
+          → sum_at (pos 0) (points_at r.1 k) (negsuc j) +ℤ share q (t && int_le (pos n) (negsuc j)) ≡ pos 0
       by_day true e = sym (none_more _) ∙ e
       by_day false e = sym (none_more _) ∙ e
 
 -- the same, as the parts' calls say it
-pub raised_parts : (r s : Kept) (day : Day) (n : ℕ) (q k j p : ℤ) → k ≡ day.0 → j ≡ pos n → p ≡ q → RaisedPoints k p r.0 s.0 → RaisedPoints j p (points_at r.1 k) (points_at s.1 k) → ((i : ℤ) → int_eq k i ≡ false → points_at s.1 i ≡ points_at r.1 i) →
+pub raised_parts : (r s : Kept) (day : Day) (n : ℕ) (q k j p : ℤ) → k ≡ day.0 → j ≡ pos n → p ≡ q
+    → RaisedPoints k p r.0 s.0 → RaisedPoints j p (points_at r.1 k) (points_at s.1 k)
+    → ((i : ℤ) → int_eq k i ≡ false → points_at s.1 i ≡ points_at r.1 i) →
     IsRow r → IsRow s × RaisedRow day n q r s
-raised_parts r s day n q k j p at_day at_number by days own others row = (kept_raised r s day n q days' own' others' row, raised_row r s day n q days' own' others')
+raised_parts r s day n q k j p at_day at_number by days own others row =
+    (kept_raised r s day n q days' own' others' row, raised_row r s day n q days' own' others')
   where
     days' : RaisedPoints day.0 q r.0 s.0
     days' = subst (λ (z : ℤ). RaisedPoints day.0 z r.0 s.0) by (subst (λ (i : ℤ). RaisedPoints i p r.0 s.0) at_day days)
 
     own' : RaisedPoints (pos n) q (points_at r.1 day.0) (points_at s.1 day.0)
-    own' = subst (λ (z : ℤ). RaisedPoints (pos n) z (points_at r.1 day.0) (points_at s.1 day.0)) by (subst (λ (i : ℤ). RaisedPoints i p (points_at r.1 day.0) (points_at s.1 day.0)) at_number (subst (λ (i : ℤ). RaisedPoints j p (points_at r.1 i) (points_at s.1 i)) at_day own))
+    own' = subst (λ (z : ℤ). RaisedPoints (pos n) z (points_at r.1 day.0) (points_at s.1 day.0)) by
+        (subst (λ (i : ℤ). RaisedPoints i p (points_at r.1 day.0) (points_at s.1 day.0)) at_number
+        (subst (λ (i : ℤ). RaisedPoints j p (points_at r.1 i) (points_at s.1 i)) at_day own))
 
     others' : (i : ℤ) → int_eq day.0 i ≡ false → points_at s.1 i ≡ points_at r.1 i
     others' i h = others i (subst (λ (z : ℤ). int_eq z i ≡ false) (sym at_day) h)
 
 -- ---- an open number has its points, and small sums
-pub is_open_within : (r : Kept) (d : Day) (n : ℕ) → has_number r d n ≡ true → (has d.0 r.0 ≡ true) × (has (pos n) (points_at r.1 d.0) ≡ true)
+pub is_open_within : (r : Kept) (d : Day) (n : ℕ) → has_number r d n ≡ true
+    → (has d.0 r.0 ≡ true) × (has (pos n) (points_at r.1 d.0) ≡ true)
 is_open_within r d n h = parts (has d.0 r.0) (has (pos n) (points_at r.1 d.0)) h
   where
     parts : (s t : Bool) → (s && t) ≡ true → (s ≡ true) × (t ≡ true)
@@ -104,17 +121,23 @@ is_open_within r d n h = parts (has d.0 r.0) (has (pos n) (points_at r.1 d.0)) h
 four : (z : ℤ) → IsUpTo 10000000000000000 z → IsUpTo 40000000000000000 z
 four z h = let l = h.low in let m = h.high in record { low = omega (arith, ints); high = omega (arith, ints) }
 
-pub small_days : (r : Kept) → ((p : Period) → IsUpTo 10000000000000000 (row_sum r p)) → (k : ℤ) → IsUpTo 40000000000000000 (sum_at (pos 0) r.0 k)
+pub small_days : (r : Kept) → ((p : Period) → IsUpTo 10000000000000000 (row_sum r p)) → (k : ℤ)
+    → IsUpTo 40000000000000000 (sum_at (pos 0) r.0 k)
 small_days r small k = four _ (small (Through (record { 0 = k })))
 
-pub small_numbers : (r : Kept) → IsRow r → ((p : Period) → IsUpTo 10000000000000000 (row_sum r p)) → (k z : ℤ) → IsUpTo 40000000000000000 (sum_at (pos 0) (points_at r.1 k) z)
+pub small_numbers : (r : Kept) → IsRow r → ((p : Period) → IsUpTo 10000000000000000 (row_sum r p)) → (k z : ℤ)
+    → IsUpTo 40000000000000000 (sum_at (pos 0) (points_at r.1 k) z)
 small_numbers r row small k (pos n) = four _ (small (Within (record { 0 = k }) n))
-small_numbers r row small k (negsuc j) = subst (IsUpTo 40000000000000000) (sym (row k j)) (record { low = omega (arith, ints); high = omega (arith, ints) })
+small_numbers r row small k (negsuc j) =
+    subst (IsUpTo 40000000000000000) (sym (row k j)) (record { low = omega (arith, ints); high = omega (arith, ints) })
 
-pub small_view : (r v : Kept) → r ≡ v → ((p : Period) → IsUpTo 10000000000000000 (row_sum v p)) → (p : Period) → IsUpTo 10000000000000000 (row_sum r p)
+pub small_view : (r v : Kept) → r ≡ v → ((p : Period) → IsUpTo 10000000000000000 (row_sum v p)) → (p : Period)
+    → IsUpTo 10000000000000000 (row_sum r p)
 small_view r v e small p = subst (λ (x : Kept). IsUpTo 10000000000000000 (row_sum x p)) (sym e) (small p)
 
 -- a day with no numbers adds nothing
-pub none_within : (r v : Kept) → r ≡ v → (k l z : ℤ) → k ≡ l → None ≡ lookup (is_at (int_cmp k)) r.1 → pos 0 ≡ sum_at (pos 0) (points_at v.1 l) z
+pub none_within : (r v : Kept) → r ≡ v → (k l z : ℤ) → k ≡ l → None ≡ lookup (is_at (int_cmp k)) r.1
+    → pos 0 ≡ sum_at (pos 0) (points_at v.1 l) z
 none_within r v e k l z f h =
-    ap (λ (o : Option (List Point)). sum_at (pos 0) (unwrap_or o []) z) h ∙ ap (λ (j : ℤ). sum_at (pos 0) (points_at r.1 j) z) f ∙ ap (λ (x : Kept). sum_at (pos 0) (points_at x.1 l) z) e
+    ap (λ (o : Option (List Point)). sum_at (pos 0) (unwrap_or o []) z) h ∙ ap
+    (λ (j : ℤ). sum_at (pos 0) (points_at r.1 j) z) f ∙ ap (λ (x : Kept). sum_at (pos 0) (points_at x.1 l) z) e

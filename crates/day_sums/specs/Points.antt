@@ -1,5 +1,7 @@
 -- A row of numbers that rise, each with the sum through it.
-use Rattle.std.specs.Prelude.{◌≡◌, Bool, true, false, ℕ, nat_eq, nat_lt, ◌-◌, ◌&&◌, if◌then◌else◌, List, [], ◌∷◌, ◌++◌, length, take, drop, map, slice_index_or, ℤ, pos, ◌+ℤ◌, ◌<ℤ◌, ◌≤ℤ◌, neg_ℤ, ⊤, int_le, int_lt}
+use Rattle.std.specs.Prelude.{◌≡◌, Bool, true, false, ℕ, nat_eq, nat_lt, ◌-◌, ◌&&◌, if◌then◌else◌, List, [], ◌∷◌, ◌++◌}
+use Rattle.std.specs.Prelude.{length, take, drop, map, slice_index_or, ℤ, pos, ◌+ℤ◌, ◌<ℤ◌, ◌≤ℤ◌, neg_ℤ, ⊤, int_le}
+use Rattle.std.specs.Prelude.{int_lt}
 use Rattle.std.specs.List.{AllByRecursion, list_any}
 use Rattle.std.specs.Ordering.{int_eq}
 use Rattle.day_sums.specs.declared.points.Point.{Point}

@@ -35,4 +35,5 @@ blank_spot = record { day = record { 0 = pos 0 }; number = 0; part = 0 }
 
 -- the days do not fall
 abbrev pub AreByDay : List Spot → Type 0
-AreByDay xs = (i j : ℕ) → i ≤ j → j < length xs → (slice_index_or xs i blank_spot).day.0 ≤ℤ (slice_index_or xs j blank_spot).day.0
+AreByDay xs =
+    (i j : ℕ) → i ≤ j → j < length xs → (slice_index_or xs i blank_spot).day.0 ≤ℤ (slice_index_or xs j blank_spot).day.0

@@ -50,6 +50,8 @@ share_of account unit day n q a u p = if (nat_eq unit.0 u.0 && bytes_eq account 
 
 -- that account's sums in that commodity over the periods that it is in are more by q, every other sum is as before, and
 -- what was open is open
-pub record RaisedSums (account : List ℕ) (unit : Commodity) (day : Day) (n : ℕ) (q : ℤ) (old new : DaySums) : Type 0 where
-  pub sums : (a : List ℕ) (u : Commodity) (p : Period) → sum_of new a u p ≡ sum_of old a u p +ℤ share_of account unit day n q a u p
+pub record RaisedSums (account : List ℕ) (unit : Commodity) (day : Day) (n : ℕ) (q : ℤ)
+    (old new : DaySums) : Type 0 where
+  pub sums : (a : List ℕ) (u : Commodity) (p : Period)
+      → sum_of new a u p ≡ sum_of old a u p +ℤ share_of account unit day n q a u p
   pub opened : (a : List ℕ) (u : Commodity) (d : Day) (k : ℕ) → is_open old a u d k ≡ true → is_open new a u d k ≡ true

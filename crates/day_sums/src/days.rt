@@ -16,7 +16,8 @@ use std::marker::Model;
 
 /// The sums through the days, and beside them those of each day's own.
 ///
-/// So what is added late, on an earlier day but with a later number, raises the sums of later days and no other day's own.
+/// So what is added late, on an earlier day but with a later number, raises the sums of later days and no other day's
+/// own.
 #[derive(Drop)]
 pub struct Days {
     alloc: Global,
@@ -82,7 +83,8 @@ fn raise_number(numbers: &mut BTreeMap<i64, Points>, day: i64, number: i64, qty:
     requires sums { (n : ℤ) → IsUpTo 40000000000000000 (sum_at (pos 0) (points_at numbers.old.entries day) n) }
     requires qty { IsUpTo 10000000000000000 qty }
     ensures own { RaisedPoints number qty (points_at numbers.old.entries day) (points_at numbers.new.entries day) }
-    ensures others { (k : ℤ) → int_eq day k ≡ false → points_at numbers.new.entries k ≡ points_at numbers.old.entries k }
+    ensures others { (k : ℤ) → int_eq day k ≡ false
+        → points_at numbers.new.entries k ≡ points_at numbers.old.entries k }
 {
     if let Some(points) = numbers.get_mut(&day) {
         points.raise(number, qty);

@@ -4,7 +4,8 @@ ghost use Rattle.std.specs.Prelude.{◌≡◌, ◌≤◌, [], ◌∷◌, length,
 ghost use Rattle.std.specs.List.{prefix_len, AllByRecursion};
 ghost use Rattle.std.specs.Result.{IsOkUnless};
 ghost use Rattle.day_sums.specs.declared.points.Point.{Point as Spot};
-ghost use Rattle.day_sums.specs.Points.{is_none, sum_at, has, Ascends, IsUpTo, SamePoints, RaisedPoints, is_before, is_through, base_at, is_there, raised_from};
+ghost use Rattle.day_sums.specs.Points.{is_none, sum_at, has, Ascends, IsUpTo, SamePoints, RaisedPoints, is_before};
+ghost use Rattle.day_sums.specs.Points.{is_through, base_at, is_there, raised_from};
 
 use money_core::Cause;
 use std::alloc::Global;

@@ -49,7 +49,8 @@ fn count_through(spots: &[Spot], day: Day) -> usize
     requires { AreByDay spots.now }
     ensures bound { result ≤ length spots.now }
     ensures through { (k : ℕ) → k < result → (slice_index_or spots.now k blank_spot).day.0 ≤ℤ day.0 }
-    ensures behind { (k : ℕ) → result ≤ k → k < length spots.now → day.0 <ℤ (slice_index_or spots.now k blank_spot).day.0 }
+    ensures behind { (k : ℕ) → result ≤ k → k < length spots.now
+        → day.0 <ℤ (slice_index_or spots.now k blank_spot).day.0 }
 {
     let mut low = 0;
     let mut high = spots.len();

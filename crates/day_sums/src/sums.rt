@@ -68,8 +68,8 @@ impl DaySums {
         Ok(())
     }
 
-    /// Adds to the sums of an account in a commodity over the periods that a day's number is in, which is open. Takes no
-    /// memory.
+    /// Adds to the sums of an account in a commodity over the periods that a day's number is in, which is open. Takes
+    /// no memory.
     ///
     /// Costs one step for each open day behind it, and one for each open number behind it on its day.
     pub fn raise_row(&mut self, account: &[u8], unit: Unit, day: Day, number: u32, qty: i64)

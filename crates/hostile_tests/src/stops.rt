@@ -1,4 +1,5 @@
-//! A treasury over two disks in memory that stop after so many calls each, and what is found when they are opened again.
+//! A treasury over two disks in memory that stop after so many calls each, and what is found when they are opened
+//! again.
 
 use super::rows::{CLOSING, ENTRY, Sent, TRANSFER, answers, answers_again, requests};
 use money_core::Cause;

@@ -1,5 +1,6 @@
 -- A request is read, part by part.
-use Rattle.std.proofs.Common.{◌≡◌, ◌≤◌, ◌<◌, ◌+◌, ◌-◌, ◌++◌, ℕ, List, length, take, drop, max, map, Option, Some, None, Result, Ok, Err, IfOk, codes, refl, ap, ◌∙◌, sym, subst, inl, inr, arith}
+use Rattle.std.proofs.Common.{◌≡◌, ◌≤◌, ◌<◌, ◌+◌, ◌-◌, ◌++◌, ℕ, List, length, take, drop, max, map, Option, Some, None}
+use Rattle.std.proofs.Common.{Result, Ok, Err, IfOk, codes, refl, ap, ◌∙◌, sym, subst, inl, inr, arith}
 use Rattle.std.specs.Prelude.{IfSome, MatchOption}
 use Rattle.std.proofs.lemmas.Grind.{common_steps}
 use Rattle.std.proofs.lemmas.List.{length-append, drop_at}
@@ -56,11 +57,14 @@ pub whole_rest : (n : ℕ) (xs : List ℕ) → take (length xs - n) (drop n xs) 
 whole_rest n xs = grind (arith, common_steps)
 
 -- a head stays one behind which more is read
-head_more : (text : List ℕ) (head : RequestHead) (rest more : List ℕ) → IsHead text head rest → IsHead (text ++ more) head (rest ++ more)
-head_more text head rest more is = record { reads = ReadsRequest-append text head rest more is.reads; small = is.small; few = is.few }
+head_more : (text : List ℕ) (head : RequestHead) (rest more : List ℕ) → IsHead text head rest
+    → IsHead (text ++ more) head (rest ++ more)
+head_more text head rest more is =
+    record { reads = ReadsRequest-append text head rest more is.reads; small = is.small; few = is.few }
 
 -- the bytes behind a head
-behind : (text : List ℕ) (head : RequestHead) (rest : List ℕ) (n : ℕ) → IsHead text head rest → n ≡ length (print_request head) → (drop n text ≡ rest) × (length text ≡ n + length rest)
+behind : (text : List ℕ) (head : RequestHead) (rest : List ℕ) (n : ℕ) → IsHead text head rest
+    → n ≡ length (print_request head) → (drop n text ≡ rest) × (length text ≡ n + length rest)
 behind text head rest n is len =
     let e : text ≡ print_request head ++ rest = is.reads.1 in (
       ap (drop n) e ∙ drop_at (print_request head) rest n (sym len),
@@ -69,38 +73,73 @@ behind text head rest n is len =
 
 -- where the input ends before the head does
 pub stopped_early : (r0 r1 : Option (List ℕ)) (text : List ℕ) → EndsEarly r0 r1 text → IsStopped r0 r1
-stopped_early r0 r1 text ends = record { seen = text; read = ends.read; bounded = (let b = ends.bounded in omega arith); cut = inl (ends.none, ends.may) }
+stopped_early r0 r1 text ends =
+    record {
+      seen = text;
+      read = ends.read;
+      bounded = (let b = ends.bounded in omega arith);
+      cut = inl (ends.none, ends.may);
+    }
 
 pub read_bad : (r0 r1 : Option (List ℕ)) (text : List ℕ) → IsBad r0 r1 text → Reads r0 r1 Unreadable
-read_bad r0 r1 text bad = record { seen = text; read = bad.read; bounded = (let b = bad.bounded in omega arith); calls = inl bad.never }
+read_bad r0 r1 text bad =
+    record { seen = text; read = bad.read; bounded = (let b = bad.bounded in omega arith); calls = inl bad.never }
 
-module _ (r0 r1 : Option (List ℕ)) (text : List ℕ) (headers : List HeaderSpan) (spans : RequestSpans) (h : HasHead r0 r1 text headers spans) where
-  there : (P : List ℕ → List ℕ → Type 0) → P (span_bytes text spans.method) (path_of (span_bytes text spans.path)) → P h.head.method (path_of h.head.target)
-  there P leads = subst (λ (t : List ℕ). P h.head.method (path_of t)) h.at.path (subst (λ (m : List ℕ). P m (path_of (span_bytes text spans.path))) h.at.method leads)
+module _ (r0 r1 : Option (List ℕ)) (text : List ℕ) (headers : List HeaderSpan) (spans : RequestSpans)
+    (h : HasHead r0 r1 text headers spans) where
+  there : (P : List ℕ → List ℕ → Type 0) → P (span_bytes text spans.method) (path_of (span_bytes text spans.path))
+      → P h.head.method (path_of h.head.target)
+  there P leads = subst (λ (t : List ℕ). P h.head.method (path_of t)) h.at.path
+      (subst (λ (m : List ℕ). P m (path_of (span_bytes text spans.path))) h.at.method leads)
 
   -- a head that leads to no route, or to that of a report
-  pub head_calls : (call : Call) → CallsFor (span_bytes text spans.method) (path_of (span_bytes text spans.path)) (Some call) → Reads r0 r1 call
+  pub head_calls : (call : Call) → CallsFor (span_bytes text spans.method) (path_of (span_bytes text spans.path))
+      (Some call) → Reads r0 r1 call
   head_calls call (inl (is, none)) = subst (Reads r0 r1) (let same : Nowhere ≡ call = cc in same)
-      (record { seen = text; read = h.read; bounded = (let b = h.bounded in omega arith); calls = (h.head, h.rest, h.is_head, there HasNoRoute none) })
+      (record {
+        seen = text;
+        read = h.read;
+        bounded = (let b = h.bounded in omega arith);
+        calls = (h.head, h.rest, h.is_head, there HasNoRoute none);
+      })
   head_calls call (inr (route, leads, is)) = by_route route leads is
     where
-      leading : (route : Routed) → LeadsTo (span_bytes text spans.method) (path_of (span_bytes text spans.path)) route → Leads text h.head h.rest route
+      leading : (route : Routed) → LeadsTo (span_bytes text spans.method) (path_of (span_bytes text spans.path)) route
+          → Leads text h.head h.rest route
       leading route leads = record { is_head = h.is_head; leads = there (λ (m p : List ℕ). LeadsTo m p route) leads }
 
-      by_route : (route : Routed) → LeadsTo (span_bytes text spans.method) (path_of (span_bytes text spans.path)) route → Some call ≡ call_at route → Reads r0 r1 call
+      by_route : (route : Routed) → LeadsTo (span_bytes text spans.method) (path_of (span_bytes text spans.path)) route
+          → Some call ≡ call_at route → Reads r0 r1 call
       by_route commands leads is = absurd cc
       by_route (balance branch date) leads is = subst (Reads r0 r1) (let same : Balance branch date ≡ call = cc in same)
-          (record { seen = text; read = h.read; bounded = (let b = h.bounded in omega arith); calls = (h.head, h.rest, leading (balance branch date) leads) })
+          (record {
+            seen = text;
+            read = h.read;
+            bounded = (let b = h.bounded in omega arith);
+            calls = (h.head, h.rest, leading (balance branch date) leads);
+          })
       by_route (journal branch) leads is = subst (Reads r0 r1) (let same : Journal branch ≡ call = cc in same)
-          (record { seen = text; read = h.read; bounded = (let b = h.bounded in omega arith); calls = (h.head, h.rest, leading (journal branch) leads) })
+          (record {
+            seen = text;
+            read = h.read;
+            bounded = (let b = h.bounded in omega arith);
+            calls = (h.head, h.rest, leading (journal branch) leads);
+          })
       by_route (transit date) leads is = subst (Reads r0 r1) (let same : Transit date ≡ call = cc in same)
-          (record { seen = text; read = h.read; bounded = (let b = h.bounded in omega arith); calls = (h.head, h.rest, leading (transit date) leads) })
+          (record {
+            seen = text;
+            read = h.read;
+            bounded = (let b = h.bounded in omega arith);
+            calls = (h.head, h.rest, leading (transit date) leads);
+          })
 
-  module _ (r2 : Option (List ℕ)) (leads : LeadsTo (span_bytes text spans.method) (path_of (span_bytes text spans.path)) commands) where
+  module _ (r2 : Option (List ℕ))
+      (leads : LeadsTo (span_bytes text spans.method) (path_of (span_bytes text spans.path)) commands) where
     leads_there : LeadsTo h.head.method (path_of h.head.target) commands
     leads_there = there (λ (m p : List ℕ). LeadsTo m p commands) leads
 
-    size_is : (o : Option ℕ) → body_length (map (header_bytes text) (take spans.headers headers)) ≡ o → length_of h.head ≡ o
+    size_is : (o : Option ℕ) → body_length (map (header_bytes text) (take spans.headers headers)) ≡ o
+        → length_of h.head ≡ o
     size_is o e = sym (ap body_length h.at.fields) ∙ e
 
     still : (more : List ℕ) → Leads (text ++ more) h.head (h.rest ++ more) commands
@@ -110,14 +149,19 @@ module _ (r0 r1 : Option (List ℕ)) (text : List ℕ) (headers : List HeaderSpa
     rest_is = (behind text h.head h.rest spans.len h.is_head h.at.len).0
 
     -- a whole head and a whole body
-    most : (n : ℕ) → body_length (map (header_bytes text) (take spans.headers headers)) ≡ Some n → spans.len + n ≤ most_read
-    most n size = (let s = h.is_head.small in let k = h.at.len in let b = body_bound (map (header_bytes text) (take spans.headers headers)) n size in omega arith)
+    most : (n : ℕ) → body_length (map (header_bytes text) (take spans.headers headers)) ≡ Some n
+        → spans.len + n ≤ most_read
+    most n size = (let s = h.is_head.small in let k = h.at.len in let b =
+        body_bound (map (header_bytes text) (take spans.headers headers)) n size in omega arith)
 
     whole_length : (more : List ℕ) → length (text ++ more) ≡ spans.len + length (h.rest ++ more)
     whole_length more =
-        (let a = length-append text more in let b = length-append h.rest more in let t = (behind text h.head h.rest spans.len h.is_head h.at.len).1 in omega arith)
+        (let a = length-append text more in let b = length-append h.rest more in let t =
+        (behind text h.head h.rest spans.len h.is_head h.at.len).1 in omega arith)
 
-    pub command_calls : (o : Option ℕ) (call : Call) → body_length (map (header_bytes text) (take spans.headers headers)) ≡ o → CallsBy o r1 r2 (drop spans.len text) call → Reads r0 r2 call
+    pub command_calls : (o : Option ℕ) (call : Call)
+        → body_length (map (header_bytes text) (take spans.headers headers)) ≡ o
+        → CallsBy o r1 r2 (drop spans.len text) call → Reads r0 r2 call
     command_calls None call size (kept, is) = subst (Reads r0 r2) (sym is) (record {
       seen = text;
       read = subst (λ (r : Option (List ℕ)). Consumes r0 r text) (sym kept) h.read;
@@ -146,7 +190,8 @@ module _ (r0 r1 : Option (List ℕ)) (text : List ℕ) (headers : List HeaderSpa
       );
     })
 
-    pub command_stops : (o : Option ℕ) → body_length (map (header_bytes text) (take spans.headers headers)) ≡ o → LacksBytes o r1 r2 (drop spans.len text) → IsStopped r0 r2
+    pub command_stops : (o : Option ℕ) → body_length (map (header_bytes text) (take spans.headers headers)) ≡ o
+        → LacksBytes o r1 r2 (drop spans.len text) → IsStopped r0 r2
     command_stops None size lacks = absurd lacks
     command_stops (Some n) size lacks =
         let short = subst (λ (t : List ℕ). length (t ++ lacks.more) < n) rest_is lacks.short in
@@ -158,20 +203,29 @@ module _ (r0 r1 : Option (List ℕ)) (text : List ℕ) (headers : List HeaderSpa
         }
 
     -- the same of a result
-    pub command_told : {E : Type 0} (result : Result Call E) (o : Option ℕ) (begun : List ℕ) → o ≡ body_length (map (header_bytes text) (take spans.headers headers)) → begun ≡ drop spans.len text
+    pub command_told : {E : Type 0} (result : Result Call E) (o : Option ℕ) (begun : List ℕ)
+        → o ≡ body_length (map (header_bytes text) (take spans.headers headers)) → begun ≡ drop spans.len text
         → IfOk result (CallsBy o r1 r2 begun) → IfOk result (Reads r0 r2)
-    command_told (Ok call) o begun size rest calls = command_calls o call (sym size) (subst (λ (t : List ℕ). CallsBy o r1 r2 t call) rest calls)
+    command_told (Ok call) o begun size rest calls =
+        command_calls o call (sym size) (subst (λ (t : List ℕ). CallsBy o r1 r2 t call) rest calls)
     command_told (Err e) o begun size rest calls = tt
 
-    pub stop_told : (o : Option ℕ) (begun : List ℕ) → o ≡ body_length (map (header_bytes text) (take spans.headers headers)) → begun ≡ drop spans.len text → LacksBytes o r1 r2 begun → IsStopped r0 r2
-    stop_told o begun size rest lacks = command_stops o (sym size) (subst (λ (t : List ℕ). LacksBytes o r1 r2 t) rest lacks)
+    pub stop_told : (o : Option ℕ) (begun : List ℕ)
+        → o ≡ body_length (map (header_bytes text) (take spans.headers headers)) → begun ≡ drop spans.len text
+        → LacksBytes o r1 r2 begun → IsStopped r0 r2
+    stop_told o begun size rest lacks =
+        command_stops o (sym size) (subst (λ (t : List ℕ). LacksBytes o r1 r2 t) rest lacks)
 
 -- what was found by an equal method
-pub route_told : (found : Option Route) (m n path : List ℕ) → n ≡ m → IfSome found (λ route. LeadsTo n path (shown route)) → (found ≡ None → HasNoRoute n path)
+pub route_told : (found : Option Route) (m n path : List ℕ) → n ≡ m
+    → IfSome found (λ route. LeadsTo n path (shown route)) → (found ≡ None → HasNoRoute n path)
     → MatchOption found (HasNoRoute m path) (λ route. LeadsTo m path (shown route))
 route_told (Some route) m n path same leads none = subst (λ (t : List ℕ). LeadsTo t path (shown route)) same leads
 route_told None m n path same leads none = subst (λ (t : List ℕ). HasNoRoute t path) same (none refl)
 
 -- what a method and an equal path call for
-pub call_told : (call : Option Call) (m n p q : List ℕ) → m ≡ n → p ≡ q → CallsFor m (path_of p) call → CallsFor n (path_of q) call
-call_told call m n p q same alike calls = subst (λ (t : List ℕ). CallsFor n (path_of t) call) alike (subst (λ (t : List ℕ). CallsFor t (path_of p) call) same calls)
+pub call_told : (call : Option Call) (m n p q : List ℕ) → m ≡ n → p ≡ q → CallsFor m (path_of p) call
+    → CallsFor n (path_of q) call
+call_told call m n p q same alike calls =
+    subst (λ (t : List ℕ). CallsFor n (path_of t) call) alike
+    (subst (λ (t : List ℕ). CallsFor t (path_of p) call) same calls)

@@ -5,7 +5,8 @@ use Rattle.http_request.specs.Routes.{LeadsTo, commands, balance, is_part}
 use Rattle.http_request.specs.Length.{body_length}
 
 -- a query is not looked at
-pub query : (path_of (codes "/balance/north/2024-01-31?x=/y") ≡ codes "/balance/north/2024-01-31") × (path_of (codes "/commands") ≡ codes "/commands")
+pub query : (path_of (codes "/balance/north/2024-01-31?x=/y") ≡ codes "/balance/north/2024-01-31")
+    × (path_of (codes "/commands") ≡ codes "/commands")
 query = (refl, refl)
 
 -- parts stand as they are, and hold no slash

@@ -23,13 +23,16 @@ pub record Leads (seen : List ℕ) (head : RequestHead) (rest : List ℕ) (route
 abbrev pub LeadTo : List ℕ → Routed → Type 0
 LeadTo seen route = (head : RequestHead) × (rest : List ℕ) × Leads seen head rest route
 
--- What the bytes call for. Nothing where they begin no head, or where the length of a command's body is not stated as it has to
--- be; a command has its whole body, and what stands behind it is not looked at.
+-- What the bytes call for. Nothing where they begin no head, or where the length of a command's body is not stated as
+-- it has to be; a command has its whole body, and what stands behind it is not looked at.
 abbrev pub Calls : List ℕ → Call → Type 0
-Calls seen Unreadable = NeverHead seen ⊎ ((head : RequestHead) × (rest : List ℕ) × Leads seen head rest commands × (length_of head ≡ None))
-Calls seen Nowhere = (head : RequestHead) × (rest : List ℕ) × IsHead seen head rest × HasNoRoute head.method (path_of head.target)
+Calls seen Unreadable =
+    NeverHead seen ⊎ ((head : RequestHead) × (rest : List ℕ) × Leads seen head rest commands × (length_of head ≡ None))
+Calls seen Nowhere =
+    (head : RequestHead) × (rest : List ℕ) × IsHead seen head rest × HasNoRoute head.method (path_of head.target)
 Calls seen (Command body) =
-    (head : RequestHead) × (rest : List ℕ) × (n : ℕ) × Leads seen head rest commands × (length_of head ≡ Some n) × (n ≤ length rest) × (body ≡ take n rest)
+    (head : RequestHead) × (rest : List ℕ) × (n : ℕ) × Leads seen head rest commands × (length_of head ≡ Some n)
+    × (n ≤ length rest) × (body ≡ take n rest)
 Calls seen (Balance branch date) = LeadTo seen (balance branch date)
 Calls seen (Journal branch) = LeadTo seen (journal branch)
 Calls seen (Transit date) = LeadTo seen (transit date)
@@ -45,12 +48,13 @@ pub record Reads (r0 r1 : Option (List ℕ)) (call : Call) : Type 0 where
   pub bounded : length seen ≤ most_read
   pub calls : Calls seen call
 
--- The bytes are a first part of a request: of its head, which some bytes could still end within the limits (inside its target that
--- is not asked), or of its body.
+-- The bytes are a first part of a request: of its head, which some bytes could still end within the limits (inside its
+-- target that is not asked), or of its body.
 abbrev pub IsCutOff : List ℕ → Type 0
 IsCutOff seen =
     (HasNoRequest seen × (CanEnd seen ⊎ ((spaces seen ≡ 1) × MayBecomeRequest seen)))
-    ⊎ ((head : RequestHead) × (rest : List ℕ) × (n : ℕ) × Leads seen head rest commands × (length_of head ≡ Some n) × (length rest < n))
+    ⊎ ((head : RequestHead) × (rest : List ℕ) × (n : ℕ) × Leads seen head rest commands × (length_of head ≡ Some n)
+    × (length rest < n))
 
 -- a first part of a request was read
 pub record IsStopped (r0 r1 : Option (List ℕ)) : Type 0 where

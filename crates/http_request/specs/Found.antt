@@ -11,7 +11,8 @@ use Rattle.http_request.specs.declared.length.Values.{Values}
 use Rattle.http_request.specs.declared.length.Values.TheVariants as found
 
 -- what was read is a head and perhaps more, and the spans are the head's
-pub record HasHead (r0 r1 : Option (List ℕ)) (text : List ℕ) (headers : List HeaderSpan) (spans : RequestSpans) : Type 0 where
+pub record HasHead (r0 r1 : Option (List ℕ)) (text : List ℕ) (headers : List HeaderSpan)
+    (spans : RequestSpans) : Type 0 where
   pub read : Consumes r0 r1 text
   pub bounded : length text ≤ 16_384
   pub head : RequestHead
@@ -26,7 +27,8 @@ pub record IsBad (r0 r1 : Option (List ℕ)) (text : List ℕ) : Type 0 where
   pub bounded : length text ≤ 16_384
   pub never : NeverHead text
 
--- the input ended before its head did, which some bytes could still have ended; or inside its target, with one space so far
+-- the input ended before its head did, which some bytes could still have ended; or inside its target, with one space so
+-- far
 pub record EndsEarly (r0 r1 : Option (List ℕ)) (text : List ℕ) : Type 0 where
   pub read : Consumes r0 r1 text
   pub bounded : length text ≤ 16_384

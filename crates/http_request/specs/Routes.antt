@@ -17,8 +17,10 @@ pub data Routed : Type 0 where
 abbrev pub LeadsTo : List ℕ → List ℕ → Routed → Type 0
 LeadsTo method path commands = (method ≡ codes "POST") × (path ≡ codes "/commands")
 LeadsTo method path (balance branch date) =
-    (method ≡ codes "GET") × (path ≡ codes "/balance/" ++ branch ++ 47 ∷ date) × (is_part branch ≡ true) × (is_part date ≡ true)
-LeadsTo method path (journal branch) = (method ≡ codes "GET") × (path ≡ codes "/journal/" ++ branch) × (is_part branch ≡ true)
+    (method ≡ codes "GET") × (path ≡ codes "/balance/" ++ branch ++ 47 ∷ date) × (is_part branch ≡ true)
+    × (is_part date ≡ true)
+LeadsTo method path (journal branch) =
+    (method ≡ codes "GET") × (path ≡ codes "/journal/" ++ branch) × (is_part branch ≡ true)
 LeadsTo method path (transit date) = (method ≡ codes "GET") × (path ≡ codes "/transit/" ++ date) × (is_part date ≡ true)
 
 -- they lead to none

@@ -12,7 +12,8 @@ row pattern text names value = (pattern, record { pattern = pattern; text = text
 -- the rows of the router, in its order
 abbrev pub route_rows : RowsOf (RouteOf Place)
 route_rows =
-    row (codes "/balance/" ++ param_token ∷ 47 ∷ param_token ∷ []) (codes "/balance/{branch}/{date}") ((10, 16) ∷ (19, 23) ∷ []) at.Balance
+    row (codes "/balance/" ++ param_token ∷ 47 ∷ param_token ∷ []) (codes "/balance/{branch}/{date}")
+    ((10, 16) ∷ (19, 23) ∷ []) at.Balance
     ∷ row (codes "/commands") (codes "/commands") [] at.Commands
     ∷ row (codes "/journal/" ++ param_token ∷ []) (codes "/journal/{branch}") ((10, 16) ∷ []) at.Journal
     ∷ row (codes "/transit/" ++ param_token ∷ []) (codes "/transit/{date}") ((10, 14) ∷ []) at.Transit

@@ -12,8 +12,10 @@ const CHUNK: usize = 4096;
 
 /// Reads until the text has this many bytes, and no more. 45 where a read fails or the input ends before that.
 fn read_until<R: Read>(reader: &mut R, text: &mut Vec<u8>, whole: usize) -> Result<(), Cause>
-    ensures ok { OnOk result (HasGrownTo whole (R.remaining reader.old) (R.remaining reader.new) text.old.items text.new.items) }
-    ensures early { result ≡ Err Cause.ReadFault → EndsBefore whole (R.remaining reader.old) (R.remaining reader.new) text.old.items text.new.items }
+    ensures ok { OnOk result (HasGrownTo whole (R.remaining reader.old) (R.remaining reader.new) text.old.items
+        text.new.items) }
+    ensures early { result ≡ Err Cause.ReadFault
+        → EndsBefore whole (R.remaining reader.old) (R.remaining reader.new) text.old.items text.new.items }
     ensures causes { IfErr result (λ cause. (cause ≡ Cause.ReadFault) ⊎ (cause ≡ Cause.OutOfMemory)) }
 {
     let mut chunk = [0u8; CHUNK];
@@ -31,16 +33,18 @@ fn read_until<R: Read>(reader: &mut R, text: &mut Vec<u8>, whole: usize) -> Resu
     Ok(())
 }
 
-/// Reads a body of this size, which the bytes begin that were read with its head, and no byte more. 45 where a read fails or the
-/// input ends before that.
+/// Reads a body of this size, which the bytes begin that were read with its head, and no byte more. 45 where a read
+/// fails or the input ends before that.
 pub fn read_body<R: Read>(
     alloc: Global,
     reader: &mut R,
     begun: &[u8],
     size: usize,
 ) -> Result<Vec<u8>, Cause>
-    ensures ok { IfOk result (λ body. HasBody size (R.remaining reader.old) (R.remaining reader.new) begun.now body.items) }
-    ensures early { result ≡ Err Cause.ReadFault → LacksBody size (R.remaining reader.old) (R.remaining reader.new) begun.now }
+    ensures ok { IfOk result (λ body.
+        HasBody size (R.remaining reader.old) (R.remaining reader.new) begun.now body.items) }
+    ensures early { result ≡ Err Cause.ReadFault
+        → LacksBody size (R.remaining reader.old) (R.remaining reader.new) begun.now }
     ensures causes { IfErr result (λ cause. (cause ≡ Cause.ReadFault) ⊎ (cause ≡ Cause.OutOfMemory)) }
 {
     let mut body = Vec::new(alloc);

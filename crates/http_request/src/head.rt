@@ -1,6 +1,7 @@
 //! The head of a request, read from a connection.
 
-ghost use Rattle.std.specs.Prelude.{◌≡◌, ◌⊎◌, ◌++◌, ◌∷◌, ℕ, List, [], None, Err, length, map, IfOk, IfErr, MatchOption, MatchBool};
+ghost use Rattle.std.specs.Prelude.{◌≡◌, ◌⊎◌, ◌++◌, ◌∷◌, ℕ, List, [], None, Err, length, map, IfOk, IfErr, MatchOption};
+ghost use Rattle.std.specs.Prelude.{MatchBool};
 ghost use Rattle.httparse.specs.Grammar.{RequestHead, HasNoRequest, MayBecomeRequest};
 ghost use Rattle.http_request.specs.Spaces.{spaces};
 ghost use Rattle.http_request.specs.Head.{IsHead, CanEnd, NeverHead};
@@ -79,7 +80,9 @@ fn may_end(
     headers: &mut [HeaderSpan; MAX_HEADERS],
 ) -> Result<bool, AllocError>
     ensures kept { text.new.items ≡ text.old.items }
-    ensures found { IfOk result (λ found. MatchBool found (CanEnd text.old.items) (HasNoEnd text.old.items (map (λ end. end.now) ends.now) (length ends.now))) }
+    ensures found { IfOk result (λ found.
+        MatchBool found (CanEnd text.old.items)
+        (HasNoEnd text.old.items (map (λ end. end.now) ends.now) (length ends.now))) }
 {
     for end in ends {
         match is_ended_by(text, end, headers) {
@@ -102,7 +105,8 @@ fn end_early(
     requires may { (text.old.items ≡ []) ⊎ MayBecomeRequest text.old.items }
     ensures kept { text.new.items ≡ text.old.items }
     ensures never { IfOk result (λ found. (found ≡ None) × NeverHead text.old.items) }
-    ensures early { result ≡ Err Cause.ReadFault → CanEnd text.old.items ⊎ ((spaces text.old.items ≡ 1) × MayBecomeRequest text.old.items) }
+    ensures early { result ≡ Err Cause.ReadFault
+        → CanEnd text.old.items ⊎ ((spaces text.old.items ≡ 1) × MayBecomeRequest text.old.items) }
     ensures causes { IfErr result (λ cause. (cause ≡ Cause.ReadFault) ⊎ (cause ≡ Cause.OutOfMemory)) }
 {
     if spaces(text.as_slice()) == 1 {
@@ -133,8 +137,8 @@ fn end_early(
 
 /// Reads the head of a request into an empty text, and perhaps a first part of what follows it.
 ///
-/// `None` where the bytes that were read begin no head within the limits. 45 where a read fails or the input ends before that
-/// is seen.
+/// `None` where the bytes that were read begin no head within the limits. 45 where a read fails or the input ends
+/// before that is seen.
 pub fn read_head<R: Read>(
     reader: &mut R,
     text: &mut Vec<u8>,
@@ -144,7 +148,8 @@ pub fn read_head<R: Read>(
     ensures found { IfOk result (λ found. MatchOption found
         (IsBad (R.remaining reader.old) (R.remaining reader.new) text.new.items)
         (HasHead (R.remaining reader.old) (R.remaining reader.new) text.new.items headers.new)) }
-    ensures early { result ≡ Err Cause.ReadFault → EndsEarly (R.remaining reader.old) (R.remaining reader.new) text.new.items }
+    ensures early { result ≡ Err Cause.ReadFault
+        → EndsEarly (R.remaining reader.old) (R.remaining reader.new) text.new.items }
     ensures causes { IfErr result (λ cause. (cause ≡ Cause.ReadFault) ⊎ (cause ≡ Cause.OutOfMemory)) }
 {
     let mut chunk = [0u8; CHUNK];

@@ -57,7 +57,8 @@ fn call_for(alloc: Global, method: &[u8], target: &[u8]) -> Result<Option<Call>,
     }
 }
 
-/// What a command calls for, whose body has this size if it says one, and begins with these bytes; reads the rest of it.
+/// What a command calls for, whose body has this size if it says one, and begins with these bytes; reads the rest of
+/// it.
 fn read_command<R: Read>(
     alloc: Global,
     reader: &mut R,
@@ -65,7 +66,8 @@ fn read_command<R: Read>(
     size: Option<usize>,
 ) -> Result<Call, Cause>
     ensures calls { IfOk result (CallsBy size (R.remaining reader.old) (R.remaining reader.new) begun.now) }
-    ensures early { result ≡ Err Cause.ReadFault → LacksBytes size (R.remaining reader.old) (R.remaining reader.new) begun.now }
+    ensures early { result ≡ Err Cause.ReadFault
+        → LacksBytes size (R.remaining reader.old) (R.remaining reader.new) begun.now }
     ensures causes { IfErr result (λ cause. (cause ≡ Cause.ReadFault) ⊎ (cause ≡ Cause.OutOfMemory)) }
 {
     match size {
@@ -79,9 +81,9 @@ fn read_command<R: Read>(
 
 /// Reads one request, and says what it calls for.
 ///
-/// Its head has at most 16 KiB and 32 headers, its body at most 8 MiB; of a `GET` no body is read. 45 comes where a read fails,
-/// whatever its error, or the input ends, before the request is there; where no bytes could have made it one, it is
-/// `Unreadable`. 40 comes where there is no memory for its text.
+/// Its head has at most 16 KiB and 32 headers, its body at most 8 MiB; of a `GET` no body is read. 45 comes where a
+/// read fails, whatever its error, or the input ends, before the request is there; where no bytes could have made it
+/// one, it is `Unreadable`. 40 comes where there is no memory for its text.
 pub fn read_call<R: Read>(alloc: Global, reader: &mut R) -> Result<Call, Cause>
     ensures ok { IfOk result (Reads (R.remaining reader.old) (R.remaining reader.new)) }
     ensures early { result ≡ Err Cause.ReadFault → IsStopped (R.remaining reader.old) (R.remaining reader.new) }

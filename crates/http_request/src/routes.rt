@@ -63,7 +63,8 @@ fn part_behind<'p>(path: &'p str, front: &str) -> Option<&'p str>
 /// Both texts, where each can stand for a part of a path.
 fn both_parts<'p>(one: &'p str, two: &'p str) -> Option<(&'p str, &'p str)>
     ensures { MatchOption result ((is_part one.now && is_part two.now) ≡ false)
-        (λ parts. (parts.0.now ≡ one.now) × (parts.1.now ≡ two.now) × (is_part one.now ≡ true) × (is_part two.now ≡ true)) }
+        (λ parts. (parts.0.now ≡ one.now) × (parts.1.now ≡ two.now) × (is_part one.now ≡ true)
+        × (is_part two.now ≡ true)) }
 {
     if is_part(one) && is_part(two) {
         Some((one, two))
@@ -74,8 +75,10 @@ fn both_parts<'p>(one: &'p str, two: &'p str) -> Option<(&'p str, &'p str)>
 
 /// The two parts of the path behind its front, with a slash between them, where nothing else follows.
 fn parts_behind<'p>(path: &'p str, front: &str) -> Option<(&'p str, &'p str)>
-    ensures { MatchOption result ((one : List ℕ) → (two : List ℕ) → is_part one ≡ true → is_part two ≡ true → path.now ≢ front.now ++ (one ++ 47 ∷ two))
-        (λ parts. (path.now ≡ front.now ++ (parts.0.now ++ 47 ∷ parts.1.now)) × (is_part parts.0.now ≡ true) × (is_part parts.1.now ≡ true)) }
+    ensures { MatchOption result ((one : List ℕ) → (two : List ℕ) → is_part one ≡ true → is_part two ≡ true
+        → path.now ≢ front.now ++ (one ++ 47 ∷ two))
+        (λ parts. (path.now ≡ front.now ++ (parts.0.now ++ 47 ∷ parts.1.now)) × (is_part parts.0.now ≡ true)
+        × (is_part parts.1.now ≡ true)) }
 {
     let rest = match path.strip_prefix(front) {
         Some(rest) => rest,
@@ -131,7 +134,8 @@ pub fn find_route<'p>(
     method: &[u8],
     path: &'p str,
 ) -> Result<Option<Route<'p>>, Cause>
-    ensures found { IfOk result (λ found. MatchOption found (HasNoRoute method.now path.now) (λ route. LeadsTo method.now path.now (shown route))) }
+    ensures found { IfOk result (λ found.
+        MatchOption found (HasNoRoute method.now path.now) (λ route. LeadsTo method.now path.now (shown route))) }
     ensures memory { IsOkUnless result Cause.OutOfMemory }
 {
     let method = match Method::from_bytes(alloc, method) {

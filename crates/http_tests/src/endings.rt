@@ -55,8 +55,8 @@ fn a_request_that_is_cut_is_answered_nothing(rt: HostRuntime) {
     );
 }
 
-// Columns: the branch that is asked for; how many bytes the writer takes; whether it fails then, or takes nothing. The reply has 98
-// bytes of head, and 3 of body.
+// Columns: the branch that is asked for; how many bytes the writer takes; whether it fails then, or takes nothing. The
+// reply has 98 bytes of head, and 3 of body.
 const TORN: &[(&str, usize, bool)] = &[
     ("a", 0, true),
     ("b", 0, false),
@@ -127,8 +127,8 @@ fn headed(rt: &impl Abort, alloc: Global, size: usize, more: usize) -> Vec<u8> {
     text
 }
 
-// Columns: the bytes of a value; further headers; the status; the body. The head has 41 bytes and six for each further header
-// beside the value.
+// Columns: the bytes of a value; further headers; the status; the body. The head has 41 bytes and six for each further
+// header beside the value.
 const HEADS: &[(usize, usize, &str, &str)] = &[
     (0, 31, "200 OK", ""),
     (0, 32, "400 Bad Request", "refused 44 Request\n"),

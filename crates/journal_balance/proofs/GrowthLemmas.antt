@@ -1,5 +1,7 @@
 -- under more styles a transaction keeps its entry, or its fault
-use Rattle.std.proofs.Common.{◌≡◌, ℕ, zero, suc, ◌+◌, ◌<◌, ◌≤◌, Bool, true, false, ◌&&◌, List, [], ◌∷◌, ◌++◌, length, ℤ, pos, ◌+ℤ◌, refl, ap, ◌∙◌, sym, arith, append-nil, length-append, Option, Some, None, Result}
+use Rattle.std.proofs.Common.{◌≡◌, ℕ, zero, suc, ◌+◌, ◌<◌, ◌≤◌, Bool, true, false, ◌&&◌, List, [], ◌∷◌, ◌++◌, length, ℤ}
+use Rattle.std.proofs.Common.{pos, ◌+ℤ◌, refl, ap, ◌∙◌, sym, arith, append-nil, length-append, Option, Some, None}
+use Rattle.std.proofs.Common.{Result}
 use Rattle.std.specs.Prelude.{unsigned_abs, slice_get}
 use Rattle.std.specs.Ordering.{int_eq}
 use Rattle.std.specs.Option.{option_or}
@@ -25,7 +27,10 @@ use Rattle.journal_format.specs.declared.posting.Posting.{Posting}
 use Rattle.journal_format.specs.declared.txn.Txn.{Txn}
 use Rattle.journal_format.specs.Printable.{is_amount, is_price_or_none, is_posting}
 use Rattle.journal_balance.specs.Conversion.{symbol_in, symbol_of, conversion_account}
-use Rattle.journal_balance.specs.Legs.{commodities, declared, cost_value, in_unit, amount_value, value_of, sum_of, leg, amount_legs, rest_leg, rest_legs, posting_legs, legs_among, placed, claims_among, entry_of, fault_in, cost_fault_of, cost_fault, is_even, balancing_fault, unless, legs_of}
+use Rattle.journal_balance.specs.Legs.{commodities, declared, cost_value, in_unit, amount_value, value_of, sum_of, leg}
+use Rattle.journal_balance.specs.Legs.{amount_legs, rest_leg, rest_legs, posting_legs, legs_among, placed, claims_among}
+use Rattle.journal_balance.specs.Legs.{entry_of, fault_in, cost_fault_of, cost_fault, is_even, balancing_fault, unless}
+use Rattle.journal_balance.specs.Legs.{legs_of}
 use Rattle.journal_balance.proofs.LimitLemmas.{amount_ok}
 use Rattle.journal_balance.proofs.ValueLemmas.{price_declared, sum_undeclared}
 
@@ -39,16 +44,20 @@ commodities-add n (suc j) k =
     let more : suc j + k ≡ suc (j + k) = omega arith in
     let behind : n + 1 + j ≡ n + suc j = omega arith in
     let own : Commodity = record { 0 = n } in
-    ap (commodities n) more ∙ ap (λ (us : List Commodity). own ∷ us) (commodities-add (n + 1) j k ∙ ap (λ (m : ℕ). commodities (n + 1) j ++ commodities m k) behind)
+    ap (commodities n) more ∙ ap (λ (us : List Commodity). own ∷ us)
+    (commodities-add (n + 1) j k ∙ ap (λ (m : ℕ). commodities (n + 1) j ++ commodities m k) behind)
 
-declared-append : (styles more : List Style) → declared (styles ++ more) ≡ declared styles ++ commodities (length styles) (length more)
+declared-append : (styles more : List Style)
+    → declared (styles ++ more) ≡ declared styles ++ commodities (length styles) (length more)
 declared-append styles more =
     let from : zero + length styles ≡ length styles = omega arith in
-    ap (commodities 0) (length-append styles more) ∙ commodities-add 0 (length styles) (length more) ∙ ap (λ (n : ℕ). declared styles ++ commodities n (length more)) from
+    ap (commodities 0) (length-append styles more) ∙ commodities-add 0 (length styles) (length more) ∙ ap
+    (λ (n : ℕ). declared styles ++ commodities n (length more)) from
 
 -- equal sums leave equal rests
 rests_same : (f g : Commodity → ℤ) (account : List ℕ) → ((u : Commodity) → f u ≡ g u) → (us : List Commodity)
-    → flat_map (λ (u : Commodity). rest_leg account u (f u)) us ≡ flat_map (λ (u : Commodity). rest_leg account u (g u)) us
+    → flat_map (λ (u : Commodity). rest_leg account u (f u)) us
+    ≡ flat_map (λ (u : Commodity). rest_leg account u (g u)) us
 rests_same f g account same [] = refl
 rests_same f g account same (u ∷ us) =
     ap (λ (z : ℤ). rest_leg account u z ++ flat_map (λ (v : Commodity). rest_leg account v (f v)) us) (same u)
@@ -70,11 +79,13 @@ evens_same f g same (u ∷ us) =
     ap (λ (z : ℤ). int_eq z (pos 0) && list_all (λ (v : Commodity). int_eq (f v) (pos 0)) us) (same u)
     ∙ ap (λ (b : Bool). int_eq (g u) (pos 0) && b) (evens_same f g same us)
 
-evens_all : (f : Commodity → ℤ) (n k : ℕ) → ((u : Commodity) → n ≤ u.0 → f u ≡ pos 0) → list_all (λ (u : Commodity). int_eq (f u) (pos 0)) (commodities n k) ≡ true
+evens_all : (f : Commodity → ℤ) (n k : ℕ) → ((u : Commodity) → n ≤ u.0 → f u ≡ pos 0)
+    → list_all (λ (u : Commodity). int_eq (f u) (pos 0)) (commodities n k) ≡ true
 evens_all f n zero h = refl
 evens_all f n (suc k) h =
     let behind = list_all (λ (u : Commodity). int_eq (f u) (pos 0)) (commodities (n + 1) k) in
-    ap (λ (z : ℤ). int_eq z (pos 0) && behind) (h (record { 0 = n }) (omega arith)) ∙ evens_all f (n + 1) k (λ u past. h u (omega (arith, past)))
+    ap (λ (z : ℤ). int_eq z (pos 0) && behind) (h (record { 0 = n }) (omega arith)) ∙ evens_all f (n + 1) k
+    (λ u past. h u (omega (arith, past)))
 
 -- a declared style stays where it is
 get-append : (styles more : List Style) (i : ℕ) → i < length styles → slice_get (styles ++ more) i ≡ slice_get styles i
@@ -82,10 +93,12 @@ get-append [] more i h = absurd (omega (arith, h))
 get-append (s ∷ ss) more zero h = refl
 get-append (s ∷ ss) more (suc i) h = get-append ss more i (omega (arith, h))
 
-symbol-append : (styles more : List Style) (unit : Commodity) → unit.0 < length styles → symbol_of (styles ++ more) unit ≡ symbol_of styles unit
+symbol-append : (styles more : List Style) (unit : Commodity) → unit.0 < length styles
+    → symbol_of (styles ++ more) unit ≡ symbol_of styles unit
 symbol-append styles more unit h = ap symbol_in (get-append styles more unit.0 h)
 
-declared_amount : (styles : List Style) (unit : Commodity) (q : ℤ) → is_amount styles unit q ≡ true → IsDeclared styles unit q
+declared_amount : (styles : List Style) (unit : Commodity) (q : ℤ) → is_amount styles unit q ≡ true
+    → IsDeclared styles unit q
 declared_amount styles unit q h =
     let parts = and_parts _ _ h in
     record { known = ltb-true unit.0 (length styles) parts.0; size = leb-true (unsigned_abs q) limit parts.1 }
@@ -96,7 +109,8 @@ record StaysOne (styles more : List Style) (account : List ℕ) (a : Commodity �
   worth : (unit : Commodity) → amount_value (styles ++ more) unit a o ≡ amount_value styles unit a o
   fault : cost_fault_of (styles ++ more) (Some a) o ≡ cost_fault_of styles (Some a) o
 
-stays_one : (styles more : List Style) → StaysUnderMore styles more → (account : List ℕ) (a : Commodity × ℤ) (o : Option Price) → is_amount styles a.0 a.1 ≡ true
+stays_one : (styles more : List Style) → StaysUnderMore styles more
+    → (account : List ℕ) (a : Commodity × ℤ) (o : Option Price) → is_amount styles a.0 a.1 ≡ true
     → is_price_or_none styles o ≡ true → StaysOne styles more account a o
 stays_one styles more stays account a None ok priced = record { legs = refl; worth = λ unit. refl; fault = refl }
 stays_one styles more stays account a (Some p) ok priced =
@@ -110,15 +124,19 @@ stays_one styles more stays account a (Some p) ok priced =
       fault = ap fault_in same;
     }
 
-stays_at : (styles more : List Style) → StaysUnderMore styles more → (p : Posting) (a : Commodity × ℤ) → is_posting styles p ≡ true → p.amount ≡ Some a
+stays_at : (styles more : List Style) → StaysUnderMore styles more → (p : Posting) (a : Commodity × ℤ)
+    → is_posting styles p ≡ true → p.amount ≡ Some a
     → StaysOne styles more p.account a p.price
-stays_at styles more stays p a ok e = let parts = amount_ok styles p a ok e in stays_one styles more stays p.account a p.price parts.0 parts.1
+stays_at styles more stays p a ok e =
+    let parts = amount_ok styles p a ok e in stays_one styles more stays p.account a p.price parts.0 parts.1
 
-value_stays : (styles more : List Style) → StaysUnderMore styles more → (p : Posting) (unit : Commodity) → is_posting styles p ≡ true
+value_stays : (styles more : List Style) → StaysUnderMore styles more → (p : Posting) (unit : Commodity)
+    → is_posting styles p ≡ true
     → value_of (styles ++ more) unit p.amount p.price ≡ value_of styles unit p.amount p.price
 value_stays styles more stays p unit ok = mine p.amount refl
   where
-    mine : (o : Option (Commodity × ℤ)) → p.amount ≡ o → value_of (styles ++ more) unit o p.price ≡ value_of styles unit o p.price
+    mine : (o : Option (Commodity × ℤ)) → p.amount ≡ o
+        → value_of (styles ++ more) unit o p.price ≡ value_of styles unit o p.price
     mine None e = refl
     mine (Some a) e = (stays_at styles more stays p a ok e).worth unit
 
@@ -126,11 +144,13 @@ fault_stays : (styles more : List Style) → StaysUnderMore styles more → (p :
     → cost_fault_of (styles ++ more) p.amount p.price ≡ cost_fault_of styles p.amount p.price
 fault_stays styles more stays p ok = mine p.amount refl
   where
-    mine : (o : Option (Commodity × ℤ)) → p.amount ≡ o → cost_fault_of (styles ++ more) o p.price ≡ cost_fault_of styles o p.price
+    mine : (o : Option (Commodity × ℤ)) → p.amount ≡ o
+        → cost_fault_of (styles ++ more) o p.price ≡ cost_fault_of styles o p.price
     mine None e = refl
     mine (Some a) e = (stays_at styles more stays p a ok e).fault
 
-sum_stays : (styles more : List Style) → StaysUnderMore styles more → (ps : List Posting) (unit : Commodity) → list_all (is_posting styles) ps ≡ true
+sum_stays : (styles more : List Style) → StaysUnderMore styles more → (ps : List Posting) (unit : Commodity)
+    → list_all (is_posting styles) ps ≡ true
     → sum_of (styles ++ more) unit ps ≡ sum_of styles unit ps
 sum_stays styles more stays [] unit ok = refl
 sum_stays styles more stays (p ∷ ps) unit ok =
@@ -139,57 +159,73 @@ sum_stays styles more stays (p ∷ ps) unit ok =
     ∙ ap (λ (z : ℤ). value_of styles unit p.amount p.price +ℤ z) (sum_stays styles more stays ps unit both.1)
 
 -- no posting has a value in a commodity that is declared later
-rests_stay : (styles more : List Style) → StaysUnderMore styles more → (account : List ℕ) (ps : List Posting) → list_all (is_posting styles) ps ≡ true
+rests_stay : (styles more : List Style) → StaysUnderMore styles more → (account : List ℕ) (ps : List Posting)
+    → list_all (is_posting styles) ps ≡ true
     → rest_legs (styles ++ more) account ps ≡ rest_legs styles account ps
 rests_stay styles more stays account ps ok =
     let f : Commodity → ℤ = λ (u : Commodity). sum_of styles u ps in
     let rest : Commodity → List Leg = λ (u : Commodity). rest_leg account u (f u) in
-    rests_same (λ (u : Commodity). sum_of (styles ++ more) u ps) f account (λ u. sum_stays styles more stays ps u ok) (declared (styles ++ more))
+    rests_same (λ (u : Commodity). sum_of (styles ++ more) u ps) f account (λ u. sum_stays styles more stays ps u ok)
+    (declared (styles ++ more))
     ∙ ap (flat_map rest) (declared-append styles more)
     ∙ flat_map-append rest (declared styles) (commodities (length styles) (length more))
-    ∙ ap (λ (xs : List Leg). flat_map rest (declared styles) ++ xs) (rests_none f account (length styles) (length more) (λ u past. sum_undeclared styles u ps ok past))
+    ∙ ap (λ (xs : List Leg). flat_map rest (declared styles) ++ xs)
+    (rests_none f account (length styles) (length more) (λ u past. sum_undeclared styles u ps ok past))
     ∙ append-nil (flat_map rest (declared styles))
 
-even_stays : (styles more : List Style) → StaysUnderMore styles more → (ps : List Posting) → list_all (is_posting styles) ps ≡ true
+even_stays : (styles more : List Style) → StaysUnderMore styles more → (ps : List Posting)
+    → list_all (is_posting styles) ps ≡ true
     → is_even (styles ++ more) ps ≡ is_even styles ps
 even_stays styles more stays ps ok =
     let f : Commodity → ℤ = λ (u : Commodity). sum_of styles u ps in
     let test : Commodity → Bool = λ (u : Commodity). int_eq (f u) (pos 0) in
-    evens_same (λ (u : Commodity). sum_of (styles ++ more) u ps) f (λ u. sum_stays styles more stays ps u ok) (declared (styles ++ more))
+    evens_same (λ (u : Commodity). sum_of (styles ++ more) u ps) f (λ u. sum_stays styles more stays ps u ok)
+    (declared (styles ++ more))
     ∙ ap (list_all test) (declared-append styles more)
     ∙ list_all-append test (declared styles) (commodities (length styles) (length more))
-    ∙ ap (λ (b : Bool). list_all test (declared styles) && b) (evens_all f (length styles) (length more) (λ u past. sum_undeclared styles u ps ok past))
+    ∙ ap (λ (b : Bool). list_all test (declared styles) && b)
+    (evens_all f (length styles) (length more) (λ u past. sum_undeclared styles u ps ok past))
     ∙ and_true (list_all test (declared styles))
   where
     and_true : (b : Bool) → (b && true) ≡ b
     and_true true = refl
     and_true false = refl
 
-posting_stays : (styles more : List Style) → StaysUnderMore styles more → (all : List Posting) (p : Posting) → list_all (is_posting styles) all ≡ true → is_posting styles p ≡ true
+posting_stays : (styles more : List Style) → StaysUnderMore styles more → (all : List Posting) (p : Posting)
+    → list_all (is_posting styles) all ≡ true → is_posting styles p ≡ true
     → posting_legs (styles ++ more) all p.account p.amount p.price ≡ posting_legs styles all p.account p.amount p.price
 posting_stays styles more stays all p every ok = mine p.amount refl
   where
-    mine : (o : Option (Commodity × ℤ)) → p.amount ≡ o → posting_legs (styles ++ more) all p.account o p.price ≡ posting_legs styles all p.account o p.price
+    mine : (o : Option (Commodity × ℤ)) → p.amount ≡ o
+        → posting_legs (styles ++ more) all p.account o p.price ≡ posting_legs styles all p.account o p.price
     mine None e = rests_stay styles more stays p.account all every
     mine (Some a) e = (stays_at styles more stays p a ok e).legs
 
-legs_stay : (styles more : List Style) → StaysUnderMore styles more → (all ps : List Posting) → list_all (is_posting styles) all ≡ true → list_all (is_posting styles) ps ≡ true
+legs_stay : (styles more : List Style) → StaysUnderMore styles more → (all ps : List Posting)
+    → list_all (is_posting styles) all ≡ true → list_all (is_posting styles) ps ≡ true
     → legs_among (styles ++ more) all ps ≡ legs_among styles all ps
 legs_stay styles more stays all [] every ok = refl
 legs_stay styles more stays all (p ∷ ps) every ok =
     let both = and_parts (is_posting styles p) (list_all (is_posting styles) ps) ok in
-    ap (λ (xs : List Leg). xs ++ legs_among (styles ++ more) all ps) (posting_stays styles more stays all p every both.0)
-    ∙ ap (λ (xs : List Leg). posting_legs styles all p.account p.amount p.price ++ xs) (legs_stay styles more stays all ps every both.1)
+    ap (λ (xs : List Leg). xs ++ legs_among (styles ++ more) all ps)
+    (posting_stays styles more stays all p every both.0)
+    ∙ ap (λ (xs : List Leg). posting_legs styles all p.account p.amount p.price ++ xs)
+    (legs_stay styles more stays all ps every both.1)
 
-claims_stay : (styles more : List Style) → StaysUnderMore styles more → (all : List Posting) (k : ℕ) (ps : List Posting) → list_all (is_posting styles) all ≡ true
+claims_stay : (styles more : List Style) → StaysUnderMore styles more → (all : List Posting) (k : ℕ) (ps : List Posting)
+    → list_all (is_posting styles) all ≡ true
     → list_all (is_posting styles) ps ≡ true → claims_among (styles ++ more) all k ps ≡ claims_among styles all k ps
 claims_stay styles more stays all k [] every ok = refl
 claims_stay styles more stays all k (p ∷ ps) every ok =
     let both = and_parts (is_posting styles p) (list_all (is_posting styles) ps) ok in
-    ap (λ (xs : List Leg). placed k p.claim ++ claims_among (styles ++ more) all (k + length xs) ps) (posting_stays styles more stays all p every both.0)
-    ∙ ap (λ (xs : List Placed). placed k p.claim ++ xs) (claims_stay styles more stays all (k + length (posting_legs styles all p.account p.amount p.price)) ps every both.1)
+    ap (λ (xs : List Leg). placed k p.claim ++ claims_among (styles ++ more) all (k + length xs) ps)
+    (posting_stays styles more stays all p every both.0)
+    ∙ ap (λ (xs : List Placed). placed k p.claim ++ xs)
+    (claims_stay styles more stays all (k + length (posting_legs styles all p.account p.amount p.price)) ps every
+    both.1)
 
-costs_stay : (styles more : List Style) → StaysUnderMore styles more → (ps : List Posting) → list_all (is_posting styles) ps ≡ true
+costs_stay : (styles more : List Style) → StaysUnderMore styles more → (ps : List Posting)
+    → list_all (is_posting styles) ps ≡ true
     → cost_fault (styles ++ more) ps ≡ cost_fault styles ps
 costs_stay styles more stays [] ok = refl
 costs_stay styles more stays (p ∷ ps) ok =
@@ -197,18 +233,29 @@ costs_stay styles more stays (p ∷ ps) ok =
     ap (λ (o : Option Cause). option_or o (cost_fault (styles ++ more) ps)) (fault_stays styles more stays p both.0)
     ∙ ap (option_or (cost_fault_of styles p.amount p.price)) (costs_stay styles more stays ps both.1)
 
-balancing_stays : (styles more : List Style) → StaysUnderMore styles more → (t : Txn) → list_all (is_posting styles) t.postings ≡ true
+balancing_stays : (styles more : List Style) → StaysUnderMore styles more → (t : Txn)
+    → list_all (is_posting styles) t.postings ≡ true
     → balancing_fault (styles ++ more) t ≡ balancing_fault styles t
 unfolding balancing_fault
 balancing_stays styles more stays t ok =
-    rw (costs_stay styles more stays t.postings ok, even_stays styles more stays t.postings ok, legs_stay styles more stays t.postings t.postings ok ok) refl
+    rw (
+      costs_stay styles more stays t.postings ok,
+      even_stays styles more stays t.postings ok,
+      legs_stay styles more stays t.postings t.postings ok ok,
+    ) refl
 
-entry_stays : (styles more : List Style) → StaysUnderMore styles more → (t : Txn) → list_all (is_posting styles) t.postings ≡ true → entry_of (styles ++ more) t ≡ entry_of styles t
+entry_stays : (styles more : List Style) → StaysUnderMore styles more → (t : Txn)
+    → list_all (is_posting styles) t.postings ≡ true → entry_of (styles ++ more) t ≡ entry_of styles t
 entry_stays styles more stays t ok =
-    rw (legs_stay styles more stays t.postings t.postings ok ok, claims_stay styles more stays t.postings 1 t.postings ok ok) refl
+    rw (
+      legs_stay styles more stays t.postings t.postings ok ok,
+      claims_stay styles more stays t.postings 1 t.postings ok ok,
+    ) refl
 
 -- the entry of a transaction, or its fault, is the same under more styles
-pub legs_of-append : (styles more : List Style) → StaysUnderMore styles more → (t : Txn) → list_all (is_posting styles) t.postings ≡ true → legs_of (styles ++ more) t ≡ legs_of styles t
+pub legs_of-append : (styles more : List Style) → StaysUnderMore styles more → (t : Txn)
+    → list_all (is_posting styles) t.postings ≡ true → legs_of (styles ++ more) t ≡ legs_of styles t
 unfolding legs_of
 legs_of-append styles more stays t ok =
-    ap (unless (entry_of (styles ++ more) t)) (balancing_stays styles more stays t ok) ∙ ap (λ (e : Entry). unless e (balancing_fault styles t)) (entry_stays styles more stays t ok)
+    ap (unless (entry_of (styles ++ more) t)) (balancing_stays styles more stays t ok) ∙ ap
+    (λ (e : Entry). unless e (balancing_fault styles t)) (entry_stays styles more stays t ok)

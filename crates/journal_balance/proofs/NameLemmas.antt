@@ -1,5 +1,7 @@
 -- A conversion account is a well-formed name.
-use Rattle.std.proofs.Common.{◌≡◌, ◌∙◌, ◌≤◌, ◌<◌, ◌+◌, ◌-◌, ◌==◌, ◌&&◌, ◌||◌, ℕ, zero, suc, Bool, true, false, not, List, [], ◌∷◌, ◌++◌, length, slice_index, refl, sym, ap, subst, arith, append_assoc, length-append, All}
+use Rattle.std.proofs.Common.{◌≡◌, ◌∙◌, ◌≤◌, ◌<◌, ◌+◌, ◌-◌, ◌==◌, ◌&&◌, ◌||◌, ℕ, zero, suc, Bool, true, false, not}
+use Rattle.std.proofs.Common.{List, [], ◌∷◌, ◌++◌, length, slice_index, refl, sym, ap, subst, arith, append_assoc}
+use Rattle.std.proofs.Common.{length-append, All}
 use Rattle.std.specs.Prelude.{codes, nat_lt, nat_le, if◌then◌else◌}
 use Rattle.std.specs.Ordering.{is_lt}
 use Rattle.std.specs.List.{list_all, slice_split, AllByRecursion}
@@ -40,16 +42,20 @@ double_gap : (b next : ℕ) (rest : List ℕ) → no_double (b ∷ (next ∷ res
 double_gap b next rest h = not-true _ (and_parts (not ((b == 32) && (next == 32))) (no_double (next ∷ rest)) h).0
 
 -- a text with single spaces before one that begins with none
-gap_joined : (xs : List ℕ) (y : ℕ) (ys : List ℕ) → no_double xs ≡ true → ends_solid xs ≡ true → has_gap (y ∷ ys) ≡ false → has_gap (xs ++ y ∷ ys) ≡ false
+gap_joined : (xs : List ℕ) (y : ℕ) (ys : List ℕ) → no_double xs ≡ true → ends_solid xs ≡ true → has_gap (y ∷ ys) ≡ false
+    → has_gap (xs ++ y ∷ ys) ≡ false
 gap_joined [] y ys h e g = absurd cc
 gap_joined (b ∷ []) y ys h e g = rw (no_gap b (y ∷ ys) (not-true _ e), g) refl
 gap_joined (b ∷ (next ∷ rest)) y ys h e g =
-    rw (double_gap b next rest h) (gap_joined (next ∷ rest) y ys (and_parts (not ((b == 32) && (next == 32))) (no_double (next ∷ rest)) h).1 e g)
+    rw (double_gap b next rest h) (gap_joined (next ∷ rest) y ys
+    (and_parts (not ((b == 32) && (next == 32))) (no_double (next ∷ rest)) h).1 e g)
 
 gap_last : (xs : List ℕ) → no_double xs ≡ true → ends_solid xs ≡ true → has_gap xs ≡ false
 gap_last [] h e = refl
 gap_last (b ∷ []) h e = rw (not-true _ e) refl
-gap_last (b ∷ (next ∷ rest)) h e = rw (double_gap b next rest h) (gap_last (next ∷ rest) (and_parts (not ((b == 32) && (next == 32))) (no_double (next ∷ rest)) h).1 e)
+gap_last (b ∷ (next ∷ rest)) h e =
+    rw (double_gap b next rest h)
+    (gap_last (next ∷ rest) (and_parts (not ((b == 32) && (next == 32))) (no_double (next ∷ rest)) h).1 e)
 
 -- ---- bytes
 
@@ -61,11 +67,13 @@ no_colon_byte b h = grind (arith, common_steps)
 
 all_named : (xs : List ℕ) → list_all is_part_byte xs ≡ true → list_all is_name_byte xs ≡ true
 all_named [] h = refl
-all_named (b ∷ bs) h = let p = and_parts (is_part_byte b) (list_all is_part_byte bs) h in and_from (is_name_byte b) (list_all is_name_byte bs) (named_byte b p.0) (all_named bs p.1)
+all_named (b ∷ bs) h = let p = and_parts (is_part_byte b) (list_all is_part_byte bs) h in and_from (is_name_byte b)
+    (list_all is_name_byte bs) (named_byte b p.0) (all_named bs p.1)
 
 no_colons : (xs : List ℕ) → list_all is_part_byte xs ≡ true → AllByRecursion (λ (b : ℕ). (b == 58) ≡ false) xs
 no_colons [] h = tt
-no_colons (b ∷ bs) h = let p = and_parts (is_part_byte b) (list_all is_part_byte bs) h in (no_colon_byte b p.0, no_colons bs p.1)
+no_colons (b ∷ bs) h =
+    let p = and_parts (is_part_byte b) (list_all is_part_byte bs) h in (no_colon_byte b p.0, no_colons bs p.1)
 
 some_part : (n : ℕ) → 0 < n → nat_lt 0 n ≡ true
 some_part n h = grind (arith, nat_tests)
@@ -83,7 +91,14 @@ tail_of x y own = x ++ 45 ∷ (y ++ 58 ∷ own)
 
 module _ (x y own : List ℕ) (is_x : IsNamePart x) (is_y : IsNamePart y) (is_own : IsNamePart own) where
   size : length (tail_of x y own) ≤ 74
-  size = omega (arith, length-append x (45 ∷ (y ++ 58 ∷ own)), length-append y (58 ∷ own), is_x.short, is_y.short, is_own.short)
+  size = omega (
+    arith,
+    length-append x (45 ∷ (y ++ 58 ∷ own)),
+    length-append y (58 ∷ own),
+    is_x.short,
+    is_y.short,
+    is_own.short,
+  )
 
   plain : list_all is_part_byte (between x y) ≡ true
   plain = list_all-append is_part_byte x (45 ∷ y) ∙ and_from _ _ is_x.good (and_from _ _ refl is_y.good)
@@ -91,30 +106,39 @@ module _ (x y own : List ℕ) (is_x : IsNamePart x) (is_y : IsNamePart y) (is_ow
   split : slice_split (λ b. b == 58) (tail_of x y own) ≡ between x y ∷ own ∷ []
   split =
       ap (slice_split (λ b. b == 58)) (sym (append_assoc x (45 ∷ y) (58 ∷ own)))
-      ∙ (slice_split_at (λ b. b == 58) (between x y) 58 own (All-from_recursion (λ (b : ℕ). (b == 58) ≡ false) (between x y) (no_colons (between x y) plain)) refl
-      ∙ ap (λ l. between x y ∷ l) (slice_split_none (λ b. b == 58) own (All-from_recursion (λ (b : ℕ). (b == 58) ≡ false) own (no_colons own is_own.good))))
+      ∙ (slice_split_at (λ b. b == 58) (between x y) 58 own
+      (All-from_recursion (λ (b : ℕ). (b == 58) ≡ false) (between x y) (no_colons (between x y) plain)) refl
+      ∙ ap (λ l. between x y ∷ l) (slice_split_none (λ b. b == 58) own
+      (All-from_recursion (λ (b : ℕ). (b == 58) ≡ false) own (no_colons own is_own.good))))
 
   both : list_all is_part (slice_split (λ b. b == 58) (tail_of x y own)) ≡ true
   both =
       ap (list_all is_part) split
-      ∙ and_from _ _ (some_part (length (between x y)) (omega (arith, length-append x (45 ∷ y)))) (and_from _ _ (some_part (length own) is_own.some) refl)
+      ∙ and_from _ _ (some_part (length (between x y)) (omega (arith, length-append x (45 ∷ y))))
+      (and_from _ _ (some_part (length own) is_own.some) refl)
 
   bytes : list_all is_name_byte (tail_of x y own) ≡ true
   bytes =
       list_all-append is_name_byte x (45 ∷ (y ++ 58 ∷ own))
-      ∙ and_from _ _ (all_named x is_x.good) (and_from _ _ refl (list_all-append is_name_byte y (58 ∷ own) ∙ and_from _ _ (all_named y is_y.good) (and_from _ _ refl (all_named own is_own.good))))
+      ∙ and_from _ _ (all_named x is_x.good)
+      (and_from _ _ refl
+      (list_all-append is_name_byte y (58 ∷ own) ∙ and_from _ _ (all_named y is_y.good)
+      (and_from _ _ refl (all_named own is_own.good))))
 
   gaps : has_gap (tail_of x y own) ≡ false
   gaps =
       let last = gap_last own is_own.single (ends_by_last own is_own.some is_own.last) in
-      let second : has_gap (y ++ 58 ∷ own) ≡ false = gap_joined y 58 own is_y.single (ends_by_last y is_y.some is_y.last) (rw (no_gap 58 own refl, last) refl) in
-      gap_joined x 45 (y ++ 58 ∷ own) is_x.single (ends_by_last x is_x.some is_x.last) (rw (no_gap 45 (y ++ 58 ∷ own) refl, second) refl)
+      let second : has_gap (y ++ 58 ∷ own) ≡ false =
+      gap_joined y 58 own is_y.single (ends_by_last y is_y.some is_y.last) (rw (no_gap 58 own refl, last) refl) in
+      gap_joined x 45 (y ++ 58 ∷ own) is_x.single (ends_by_last x is_x.some is_x.last)
+      (rw (no_gap 45 (y ++ 58 ∷ own) refl, second) refl)
 
   formed : is_account (codes "equity:conversion:" ++ tail_of x y own) ≡ true
   unfolding is_account
   formed =
       let short = few (length (codes "equity:conversion:" ++ tail_of x y own)) (omega (arith, size)) in
-      let whole : has_gap (codes "equity:conversion:" ++ tail_of x y own) ≡ false = rw (no_gap 58 (tail_of x y own) refl, gaps) refl in
+      let whole : has_gap (codes "equity:conversion:" ++ tail_of x y own) ≡ false =
+      rw (no_gap 58 (tail_of x y own) refl, gaps) refl in
       and_from _ _ (and_from _ _ (and_from _ _ (and_from _ _ short both) bytes) (not_from_false _ whole)) refl
 
   text : is_utf8 (codes "equity:conversion:" ++ tail_of x y own) ≡ true
@@ -129,7 +153,8 @@ pick P true a b h k = h
 pick P false a b h k = k
 
 -- an account of a conversion is a well-formed name, and a text
-pub conversion_formed : (a b own : List ℕ) → IsNamePart a → IsNamePart b → IsNamePart own → (is_account (conversion_account a b own) ≡ true) × (is_utf8 (conversion_account a b own) ≡ true)
+pub conversion_formed : (a b own : List ℕ) → IsNamePart a → IsNamePart b → IsNamePart own
+    → (is_account (conversion_account a b own) ≡ true) × (is_utf8 (conversion_account a b own) ≡ true)
 unfolding conversion_account
 conversion_formed a b own h k o =
     let x = pick IsNamePart (is_lt (name_cmp b a)) b a k h in
@@ -137,7 +162,9 @@ conversion_formed a b own h k o =
     (formed (lesser a b) (greater a b) own x y o, text (lesser a b) (greater a b) own x y o)
 
 -- so are both of an exchange
-pub both_formed : (a b : List ℕ) → IsNamePart a → IsNamePart b → (is_account (conversion_account a b (lesser a b)) ≡ true) × (is_account (conversion_account a b (greater a b)) ≡ true)
+pub both_formed : (a b : List ℕ) → IsNamePart a → IsNamePart b
+    → (is_account (conversion_account a b (lesser a b)) ≡ true)
+    × (is_account (conversion_account a b (greater a b)) ≡ true)
 both_formed a b h k =
     let x = pick IsNamePart (is_lt (name_cmp b a)) b a k h in
     let y = pick IsNamePart (is_lt (name_cmp b a)) a b h k in

@@ -20,10 +20,19 @@ styles =
 
 -- an account with an amount of the first commodity, each at a cost in the second
 abbrev pub costing : List ℕ → ℕ → ℕ → ℕ → Posting
-costing account q digits decimals = record { status = None; account = account; amount = Some (record { 0 = 0 }, pos q); price = Some (Each (record { 0 = 1 }) digits decimals); claim = None; comments = [] }
+costing account q digits decimals =
+    record {
+      status = None;
+      account = account;
+      amount = Some (record { 0 = 0 }, pos q);
+      price = Some (Each (record { 0 = 1 }) digits decimals);
+      claim = None;
+      comments = [];
+    }
 
 abbrev pub open_posting : List ℕ → Posting
-open_posting account = record { status = None; account = account; amount = None; price = None; claim = None; comments = [] }
+open_posting account =
+    record { status = None; account = account; amount = None; price = None; claim = None; comments = [] }
 
 -- `bank  100.00 EUR @ $1.35`, `cash`
 abbrev pub exchange : List Posting

@@ -1,5 +1,5 @@
--- Conversion postings: an exchange of two commodities sums to zero in each (hledger manual, "Equity conversion postings"; that every cost
--- gets them, and the names of their accounts, are own rules).
+-- Conversion postings: an exchange of two commodities sums to zero in each (hledger manual, "Equity conversion
+-- postings"; that every cost gets them, and the names of their accounts, are own rules).
 use Rattle.std.specs.Prelude.{List, [], ◌∷◌, ◌++◌, ℕ, codes, Option, Some, None, slice_get, if◌then◌else◌}
 use Rattle.std.specs.Ordering.{is_lt}
 use Rattle.money_core.specs.declared.style.Style.{Style}
@@ -14,7 +14,8 @@ lesser a b = if is_lt (name_cmp b a) then b else a
 abbrev pub greater : List ℕ → List ℕ → List ℕ
 greater a b = if is_lt (name_cmp b a) then a else b
 
--- the account for one side of an exchange of two commodities, by their symbols: `equity:conversion:A-B:OWN`, the lesser symbol first
+-- the account for one side of an exchange of two commodities, by their symbols: `equity:conversion:A-B:OWN`, the lesser
+-- symbol first
 unfoldable pub conversion_account : List ℕ → List ℕ → List ℕ → List ℕ
 conversion_account a b own = codes "equity:conversion:" ++ (lesser a b ++ 45 ∷ (greater a b ++ 58 ∷ own))
 

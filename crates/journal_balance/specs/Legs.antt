@@ -1,6 +1,8 @@
--- What a transaction does to the book: the legs and assertions of its postings (hledger manual, "Postings", "Costs", "Equity conversion
--- postings"; that nothing is rounded, the limit, and the order of faults, are own rules).
-use Rattle.std.specs.Prelude.{ℕ, zero, suc, ◌+◌, nat_eq, nat_lt, ◌==◌, Bool, true, false, ◌&&◌, not, if◌then◌else◌, List, [], ◌∷◌, ◌++◌, length, ℤ, pos, neg_ℤ, ◌+ℤ◌, unsigned_abs, Option, Some, None, Result, Ok, Err, is_some}
+-- What a transaction does to the book: the legs and assertions of its postings (hledger manual, "Postings", "Costs",
+-- "Equity conversion postings"; that nothing is rounded, the limit, and the order of faults, are own rules).
+use Rattle.std.specs.Prelude.{ℕ, zero, suc, ◌+◌, nat_eq, nat_lt, ◌==◌, Bool, true, false, ◌&&◌, not, if◌then◌else◌}
+use Rattle.std.specs.Prelude.{List, [], ◌∷◌, ◌++◌, length, ℤ, pos, neg_ℤ, ◌+ℤ◌, unsigned_abs, Option, Some, None}
+use Rattle.std.specs.Prelude.{Result, Ok, Err, is_some}
 use Rattle.std.specs.Ordering.{int_eq}
 use Rattle.std.specs.List.{list_any, list_all, count_by, flat_map}
 use Rattle.std.specs.Option.{option_or}
@@ -76,7 +78,8 @@ rest_leg account unit sum = if int_eq sum (pos 0) then [] else leg account unit 
 
 -- what is left of all postings, in declared order ("Postings": one amount may be left out)
 abbrev pub rest_legs : List Style → List ℕ → List Posting → List Leg
-rest_legs styles account all = flat_map (λ (unit : Commodity). rest_leg account unit (sum_of styles unit all)) (declared styles)
+rest_legs styles account all =
+    flat_map (λ (unit : Commodity). rest_leg account unit (sum_of styles unit all)) (declared styles)
 
 -- the legs of a posting among all postings
 abbrev pub posting_legs : List Style → List Posting → List ℕ → Option (Commodity × ℤ) → Option Price → List Leg

@@ -1,5 +1,7 @@
--- Entries of which everything is written: each posting has an amount and no cost, as those that the treasury makes itself (own rule).
-use Rattle.std.specs.Prelude.{◌≡◌, ◌≤◌, ℕ, ℤ, ◌+◌, List, [], ◌∷◌, ◌++◌, Bool, true, ◌&&◌, not, is_some, unsigned_abs, Option, Some, None}
+-- Entries of which everything is written: each posting has an amount and no cost, as those that the treasury makes
+-- itself (own rule).
+use Rattle.std.specs.Prelude.{◌≡◌, ◌≤◌, ℕ, ℤ, ◌+◌, List, [], ◌∷◌, ◌++◌, Bool, true, ◌&&◌, not, is_some, unsigned_abs}
+use Rattle.std.specs.Prelude.{Option, Some, None}
 use Rattle.std.specs.List.{list_all, AllByRecursion}
 use Rattle.money_core.specs.declared.unit.Unit.{Unit as Commodity}
 use Rattle.money_core.specs.Amount.{limit}

@@ -4,7 +4,8 @@ ghost use Rattle.std.specs.Prelude.{◌≡◌, Err, ◌⊎◌, ◌∷◌, [], tr
 ghost use Rattle.std.specs.Result.{IsOkUnless};
 ghost use Rattle.std.specs.List.{list_all, list_any, count_by};
 ghost use Rattle.journal_format.specs.Printable.{is_posting, IsPrintable};
-ghost use Rattle.journal_balance.specs.Legs.{is_open, is_large, has_large_leg, legs_among, claims_among, balancing_fault, legs_of};
+ghost use Rattle.journal_balance.specs.Legs.{is_open, is_large, has_large_leg, legs_among, claims_among};
+ghost use Rattle.journal_balance.specs.Legs.{balancing_fault, legs_of};
 
 use crate::entering::{push_claim, push_posting};
 use crate::missing_amount::{is_even, leaves_too_much};
@@ -97,12 +98,12 @@ fn entered(
 }
 
 /// The entry of a transaction: the legs of its postings, with what is left for the one without an amount and the
-/// conversion postings of each cost, and the assertions on them (hledger manual, "Postings", "Costs", "Equity conversion
-/// postings").
+/// conversion postings of each cost, and the assertions on them (hledger manual, "Postings", "Costs", "Equity
+/// conversion postings").
 ///
 /// It asks that the transaction is printable. The faults, in this order: 17 for a second posting without an amount; 12
-/// and 13, posting by posting, for a cost in the amount's own commodity or over 10^16, and for one that is not exact; 18
-/// where the values do not sum to zero; 28 for a leg over 10^16. 40 for want of memory.
+/// and 13, posting by posting, for a cost in the amount's own commodity or over 10^16, and for one that is not exact;
+/// 18 where the values do not sum to zero; 28 for a leg over 10^16. 40 for want of memory.
 #[tactic(auto, unfolding(crate::specs::Legs::legs_of))]
 pub fn legs(alloc: Global, txn: &Txn, styles: &Styles) -> Result<Entry, Cause>
     requires { IsPrintable styles.now txn.now }

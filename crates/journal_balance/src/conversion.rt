@@ -21,7 +21,8 @@ pub(crate) fn is_less(a: &str, b: &str) -> bool
 
 /// The account for one side of an exchange, of which the symbols are given in byte order.
 fn account_of(alloc: Global, first: &str, second: &str, own: &str) -> Result<Text, Cause>
-    ensures equal { IfOk result (λ name. name ≡ codes "equity:conversion:" ++ (first.now ++ 45 ∷ (second.now ++ 58 ∷ own.now))) }
+    ensures equal { IfOk result (λ name.
+        name ≡ codes "equity:conversion:" ++ (first.now ++ 45 ∷ (second.now ++ 58 ∷ own.now))) }
     ensures memory { IsOkUnless result Cause.OutOfMemory }
 {
     let mut name = String::new(alloc);

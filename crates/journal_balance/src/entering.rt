@@ -7,7 +7,8 @@ ghost use Rattle.money_core.specs.AmountText.{IsDeclared};
 ghost use Rattle.money_core.specs.Price.{is_price};
 ghost use Rattle.journal_format.specs.Printable.{is_posting};
 ghost use Rattle.journal_balance.specs.Conversion.{symbol_of, conversion_account};
-ghost use Rattle.journal_balance.specs.Legs.{leg, conversion_legs, rest_legs, amount_legs, posting_legs, legs_among, placed, claims_among, is_large};
+ghost use Rattle.journal_balance.specs.Legs.{leg, conversion_legs, rest_legs, amount_legs, posting_legs, legs_among};
+ghost use Rattle.journal_balance.specs.Legs.{placed, claims_among, is_large};
 
 use crate::conversion::{conversion_accounts, is_less};
 use crate::missing_amount::push_rest_legs;
@@ -96,8 +97,10 @@ pub(crate) fn push_posting(
 ) -> Result<(), Cause>
     requires posting { is_posting styles.now posting.now ≡ true }
     requires postings { list_all (is_posting styles.now) postings.now ≡ true }
-    requires room { posting.now.amount ≡ None → list_any is_large (rest_legs styles.now posting.now.account postings.now) ≡ false }
-    ensures ok { OnOk result (legs.new ≡ legs.old ++ posting_legs styles.now postings.now posting.now.account posting.now.amount posting.now.price) }
+    requires room { posting.now.amount ≡ None
+        → list_any is_large (rest_legs styles.now posting.now.account postings.now) ≡ false }
+    ensures ok { OnOk result (legs.new
+        ≡ legs.old ++ posting_legs styles.now postings.now posting.now.account posting.now.amount posting.now.price) }
     ensures memory { IsOkUnless result Cause.OutOfMemory }
 {
     let Some((unit, qty)) = posting.amount else {

@@ -16,11 +16,12 @@ ghost use Rattle.journal_balance.specs.Plain.{IsWritten, written_entry};
 
 use money_core::growth_law;
 
-/// Laws of the entry of a printable transaction: it sums to zero in every commodity, and has its assertions on different
-/// legs of its own; each leg is within 10^16; its day is the transaction's; its legs and assertions are of declared
-/// commodities, and within the limit of amounts. Costs nothing.
+/// Laws of the entry of a printable transaction: it sums to zero in every commodity, and has its assertions on
+/// different legs of its own; each leg is within 10^16; its day is the transaction's; its legs and assertions are of
+/// declared commodities, and within the limit of amounts. Costs nothing.
 pub fn entry_law()
-    ensures fit { (styles : List Style) (t : Txn) (e : Entry) → IsPrintable styles t → legs_of styles t ≡ Ok e → IsFit e }
+    ensures fit { (styles : List Style) (t : Txn) (e : Entry) → IsPrintable styles t → legs_of styles t ≡ Ok e
+        → IsFit e }
     ensures small { (styles : List Style) (t : Txn) (e : Entry) → legs_of styles t ≡ Ok e
         → AllByRecursion (λ (x : Posted). unsigned_abs x.qty ≤ limit) e.legs }
     ensures day { (styles : List Style) (t : Txn) (e : Entry) → legs_of styles t ≡ Ok e → e.day ≡ t.day }

@@ -16,4 +16,6 @@ unfolding first_word
 behind_word_utf8 text h =
     let n : ℕ = position_or_len is_blank text in
     let c : IsCut text n = position_cut is_blank blank_low text in
-    trim_end_utf8 _ (trim_start_utf8 _ (subst (λ (k : ℕ). is_utf8 (drop k text) ≡ true) (sym (length-take-le n text c.inside)) (cut_utf8 text n h c).1))
+    trim_end_utf8 _ (trim_start_utf8 _
+    (subst (λ (k : ℕ). is_utf8 (drop k text) ≡ true) (sym (length-take-le n text c.inside))
+    (cut_utf8 text n h c).1))

@@ -1,5 +1,6 @@
 -- The first fault of a list, and answers that are refused.
-use Rattle.std.proofs.Common.{◌≡◌, ◌++◌, ◌==◌, ℕ, List, [], ◌∷◌, true, length, arith, refl, ◌∙◌, sym, Result, Ok, Err, inl, inr}
+use Rattle.std.proofs.Common.{◌≡◌, ◌++◌, ◌==◌, ℕ, List, [], ◌∷◌, true, length, arith, refl, ◌∙◌, sym, Result, Ok, Err}
+use Rattle.std.proofs.Common.{inl, inr}
 use Rattle.std.specs.Prelude.{⊤}
 use Rattle.std.proofs.lemmas.Bool.{ne_eqb}
 use Rattle.money_core.specs.declared.cause.Cause.{Cause}

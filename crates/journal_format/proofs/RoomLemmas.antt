@@ -1,5 +1,7 @@
 -- What is left of the room that a text may take.
-use Rattle.std.proofs.Common.{◌≡◌, ◌≤◌, ◌<◌, ◌+◌, ◌-◌, ◌++◌, ℕ, List, [], ◌∷◌, Bool, true, false, ◌&&◌, length, take, get_or, arith, refl, ap, ◌∙◌, sym, append-nil, inl, inr, Some, None, nat_le, length-append}
+use Rattle.std.proofs.Common.{◌≡◌, ◌≤◌, ◌<◌, ◌+◌, ◌-◌, ◌++◌, ℕ, List, [], ◌∷◌, Bool, true, false, ◌&&◌, length, take}
+use Rattle.std.proofs.Common.{get_or, arith, refl, ap, ◌∙◌, sym, append-nil, inl, inr, Some, None, nat_le}
+use Rattle.std.proofs.Common.{length-append}
 use Rattle.std.specs.Prelude.{is_some}
 use Rattle.std.specs.List.{flat_map}
 use Rattle.std.proofs.lemmas.Bool.{cases_Bool, le-leb, lt-leb, leb-true, leb-false}
@@ -33,7 +35,8 @@ room_is room n = elim (cases_Bool (nat_le n room)) [
 pub room_found : (room n left : ℕ) → room_behind room n ≡ Some left → left + n ≡ room
 unfolding room_behind
 room_found room n left h = elim (cases_Bool (nat_le n room)) [
-  | inl fits ↦ (let e : Some (room - n) ≡ Some left = (rw fits at h) in let d : room - n ≡ left = cc in omega (arith, leb-true n room fits))
+  | inl fits ↦ (let e : Some (room - n) ≡ Some left = (rw fits at h) in let d : room - n ≡ left =
+      cc in omega (arith, leb-true n room fits))
   | inr over ↦ (let e : None ≡ Some left = (rw over at h) in absurd cc)
 ]
 
@@ -48,8 +51,10 @@ room_missed room n h = elim (cases_Bool (nat_le n room)) [
 pub room_twice : (room n m : ℕ) → n ≤ room → room_behind (room - n) m ≡ room_behind room (n + m)
 room_twice room n m h = elim (cases_Bool (nat_le m (room - n))) [
   | inl fits ↦ (let k = leb-true m (room - n) fits in
-      room_some (room - n) m ((room - n) - m) (omega (arith, k)) ∙ sym (room_some room (n + m) ((room - n) - m) (omega (arith, k, h))))
-  | inr over ↦ (let k = leb-false m (room - n) over in room_none (room - n) m k ∙ sym (room_none room (n + m) (omega (arith, k, h))))
+      room_some (room - n) m ((room - n) - m) (omega (arith, k)) ∙ sym
+      (room_some room (n + m) ((room - n) - m) (omega (arith, k, h))))
+  | inr over ↦ (let k = leb-false m (room - n) over in room_none (room - n) m k ∙ sym
+      (room_none room (n + m) (omega (arith, k, h))))
 ]
 
 -- one part more of a list

@@ -1,5 +1,6 @@
 -- Lines and pieces worked out by hand, so that a wrong definition of what they are does not check.
-use Rattle.std.proofs.Common.{◌≡◌, refl, List, [], ◌∷◌, Some, None, codes, pos, Ok, Err, ℕ, inl, inr, ◌∙◌, sym, true, false, arith}
+use Rattle.std.proofs.Common.{◌≡◌, refl, List, [], ◌∷◌, Some, None, codes, pos, Ok, Err, ℕ, inl, inr, ◌∙◌, sym, true}
+use Rattle.std.proofs.Common.{false, arith}
 use Rattle.std.specs.Str.{is_utf8, chars}
 use lib.Utf8.{encode}
 use Rattle.money_core.specs.declared.mark.Mark.TheVariants.{Point}
@@ -54,7 +55,8 @@ pub whole_line : IsPostingText styles (codes "  * assets:my bank  3.00 EUR @ $1.
   claim = Some (record { kind = SoleIn; unit = record { 0 = 0 }; qty = pos 1000 });
   comments = codes "x" ∷ [];
 })
-unfolding is_account cut_symbol left_parts right_symbol amount_parts quantity_in amount_of_parts unit_cost total_cost price_of_parts price is_utf8 chars encode
+unfolding is_account cut_symbol left_parts right_symbol amount_parts quantity_in amount_of_parts unit_cost total_cost
+    price_of_parts price is_utf8 chars encode
 whole_line = record {
   indent = codes "  ";
   status_gap = codes " ";
@@ -77,7 +79,8 @@ whole_line = record {
       rest = codes "@ $1.350";
       written = refl;
       blanks = refl;
-      holds = (price_reads_iff styles (codes "@ $1.350") (price styles (codes "@ $1.350")) refl (Each (record { 0 = 1 }) 135 2)).0 refl;
+      holds = (price_reads_iff styles (codes "@ $1.350") (price styles (codes "@ $1.350")) refl
+          (Each (record { 0 = 1 }) 135 2)).0 refl;
     };
     claimed = record {
       gap = codes " ";
@@ -87,7 +90,13 @@ whole_line = record {
       holds = record {
         asserted = codes " 10.00 EUR";
         written = refl;
-        amount = record { gap = codes " "; rest = codes "10.00 EUR"; written = refl; blanks = refl; holds = writes_if styles (codes "10.00 EUR") 0 (pos 1000) refl };
+        amount = record {
+          gap = codes " ";
+          rest = codes "10.00 EUR";
+          written = refl;
+          blanks = refl;
+          holds = writes_if styles (codes "10.00 EUR") 0 (pos 1000) refl;
+        };
       };
     };
   };
@@ -98,11 +107,20 @@ whole_line = record {
 }
 
 -- the price of a text, once it was worked out
-abbrev priced_if : (styles : List Style) (text : List ℕ) (p : Price) → price styles text ≡ Ok p → WritesPrice styles text p
+abbrev priced_if : (styles : List Style) (text : List ℕ) (p : Price) → price styles text ≡ Ok p
+    → WritesPrice styles text p
 priced_if styles text p e = (price_reads_iff styles text (price styles text) refl p).0 e
 
 -- the least line: a status directly before the account, and an empty comment directly behind it
-pub bare_line : IsPostingText styles (codes " !a;") (record { status = Some Pending; account = codes "a"; amount = None; price = None; claim = None; comments = [] ∷ [] })
+pub bare_line : IsPostingText styles (codes " !a;")
+    (record {
+      status = Some Pending;
+      account = codes "a";
+      amount = None;
+      price = None;
+      claim = None;
+      comments = [] ∷ [];
+    })
 unfolding is_account
 bare_line = record {
   indent = codes " ";
@@ -152,7 +170,8 @@ pub tab_line : IsPostingText styles (codes "\ta\t5 EUR@@$1= 2 EUR") (record {
   claim = Some (record { kind = Exact; unit = record { 0 = 0 }; qty = pos 200 });
   comments = [];
 })
-unfolding is_account cut_symbol left_parts right_symbol amount_parts quantity_in amount_of_parts unit_cost total_cost price_of_parts price is_utf8 chars encode
+unfolding is_account cut_symbol left_parts right_symbol amount_parts quantity_in amount_of_parts unit_cost total_cost
+    price_of_parts price is_utf8 chars encode
 tab_line = record {
   indent = codes "\t";
   status_gap = [];
@@ -170,7 +189,13 @@ tab_line = record {
     claim_part = codes "= 2 EUR";
     written = refl;
     amount = writes_if styles (codes "5 EUR") 0 (pos 500) refl;
-    priced = record { gap = []; rest = codes "@@$1"; written = refl; blanks = refl; holds = priced_if styles (codes "@@$1") (Total (record { 0 = 1 }) 100) refl };
+    priced = record {
+      gap = [];
+      rest = codes "@@$1";
+      written = refl;
+      blanks = refl;
+      holds = priced_if styles (codes "@@$1") (Total (record { 0 = 1 }) 100) refl;
+    };
     claimed = record {
       gap = [];
       rest = codes "= 2 EUR";
@@ -179,7 +204,13 @@ tab_line = record {
       holds = record {
         asserted = codes " 2 EUR";
         written = refl;
-        amount = record { gap = codes " "; rest = codes "2 EUR"; written = refl; blanks = refl; holds = writes_if styles (codes "2 EUR") 0 (pos 200) refl };
+        amount = record {
+          gap = codes " ";
+          rest = codes "2 EUR";
+          written = refl;
+          blanks = refl;
+          holds = writes_if styles (codes "2 EUR") 0 (pos 200) refl;
+        };
       };
     };
   };
@@ -229,7 +260,13 @@ quoted_line = record {
       holds = record {
         asserted = codes "\"a=b\" 7";
         written = refl;
-        amount = record { gap = []; rest = codes "\"a=b\" 7"; written = refl; blanks = refl; holds = writes_if quoted (codes "\"a=b\" 7") 0 (pos 7) refl };
+        amount = record {
+          gap = [];
+          rest = codes "\"a=b\" 7";
+          written = refl;
+          blanks = refl;
+          holds = writes_if quoted (codes "\"a=b\" 7") 0 (pos 7) refl;
+        };
       };
     };
   };
@@ -243,7 +280,8 @@ quoted_line = record {
 lacks : (line : List ℕ) (c : Cause) → posting_of styles line ≡ Err c → (p : Posting) → IsPostingText styles line p → ⊥
 lacks line c e p w = let both = form_reads styles line p w in absurd (let clash = sym e ∙ both in cc)
 
--- an assertion needs an amount, and so does a cost; parentheses and brackets mark virtual postings; a claim needs its amount
+-- an assertion needs an amount, and so does a cost; parentheses and brackets mark virtual postings; a claim needs its
+-- amount
 pub no_postings : ((p : Posting) → IsPostingText styles (codes " assets:x  = 5.00 EUR") p → ⊥)
     × ((p : Posting) → IsPostingText styles (codes " a:x  @ 5 EUR") p → ⊥)
     × ((p : Posting) → IsPostingText styles (codes " (a)  5 EUR") p → ⊥)
@@ -251,7 +289,9 @@ pub no_postings : ((p : Posting) → IsPostingText styles (codes " assets:x  = 5
     × ((p : Posting) → IsPostingText styles (codes " a  5 EUR =") p → ⊥)
     × ((p : Posting) → IsPostingText styles (codes " a  5 EUR x") p → ⊥)
     × ((p : Posting) → IsPostingText styles (codes " * * a") p → ⊥)
-unfolding trim_start trim_end front_of comment_of status_at behind_status is_account name_end outside cut_posting kind_at value_of judged_posting cut_symbol left_parts right_symbol amount_parts quantity_in amount_of_parts unit_cost total_cost price_of_parts price is_utf8 chars encode
+unfolding trim_start trim_end front_of comment_of status_at behind_status is_account name_end outside cut_posting
+    kind_at value_of judged_posting cut_symbol left_parts right_symbol amount_parts quantity_in amount_of_parts
+    unit_cost total_cost price_of_parts price is_utf8 chars encode
 no_postings = (
   lacks (codes " assets:x  = 5.00 EUR") cause.Assignment refl,
   lacks (codes " a:x  @ 5 EUR") cause.Amount refl,
@@ -276,7 +316,9 @@ by_sample = record {
   holds = inl (record {
     sample = record { symbol = codes "EUR"; left = true; spaced = false; mark = Point; decimals = 2; grouped = false };
     style = euro;
-    spelled = style_spelled (codes "EUR1000.00") (record { symbol = codes "EUR"; left = true; spaced = false; mark = Point; decimals = 2; grouped = false }) refl;
+    spelled = style_spelled (codes "EUR1000.00")
+        (record { symbol = codes "EUR"; left = true; spaced = false; mark = Point; decimals = 2; grouped = false })
+        refl;
     declared = refl;
     its_style = refl;
     mark = refl;
@@ -307,24 +349,43 @@ unfolding first_word trim_start
 skipped_below = inl (λ e. absurd cc)
 
 -- a `format` line has a sample of the directive's commodity, with its decimals
-faulty_below : (line : List ℕ) (c : Cause) → format_fault styles (record { 0 = 0 }) line ≡ Some c → IsBelow styles (record { 0 = 0 }) line → ⊥
-faulty_below line c e w = let none = (below_iff styles line (record { 0 = 0 })).0 w in absurd (let clash = sym e ∙ none in cc)
+faulty_below : (line : List ℕ) (c : Cause) → format_fault styles (record { 0 = 0 }) line ≡ Some c
+    → IsBelow styles (record { 0 = 0 }) line → ⊥
+faulty_below line c e w =
+    let none = (below_iff styles line (record { 0 = 0 })).0 w in absurd (let clash = sym e ∙ none in cc)
 
-pub wrong_formats : (IsBelow styles (record { 0 = 0 }) (codes "  format $1.00") → ⊥) × (IsBelow styles (record { 0 = 0 }) (codes "  format 1.0 EUR") → ⊥) × (IsBelow styles (record { 0 = 0 }) (codes "  format EUR") → ⊥)
-unfolding format_fault is_format first_word trim_start trim_end front_of shown_mark style_of_parts cut_symbol left_parts right_symbol amount_parts is_utf8 chars encode
-wrong_formats = (faulty_below (codes "  format $1.00") cause.CommodityStyle refl, faulty_below (codes "  format 1.0 EUR") cause.CommodityStyle refl, faulty_below (codes "  format EUR") cause.Amount refl)
+pub wrong_formats : (IsBelow styles (record { 0 = 0 }) (codes "  format $1.00") → ⊥)
+    × (IsBelow styles (record { 0 = 0 }) (codes "  format 1.0 EUR") → ⊥)
+    × (IsBelow styles (record { 0 = 0 }) (codes "  format EUR") → ⊥)
+unfolding format_fault is_format first_word trim_start trim_end front_of shown_mark style_of_parts cut_symbol left_parts
+    right_symbol amount_parts is_utf8 chars encode
+wrong_formats = (
+  faulty_below (codes "  format $1.00") cause.CommodityStyle refl,
+  faulty_below (codes "  format 1.0 EUR") cause.CommodityStyle refl,
+  faulty_below (codes "  format EUR") cause.Amount refl,
+)
 
--- lines that are kept nowhere: a comment, a blank line, a comment behind blanks, and a skipped directive with a line below it
+-- lines that are kept nowhere: a comment, a blank line, a comment behind blanks, and a skipped directive with a line
+-- below it
 pub nothing_kept : HaveList styles (codes "# c" ∷ [] ∷ codes "  ; stray" ∷ codes "account a" ∷ codes "  x" ∷ []) []
 unfolding is_remark trim_start is_utf8 chars encode is_block_start is_commodity_word is_skipped_word first_word trim_end
 nothing_kept = record {
   lines = refl;
   few = omega arith;
   pieces = whole (led (remark (codes "  ; stray") (alone (alone nothing (comment refl)) (blank refl)) refl refl)
-      (skipped (record { line = codes "account a"; below = codes "  x" ∷ []; whole = refl; skipped = refl; indented = (refl, tt) })));
+      (skipped (record {
+        line = codes "account a";
+        below = codes "  x" ∷ [];
+        whole = refl;
+        skipped = refl;
+        indented = (refl, tt);
+      })));
 }
 
 -- the first fault of a text: an indented line behind a blank line belongs to nothing
-pub stray_line : IsFirstFault styles (codes "payee x\n  y\n\n  z\n2024-02-30 x") (record { line = 4; cause = cause.StrayLine })
-unfolding journal_of step is_remark first_word trim_start trim_end is_utf8 chars encode is_block_start is_block_end is_commodity_word is_skipped_word
-stray_line = (faults_exactly styles (codes "payee x\n  y\n\n  z\n2024-02-30 x") (record { line = 4; cause = cause.StrayLine })).0 refl
+pub stray_line : IsFirstFault styles (codes "payee x\n  y\n\n  z\n2024-02-30 x")
+    (record { line = 4; cause = cause.StrayLine })
+unfolding journal_of step is_remark first_word trim_start trim_end is_utf8 chars encode is_block_start is_block_end
+    is_commodity_word is_skipped_word
+stray_line = (faults_exactly styles (codes "payee x\n  y\n\n  z\n2024-02-30 x")
+    (record { line = 4; cause = cause.StrayLine })).0 refl

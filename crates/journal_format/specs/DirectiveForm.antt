@@ -1,5 +1,5 @@
--- The form of a directive `commodity` and of the lines below it (hledger manual, "Declaring commodities"). That it declares nothing, and has to
--- agree with the declared styles, are own rules.
+-- The form of a directive `commodity` and of the lines below it (hledger manual, "Declaring commodities"). That it
+-- declares nothing, and has to agree with the declared styles, are own rules.
 use Rattle.std.specs.Prelude.{◌≡◌, ◌≢◌, ℕ, List, [], ◌++◌, length, drop, codes, slice_get, true, Option, Some, ◌⊎◌}
 use Rattle.std.specs.List.{list_all}
 use Rattle.money_core.specs.declared.style.Style.{Style}
@@ -45,8 +45,11 @@ pub record HasBehind (word : List ℕ) (is : List ℕ → Type 0) (line : List �
 
 -- the line of a directive names a declared commodity, by a sample or by its symbol
 abbrev pub NamesCommodity : List Style → Commodity → List ℕ → Type 0
-NamesCommodity styles unit line = HasBehind (codes "commodity") (λ text. IsSampleOf styles unit text ⊎ IsSymbolOf styles unit text) line
+NamesCommodity styles unit line =
+    HasBehind (codes "commodity") (λ text. IsSampleOf styles unit text ⊎ IsSymbolOf styles unit text) line
 
--- a line below the directive of that commodity is skipped, unless its first word is `format`; then a sample of that commodity follows
+-- a line below the directive of that commodity is skipped, unless its first word is `format`; then a sample of that
+-- commodity follows
 abbrev pub IsBelow : List Style → Commodity → List ℕ → Type 0
-IsBelow styles unit line = (first_word (trim_start line) ≢ codes "format") ⊎ HasBehind (codes "format") (IsSampleOf styles unit) (trim_start line)
+IsBelow styles unit line = (first_word (trim_start line) ≢ codes "format")
+    ⊎ HasBehind (codes "format") (IsSampleOf styles unit) (trim_start line)

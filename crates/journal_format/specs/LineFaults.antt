@@ -1,9 +1,13 @@
--- The faults of a line, for each kind of line in their order (own rule): its limits, its bytes, its parts from left to right, the limit of a body.
-use Rattle.std.specs.Prelude.{◌≡◌, ◌≢◌, ◌≤◌, ◌<◌, ◌⊎◌, ⊤, ℕ, List, [], ◌∷◌, ◌++◌, length, map, codes, true, false, Some, None}
+-- The faults of a line, for each kind of line in their order (own rule): its limits, its bytes, its parts from left to
+-- right, the limit of a body.
+use Rattle.std.specs.Prelude.{◌≡◌, ◌≢◌, ◌≤◌, ◌<◌, ◌⊎◌, ⊤, ℕ, List, [], ◌∷◌, ◌++◌, length, map, codes, true, false, Some}
+use Rattle.std.specs.Prelude.{None}
 use Rattle.money_core.specs.declared.style.Style.{Style}
 use Rattle.money_core.specs.declared.unit.Unit.{Unit as Commodity}
 use Rattle.money_core.specs.declared.cause.Cause.{Cause}
-use Rattle.money_core.specs.declared.cause.Cause.TheVariants.{Utf8, TooLong, Date, Header, Directive, StrayLine, Account, Amount, UnknownCommodity, Decimals, CommodityStyle, Cost, Assignment, Virtual, Marks}
+use Rattle.money_core.specs.declared.cause.Cause.TheVariants.{Utf8, TooLong, Date, Header, Directive, StrayLine}
+use Rattle.money_core.specs.declared.cause.Cause.TheVariants.{Account, Amount, UnknownCommodity, Decimals}
+use Rattle.money_core.specs.declared.cause.Cause.TheVariants.{CommodityStyle, Cost, Assignment, Virtual, Marks}
 use Rattle.money_core.specs.Symbol.{WritesSymbol}
 use Rattle.money_core.specs.Amount.{place_of, HasNoForm, NamesUndeclared, HasFurtherDecimals, IsOverLimit}
 use Rattle.money_core.specs.Price.{HasNoPriceForm, NamesUndeclaredCost, HasNoCost}
@@ -108,7 +112,8 @@ posting_faults styles part t line = line_faults line
 abbrev pub Names : List ℕ → List ℕ → Type 0
 Names symbol text = ((sample : Style) × (IsSample text sample × (sample.symbol ≡ symbol))) ⊎ WritesSymbol symbol text
 
--- of the text behind the word `commodity`: nothing, neither a sample nor a symbol, an undeclared one, a sample that does not agree
+-- of the text behind the word `commodity`: nothing, neither a sample nor a symbol, an undeclared one, a sample that
+-- does not agree
 abbrev pub directive_faults : List Style → List ℕ → List LineFault
 directive_faults styles text =
     (Directive, text ≡ [])

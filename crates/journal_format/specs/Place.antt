@@ -1,5 +1,6 @@
--- The place of a line (hledger manual, "Journal format"): what stands open behind the lines before it, by whole pieces. It says of which kind
--- the line is, and so which faults it may have; its cause is the first of them that it has (own rule).
+-- The place of a line (hledger manual, "Journal format"): what stands open behind the lines before it, by whole pieces.
+-- It says of which kind the line is, and so which faults it may have; its cause is the first of them that it has (own
+-- rule).
 use Rattle.std.specs.Prelude.{◌≡◌, ◌≤◌, ℕ, ◌+◌, List, [], ◌++◌, length, Bool, true, false}
 use Rattle.money_core.specs.declared.style.Style.{Style}
 use Rattle.money_core.specs.declared.unit.Unit.{Unit as Commodity}
@@ -12,9 +13,12 @@ use Rattle.journal_format.specs.declared.txn.Txn.{Txn}
 use Rattle.journal_format.specs.declared.txn.Located.{Located}
 use Rattle.journal_format.specs.DirectiveForm.{behind_word}
 use Rattle.journal_format.specs.Pieces.{IsEntry, IsDirective, IsSkipped, IsUnclosed, ArePieces, transaction_limit}
-use Rattle.journal_format.specs.LineFaults.{LineFault, IsFirst, line_faults, header_faults, remark_faults, posting_faults, directive_faults, format_faults, stray_faults, unknown_faults, plain_faults}
+use Rattle.journal_format.specs.LineFaults.{LineFault, IsFirst, line_faults, header_faults, remark_faults}
+use Rattle.journal_format.specs.LineFaults.{posting_faults, directive_faults, format_faults, stray_faults}
+use Rattle.journal_format.specs.LineFaults.{unknown_faults, plain_faults}
 
--- what stands open: nothing, an entry of these lines with its transaction so far, a directive of that commodity, a skipped line, or a block
+-- what stands open: nothing, an entry of these lines with its transaction so far, a directive of that commodity, a
+-- skipped line, or a block
 pub data Open : Type 0 where
   nothing : Open
   entry : List (List ℕ) → Txn → Open
@@ -23,7 +27,8 @@ pub data Open : Type 0 where
   block : Open
 
 -- lines are whole pieces with these transactions, and behind them such a part
-pub record EndsIn (styles : List Style) (is : List (List ℕ) → Type 0) (ls : List (List ℕ)) (done : List Located) : Type 0 where
+pub record EndsIn (styles : List Style) (is : List (List ℕ) → Type 0) (ls : List (List ℕ))
+    (done : List Located) : Type 0 where
   pub last : Bool
   pub front : List (List ℕ)
   pub part : List (List ℕ)
@@ -60,7 +65,8 @@ indented_faults styles block line remark = plain_faults line
 abbrev pub kind_faults : List Style → ℕ → Open → List ℕ → LineKind → List LineFault
 kind_faults styles count place line kind.Header = header_faults styles count line
 kind_faults styles count place line kind.Indented = indented_faults styles place line (is_remark line)
-kind_faults styles count place line kind.Commodity = line_faults line [] (directive_faults styles (behind_word (front_of line)))
+kind_faults styles count place line kind.Commodity =
+    line_faults line [] (directive_faults styles (behind_word (front_of line)))
 kind_faults styles count place line kind.Unknown = unknown_faults line
 kind_faults styles count place line kind.Blank = plain_faults line
 kind_faults styles count place line kind.Comment = plain_faults line

@@ -1,6 +1,8 @@
--- The form of a posting line: what stands in it from left to right (hledger manual, "Postings", "Status", "Account names", "Costs",
--- "Balance assertions", "Comments"). What an account, an amount and a cost are, and the limits, are own rules.
-use Rattle.std.specs.Prelude.{◌≡◌, ◌≤◌, ℕ, ℤ, ◌==◌, nat_le, List, [], ◌∷◌, ◌++◌, length, slice_index, Bool, true, ◌||◌, ◌⊎◌, Option, Some, None, option_to_list}
+-- The form of a posting line: what stands in it from left to right (hledger manual, "Postings", "Status", "Account
+-- names", "Costs", "Balance assertions", "Comments"). What an account, an amount and a cost are, and the limits, are
+-- own rules.
+use Rattle.std.specs.Prelude.{◌≡◌, ◌≤◌, ℕ, ℤ, ◌==◌, nat_le, List, [], ◌∷◌, ◌++◌, length, slice_index, Bool, true, ◌||◌}
+use Rattle.std.specs.Prelude.{◌⊎◌, Option, Some, None, option_to_list}
 use Rattle.std.specs.List.{list_all}
 use Rattle.money_core.specs.declared.style.Style.{Style}
 use Rattle.money_core.specs.declared.unit.Unit.{Unit as Commodity}
@@ -48,7 +50,8 @@ IsClaimPart styles text None = text ≡ []
 IsClaimPart styles text (Some k) = IsBehindBlanks (λ xs. WritesClaim styles xs k) text
 
 -- the text is an amount, then its cost, then a balance assertion, these two optional
-pub record WritesValue (styles : List Style) (text : List ℕ) (a : Commodity × ℤ) (price : Option Price) (claim : Option Claim) : Type 0 where
+pub record WritesValue (styles : List Style) (text : List ℕ) (a : Commodity × ℤ) (price : Option Price)
+    (claim : Option Claim) : Type 0 where
   pub amount_part : List ℕ
   pub price_part : List ℕ
   pub claim_part : List ℕ
@@ -74,7 +77,8 @@ pub record IsPostingText (styles : List Style) (line : List ℕ) (p : Posting) :
   pub part : List ℕ
   pub end_gap : List ℕ
   pub remark : List ℕ
-  pub written : line ≡ indent ++ (status_text p.status ++ (status_gap ++ (p.account ++ (gap ++ (part ++ (end_gap ++ remark))))))
+  pub written : line ≡ indent ++ (status_text p.status
+      ++ (status_gap ++ (p.account ++ (gap ++ (part ++ (end_gap ++ remark))))))
   pub blanks : list_all is_blank (indent ++ (status_gap ++ (gap ++ end_gap))) ≡ true
   pub account : is_account p.account ≡ true
   -- an amount part stands apart from the name

@@ -45,4 +45,5 @@ rest_part styles t = comments_part t.comments ++ postings_part styles t.postings
 
 -- what stands below a header is well formed
 abbrev pub has_good_lines : List Style → Txn → Bool
-has_good_lines styles t = is_mark_or_none t.mark && list_all is_note t.comments && list_all (is_posting styles) t.postings && nat_le (length t.postings) posting_limit
+has_good_lines styles t = is_mark_or_none t.mark && list_all is_note t.comments
+    && list_all (is_posting styles) t.postings && nat_le (length t.postings) posting_limit

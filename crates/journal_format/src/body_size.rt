@@ -3,7 +3,8 @@
 ghost use Rattle.std.specs.Prelude.{◌≡◌, ◌+◌, ◌≤◌, [], ◌∷◌, true, length};
 ghost use Rattle.std.specs.List.{list_all};
 ghost use Rattle.journal_format.specs.CanonicalText.{posting_status, price_text, claim_text, amount_text};
-ghost use Rattle.journal_format.specs.Printable.{is_remark_text, is_posting, is_value, is_price_or_none, is_claim_or_none};
+ghost use Rattle.journal_format.specs.Printable.{is_remark_text, is_posting, is_value, is_price_or_none};
+ghost use Rattle.journal_format.specs.Printable.{is_claim_or_none};
 ghost use Rattle.journal_format.specs.BodySize.{remarks_size, line_size, postings_size};
 
 use crate::posting::Posting;

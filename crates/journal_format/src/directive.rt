@@ -7,7 +7,8 @@ ghost use Rattle.std.specs.Str.{is_utf8};
 ghost use Rattle.money_core.specs.Sampling.{style_of};
 ghost use Rattle.money_core.specs.Cutting.{symbol_of};
 ghost use Rattle.journal_format.specs.DirectiveForm.{behind_word};
-ghost use Rattle.journal_format.specs.Directive.{shows_digit, agrees, sampled, named, commodity_of, sample_fault, is_format, format_fault};
+ghost use Rattle.journal_format.specs.Directive.{shows_digit, agrees, sampled, named, commodity_of, sample_fault};
+ghost use Rattle.journal_format.specs.Directive.{is_format, format_fault};
 ghost use Rattle.journal_format.specs.PostingRead.{IsUnlessMemory};
 
 use crate::posting_line::behind;

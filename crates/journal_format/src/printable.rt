@@ -6,8 +6,11 @@ ghost use Rattle.std.specs.Str.{is_utf8};
 ghost use Rattle.journal_lines.specs.AccountName.{is_account};
 ghost use Rattle.journal_lines.specs.Printed.{HeaderOk};
 ghost use Rattle.journal_format.specs.CanonicalText.{body_text};
-ghost use Rattle.journal_format.specs.Printable.{is_remark_text, is_note, is_mark_or_none, is_amount, is_price_or_none, is_claim_or_none, is_value, is_posting, is_text_or_none, IsPrintable, ReadsBack};
-ghost use Rattle.journal_format.specs.PrintedParts.{header_part, comments_part, posting_part, postings_part, has_good_lines};
+ghost use Rattle.journal_format.specs.Printable.{is_remark_text, is_note, is_mark_or_none, is_amount, is_price_or_none};
+ghost use Rattle.journal_format.specs.Printable.{is_claim_or_none, is_value, is_posting, is_text_or_none, IsPrintable};
+ghost use Rattle.journal_format.specs.Printable.{ReadsBack};
+ghost use Rattle.journal_format.specs.PrintedParts.{header_part, comments_part, posting_part, postings_part};
+ghost use Rattle.journal_format.specs.PrintedParts.{has_good_lines};
 ghost use Rattle.journal_format.specs.Room.{room_behind};
 
 use crate::body_size::{MAX_BODY, line_size, remark_size};

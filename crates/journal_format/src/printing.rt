@@ -6,10 +6,13 @@ ghost use Rattle.std.specs.List.{list_all, AllByRecursion};
 ghost use Rattle.journal_lines.specs.Date.{IsDayNumber};
 ghost use Rattle.journal_lines.specs.HeaderView.{text_of};
 ghost use Rattle.journal_format.specs.PostingForm.{claim_sign};
-ghost use Rattle.journal_format.specs.CanonicalText.{posting_status, price_text, claim_text, amount_text, marked, txn_text, body_text, journal_text};
+ghost use Rattle.journal_format.specs.CanonicalText.{posting_status, price_text, claim_text, amount_text, marked};
+ghost use Rattle.journal_format.specs.CanonicalText.{txn_text, body_text, journal_text};
 ghost use Rattle.journal_format.specs.Pieces.{Reads};
-ghost use Rattle.journal_format.specs.Printable.{is_value, is_price_or_none, is_claim_or_none, is_posting, IsPrintable, ReadsBack, FitsText, located_from, is_text_or_none};
-ghost use Rattle.journal_format.specs.PrintedParts.{header_part, mark_part, comment_part, comments_part, posting_part, postings_part, rest_part};
+ghost use Rattle.journal_format.specs.Printable.{is_value, is_price_or_none, is_claim_or_none, is_posting, IsPrintable};
+ghost use Rattle.journal_format.specs.Printable.{ReadsBack, FitsText, located_from, is_text_or_none};
+ghost use Rattle.journal_format.specs.PrintedParts.{header_part, mark_part, comment_part, comments_part, posting_part};
+ghost use Rattle.journal_format.specs.PrintedParts.{postings_part, rest_part};
 
 use crate::posting::Posting;
 use crate::txn::Txn;
@@ -161,7 +164,8 @@ fn push_value(
     out: &mut Vec<u8>,
 ) -> Result<(), Cause>
     requires { is_value styles.now posting.now.amount posting.now.price posting.now.claim ≡ true }
-    ensures ok { OnOk result (out.new.items ≡ out.old.items ++ amount_text styles.now posting.now.amount posting.now.price posting.now.claim) }
+    ensures ok { OnOk result (out.new.items
+        ≡ out.old.items ++ amount_text styles.now posting.now.amount posting.now.price posting.now.claim) }
     ensures err { OnErr result (take (length out.old.items) out.new.items ≡ out.old.items) }
     ensures memory { IsOkUnless result Cause.OutOfMemory }
 {
@@ -278,7 +282,8 @@ pub fn body(alloc: Global, txn: &Txn, styles: &Styles, out: &mut Vec<u8>) -> Res
     requires { IsPrintable styles.now txn.now }
     ensures ok { OnOk result (out.new.items ≡ out.old.items ++ body_text styles.now txn.now) }
     // The mark is not read: whatever it is, the body is the same.
-    ensures unmarked { (mark : Option (List ℕ)) → body_text styles.now (marked txn.now mark) ≡ body_text styles.now txn.now }
+    ensures unmarked { (mark : Option (List ℕ))
+        → body_text styles.now (marked txn.now mark) ≡ body_text styles.now txn.now }
     ensures err { OnErr result (out.new.items ≡ out.old.items) }
     ensures memory { IsOkUnless result Cause.OutOfMemory }
 {
@@ -322,7 +327,8 @@ pub fn print_journal(
     requires { AllByRecursion (IsPrintable styles.now) txns.now }
     ensures ok { OnOk result (out.new.items ≡ out.old.items ++ journal_text styles.now txns.now) }
     // What is appended reads as the transactions, each header at its line, if it keeps to the limits of a text.
-    ensures again { FitsText styles.now txns.now → Reads styles.now (journal_text styles.now txns.now) (located_from styles.now 1 txns.now) }
+    ensures again { FitsText styles.now txns.now
+        → Reads styles.now (journal_text styles.now txns.now) (located_from styles.now 1 txns.now) }
     ensures err { OnErr result (out.new.items ≡ out.old.items) }
     ensures memory { IsOkUnless result Cause.OutOfMemory }
 {

@@ -1,5 +1,7 @@
 -- Account names: those at and below the transit account, and that a well-formed name is cut whole.
-use Rattle.std.proofs.Common.{◌≡◌, ◌≤◌, ◌<◌, ◌++◌, ◌==◌, ℕ, List, [], ◌∷◌, Bool, true, length, take, drop, slice_index, arith, ◌∙◌, append-nil, take-append-drop, ◌⊎◌, sym, ap, inl, inr, nat_eq, nat_le, false, not, ◌&&◌, ◌||◌, refl}
+use Rattle.std.proofs.Common.{◌≡◌, ◌≤◌, ◌<◌, ◌++◌, ◌==◌, ℕ, List, [], ◌∷◌, Bool, true, length, take, drop, slice_index}
+use Rattle.std.proofs.Common.{arith, ◌∙◌, append-nil, take-append-drop, ◌⊎◌, sym, ap, inl, inr, nat_eq, nat_le, false}
+use Rattle.std.proofs.Common.{not, ◌&&◌, ◌||◌, refl}
 use Rattle.std.specs.Prelude.{IsTrue}
 use Rattle.std.proofs.lemmas.Bool.{eq-eqb, eqb-true, and_parts, and_from, or_parts, not-true, not_from_false, leb-true}
 use Rattle.std.specs.Cmp.Lexicographic.{same_text}
@@ -7,15 +9,18 @@ use Rattle.std.proofs.lemmas.Grind.{common_steps}
 use Rattle.journal_lines.specs.Blank.{is_blank}
 use Rattle.journal_lines.specs.Printed.{is_clean}
 use Rattle.journal_lines.proofs.CutLemmas.{all_weaker}
-use Rattle.journal_lines.specs.AccountName.{transit, is_name_byte, parts, is_part, is_gap, has_gap, bars_start, is_account, ends_name, name_end, is_unbroken, IsWholeName}
+use Rattle.journal_lines.specs.AccountName.{transit, is_name_byte, parts, is_part, is_gap, has_gap, bars_start}
+use Rattle.journal_lines.specs.AccountName.{is_account, ends_name, name_end, is_unbroken, IsWholeName}
 use Rattle.std.specs.List.{list_all}
 use lib.Pointwise.{pointwise}
 
 -- a front that equals the transit account's name
-pub behind_transit : (account rest : List ℕ) → pointwise nat_eq (take 14 account) transit ≡ true → rest ≡ drop 14 account → account ≡ transit ++ rest
+pub behind_transit : (account rest : List ℕ) → pointwise nat_eq (take 14 account) transit ≡ true
+    → rest ≡ drop 14 account → account ≡ transit ++ rest
 behind_transit account rest front behind =
     let same : take 14 account ≡ transit = same_text (take 14 account) transit (sym front) in
-    sym (take-append-drop 14 account) ∙ (ap (λ (xs : List ℕ). xs ++ drop 14 account) same ∙ ap (λ (xs : List ℕ). transit ++ xs) (sym behind))
+    sym (take-append-drop 14 account) ∙
+    (ap (λ (xs : List ℕ). xs ++ drop 14 account) same ∙ ap (λ (xs : List ℕ). transit ++ xs) (sym behind))
 
 -- what two texts have behind the same front
 same_behind : (front xs ys : List ℕ) → front ++ xs ≡ front ++ ys → xs ≡ ys
@@ -28,13 +33,16 @@ IsAtOrBelow top account = (account ≡ top) ⊎ ((rest : List ℕ) × (account �
 
 -- what follows it decides by its first byte
 pub at_or_below_by_colon : (top account rest : List ℕ) → account ≡ top ++ rest → 1 ≤ length rest
-    → (IsTrue (nat_eq (slice_index rest 0) 58) → IsAtOrBelow top account) × (IsAtOrBelow top account → IsTrue (nat_eq (slice_index rest 0) 58))
+    → (IsTrue (nat_eq (slice_index rest 0) 58) → IsAtOrBelow top account)
+    × (IsAtOrBelow top account → IsTrue (nat_eq (slice_index rest 0) 58))
 at_or_below_by_colon top account [] e some = absurd (omega arith)
 at_or_below_by_colon top account (x ∷ xs) e some = (
   λ colon. inr (xs, e ∙ ap (λ (b : ℕ). top ++ b ∷ xs) (eqb-true x 58 colon)),
   λ is. elim is [
-    | inl same ↦ (let none : x ∷ xs ≡ [] = same_behind top (x ∷ xs) [] (sym e ∙ (same ∙ sym (append-nil top))) in absurd cc)
-    | inr below ↦ (let tail : x ∷ xs ≡ 58 ∷ below.0 = same_behind top (x ∷ xs) (58 ∷ below.0) (sym e ∙ below.1) in eq-eqb x 58 cc)
+    | inl same ↦ (let none : x ∷ xs ≡ [] =
+        same_behind top (x ∷ xs) [] (sym e ∙ (same ∙ sym (append-nil top))) in absurd cc)
+    | inr below ↦ (let tail : x ∷ xs ≡ 58 ∷ below.0 =
+        same_behind top (x ∷ xs) (58 ∷ below.0) (sym e ∙ below.1) in eq-eqb x 58 cc)
   ],
 )
 
@@ -67,7 +75,8 @@ name_whole (x ∷ y ∷ name) rest h e =
 pub account_unbroken : (name : List ℕ) → is_account name ≡ true → is_unbroken name ≡ true
 unfolding is_account
 account_unbroken name h =
-    let a = and_parts (nat_le (length name) 200 && list_all is_part (parts name) && list_all is_name_byte name && not (has_gap name)) _ h in
+    let a = and_parts (nat_le (length name) 200 && list_all is_part (parts name) && list_all is_name_byte name
+    && not (has_gap name)) _ h in
     let b = and_parts (nat_le (length name) 200 && list_all is_part (parts name) && list_all is_name_byte name) _ a.0 in
     let c = and_parts (nat_le (length name) 200 && list_all is_part (parts name)) _ b.0 in
     unbroken name c.1 (not-true _ b.1)
@@ -75,9 +84,11 @@ account_unbroken name h =
     no_tab : (b : ℕ) → is_name_byte b ≡ true → (b == 9) ≡ false
     no_tab b k = grind (arith, common_steps)
 
-    ends_none : (b : ℕ) (rest : List ℕ) → is_name_byte b ≡ true → list_all is_name_byte rest ≡ true → is_gap b rest ≡ false → ends_name b rest ≡ false
+    ends_none : (b : ℕ) (rest : List ℕ) → is_name_byte b ≡ true → list_all is_name_byte rest ≡ true
+        → is_gap b rest ≡ false → ends_name b rest ≡ false
     ends_none b [] k r g = rw (no_tab b k, g) refl
-    ends_none b (next ∷ rest) k r g = let first = and_parts (is_name_byte next) _ r in rw (no_tab b k, no_tab next first.0) (by_space (b == 32) (next == 32) g)
+    ends_none b (next ∷ rest) k r g = let first =
+        and_parts (is_name_byte next) _ r in rw (no_tab b k, no_tab next first.0) (by_space (b == 32) (next == 32) g)
       where
         by_space : (x y : Bool) → (x && y) ≡ false → (x && (y || false)) ≡ false
         by_space x true e = e
@@ -94,7 +105,8 @@ account_unbroken name h =
 pub account_whole : (name : List ℕ) → is_account name ≡ true → IsWholeName name
 unfolding is_account
 account_whole name h =
-    let a = and_parts (nat_le (length name) 200 && list_all is_part (parts name) && list_all is_name_byte name && not (has_gap name)) _ h in
+    let a = and_parts (nat_le (length name) 200 && list_all is_part (parts name) && list_all is_name_byte name
+    && not (has_gap name)) _ h in
     let b = and_parts (nat_le (length name) 200 && list_all is_part (parts name) && list_all is_name_byte name) _ a.0 in
     let c = and_parts (nat_le (length name) 200 && list_all is_part (parts name)) _ b.0 in
     let d = and_parts (nat_le (length name) 200) _ c.0 in
@@ -118,11 +130,14 @@ account_whole name h =
     solid_byte : (b : ℕ) → is_name_byte b ≡ true → bars_start b ≡ false → is_blank b ≡ false
     solid_byte b k s = grind (arith, common_steps)
 
-    solid_first : (xs : List ℕ) → list_all is_name_byte xs ≡ true → bars_start (slice_index xs 0) ≡ false → is_blank (slice_index xs 0) ≡ false
+    solid_first : (xs : List ℕ) → list_all is_name_byte xs ≡ true → bars_start (slice_index xs 0) ≡ false
+        → is_blank (slice_index xs 0) ≡ false
     solid_first [] k s = refl
     solid_first (x ∷ xs) k s = solid_byte x (and_parts (is_name_byte x) _ k).0 s
 
 -- the same of each test alone
-pub whole_by_tests : (name : List ℕ) → nat_le (length name) 200 ≡ true → list_all is_part (parts name) ≡ true → list_all is_name_byte name ≡ true → has_gap name ≡ false → bars_start (slice_index name 0) ≡ false → IsWholeName name
+pub whole_by_tests : (name : List ℕ) → nat_le (length name) 200 ≡ true → list_all is_part (parts name) ≡ true
+    → list_all is_name_byte name ≡ true → has_gap name ≡ false → bars_start (slice_index name 0) ≡ false
+    → IsWholeName name
 unfolding is_account
 whole_by_tests name a b c d e = account_whole name (rw (a, b, c, d, e) refl)

@@ -1,5 +1,6 @@
 -- The first line of a text, and those after it.
-use Rattle.std.proofs.Common.{◌≡◌, ◌<◌, ◌+◌, ◌-◌, ◌==◌, ℕ, List, [], ◌∷◌, Bool, true, false, cond, not, length, take, drop, arith, refl, Some, None, position, inl, inr}
+use Rattle.std.proofs.Common.{◌≡◌, ◌<◌, ◌+◌, ◌-◌, ◌==◌, ℕ, List, [], ◌∷◌, Bool, true, false, cond, not, length, take}
+use Rattle.std.proofs.Common.{drop, arith, refl, Some, None, position, inl, inr}
 use Rattle.std.proofs.lemmas.Grind.{common_steps}
 use Rattle.std.proofs.lemmas.Bool.{cases_Bool, ltb-true, ltb-false, ne_eqb}
 use Rattle.std.proofs.lemmas.List.Splits.{slice_split_first, slice_split_none}
@@ -27,7 +28,8 @@ no_place true n h = cc
 no_place false n h = refl
 
 -- a line feed ends the first line
-pub lines_found : (text : List ℕ) (at : ℕ) → Some at ≡ position (λ b. b == 10) text → (lines text ≡ without_return (take at text) ∷ lines (drop (at + 1) text)) × (at < length text)
+pub lines_found : (text : List ℕ) (at : ℕ) → Some at ≡ position (λ b. b == 10) text
+    → (lines text ≡ without_return (take at text) ∷ lines (drop (at + 1) text)) × (at < length text)
 lines_found text at e =
     let p : ℕ → Bool = λ b. b == 10 in
     let found = found_place (ltb (position_or_len p text) (length text)) at (position_or_len p text) e in
@@ -37,11 +39,13 @@ lines_found text at e =
     (rw (split, ← found.1, more.2) refl, omega (arith, found.1))
 
 -- without one the text is the last line
-pub lines_last : (text : List ℕ) → 0 < length text → None ≡ position (λ b. b == 10) text → lines text ≡ without_return text ∷ []
+pub lines_last : (text : List ℕ) → 0 < length text → None ≡ position (λ b. b == 10) text
+    → lines text ≡ without_return text ∷ []
 lines_last text l e =
     let p : ℕ → Bool = λ b. b == 10 in
     let low = ltb-false _ _ (no_place (ltb (position_or_len p text) (length text)) _ e) in
-    let whole : slice_split p text ≡ text ∷ [] = slice_split_none p text (λ k d b. fails_before_first p text k d (omega arith)) in
+    let whole : slice_split p text ≡ text ∷ [] =
+    slice_split_none p text (λ k d b. fails_before_first p text k d (omega arith)) in
     rw (whole, ne_eqb (length text) 0 (omega arith)) refl
 
 -- what a slice from n on holds

@@ -1,5 +1,6 @@
 -- Printed lines read back wherever they stand, and what was appended in several steps.
-use Rattle.std.proofs.Common.{◌≡◌, ◌≤◌, ◌++◌, ◌&&◌, ℕ, List, [], ◌∷◌, true, length, take, arith, refl, Option, Result, Ok, Err, OnErr}
+use Rattle.std.proofs.Common.{◌≡◌, ◌≤◌, ◌++◌, ◌&&◌, ℕ, List, [], ◌∷◌, true, length, take, arith, refl, Option, Result}
+use Rattle.std.proofs.Common.{Ok, Err, OnErr}
 use Rattle.std.specs.List.{list_all}
 use Rattle.std.proofs.lemmas.Bool.{and_parts, leb-true}
 use Rattle.money_core.specs.declared.day.Day.{Day}
@@ -8,12 +9,14 @@ use Rattle.journal_lines.specs.declared.header.Status.{Status}
 use Rattle.journal_lines.specs.Blank.{is_trimmed}
 use Rattle.journal_lines.specs.Printed.{is_clean, line_limit, comment_line, is_comment, HeaderReadsBack, IsCommentText}
 use Rattle.journal_lines.proofs.DateLemmas.{dates_print}
-use Rattle.journal_lines.proofs.HeaderLemmas.{header_reads, header_clean, header_short, description_parts, comment_reads}
+use Rattle.journal_lines.proofs.HeaderLemmas.{header_reads, header_clean, header_short, description_parts}
+use Rattle.journal_lines.proofs.HeaderLemmas.{comment_reads}
 use Rattle.journal_lines.proofs.HeaderFormLemmas.{reads_form}
 use Rattle.journal_lines.proofs.KindLemmas.{header_kind, comment_kind, comment_remark}
 
 -- a header line of good parts
-pub headers_read_back : (day : Day) (status : Option Status) (code : Option (List ℕ)) (text : List ℕ) → HeaderReadsBack day status code text
+pub headers_read_back : (day : Day) (status : Option Status) (code : Option (List ℕ)) (text : List ℕ)
+    → HeaderReadsBack day status code text
 headers_read_back day status code text h =
     let date = dates_print day h.number in
     let d = description_parts status code text h.description_ok in
@@ -48,6 +51,7 @@ comments_read_back text h =
     }
 
 -- a step that failed behind three that did not leaves the front
-pub kept_behind_three : {E : Type 0} (r : Result Unit E) (a b c d e x y z : List ℕ) → b ≡ a ++ x → c ≡ b ++ y → d ≡ c ++ z → OnErr r (take (length d) e ≡ d) → OnErr r (take (length a) e ≡ a)
+pub kept_behind_three : {E : Type 0} (r : Result Unit E) (a b c d e x y z : List ℕ) → b ≡ a ++ x → c ≡ b ++ y
+    → d ≡ c ++ z → OnErr r (take (length d) e ≡ d) → OnErr r (take (length a) e ≡ a)
 kept_behind_three (Ok u) a b c d e x y z p q s h = tt
 kept_behind_three (Err u) a b c d e x y z p q s h = kept_behind a b e x p (kept_behind_two b c d e y z q s h)

@@ -37,17 +37,20 @@ unfolding first_tag starts_tag tag_at
 no_tag = refl
 
 -- a block starts at the word alone
-pub block_starts : (kind_of (codes "comment ") ≡ Block) × (kind_of (codes "comment x") ≡ Unknown) × (kind_of (codes " comment") ≡ Indented)
+pub block_starts : (kind_of (codes "comment ") ≡ Block) × (kind_of (codes "comment x") ≡ Unknown)
+    × (kind_of (codes " comment") ≡ Indented)
 unfolding is_block_start is_skipped_word is_commodity_word trim_end first_word
 block_starts = (refl, refl, refl)
 
 -- which names are well formed
-pub names : (is_account (codes "assets:bank") ≡ true) × (is_account (codes "assets::x") ≡ false) × (is_account (codes "a  b") ≡ false) × (is_account (codes "a b") ≡ true)
+pub names : (is_account (codes "assets:bank") ≡ true) × (is_account (codes "assets::x") ≡ false)
+    × (is_account (codes "a  b") ≡ false) × (is_account (codes "a b") ≡ true)
 unfolding is_account
 names = (refl, refl, refl, refl)
 
 -- both separators are the same, and the day exists
-pub dates : (is_date (codes "2024-1-5") ≡ true) × (is_date (codes "2024-1/5") ≡ false) × (is_date (codes "2024-02-29") ≡ true) × (is_date (codes "2023-02-29") ≡ false)
+pub dates : (is_date (codes "2024-1-5") ≡ true) × (is_date (codes "2024-1/5") ≡ false)
+    × (is_date (codes "2024-02-29") ≡ true) × (is_date (codes "2023-02-29") ≡ false)
 dates = (refl, refl, refl, refl)
 
 -- a day is printed with four, two and two digits
@@ -56,14 +59,28 @@ printed = printed_date_is 2024 1 5 (lit≤ tt, (search rules, (lit≤ tt, lit≤
 
 -- and that day is 19,727 days after 1970-01-01
 pub number : days_from_civil (pos 2024) 1 5 ≡ pos 19727
-number = omega (arith, signed_arith, days_from_civil-day_count, day_count-early (pos 2024) 12023 1 5 refl (omega arith) (omega arith) (omega arith))
+number = omega (
+  arith,
+  signed_arith,
+  days_from_civil-day_count,
+  day_count-early (pos 2024) 12023 1 5 refl (omega arith) (omega arith) (omega arith),
+)
 
 -- a header with all its parts
-pub header : header_of (codes "2024-01-05 *(7)hall ; rent ") ≡ Ok (record { day = day_of (codes "2024-01-05"); status = Some Cleared; code = Some (codes "7"); description = codes "hall"; comment = Some (codes "rent") })
-unfolding judged_header cut_header first_word behind_date trim_start trim_end front_of comment_of status_at behind_status code_at date_of
+pub header : header_of (codes "2024-01-05 *(7)hall ; rent ")
+    ≡ Ok (record {
+      day = day_of (codes "2024-01-05");
+      status = Some Cleared;
+      code = Some (codes "7");
+      description = codes "hall";
+      comment = Some (codes "rent");
+    })
+unfolding judged_header cut_header first_word behind_date trim_start trim_end front_of comment_of status_at
+    behind_status code_at date_of
 header = refl
 
 -- only one status is read, and none behind a code
-pub one_status : (status_at (codes "* ! x") ≡ Some Cleared) × (behind_status (codes "* ! x") ≡ codes "! x") × (status_at (codes "(a) * x") ≡ None)
+pub one_status : (status_at (codes "* ! x") ≡ Some Cleared) × (behind_status (codes "* ! x") ≡ codes "! x")
+    × (status_at (codes "(a) * x") ≡ None)
 unfolding status_at behind_status trim_start
 one_status = (refl, refl, refl)

@@ -1,5 +1,6 @@
 -- Account names (hledger manual, "Account names"). What a well-formed name lacks and how long it is are own rules.
-use Rattle.std.specs.Prelude.{ℕ, ◌≡◌, ◌+◌, ◌≤◌, ◌<◌, ◌==◌, nat_le, nat_lt, List, [], ◌∷◌, ◌++◌, length, slice_index, codes, Bool, true, false, not, ◌&&◌, ◌||◌, ◌⊎◌, if◌then◌else◌}
+use Rattle.std.specs.Prelude.{ℕ, ◌≡◌, ◌+◌, ◌≤◌, ◌<◌, ◌==◌, nat_le, nat_lt, List, [], ◌∷◌, ◌++◌, length, slice_index}
+use Rattle.std.specs.Prelude.{codes, Bool, true, false, not, ◌&&◌, ◌||◌, ◌⊎◌, if◌then◌else◌}
 use Rattle.std.specs.List.{list_all, slice_split}
 use Rattle.journal_lines.specs.Blank.{is_blank}
 use Rattle.journal_lines.specs.Printed.{is_clean}
@@ -45,7 +46,8 @@ pub record IsAccount (name : List ℕ) : Type 0 where
 -- the same as a test
 unfoldable pub is_account : List ℕ → Bool
 is_account name =
-    nat_le (length name) name_limit && list_all is_part (parts name) && list_all is_name_byte name && not (has_gap name) && not (bars_start (slice_index name 0))
+    nat_le (length name) name_limit && list_all is_part (parts name) && list_all is_name_byte name && not (has_gap name)
+    && not (bars_start (slice_index name 0))
 
 -- a name ends before a tab, before a space that a blank follows, and before a single space at the end
 abbrev pub ends_name : ℕ → List ℕ → Bool
@@ -62,7 +64,8 @@ abbrev pub is_unbroken : List ℕ → Bool
 is_unbroken [] = true
 is_unbroken (b ∷ rest) = not (ends_name b rest) && is_unbroken rest
 
--- what a cutter of lines may count on: the name has a first byte, which is no blank and begins no status, code or comment, and no byte ends it
+-- what a cutter of lines may count on: the name has a first byte, which is no blank and begins no status, code or
+-- comment, and no byte ends it
 pub record IsWholeName (name : List ℕ) : Type 0 where
   pub some : 0 < length name
   pub short : length name ≤ name_limit

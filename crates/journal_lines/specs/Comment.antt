@@ -13,4 +13,5 @@ front_of line = before_first (λ b. b == 59) line
 
 -- the text of the comment behind the first `;`, if there is one
 unfoldable pub comment_of : List ℕ → Option (List ℕ)
-comment_of line = if nat_lt (position_or_len (λ b. b == 59) line) (length line) then Some (trim (after_first (λ b. b == 59) line)) else None
+comment_of line = if nat_lt (position_or_len (λ b. b == 59) line) (length line)
+    then Some (trim (after_first (λ b. b == 59) line)) else None

@@ -1,6 +1,7 @@
 -- Dates of a journal (hledger manual, "Simple dates"), and which days they name. That the year has four digits,
 -- month and day one digit or two, and that both separators are the same, are own rules. The calendar is the kit's.
-use Rattle.std.specs.Prelude.{ℕ, ℤ, zero, suc, pos, ◌+◌, ◌/◌, ◌%◌, ◌==◌, ◌≡◌, ◌≤◌, ◌-ℤ◌, ◌≤ℤ◌, int_le, unsigned_abs, ◌&&◌, ◌||◌, Bool, true, if◌then◌else◌, List, [], ◌∷◌, ◌++◌, length, slice_index}
+use Rattle.std.specs.Prelude.{ℕ, ℤ, zero, suc, pos, ◌+◌, ◌/◌, ◌%◌, ◌==◌, ◌≡◌, ◌≤◌, ◌-ℤ◌, ◌≤ℤ◌, int_le, unsigned_abs}
+use Rattle.std.specs.Prelude.{◌&&◌, ◌||◌, Bool, true, if◌then◌else◌, List, [], ◌∷◌, ◌++◌, length, slice_index}
 use Rattle.std.specs.Char.{is_ascii_digit}
 use Rattle.std.specs.List.{list_all}
 use Rattle.std.specs.Str.Parse.{digits_value}
@@ -23,7 +24,8 @@ is_short part = ((length part == 1) || (length part == 2)) && list_all is_ascii_
 abbrev pub number_of : List ℕ → ℕ
 number_of part = digits_value 10 part
 
--- the text is a date of that day: four digits, a separator, a month, the same separator, a day of the month, and the calendar has it
+-- the text is a date of that day: four digits, a separator, a month, the same separator, a day of the month, and the
+-- calendar has it
 pub record IsDate (text : List ℕ) (day : Day) : Type 0 where
   pub year : List ℕ
   pub separator : ℕ
@@ -43,7 +45,8 @@ pub record IsDayNumber (day : Day) : Type 0 where
   pub low : days_from_civil (pos 1) 1 1 ≤ℤ day.0
   pub high : day.0 ≤ℤ days_from_civil (pos 9999) 12 31
 
--- which of the first n years, or months of a year, lasts on a day, given the days on which they begin: the last that has begun
+-- which of the first n years, or months of a year, lasts on a day, given the days on which they begin: the last that
+-- has begun
 unfoldable pub last_begun : (ℕ → ℤ) → ℤ → ℕ → ℕ
 last_begun first_day day zero = 0
 last_begun first_day day (suc n) = if int_le (first_day (suc n)) day then suc n else last_begun first_day day n
@@ -70,7 +73,8 @@ four_digits n = (48 + n / 1000 % 10) ∷ (48 + n / 100 % 10) ∷ two_digits n
 
 -- the date of a day as it is printed: `YYYY-MM-DD`
 unfoldable pub printed_date : Day → List ℕ
-printed_date day = four_digits (year_of day) ++ (45 ∷ (two_digits (month_of day) ++ (45 ∷ two_digits (day_of_month day))))
+printed_date day =
+    four_digits (year_of day) ++ (45 ∷ (two_digits (month_of day) ++ (45 ∷ two_digits (day_of_month day))))
 
 -- the text is the date of that day wherever it stands: it reads as the day, and is ten digits and `-`, a digit first
 pub record IsDateText (day : Day) (text : List ℕ) : Type 0 where

@@ -1,5 +1,7 @@
--- The day of a date by a function, for laws: where its parts stand. The rule is the relation `IsDate` of `Date`; `read_date` promises both.
-use Rattle.std.specs.Prelude.{ℕ, pos, ◌==◌, ◌≡◌, ◌<◌, nat_le, nat_lt, ◌&&◌, Bool, true, if◌then◌else◌, List, length, slice_index, take, drop, Option, Some, None}
+-- The day of a date by a function, for laws: where its parts stand. The rule is the relation `IsDate` of `Date`;
+-- `read_date` promises both.
+use Rattle.std.specs.Prelude.{ℕ, pos, ◌==◌, ◌≡◌, ◌<◌, nat_le, nat_lt, ◌&&◌, Bool, true, if◌then◌else◌, List, length}
+use Rattle.std.specs.Prelude.{slice_index, take, drop, Option, Some, None}
 use Rattle.std.specs.Char.{is_ascii_digit}
 use Rattle.std.specs.List.{list_all, before_first, after_first}
 use Rattle.jiff_core.specs.Calendar.{days_in_month, days_from_civil}
@@ -37,16 +39,21 @@ pub record HasDateParts (text : List ℕ) : Type 0 where
 
 -- the day that a date names
 abbrev pub day_of : List ℕ → Day
-day_of text = record { 0 = days_from_civil (pos (number_of (year_part text))) (number_of (month_part text)) (number_of (day_part text)) }
+day_of text = record {
+  0 = days_from_civil (pos (number_of (year_part text))) (number_of (month_part text))
+      (number_of (day_part text));
+}
 
 -- the calendar has the day, in a year from 1 to 9999
 abbrev pub is_day : ℕ → ℕ → ℕ → Bool
-is_day y m d = nat_le 1 y && nat_le y 9999 && nat_le 1 m && nat_le m 12 && nat_le 1 d && nat_le d (days_in_month (pos y) m)
+is_day y m d =
+    nat_le 1 y && nat_le y 9999 && nat_le 1 m && nat_le m 12 && nat_le 1 d && nat_le d (days_in_month (pos y) m)
 
 -- whether the text is a date
 abbrev pub is_date : List ℕ → Bool
 is_date text =
-    nat_lt 4 (length text) && list_all is_ascii_digit (year_part text) && is_separator (separator text) && is_short (month_part text) && is_short (day_part text)
+    nat_lt 4 (length text) && list_all is_ascii_digit (year_part text) && is_separator (separator text)
+    && is_short (month_part text) && is_short (day_part text)
     && is_day (number_of (year_part text)) (number_of (month_part text)) (number_of (day_part text))
 
 -- the day that a text names, if it is a date

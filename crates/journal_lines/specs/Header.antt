@@ -1,4 +1,5 @@
--- The parts of a header line (hledger manual, "Transactions", "Status", "Code", "Description"). What each part may hold, and its limit, are own rules.
+-- The parts of a header line (hledger manual, "Transactions", "Status", "Code", "Description"). What each part may
+-- hold, and its limit, are own rules.
 use Rattle.std.specs.Prelude.{ℕ, ◌==◌, List, length, drop, slice_index, ◌||◌, if◌then◌else◌, Option, Some, None}
 use Rattle.money_core.specs.declared.day.Day.{Day}
 use Rattle.journal_lines.specs.declared.header.Status.{Status}
@@ -32,7 +33,8 @@ length_of (Some text) = length text
 
 -- the status at the front: `*` or `!`
 unfoldable pub status_at : List ℕ → Option Status
-status_at text = if slice_index text 0 == 42 then Some Cleared else (if slice_index text 0 == 33 then Some Pending else None)
+status_at text =
+    if slice_index text 0 == 42 then Some Cleared else (if slice_index text 0 == 33 then Some Pending else None)
 
 -- what follows it, without blanks between
 unfoldable pub behind_status : List ℕ → List ℕ

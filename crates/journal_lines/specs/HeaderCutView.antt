@@ -10,4 +10,9 @@ coded_view c = record { code = option_map (λ t. t.now) c.code; rest = c.rest.no
 
 -- the parts that were cut
 abbrev pub cut_view : cut.HeaderCut → HeaderCut
-cut_view c = record { date = c.date.now; status = c.status; coded = option_map coded_view c.coded; comment = option_map (λ t. t.now) c.comment }
+cut_view c = record {
+  date = c.date.now;
+  status = c.status;
+  coded = option_map coded_view c.coded;
+  comment = option_map (λ t. t.now) c.comment;
+}

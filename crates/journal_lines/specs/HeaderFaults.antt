@@ -1,5 +1,7 @@
--- The faults of a header line, from left to right (own rule: a part with too many bytes comes first, then the date, then the code).
-use Rattle.std.specs.Prelude.{◌≡◌, ◌<◌, ◌⊎◌, ℕ, ◌==◌, List, [], ◌∷◌, ◌++◌, length, slice_index, Bool, true, false, ◌||◌, not, Option, None}
+-- The faults of a header line, from left to right (own rule: a part with too many bytes comes first, then the date,
+-- then the code).
+use Rattle.std.specs.Prelude.{◌≡◌, ◌<◌, ◌⊎◌, ℕ, ◌==◌, List, [], ◌∷◌, ◌++◌, length, slice_index, Bool, true, false, ◌||◌}
+use Rattle.std.specs.Prelude.{not, Option, None}
 use Rattle.std.specs.List.{list_all}
 use Rattle.money_core.specs.declared.day.Day.{Day}
 use Rattle.journal_lines.specs.declared.header.Status.{Status}

@@ -1,6 +1,7 @@
--- The form of a header line: what stands in it from left to right (hledger manual, "Transactions", "Status", "Code", "Description",
--- "Comments"). What a part may hold, and its limit, are own rules.
-use Rattle.std.specs.Prelude.{◌≡◌, ◌≤◌, ℕ, ◌==◌, List, [], ◌∷◌, ◌++◌, length, slice_index, Bool, true, ◌&&◌, not, Option, Some, None}
+-- The form of a header line: what stands in it from left to right (hledger manual, "Transactions", "Status", "Code",
+-- "Description", "Comments"). What a part may hold, and its limit, are own rules.
+use Rattle.std.specs.Prelude.{◌≡◌, ◌≤◌, ℕ, ◌==◌, List, [], ◌∷◌, ◌++◌, length, slice_index, Bool, true, ◌&&◌, not}
+use Rattle.std.specs.Prelude.{Option, Some, None}
 use Rattle.std.specs.List.{list_all}
 use Rattle.journal_lines.specs.declared.header.Status.{Status}
 use Rattle.journal_lines.specs.declared.header.Status.TheVariants.{Cleared, Pending}
@@ -44,7 +45,8 @@ abbrev pub IsRemark : Option (List ℕ) → List ℕ → Type 0
 IsRemark None rest = rest ≡ []
 IsRemark (Some text) rest = WritesComment text rest
 
--- the line is a header with these parts: a date, then behind blanks a status, a code and a description, each optional, then the comment
+-- the line is a header with these parts: a date, then behind blanks a status, a code and a description, each optional,
+-- then the comment
 pub record Reads (line : List ℕ) (parts : HeaderParts) : Type 0 where
   pub date : List ℕ
   pub gap : List ℕ
@@ -53,7 +55,8 @@ pub record Reads (line : List ℕ) (parts : HeaderParts) : Type 0 where
   pub end_gap : List ℕ
   pub remark : List ℕ
   pub written : line
-      ≡ date ++ (gap ++ (status_text parts.status ++ (status_gap ++ (code_text parts.code ++ (code_gap ++ (parts.description ++ (end_gap ++ remark)))))))
+      ≡ date ++ (gap ++ (status_text parts.status
+      ++ (status_gap ++ (code_text parts.code ++ (code_gap ++ (parts.description ++ (end_gap ++ remark)))))))
   pub is_date : IsDate date parts.day
   pub blanks : list_all is_blank (gap ++ (status_gap ++ (code_gap ++ end_gap))) ≡ true
   -- behind a date without a blank nothing stands but the comment

@@ -1,5 +1,6 @@
 -- Mirrors code: how `read_header` cuts and judges a line. The rule is `Reads` of `HeaderForm`, and `HeaderFaults`.
-use Rattle.std.specs.Prelude.{ℕ, ◌==◌, nat_lt, List, length, drop, slice_index, Bool, false, ◌||◌, if◌then◌else◌, Option, Some, None, Result, Ok, Err}
+use Rattle.std.specs.Prelude.{ℕ, ◌==◌, nat_lt, List, length, drop, slice_index, Bool, false, ◌||◌, if◌then◌else◌}
+use Rattle.std.specs.Prelude.{Option, Some, None, Result, Ok, Err}
 use Rattle.std.specs.List.{position_or_len, before_first, after_first}
 use Rattle.money_core.specs.declared.day.Day.{Day}
 use Rattle.money_core.specs.declared.cause.Cause.{Cause}
@@ -8,7 +9,8 @@ use Rattle.journal_lines.specs.declared.header.Status.{Status}
 use Rattle.journal_lines.specs.Blank.{is_blank, first_word, trim_start, trim_end}
 use Rattle.journal_lines.specs.Comment.{front_of, comment_of}
 use Rattle.journal_lines.specs.DateReading.{date_of}
-use Rattle.journal_lines.specs.Header.{code_limit, description_limit, comment_limit, HeaderParts, length_of, status_at, behind_status}
+use Rattle.journal_lines.specs.Header.{code_limit, description_limit, comment_limit, HeaderParts, length_of, status_at}
+use Rattle.journal_lines.specs.Header.{behind_status}
 
 -- a code, if there is one, and what follows it
 pub record Coded : Type 0 where
@@ -19,12 +21,16 @@ pub record Coded : Type 0 where
 abbrev pub closed_code : List ℕ → Option Coded
 closed_code text =
     if nat_lt (position_or_len (λ b. b == 41) text) (length text)
-    then Some (record { code = Some (before_first (λ b. b == 41) text); rest = trim_start (after_first (λ b. b == 41) text) })
+    then Some (record {
+      code = Some (before_first (λ b. b == 41) text);
+      rest = trim_start (after_first (λ b. b == 41) text);
+    })
     else None
 
 -- the code at the front, from `(` on, and what follows it; all where there is no `(`
 unfoldable pub code_at : List ℕ → Option Coded
-code_at text = if slice_index text 0 == 40 then closed_code (drop 1 text) else Some (record { code = None; rest = text })
+code_at text =
+    if slice_index text 0 == 40 then closed_code (drop 1 text) else Some (record { code = None; rest = text })
 
 -- the parts of a header, cut by characters alone
 pub record HeaderCut : Type 0 where
@@ -49,7 +55,8 @@ cut_header line = record {
 -- the code or the description has too many bytes
 abbrev pub is_coded_long : Option Coded → Bool
 is_coded_long None = false
-is_coded_long (Some coded) = nat_lt code_limit (length_of coded.code) || nat_lt description_limit (length (trim_end coded.rest))
+is_coded_long (Some coded) =
+    nat_lt code_limit (length_of coded.code) || nat_lt description_limit (length (trim_end coded.rest))
 
 -- a part has too many bytes
 abbrev pub is_cut_long : HeaderCut → Bool
@@ -58,7 +65,14 @@ is_cut_long cut = is_coded_long cut.coded || nat_lt comment_limit (length_of cut
 -- the parts of a header with its day
 abbrev pub closed_header : HeaderCut → Day → Option Coded → Result HeaderParts Cause
 closed_header cut day None = Err CodeIsOpen
-closed_header cut day (Some coded) = Ok (record { day = day; status = cut.status; code = coded.code; description = trim_end coded.rest; comment = cut.comment })
+closed_header cut day (Some coded) =
+    Ok (record {
+      day = day;
+      status = cut.status;
+      code = coded.code;
+      description = trim_end coded.rest;
+      comment = cut.comment;
+    })
 
 -- the parts of a header, if it has a day
 abbrev pub dated_header : HeaderCut → Option Day → Result HeaderParts Cause

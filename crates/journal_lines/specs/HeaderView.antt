@@ -12,7 +12,13 @@ text_of text = option_map (λ t. t.now) text
 
 -- the parts of a header
 abbrev pub parts_of : read.Header → HeaderParts
-parts_of h = record { day = h.day; status = h.status; code = text_of h.code; description = h.description.now; comment = text_of h.comment }
+parts_of h = record {
+  day = h.day;
+  status = h.status;
+  code = text_of h.code;
+  description = h.description.now;
+  comment = text_of h.comment;
+}
 
 -- what reading a header answered
 abbrev pub read_parts : Result read.Header Cause → Result HeaderParts Cause

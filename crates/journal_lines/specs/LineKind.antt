@@ -1,11 +1,12 @@
--- The kinds of lines (hledger manual, "Journal format": transactions, directives, comments). Which directives are known, and that
--- some are skipped, are own rules.
+-- The kinds of lines (hledger manual, "Journal format": transactions, directives, comments). Which directives are
+-- known, and that some are skipped, are own rules.
 use Rattle.std.specs.Prelude.{ℕ, ◌==◌, nat_eq, List, slice_index, codes, Bool, ◌||◌, if◌then◌else◌}
 use Rattle.std.specs.List.{list_all}
 use Rattle.std.specs.Char.{is_ascii_digit}
 use lib.Pointwise.{pointwise}
 use Rattle.journal_lines.specs.declared.line_kind.LineKind.{LineKind}
-use Rattle.journal_lines.specs.declared.line_kind.LineKind.TheVariants.{Blank, Comment, Block, Header, Indented, Commodity, Skipped, Unknown}
+use Rattle.journal_lines.specs.declared.line_kind.LineKind.TheVariants.{Blank, Comment, Block, Header, Indented}
+use Rattle.journal_lines.specs.declared.line_kind.LineKind.TheVariants.{Commodity, Skipped, Unknown}
 use Rattle.journal_lines.specs.Blank.{is_blank, first_word, trim_start, trim_end}
 
 -- two texts are the same
@@ -34,7 +35,8 @@ is_commodity_word word = is_same word (codes "commodity")
 
 -- the directives that are skipped
 unfoldable pub is_skipped_word : List ℕ → Bool
-is_skipped_word word = is_same word (codes "account") || is_same word (codes "payee") || is_same word (codes "tag") || is_same word (codes "P")
+is_skipped_word word = is_same word (codes "account") || is_same word (codes "payee") || is_same word (codes "tag")
+    || is_same word (codes "P")
 
 -- the kind of a line, by its first byte or its first word
 abbrev pub kind_of : List ℕ → LineKind

@@ -1,5 +1,6 @@
 -- The lines of a journal's text (own rule: how a line ends, and that each has its number).
-use Rattle.std.specs.Prelude.{ℕ, ◌≡◌, ◌<◌, ◌++◌, ◌⊎◌, ◌-◌, ◌==◌, Bool, true, false, List, [], ◌∷◌, length, slice_index, take, if◌then◌else◌}
+use Rattle.std.specs.Prelude.{ℕ, ◌≡◌, ◌<◌, ◌++◌, ◌⊎◌, ◌-◌, ◌==◌, Bool, true, false, List, [], ◌∷◌, length, slice_index}
+use Rattle.std.specs.Prelude.{take, if◌then◌else◌}
 use Rattle.std.specs.List.{slice_split, enumerate_from}
 use Rattle.journal_lines.specs.Comment.{has_no}
 
@@ -26,7 +27,8 @@ pub record BeginsWith (line text : List ℕ) : Type 0 where
 abbrev pub MakeUp : List (List ℕ) → List ℕ → Type 0
 MakeUp [] text = text ≡ []
 MakeUp (line ∷ more) text =
-    (front : BeginsWith line text) × ((IsEnd line front.end × MakeUp more front.rest) ⊎ (IsLastEnd line front.end × ((front.rest ≡ []) × (more ≡ []))))
+    (front : BeginsWith line text) × ((IsEnd line front.end × MakeUp more front.rest)
+    ⊎ (IsLastEnd line front.end × ((front.rest ≡ []) × (more ≡ []))))
 
 -- The same by a function.
 

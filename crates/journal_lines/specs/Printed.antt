@@ -1,6 +1,7 @@
--- The lines of an entry that this crate can read, as they are printed (own rule: one canonical form), and which parts print so that they
--- read back.
-use Rattle.std.specs.Prelude.{◌≡◌, ◌≤◌, ℕ, ◌==◌, nat_le, List, [], ◌∷◌, ◌++◌, length, slice_index, Bool, true, ◌&&◌, ◌||◌, not, Option, Some, None}
+-- The lines of an entry that this crate can read, as they are printed (own rule: one canonical form), and which parts
+-- print so that they read back.
+use Rattle.std.specs.Prelude.{◌≡◌, ◌≤◌, ℕ, ◌==◌, nat_le, List, [], ◌∷◌, ◌++◌, length, slice_index, Bool, true, ◌&&◌}
+use Rattle.std.specs.Prelude.{◌||◌, not, Option, Some, None}
 use Rattle.std.specs.List.{list_all, flat_map}
 use Rattle.std.specs.Str.{is_utf8}
 use Rattle.journal_lines.specs.Utf8.{is_utf8_or_none}
@@ -47,9 +48,11 @@ abbrev pub spaced_text : List ℕ → List ℕ
 spaced_text [] = []
 spaced_text (b ∷ bs) = 32 ∷ b ∷ bs
 
--- the header line of a transaction: the date, then a status, a code and a description, each behind a space where it is there
+-- the header line of a transaction: the date, then a status, a code and a description, each behind a space where it is
+-- there
 unfoldable pub header_line : Day → Option Status → Option (List ℕ) → List ℕ → List ℕ
-header_line day status code description = printed_date day ++ (header_status status ++ (header_code code ++ spaced_text description))
+header_line day status code description =
+    printed_date day ++ (header_status status ++ (header_code code ++ spaced_text description))
 
 -- the line of a comment below a header
 unfoldable pub comment_line : List ℕ → List ℕ
@@ -67,7 +70,8 @@ is_code (Some code) = has_no 41 code && has_no 59 code && list_all is_clean code
 -- a description that reads back behind that status and that code
 abbrev pub is_description : Option Status → Option (List ℕ) → List ℕ → Bool
 is_description status code text =
-    is_trimmed text && has_no 59 text && list_all is_clean text && nat_le (length text) description_limit && starts_so status code (slice_index text 0)
+    is_trimmed text && has_no 59 text && list_all is_clean text && nat_le (length text) description_limit
+    && starts_so status code (slice_index text 0)
 
 -- the parts of a header that reads back
 pub record HeaderOk (day : Day) (status : Option Status) (code : Option (List ℕ)) (description : List ℕ) : Type 0 where
@@ -75,8 +79,10 @@ pub record HeaderOk (day : Day) (status : Option Status) (code : Option (List �
   pub code_ok : is_code code ≡ true
   pub description_ok : is_description status code description ≡ true
 
--- the line is the header of these parts wherever it stands: it is a header line and reads as them, and no limit of lines is broken
-pub record IsHeaderText (day : Day) (status : Option Status) (code : Option (List ℕ)) (description line : List ℕ) : Type 0 where
+-- the line is the header of these parts wherever it stands: it is a header line and reads as them, and no limit of
+-- lines is broken
+pub record IsHeaderText (day : Day) (status : Option Status) (code : Option (List ℕ))
+    (description line : List ℕ) : Type 0 where
   pub kind : kind_of line ≡ Header
   pub reads : Reads line (record { day = day; status = status; code = code; description = description; comment = None })
   pub clean : list_all is_clean line ≡ true
@@ -85,7 +91,8 @@ pub record IsHeaderText (day : Day) (status : Option Status) (code : Option (Lis
 -- the header line of good parts is such a line
 abbrev pub HeaderReadsBack : Day → Option Status → Option (List ℕ) → List ℕ → Type 0
 HeaderReadsBack day status code description =
-    HeaderOk day status code description → IsHeaderText day status code description (header_line day status code description)
+    HeaderOk day status code description
+    → IsHeaderText day status code description (header_line day status code description)
 
 -- the header line of parts in UTF-8 is UTF-8
 abbrev pub HeaderIsUtf8 : Day → Option Status → Option (List ℕ) → List ℕ → Type 0

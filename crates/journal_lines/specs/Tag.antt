@@ -1,5 +1,7 @@
--- The tags of a comment (hledger manual, "Tags"). What a tag's name may hold, and that it follows the start, a blank or a comma, are own rules.
-use Rattle.std.specs.Prelude.{ℕ, ◌≡◌, ◌<◌, ◌≤◌, ◌+◌, ◌++◌, ◌==◌, nat_lt, List, [], ◌∷◌, length, slice_index, take, drop, Bool, true, ◌&&◌, ◌||◌, not, if◌then◌else◌, Option, Some, None, option_to_list}
+-- The tags of a comment (hledger manual, "Tags"). What a tag's name may hold, and that it follows the start, a blank or
+-- a comma, are own rules.
+use Rattle.std.specs.Prelude.{ℕ, ◌≡◌, ◌<◌, ◌≤◌, ◌+◌, ◌++◌, ◌==◌, nat_lt, List, [], ◌∷◌, length, slice_index, take, drop}
+use Rattle.std.specs.Prelude.{Bool, true, ◌&&◌, ◌||◌, not, if◌then◌else◌, Option, Some, None, option_to_list}
 use Rattle.std.specs.Char.{is_ascii_digit, is_ascii_alphabetic}
 use Rattle.std.specs.List.{list_all, position_or_len, slice_split, filter_map}
 use Rattle.journal_lines.specs.Blank.{is_blank, trim}
@@ -23,13 +25,15 @@ tag_at text = (take (name_len text) text, trim (drop (name_len text + 1) text))
 -- the first tag of a text without commas, given whether its front is the start of a text or follows a blank
 unfoldable pub first_tag : Bool → List ℕ → Option (List ℕ × List ℕ)
 first_tag fresh [] = None
-first_tag fresh (b ∷ rest) = if fresh && starts_tag (b ∷ rest) then Some (tag_at (b ∷ rest)) else first_tag (is_blank b) rest
+first_tag fresh (b ∷ rest) =
+    if fresh && starts_tag (b ∷ rest) then Some (tag_at (b ∷ rest)) else first_tag (is_blank b) rest
 
 -- the tags of a comment: a value runs to the next comma or the end, so each part between commas has one tag at most
 abbrev pub tags_of : List ℕ → List (List ℕ × List ℕ)
 tags_of comment = filter_map (first_tag true) (slice_split (λ b. b == 44) comment)
 
--- whether a name may begin behind a text, given whether it may begin before it: where nothing was passed, or behind a blank
+-- whether a name may begin behind a text, given whether it may begin before it: where nothing was passed, or behind a
+-- blank
 abbrev pub may_begin : Bool → List ℕ → Bool
 may_begin fresh [] = fresh
 may_begin fresh (b ∷ rest) = may_begin (is_blank b) rest

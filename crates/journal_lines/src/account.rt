@@ -3,7 +3,8 @@
 ghost use Rattle.std.specs.Prelude.{◌≡◌, ◌↔◌, ◌==◌, IsTrue, true, not, slice_index, ◌+◌, ◌≤◌, length, drop};
 ghost use Rattle.std.specs.List.{list_all};
 ghost use Rattle.std.specs.Str.{is_utf8, IsCharBoundary};
-ghost use Rattle.journal_lines.specs.AccountName.{is_name_byte, is_part, parts, is_gap, has_gap, bars_start, IsAccount, is_account, ends_name, name_end, IsReserved, IsWholeName};
+ghost use Rattle.journal_lines.specs.AccountName.{is_name_byte, is_part, parts, is_gap, has_gap, bars_start, IsAccount};
+ghost use Rattle.journal_lines.specs.AccountName.{is_account, ends_name, name_end, IsReserved, IsWholeName};
 
 use crate::blank::is_blank;
 

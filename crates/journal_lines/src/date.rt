@@ -1,13 +1,15 @@
 //! Dates as texts.
 
-ghost use Rattle.std.specs.Prelude.{◌≡◌, ℕ, ℤ, pos, ◌+◌, ◌%◌, ◌≤◌, ◌<◌, ◌^◌, ◌↔◌, ◌≤ℤ◌, ◌∷◌, [], ◌&&◌, ◌++◌, length, true, IfSome, OnOk, OnErr, IsOkUnless, IsTrue, Some};
+ghost use Rattle.std.specs.Prelude.{◌≡◌, ℕ, ℤ, pos, ◌+◌, ◌%◌, ◌≤◌, ◌<◌, ◌^◌, ◌↔◌, ◌≤ℤ◌, ◌∷◌, [], ◌&&◌, ◌++◌, length};
+ghost use Rattle.std.specs.Prelude.{true, IfSome, OnOk, OnErr, IsOkUnless, IsTrue, Some};
 ghost use Rattle.std.specs.Option.{SomeIff};
 ghost use Rattle.std.specs.Char.{is_ascii_digit};
 ghost use Rattle.std.specs.List.{list_all};
 ghost use Rattle.jiff_core.specs.Calendar.{IsCivilDate, days_from_civil};
 ghost use Rattle.jiff_core.specs.Date.{epoch_day};
 ghost use Rattle.money_core.specs.declared.day.Day.{Day};
-ghost use Rattle.journal_lines.specs.Date.{IsDay, IsDate, is_separator, is_short, number_of, IsDayNumber, IsDateText, printed_date, two_digits, four_digits};
+ghost use Rattle.journal_lines.specs.Date.{IsDay, IsDate, is_separator, is_short, number_of, IsDayNumber, IsDateText};
+ghost use Rattle.journal_lines.specs.Date.{printed_date, two_digits, four_digits};
 ghost use Rattle.journal_lines.specs.DateReading.{HasDateParts, day_of, date_of};
 
 use crate::lines::{before, behind};

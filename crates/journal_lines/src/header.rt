@@ -1,11 +1,13 @@
 //! The header line of a transaction.
 
-ghost use Rattle.std.specs.Prelude.{◌≡◌, ◌==◌, ◌||◌, true, nat_lt, slice_index, drop, length, IfOk, IfErr, Ok, Err, ◌↔◌, ◌⊎◌};
+ghost use Rattle.std.specs.Prelude.{◌≡◌, ◌==◌, ◌||◌, true, nat_lt, slice_index, drop, length, IfOk, IfErr, Ok, Err};
+ghost use Rattle.std.specs.Prelude.{◌↔◌, ◌⊎◌};
 ghost use Rattle.std.specs.Option.{option_map};
 ghost use Rattle.std.specs.List.{list_all};
 ghost use Rattle.std.specs.Str.{is_utf8};
 ghost use Rattle.journal_lines.specs.Header.{status_at, behind_status, length_of, HeaderParts};
-ghost use Rattle.journal_lines.specs.HeaderReading.{closed_code, code_at, behind_date, cut_header, is_coded_long, is_cut_long, judged_header};
+ghost use Rattle.journal_lines.specs.HeaderReading.{closed_code, code_at, behind_date, cut_header, is_coded_long};
+ghost use Rattle.journal_lines.specs.HeaderReading.{is_cut_long, judged_header};
 ghost use Rattle.journal_lines.specs.HeaderForm.{Reads};
 ghost use Rattle.journal_lines.specs.HeaderFaults.{HasLongPart, HasNoDate, HasOpenCode};
 ghost use Rattle.journal_lines.specs.Printed.{is_clean, PrintsBack};
@@ -75,7 +77,8 @@ pub fn read_header(line: &[u8]) -> Result<Header<'_>, Cause>
     ensures unclosed { (result ≡ Err Cause.Header) ↔ HasOpenCode line.entry.now }
     ensures causes { IfErr result (λ cause. (cause ≡ Cause.TooLong) ⊎ (cause ≡ Cause.Date) ⊎ (cause ≡ Cause.Header)) }
 
-    // The parts of a line without control characters print so that they read back, and those of a line in UTF-8 are UTF-8.
+    // The parts of a line without control characters print so that they read back, and those of a line in UTF-8 are
+    // UTF-8.
     ensures prints { list_all is_clean line.entry.now ≡ true → IfOk result (λ header. PrintsBack (parts_of header)) }
     ensures utf8 { is_utf8 line.entry.now ≡ true → IfOk result (λ header. IsUtf8Header (parts_of header)) }
 {

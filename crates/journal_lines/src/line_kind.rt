@@ -4,7 +4,8 @@ ghost use Rattle.std.specs.Prelude.{◌≡◌, ◌<◌, IsTrue, true, length, sl
 ghost use Rattle.std.specs.Char.{is_ascii_digit};
 ghost use Rattle.journal_lines.specs.Blank.{is_blank, trim_start};
 ghost use Rattle.journal_lines.specs.Comment.{comment_of};
-ghost use Rattle.journal_lines.specs.LineKind.{is_same, is_blank_line, is_comment_sign, is_block_start, is_block_end, is_commodity_word, is_skipped_word, kind_of, is_remark};
+ghost use Rattle.journal_lines.specs.LineKind.{is_same, is_blank_line, is_comment_sign, is_block_start, is_block_end};
+ghost use Rattle.journal_lines.specs.LineKind.{is_commodity_word, is_skipped_word, kind_of, is_remark};
 
 use crate::blank::{first_word, is_blank, trim_end, trim_start};
 use money_core::first_byte;
@@ -34,7 +35,8 @@ pub enum LineKind {
 pub fn kind(line: &[u8]) -> LineKind
     ensures value { result ≡ kind_of line.now }
     ensures header { is_ascii_digit (slice_index line.now 0) ≡ true → result ≡ LineKind.Header }
-    ensures indented { is_blank (slice_index line.now 0) ≡ true → 0 < length (trim_start line.now) → result ≡ LineKind.Indented }
+    ensures indented { is_blank (slice_index line.now 0) ≡ true → 0 < length (trim_start line.now)
+        → result ≡ LineKind.Indented }
 {
     let first = first_byte(line);
     let word = first_word(line);

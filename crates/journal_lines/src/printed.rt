@@ -11,7 +11,9 @@ ghost use Rattle.journal_lines.specs.Date.{IsDayNumber};
 ghost use Rattle.journal_lines.specs.Header.{code_limit, description_limit, length_of};
 ghost use Rattle.journal_lines.specs.HeaderForm.{starts_so};
 ghost use Rattle.journal_lines.specs.HeaderView.{text_of};
-ghost use Rattle.journal_lines.specs.Printed.{is_clean, header_status, header_code, spaced_text, header_line, comment_line, is_comment, is_code, is_description, IsCommentText, HeaderReadsBack, HeaderIsUtf8};
+ghost use Rattle.journal_lines.specs.Printed.{is_clean, header_status, header_code, spaced_text, header_line};
+ghost use Rattle.journal_lines.specs.Printed.{comment_line, is_comment, is_code, is_description, IsCommentText};
+ghost use Rattle.journal_lines.specs.Printed.{HeaderReadsBack, HeaderIsUtf8};
 
 use crate::blank::is_blank;
 use crate::date::date_text;
@@ -201,7 +203,8 @@ fn push_header(
     description: &[u8],
 ) -> Result<(), AllocError>
     requires { IsDayNumber day }
-    ensures ok { OnOk result (out.new.items ≡ out.old.items ++ header_line day status (text_of code.entry) description.now) }
+    ensures ok { OnOk result (out.new.items
+        ≡ out.old.items ++ header_line day status (text_of code.entry) description.now) }
     ensures err { OnErr result (take (length out.old.items) out.new.items ≡ out.old.items) }
 {
     out.extend_from_slice(&date_text(day))?;
@@ -222,7 +225,8 @@ pub fn print_header(
     out: &mut Vec<u8>,
 ) -> Result<(), Cause>
     requires { IsDayNumber day }
-    ensures ok { OnOk result (out.new.items ≡ out.old.items ++ header_line day status (text_of code.entry) description.now) }
+    ensures ok { OnOk result (out.new.items
+        ≡ out.old.items ++ header_line day status (text_of code.entry) description.now) }
     ensures memory { IsOkUnless result Cause.OutOfMemory }
     ensures err { OnErr result (out.new.items ≡ out.old.items) }
 

@@ -254,8 +254,8 @@ fn line_with(alloc: Global, front: &str, count: usize, behind: &str) -> Result<V
     Ok(line)
 }
 
-/// Asserts of each row that a header takes so many letters and no more: what stands before them, their number, what stands behind,
-/// and whether that header has another fault.
+/// Asserts of each row that a header takes so many letters and no more: what stands before them, their number, what
+/// stands behind, and whether that header has another fault.
 fn assert_limits(
     rt: &impl Abort,
     alloc: Global,

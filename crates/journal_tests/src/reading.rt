@@ -66,8 +66,8 @@ fn assert_repeated(
     }
 }
 
-/// Each transaction by its header's line and its parts, the mark in `<>`, comments in `[]`; then its postings, each with
-/// its quantity, `@` for a price and `=` for an assertion.
+/// Each transaction by its header's line and its parts, the mark in `<>`, comments in `[]`; then its postings, each
+/// with its quantity, `@` for a price and `=` for an assertion.
 fn shown(rt: &impl Abort, alloc: Global, text: &[u8], styles: &Styles) -> Vec<u8> {
     let mut out = Vec::new(alloc);
     if let Ok(list) = read_journal(alloc, text, styles) {

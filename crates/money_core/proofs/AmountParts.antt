@@ -1,5 +1,6 @@
 -- A printed amount is an amount of the parts that it was printed from.
-use Rattle.std.proofs.Common.{◌≡◌, ◌≤◌, ◌++◌, ◌==◌, ℕ, ℤ, pos, negsuc, [], Bool, true, false, not, length, arith, refl, ◌∙◌, append_assoc, Some, inl, inr}
+use Rattle.std.proofs.Common.{◌≡◌, ◌≤◌, ◌++◌, ◌==◌, ℕ, ℤ, pos, negsuc, [], Bool, true, false, not, length, arith, refl}
+use Rattle.std.proofs.Common.{◌∙◌, append_assoc, Some, inl, inr}
 use Rattle.std.proofs.lemmas.Bool.{cases_Bool, cond-true, cond-false}
 use Rattle.std.specs.Prelude.{unsigned_abs}
 use Rattle.money_core.specs.declared.amount.Sign.{Sign}
@@ -22,7 +23,14 @@ sign_printed (negsuc n) = Minus
 
 -- the parts of a printed quantity
 abbrev pub parts_printed : Style → ℕ → ℤ → Parts
-parts_printed style decimals q = record { sign = sign_printed q; left = style.left; spaced = style.spaced; symbol = style.symbol; number = printed_number style.mark style.grouped decimals (unsigned_abs q) }
+parts_printed style decimals q =
+    record {
+      sign = sign_printed q;
+      left = style.left;
+      spaced = style.spaced;
+      symbol = style.symbol;
+      number = printed_number style.mark style.grouped decimals (unsigned_abs q);
+    }
 
 minus_writes : (q : ℤ) → WritesSign (sign_printed q) (minus q)
 minus_writes (pos n) = refl
@@ -37,7 +45,8 @@ gap_seen true = refl
 gap_seen false = refl
 
 -- A printed amount is an amount.
-pub printed_is_amount : (style : Style) (decimals : ℕ) (q : ℤ) → is_symbol style.symbol ≡ true → unsigned_abs q ≤ limit → IsAmount style.mark (printed_with style decimals q) (parts_printed style decimals q)
+pub printed_is_amount : (style : Style) (decimals : ℕ) (q : ℤ) → is_symbol style.symbol ≡ true → unsigned_abs q ≤ limit
+    → IsAmount style.mark (printed_with style decimals q) (parts_printed style decimals q)
 unfolding printed_with
 printed_is_amount style decimals q ok l =
     let number = printed_number style.mark style.grouped decimals (unsigned_abs q) in
@@ -76,5 +85,8 @@ printed_is_amount style decimals q ok l =
     ]
 
 -- so it is cut into these parts
-pub printed_parts : (style : Style) (decimals : ℕ) (q : ℤ) → is_symbol style.symbol ≡ true → unsigned_abs q ≤ limit → amount_parts (printed_with style decimals q) ≡ Some (parts_printed style decimals q)
-printed_parts style decimals q ok l = amount_cut style.mark (printed_with style decimals q) (parts_printed style decimals q) (printed_is_amount style decimals q ok l)
+pub printed_parts : (style : Style) (decimals : ℕ) (q : ℤ) → is_symbol style.symbol ≡ true → unsigned_abs q ≤ limit
+    → amount_parts (printed_with style decimals q) ≡ Some (parts_printed style decimals q)
+printed_parts style decimals q ok l =
+    amount_cut style.mark (printed_with style decimals q) (parts_printed style decimals q)
+    (printed_is_amount style decimals q ok l)

@@ -1,5 +1,6 @@
 -- Laws of the classes of bytes, and of the longest front of a class.
-use Rattle.std.proofs.Common.{◌≡◌, ◌<◌, ◌++◌, ◌==◌, ℕ, List, [], ◌∷◌, Bool, true, false, not, length, slice_index, arith, refl, ap, ◌∙◌, append-nil}
+use Rattle.std.proofs.Common.{◌≡◌, ◌<◌, ◌++◌, ◌==◌, ℕ, List, [], ◌∷◌, Bool, true, false, not, length, slice_index}
+use Rattle.std.proofs.Common.{arith, refl, ap, ◌∙◌, append-nil}
 use Rattle.std.proofs.lemmas.Grind.{common_steps}
 use Rattle.std.proofs.lemmas.Bool.{and_parts, and_from, not_from_false}
 use Rattle.std.proofs.lemmas.List.Folds.{list_all-append}
@@ -12,16 +13,20 @@ use Rattle.money_core.specs.Cutting.{end_of, skip_blanks}
 use Rattle.money_core.proofs.RoundTrip.{before_mark, no_mark}
 
 -- what passes a test passes a weaker one
-pub all_weaker : (p q : ℕ → Bool) (xs : List ℕ) → ((b : ℕ) → p b ≡ true → q b ≡ true) → list_all p xs ≡ true → list_all q xs ≡ true
+pub all_weaker : (p q : ℕ → Bool) (xs : List ℕ) → ((b : ℕ) → p b ≡ true → q b ≡ true) → list_all p xs ≡ true
+    → list_all q xs ≡ true
 all_weaker p q [] f h = refl
-all_weaker p q (x ∷ xs) f h = let parts = and_parts (p x) _ h in and_from (q x) _ (f x parts.0) (all_weaker p q xs f parts.1)
+all_weaker p q (x ∷ xs) f h =
+    let parts = and_parts (p x) _ h in and_from (q x) _ (f x parts.0) (all_weaker p q xs f parts.1)
 
 -- two lists of bytes that pass
-pub all_joined : (p : ℕ → Bool) (xs ys : List ℕ) → list_all p xs ≡ true → list_all p ys ≡ true → list_all p (xs ++ ys) ≡ true
+pub all_joined : (p : ℕ → Bool) (xs ys : List ℕ) → list_all p xs ≡ true → list_all p ys ≡ true
+    → list_all p (xs ++ ys) ≡ true
 all_joined p xs ys h k = list_all-append p xs ys ∙ and_from _ _ h k
 
 -- the first byte of a list that passes and is not empty
-pub first_passes : (p : ℕ → Bool) (xs rest : List ℕ) → list_all p xs ≡ true → 0 < length xs → p (slice_index (xs ++ rest) 0) ≡ true
+pub first_passes : (p : ℕ → Bool) (xs rest : List ℕ) → list_all p xs ≡ true → 0 < length xs
+    → p (slice_index (xs ++ rest) 0) ≡ true
 first_passes p [] rest h l = absurd (omega arith)
 first_passes p (x ∷ xs) rest h l = (and_parts (p x) _ h).0
 
@@ -30,13 +35,17 @@ abbrev pub EndsClass : Class → List ℕ → Type 0
 EndsClass class [] = Unit {0}
 EndsClass class (b ∷ bs) = has class b ≡ false
 
-double_not : (class : Class) (xs : List ℕ) → list_all (has class) xs ≡ true → list_all (λ b. not (not (has class b))) xs ≡ true
-double_not class xs h = all_weaker (has class) (λ b. not (not (has class b))) xs (λ b k. ap (λ (t : Bool). not (not t)) k) h
+double_not : (class : Class) (xs : List ℕ) → list_all (has class) xs ≡ true
+    → list_all (λ b. not (not (has class b))) xs ≡ true
+double_not class xs h =
+    all_weaker (has class) (λ b. not (not (has class b))) xs (λ b k. ap (λ (t : Bool). not (not t)) k) h
 
 -- where the front of a class ends
-pub class_end : (class : Class) (xs rest : List ℕ) → list_all (has class) xs ≡ true → EndsClass class rest → end_of class (xs ++ rest) ≡ length xs
+pub class_end : (class : Class) (xs rest : List ℕ) → list_all (has class) xs ≡ true → EndsClass class rest
+    → end_of class (xs ++ rest) ≡ length xs
 class_end class xs [] h e = rw append-nil (no_mark (λ b. not (has class b)) xs (double_not class xs h))
-class_end class xs (b ∷ rest) h e = before_mark (λ b. not (has class b)) xs rest b (double_not class xs h) (not_from_false _ e)
+class_end class xs (b ∷ rest) h e =
+    before_mark (λ b. not (has class b)) xs rest b (double_not class xs h) (not_from_false _ e)
 
 -- a text that begins with no blank
 pub skip_none : (xs : List ℕ) → has Blank (slice_index xs 0) ≡ false → skip_blanks xs ≡ xs

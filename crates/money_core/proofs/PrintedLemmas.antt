@@ -1,5 +1,6 @@
 -- Laws of printed numbers.
-use Rattle.std.proofs.Common.{◌≡◌, ◌≤◌, ◌<◌, ◌+◌, ◌/◌, ◌%◌, ◌++◌, ℕ, zero, suc, List, [], ◌∷◌, length, take, ◌-◌, arith, refl, ap, ◌∙◌, append_assoc, add-one, inl, inr, decimal, Result, Ok, Err, OnErr}
+use Rattle.std.proofs.Common.{◌≡◌, ◌≤◌, ◌<◌, ◌+◌, ◌/◌, ◌%◌, ◌++◌, ℕ, zero, suc, List, [], ◌∷◌, length, take, ◌-◌, arith}
+use Rattle.std.proofs.Common.{refl, ap, ◌∙◌, append_assoc, add-one, inl, inr, decimal, Result, Ok, Err, OnErr}
 use Rattle.std.proofs.lemmas.Bool.{lt-ltb, le-ltb, cases_lt}
 use Rattle.std.proofs.lemmas.Grind.{common_steps}
 use Rattle.std.proofs.Math.Seq.{take-append_seam}
@@ -21,7 +22,8 @@ grouped_small group n small = rw (add-one, lt-ltb n 1000 small) refl
 
 pub grouped_step : (group n : ℕ) → 1000 ≤ n → grouped group n ≡ grouped group (n / 1000) ++ group ∷ places 3 (n % 1000)
 unfolding grouped
-grouped_step group n large = rw (add-one, le-ltb n 1000 large, grouped_turns group n (n / 1000 + 1) (n / 1000) (omega arith) (omega arith)) refl
+grouped_step group n large =
+    rw (add-one, le-ltb n 1000 large, grouped_turns group n (n / 1000 + 1) (n / 1000) (omega arith) (omega arith)) refl
 
 pub places_step : (k n : ℕ) → 0 < k → places k n ≡ places (k - 1) (n / 10) ++ (48 + n % 10) ∷ []
 unfolding places

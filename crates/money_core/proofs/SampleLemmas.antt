@@ -1,6 +1,9 @@
 -- The style that is found is the one that the sample spells, and a sample spells one style.
-use Rattle.std.proofs.Common.{◌≡◌, ◌↔◌, ◌⊎◌, ◌<◌, ◌≤◌, ◌+◌, ◌-◌, ◌==◌, ℕ, List, [], ◌∷◌, Bool, true, false, cond, length, drop, get_or, arith, refl, ap, ◌∙◌, sym, subst, Option, Some, None, Result, Ok, Err, IfOk, inl, inr, nat_lt, get_or-drop, length-drop}
-use Rattle.std.proofs.lemmas.Bool.{cases_Bool, and_parts, and_from, le-ltb, le-leb, eqb-true, false_from_ne_true, ltb-false, cases_order}
+use Rattle.std.proofs.Common.{◌≡◌, ◌↔◌, ◌⊎◌, ◌<◌, ◌≤◌, ◌+◌, ◌-◌, ◌==◌, ℕ, List, [], ◌∷◌, Bool, true, false, cond}
+use Rattle.std.proofs.Common.{length, drop, get_or, arith, refl, ap, ◌∙◌, sym, subst, Option, Some, None, Result, Ok}
+use Rattle.std.proofs.Common.{Err, IfOk, inl, inr, nat_lt, get_or-drop, length-drop}
+use Rattle.std.proofs.lemmas.Bool.{cases_Bool, and_parts, and_from, le-ltb, le-leb, eqb-true, false_from_ne_true}
+use Rattle.std.proofs.lemmas.Bool.{ltb-false, cases_order}
 use Rattle.std.proofs.lemmas.List.Sums.{passes_at_first, AllPass-from_list_all}
 use Rattle.std.specs.List.{list_any, position_or_len}
 use Rattle.std.specs.Char.{is_ascii_digit}
@@ -34,14 +37,18 @@ any_place p (x ∷ xs) h =
     ]
 
 -- what stands behind the decimal mark is a digit
-behind_mark : (mark : Mark) (number : List ℕ) (k : ℕ) → shows mark number ≡ true → position_or_len (λ b. b == decimal_byte mark) number < k → k < length number → is_ascii_digit (get_or number k 0) ≡ true
+behind_mark : (mark : Mark) (number : List ℕ) (k : ℕ) → shows mark number ≡ true
+    → position_or_len (λ b. b == decimal_byte mark) number < k → k < length number
+    → is_ascii_digit (get_or number k 0) ≡ true
 behind_mark mark number k h l inside =
     let n = position_or_len (λ b. b == decimal_byte mark) number + 1 in
     let digits = (number_parts mark number (and_parts (is_number mark number) _ h).0).1 in
     let at : n + (k - n) ≡ k = omega arith in
     let within : k - n < length (drop n number) = rw (length-drop n number) (omega arith) in
-    let passes : is_ascii_digit (get_or (drop n number) (k - n) 0) ≡ true = AllPass-from_list_all is_ascii_digit (drop n number) digits (k - n) 0 within in
-    ap (λ (i : ℕ). is_ascii_digit (get_or number i 0)) (sym at) ∙ (ap is_ascii_digit (sym (get_or-drop n number (k - n) 0)) ∙ passes)
+    let passes : is_ascii_digit (get_or (drop n number) (k - n) 0) ≡ true =
+    AllPass-from_list_all is_ascii_digit (drop n number) digits (k - n) 0 within in
+    ap (λ (i : ℕ). is_ascii_digit (get_or number i 0)) (sym at) ∙
+    (ap is_ascii_digit (sym (get_or-drop n number (k - n) 0)) ∙ passes)
 
 -- A number shows one decimal mark.
 one_mark : (number : List ℕ) → shows Point number ≡ true → shows Comma number ≡ true → ⊥
@@ -69,12 +76,14 @@ shown_shows mark number h =
     elim (cases_Bool (shows Point number)) [
       | inl point ↦ let k = rw point at h in subst (λ (m : Mark). shows m number ≡ true) (some_same Point mark k) point
       | inr none ↦ elim (cases_Bool (shows Comma number)) [
-        | inl comma ↦ let k = rw (none, comma) at h in subst (λ (m : Mark). shows m number ≡ true) (some_same Comma mark k) comma
+        | inl comma ↦ let k =
+            rw (none, comma) at h in subst (λ (m : Mark). shows m number ≡ true) (some_same Comma mark k) comma
         | inr neither ↦ let k = rw (none, neither) at h in absurd cc
       ]
     ]
 
-pub amount_symbol : (mark : Mark) (text : List ℕ) (parts : Parts) → IsAmount mark text parts → is_symbol parts.symbol ≡ true
+pub amount_symbol : (mark : Mark) (text : List ℕ) (parts : Parts) → IsAmount mark text parts
+    → is_symbol parts.symbol ≡ true
 amount_symbol mark text parts a =
     elim a.form [
       | inl left ↦ written_symbol parts.symbol left.symbol left.symbolic
@@ -82,7 +91,8 @@ amount_symbol mark text parts a =
     ]
 
 -- Two tests that were passed.
-passed : {A : Type 0} (b c : Bool) (x y : A) → cond b None (cond c None (Some x)) ≡ Some y → (b ≡ false) × (c ≡ false) × (x ≡ y)
+passed : {A : Type 0} (b c : Bool) (x y : A) → cond b None (cond c None (Some x)) ≡ Some y
+    → (b ≡ false) × (c ≡ false) × (x ≡ y)
 passed true c x y h = absurd cc
 passed false true x y h = absurd cc
 passed false false x y h = (refl, refl, some_same x y h)
@@ -97,11 +107,13 @@ pub style_spelled : (text : List ℕ) (style : Style) → style_of text ≡ Some
 unfolding style_of_parts
 style_spelled text style h = go (amount_parts text) refl h
   where
-    with_mark : (parts : Parts) (o : Option Mark) → amount_parts text ≡ Some parts → parts.sign ≡ Absent → shown_mark parts.number ≡ o → style_in parts o ≡ Some style → IsSample text style
+    with_mark : (parts : Parts) (o : Option Mark) → amount_parts text ≡ Some parts → parts.sign ≡ Absent
+        → shown_mark parts.number ≡ o → style_in parts o ≡ Some style → IsSample text style
     with_mark parts None e s m k = absurd cc
     with_mark parts (Some mark) e s m k =
         let decimals = length (fraction_part mark parts.number) in
-        let t = passed (nat_lt 6 decimals) (nat_lt limit (quantity mark decimals parts.number)) (style_with parts mark) style k in
+        let t = passed (nat_lt 6 decimals) (nat_lt limit (quantity mark decimals parts.number)) (style_with parts mark)
+        style k in
         let shown = and_parts (is_number mark parts.number) _ (shown_shows mark parts.number m) in
         subst (IsSample text) t.2 (record {
           parts = parts;
@@ -122,11 +134,13 @@ style_spelled text style h = go (amount_parts text) refl h
     go (Some parts) e k =
         elim (cases_Bool (is_signed parts.sign)) [
           | inl signed ↦ absurd (let l = rw signed at k in cc)
-          | inr unsigned ↦ with_mark parts (shown_mark parts.number) e (unsigned_is parts.sign unsigned) refl (rw unsigned at k)
+          | inr unsigned ↦ with_mark parts (shown_mark parts.number) e (unsigned_is parts.sign unsigned) refl
+              (rw unsigned at k)
         ]
 
 -- A sample spells the style that is found.
-same_style : (parts : Parts) (style : Style) → style.symbol ≡ parts.symbol → style.left ≡ parts.left → style.spaced ≡ parts.spaced → style.decimals ≡ length (fraction_part style.mark parts.number)
+same_style : (parts : Parts) (style : Style) → style.symbol ≡ parts.symbol → style.left ≡ parts.left
+    → style.spaced ≡ parts.spaced → style.decimals ≡ length (fraction_part style.mark parts.number)
     → style.grouped ≡ list_any (λ b. b == group_byte style.mark) parts.number → style_with parts style.mark ≡ style
 same_style parts style a b c d e = rw (← a, ← b, ← c, ← d, ← e) refl
 
@@ -138,7 +152,13 @@ spelled_style text style h =
     let few : decimals ≤ 6 = rw h.decimals at h.few in
     let small : quantity style.mark decimals number ≤ limit = rw h.decimals at h.small in
     let shown = mark_shown style.mark number (and_from _ _ h.amount.number h.shows) in
-    rw (amount_cut style.mark text h.parts h.amount, h.unsigned, shown, le-ltb 6 decimals few, le-ltb limit (quantity style.mark decimals number) small)
+    rw (
+      amount_cut style.mark text h.parts h.amount,
+      h.unsigned,
+      shown,
+      le-ltb 6 decimals few,
+      le-ltb limit (quantity style.mark decimals number) small,
+    )
     (ap (λ (s : Style). Some s) (same_style h.parts style h.symbol h.left h.spaced h.decimals h.grouped))
 
 -- A sample has one style.
@@ -169,15 +189,19 @@ module _ (text : List ℕ) (style : Style) (found : style_of text ≡ Some style
   found_declarable (Ok s) e = ap is_style e ∙ sample_style text style (style_spelled text style found)
   found_declarable (Err cause) e = tt
 
-  pub found_only : (r : Result Style Cause) → IfOk r (λ s. s ≡ style) → IsOkUnless r OutOfMemory → (other : Style) → IsSample text other → (r ≡ Ok other) ⊎ (r ≡ Err OutOfMemory)
-  found_only (Ok s) e m other h = inl (ap (λ (x : Style). Ok x) (e ∙ some_same style other (sym found ∙ spelled_style text other h)))
+  pub found_only : (r : Result Style Cause) → IfOk r (λ s. s ≡ style) → IsOkUnless r OutOfMemory → (other : Style)
+      → IsSample text other → (r ≡ Ok other) ⊎ (r ≡ Err OutOfMemory)
+  found_only (Ok s) e m other h =
+      inl (ap (λ (x : Style). Ok x) (e ∙ some_same style other (sym found ∙ spelled_style text other h)))
   found_only (Err cause) e m other h = inr (ap (λ (x : Cause). Err x) m)
 
-  pub found_answer : (r : Result Style Cause) → IfOk r (λ s. s ≡ style) → IsOkUnless r OutOfMemory → (r ≡ ok_or (style_of text) Amount) ⊎ (r ≡ Err OutOfMemory)
+  pub found_answer : (r : Result Style Cause) → IfOk r (λ s. s ≡ style) → IsOkUnless r OutOfMemory
+      → (r ≡ ok_or (style_of text) Amount) ⊎ (r ≡ Err OutOfMemory)
   found_answer (Ok s) e m = inl (rw (found, e) refl)
   found_answer (Err cause) e m = inr (ap (λ (x : Cause). Err x) m)
 
-  pub found_none : (r : Result Style Cause) → IsOkUnless r OutOfMemory → (r ≡ Err Amount) ↔ ((other : Style) → ¬ IsSample text other)
+  pub found_none : (r : Result Style Cause) → IsOkUnless r OutOfMemory
+      → (r ≡ Err Amount) ↔ ((other : Style) → ¬ IsSample text other)
   found_none r m = (λ e. absurd (only_memory r m e), λ none. absurd (none style (style_spelled text style found)))
 
 -- what is answered where none was
@@ -185,8 +209,10 @@ module _ (text : List ℕ) (lacks : style_of text ≡ None) where
   pub lacks_all : (other : Style) → ¬ IsSample text other
   lacks_all other h = let k = spelled_style text other h in cc
 
-  pub lacks_answer : (r : Result Style Cause) → r ≡ Err Amount → (r ≡ ok_or (style_of text) Amount) ⊎ (r ≡ Err OutOfMemory)
+  pub lacks_answer : (r : Result Style Cause) → r ≡ Err Amount
+      → (r ≡ ok_or (style_of text) Amount) ⊎ (r ≡ Err OutOfMemory)
   lacks_answer r e = inl (rw (lacks, e) refl)
 
-  pub lacks_none : (r : Result Style Cause) → r ≡ Err Amount → (r ≡ Err Amount) ↔ ((other : Style) → ¬ IsSample text other)
+  pub lacks_none : (r : Result Style Cause) → r ≡ Err Amount
+      → (r ≡ Err Amount) ↔ ((other : Style) → ¬ IsSample text other)
   lacks_none r e = (λ _. lacks_all, λ _. e)

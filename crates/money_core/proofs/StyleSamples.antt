@@ -1,5 +1,6 @@
 -- Each style has a sample: a zero in it, with the symbol in quotes.
-use Rattle.std.proofs.Common.{◌≡◌, ◌↔◌, ◌⊎◌, ◌++◌, ◌==◌, ℕ, zero, suc, List, [], ◌∷◌, Bool, true, false, cond, length, replicate, arith, refl, ap, ◌∙◌, sym, inl, inr, lit<, IsTrue}
+use Rattle.std.proofs.Common.{◌≡◌, ◌↔◌, ◌⊎◌, ◌++◌, ◌==◌, ℕ, zero, suc, List, [], ◌∷◌, Bool, true, false, cond, length}
+use Rattle.std.proofs.Common.{replicate, arith, refl, ap, ◌∙◌, sym, inl, inr, lit<, IsTrue}
 use Rattle.std.proofs.lemmas.Bool.{cases_Bool, and_parts, or_right, eq-eqb, leb-true}
 use Rattle.std.proofs.lemmas.List.Folds.{list_any-append}
 use Rattle.std.proofs.Math.Seq.{drop-append-add}
@@ -54,23 +55,35 @@ zeros_no_mark Comma (suc n) = zeros_no_mark Comma n
 zero_number : Mark → Bool → ℕ → List ℕ
 zero_number mark grouped decimals = zero_whole mark grouped ++ decimal_byte mark ∷ replicate decimals 48
 
-zero_writes : (mark : Mark) (grouped : Bool) (decimals : ℕ) → WritesQuantity mark decimals 0 (zero_number mark grouped decimals)
+zero_writes : (mark : Mark) (grouped : Bool) (decimals : ℕ)
+    → WritesQuantity mark decimals 0 (zero_number mark grouped decimals)
 unfolding zero_number
-zero_writes mark grouped decimals = reads_with_mark mark decimals 0 0 (zero_whole mark grouped) (replicate decimals 48) (zero_reads mark grouped) (zeros_digits decimals) (zeros_length decimals) (zeros_value decimals)
+zero_writes mark grouped decimals =
+    reads_with_mark mark decimals 0 0 (zero_whole mark grouped) (replicate decimals 48) (zero_reads mark grouped)
+    (zeros_digits decimals) (zeros_length decimals) (zeros_value decimals)
 
-zero_fraction : (mark : Mark) (grouped : Bool) (decimals : ℕ) → decimals ≡ length (fraction_part mark (zero_number mark grouped decimals))
+zero_fraction : (mark : Mark) (grouped : Bool) (decimals : ℕ)
+    → decimals ≡ length (fraction_part mark (zero_number mark grouped decimals))
 unfolding zero_number
 zero_fraction mark grouped decimals =
     let whole = zero_whole mark grouped in
-    let at = before_mark (λ b. b == decimal_byte mark) whole (replicate decimals 48) (decimal_byte mark) (zero_reads mark grouped).unmarked (eq-eqb (decimal_byte mark) (decimal_byte mark) refl) in
+    let at = before_mark (λ b. b == decimal_byte mark) whole (replicate decimals 48) (decimal_byte mark)
+    (zero_reads mark grouped).unmarked (eq-eqb (decimal_byte mark) (decimal_byte mark) refl) in
     rw (at, drop-append-add whole (decimal_byte mark ∷ replicate decimals 48) 1) (sym (zeros_length decimals))
 
-zero_shows : (mark : Mark) (grouped : Bool) (decimals : ℕ) → list_any (λ b. b == decimal_byte mark) (zero_number mark grouped decimals) ≡ true
+zero_shows : (mark : Mark) (grouped : Bool) (decimals : ℕ)
+    → list_any (λ b. b == decimal_byte mark) (zero_number mark grouped decimals) ≡ true
 unfolding zero_number
 zero_shows mark grouped decimals =
-    rw (list_any-append (λ b. b == decimal_byte mark) (zero_whole mark grouped) (decimal_byte mark ∷ replicate decimals 48), eq-eqb (decimal_byte mark) (decimal_byte mark) refl) (or_right _ true refl)
+    rw (
+      list_any-append (λ b. b == decimal_byte mark) (zero_whole mark grouped)
+          (decimal_byte mark ∷ replicate decimals 48),
+      eq-eqb (decimal_byte mark) (decimal_byte mark) refl,
+    )
+    (or_right _ true refl)
 
-zero_grouped : (mark : Mark) (grouped : Bool) (decimals : ℕ) → grouped ≡ list_any (λ b. b == group_byte mark) (zero_number mark grouped decimals)
+zero_grouped : (mark : Mark) (grouped : Bool) (decimals : ℕ)
+    → grouped ≡ list_any (λ b. b == group_byte mark) (zero_number mark grouped decimals)
 unfolding zero_number zero_whole
 zero_grouped Point true decimals = refl
 zero_grouped Comma true decimals = refl
@@ -78,15 +91,23 @@ zero_grouped Point false decimals = sym (zeros_no_mark Point decimals)
 zero_grouped Comma false decimals = sym (zeros_no_mark Comma decimals)
 
 zero_parts : Style → Parts
-zero_parts style = record { sign = Absent; left = style.left; spaced = style.spaced; symbol = style.symbol; number = zero_number style.mark style.grouped style.decimals }
+zero_parts style = record {
+  sign = Absent;
+  left = style.left;
+  spaced = style.spaced;
+  symbol = style.symbol;
+  number = zero_number style.mark style.grouped style.decimals;
+}
 
 -- the sample on its side
 zero_text : Style → List ℕ
 zero_text style =
-    cond style.left (in_quotes style.symbol ++ (gap style.spaced ++ zero_number style.mark style.grouped style.decimals))
+    cond style.left (in_quotes style.symbol
+    ++ (gap style.spaced ++ zero_number style.mark style.grouped style.decimals))
     (zero_number style.mark style.grouped style.decimals ++ (gap style.spaced ++ in_quotes style.symbol))
 
-zero_form : (style : Style) → is_symbol style.symbol ≡ true → IsLeftAmount (zero_text style) (zero_parts style) ⊎ IsRightAmount (zero_text style) (zero_parts style)
+zero_form : (style : Style) → is_symbol style.symbol ≡ true
+    → IsLeftAmount (zero_text style) (zero_parts style) ⊎ IsRightAmount (zero_text style) (zero_parts style)
 unfolding zero_text zero_parts
 zero_form style h =
     elim (cases_Bool style.left) [

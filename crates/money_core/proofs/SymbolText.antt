@@ -1,13 +1,16 @@
 -- What is known of a symbol, and how it is printed.
-use Rattle.std.proofs.Common.{◌≡◌, ◌<◌, ◌-◌, ℕ, List, [], ◌∷◌, true, ◌&&◌, ◌==◌, not, length, slice_index, nat_lt, arith, refl, inl, inr}
-use Rattle.std.proofs.lemmas.Bool.{cases_Bool, and_parts, and_from, ltb-true, leb-true, cond-true, cond-false, not_from_false, not-true}
+use Rattle.std.proofs.Common.{◌≡◌, ◌<◌, ◌-◌, ℕ, List, [], ◌∷◌, true, ◌&&◌, ◌==◌, not, length, slice_index, nat_lt}
+use Rattle.std.proofs.Common.{arith, refl, inl, inr}
+use Rattle.std.proofs.lemmas.Bool.{cases_Bool, and_parts, and_from, ltb-true, leb-true, cond-true, cond-false}
+use Rattle.std.proofs.lemmas.Bool.{not_from_false, not-true}
 use Rattle.std.proofs.lemmas.List.Sums.{AllPass-from_list_all}
 use Rattle.std.proofs.lemmas.Grind.{common_steps}
 use Rattle.std.specs.List.{list_all}
 use Rattle.std.specs.Str.{is_utf8}
 use Rattle.money_core.specs.declared.class.Class.TheVariants.{Symbol}
 use Rattle.money_core.specs.Class.{has}
-use Rattle.money_core.specs.Symbol.{is_short, is_bare, is_quoted_byte, no_double, has_no_outer_space, is_symbol, WritesSymbol}
+use Rattle.money_core.specs.Symbol.{is_short, is_bare, is_quoted_byte, no_double, has_no_outer_space, is_symbol}
+use Rattle.money_core.specs.Symbol.{WritesSymbol}
 use Rattle.money_core.specs.NamePart.{is_part_byte, SymbolsAreNameParts}
 use Rattle.money_core.specs.AmountText.{printed_symbol}
 use Rattle.money_core.proofs.ClassLemmas.{all_weaker, symbol_no_space}
@@ -22,7 +25,8 @@ pub record SymbolFacts (symbol : List ℕ) : Type 0 where
 
 pub symbol_facts : (symbol : List ℕ) → is_symbol symbol ≡ true → SymbolFacts symbol
 symbol_facts symbol h =
-    let four = and_parts (is_short symbol && is_utf8 symbol && list_all is_quoted_byte symbol && no_double symbol) _ h in
+    let four =
+    and_parts (is_short symbol && is_utf8 symbol && list_all is_quoted_byte symbol && no_double symbol) _ h in
     let three = and_parts (is_short symbol && is_utf8 symbol && list_all is_quoted_byte symbol) _ four.0 in
     let two = and_parts (is_short symbol && is_utf8 symbol) _ three.0 in
     let one = and_parts (is_short symbol) _ two.0 in
@@ -49,18 +53,22 @@ symbol_quoted b h = grind (arith, common_steps)
 
 bare_no_double : (symbol : List ℕ) → list_all (has Symbol) symbol ≡ true → no_double symbol ≡ true
 bare_no_double [] h = refl
-bare_no_double (b ∷ symbol) h = let both = and_parts (has Symbol b) _ h in rw (symbol_no_space b both.0) (bare_no_double symbol both.1)
+bare_no_double (b ∷ symbol) h =
+    let both = and_parts (has Symbol b) _ h in rw (symbol_no_space b both.0) (bare_no_double symbol both.1)
 
-bare_no_outer : (symbol : List ℕ) → 0 < length symbol → list_all (has Symbol) symbol ≡ true → has_no_outer_space symbol ≡ true
+bare_no_outer : (symbol : List ℕ) → 0 < length symbol → list_all (has Symbol) symbol ≡ true
+    → has_no_outer_space symbol ≡ true
 bare_no_outer symbol some h =
     let all = AllPass-from_list_all (has Symbol) symbol h in
     and_from _ _ (not_from_false _ (symbol_no_space (slice_index symbol 0) (all 0 0 some)))
-    (not_from_false _ (symbol_no_space (slice_index symbol (length symbol - 1)) (all (length symbol - 1) 0 (omega arith))))
+    (not_from_false _ (symbol_no_space (slice_index symbol (length symbol - 1))
+    (all (length symbol - 1) 0 (omega arith))))
 
 bare_symbol : (symbol : List ℕ) → is_bare symbol ≡ true → is_symbol symbol ≡ true
 bare_symbol symbol h =
     let f = bare_facts symbol h in
-    and_from _ _ (and_from _ _ (and_from _ _ (and_from _ _ f.short f.utf8) (all_weaker (has Symbol) is_quoted_byte symbol symbol_quoted f.bytes)) (bare_no_double symbol f.bytes))
+    and_from _ _ (and_from _ _ (and_from _ _ (and_from _ _ f.short f.utf8)
+    (all_weaker (has Symbol) is_quoted_byte symbol symbol_quoted f.bytes)) (bare_no_double symbol f.bytes))
     (bare_no_outer symbol (short_some symbol f.short) f.bytes)
 
 -- what is written is a symbol

@@ -1,5 +1,6 @@
 -- Printed symbols and numbers are UTF-8. Proofs of crates above may cite `utf8_joined` and `utf8_low`.
-use Rattle.std.proofs.Common.{◌≡◌, ◌++◌, ℕ, ℤ, pos, negsuc, zero, suc, List, [], ◌∷◌, Bool, true, false, arith, refl, inl, inr, nat_lt}
+use Rattle.std.proofs.Common.{◌≡◌, ◌++◌, ℕ, ℤ, pos, negsuc, zero, suc, List, [], ◌∷◌, Bool, true, false, arith, refl}
+use Rattle.std.proofs.Common.{inl, inr, nat_lt}
 use Rattle.std.proofs.lemmas.Grind.{common_steps}
 use Rattle.std.proofs.lemmas.Bool.{cases_Bool, and_parts, ltb-true}
 use Rattle.std.specs.List.{list_all}
@@ -14,7 +15,8 @@ use Rattle.money_core.proofs.SymbolText.{symbol_facts}
 
 -- two texts behind one another
 pub utf8_joined : (xs ys : List ℕ) → is_utf8 xs ≡ true → is_utf8 ys ≡ true → is_utf8 (xs ++ ys) ≡ true
-utf8_joined xs ys h k = is_utf8-from_IsUtf8 (xs ++ ys) (IsUtf8-append xs ys (IsUtf8-from_is_utf8 xs h) (IsUtf8-from_is_utf8 ys k))
+utf8_joined xs ys h k =
+    is_utf8-from_IsUtf8 (xs ++ ys) (IsUtf8-append xs ys (IsUtf8-from_is_utf8 xs h) (IsUtf8-from_is_utf8 ys k))
 
 -- an ASCII byte
 abbrev pub is_low : ℕ → Bool
@@ -51,5 +53,6 @@ printed_symbol_utf8 symbol h =
     let quote = utf8_low (34 ∷ []) refl in
     elim (cases_Bool (is_bare symbol)) [
       | inl bare ↦ rw bare good
-      | inr quoted ↦ rw quoted (utf8_joined (34 ∷ []) (symbol ++ 34 ∷ []) quote (utf8_joined symbol (34 ∷ []) good quote))
+      | inr quoted ↦ rw quoted (utf8_joined (34 ∷ []) (symbol ++ 34 ∷ []) quote
+          (utf8_joined symbol (34 ∷ []) good quote))
     ]

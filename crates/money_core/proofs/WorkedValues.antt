@@ -36,9 +36,11 @@ unfolding cut_symbol left_parts right_symbol amount_parts shown_mark style_of_pa
 dollar_sample = style_spelled (codes "$1,000.00") dollar refl
 
 -- the last mark that stands there once is the decimal mark
-pub comma_sample : IsSample (codes "1,000 EUR") (record { symbol = codes "EUR"; left = false; spaced = true; mark = Comma; decimals = 3; grouped = false })
+pub comma_sample : IsSample (codes "1,000 EUR")
+    (record { symbol = codes "EUR"; left = false; spaced = true; mark = Comma; decimals = 3; grouped = false })
 unfolding cut_symbol left_parts right_symbol amount_parts shown_mark style_of_parts is_utf8 chars encode
-comma_sample = style_spelled (codes "1,000 EUR") (record { symbol = codes "EUR"; left = false; spaced = true; mark = Comma; decimals = 3; grouped = false }) refl
+comma_sample = style_spelled (codes "1,000 EUR")
+    (record { symbol = codes "EUR"; left = false; spaced = true; mark = Comma; decimals = 3; grouped = false }) refl
 
 -- a number without a decimal mark is no sample's
 pub plain_is_no_sample : (style : Style) → ¬ IsSample (codes "1000 EUR") style
@@ -88,7 +90,13 @@ greatest = writes_if styles (codes "100000000000000.00 EUR") 0 (pos 10_000_000_0
 pub too_great : IsOverLimit styles (codes "100000000000000.01 EUR")
 unfolding cut_symbol left_parts right_symbol amount_parts is_utf8 chars encode
 too_great =
-    let cut : Parts = record { sign = Absent; left = false; spaced = true; symbol = codes "EUR"; number = codes "100000000000000.01" } in
+    let cut : Parts = record {
+      sign = Absent;
+      left = false;
+      spaced = true;
+      symbol = codes "EUR";
+      number = codes "100000000000000.01";
+    } in
     record {
       parts = cut;
       place = 0;

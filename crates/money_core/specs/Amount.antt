@@ -1,5 +1,7 @@
--- What an amount is as a text (hledger manual, "Amounts"; that a symbol is needed, and that there is one sign, are own rules).
-use Rattle.std.specs.Prelude.{◌≡◌, ℕ, ℤ, pos, neg_ℤ, ◌≤◌, ◌<◌, ◌==◌, List, [], ◌∷◌, ◌++◌, length, position, slice_get, Bool, true, false, not, ◌⊎◌, Option, Some, None}
+-- What an amount is as a text (hledger manual, "Amounts"; that a symbol is needed, and that there is one sign, are own
+-- rules).
+use Rattle.std.specs.Prelude.{◌≡◌, ℕ, ℤ, pos, neg_ℤ, ◌≤◌, ◌<◌, ◌==◌, List, [], ◌∷◌, ◌++◌, length, position, slice_get}
+use Rattle.std.specs.Prelude.{Bool, true, false, not, ◌⊎◌, Option, Some, None}
 use Rattle.std.specs.Str.{bytes_eq}
 use Rattle.money_core.specs.declared.mark.Mark.{Mark}
 use Rattle.money_core.specs.declared.amount.Sign.{Sign}
@@ -9,7 +11,8 @@ use Rattle.money_core.specs.Blank.{IsBlanks}
 use Rattle.money_core.specs.Symbol.{WritesSymbol}
 use Rattle.money_core.specs.Number.{is_number, fraction_part, fits_decimals, quantity}
 
--- the parts of an amount: its sign, on which side the symbol stands, whether blanks stand between symbol and number, and these two
+-- the parts of an amount: its sign, on which side the symbol stands, whether blanks stand between symbol and number,
+-- and these two
 pub record Parts : Type 0 where
   pub sign : Sign
   pub left : Bool
@@ -78,11 +81,13 @@ pub record WritesAmount (styles : List Style) (text : List ℕ) (place : ℕ) (u
   pub small : quantity style.mark style.decimals parts.number ≤ limit
   pub value : units ≡ with_sign parts.sign (quantity style.mark style.decimals parts.number)
 
--- The text has the form of an amount of these parts: with the decimal mark of its symbol's style, or with either mark where the symbol is not declared.
+-- The text has the form of an amount of these parts: with the decimal mark of its symbol's style, or with either mark
+-- where the symbol is not declared.
 pub record HasForm (styles : List Style) (text : List ℕ) (parts : Parts) : Type 0 where
   pub mark : Mark
   pub amount : IsAmount mark text parts
-  pub its_mark : (place : ℕ) (style : Style) → place_of styles parts.symbol ≡ Some place → slice_get styles place ≡ Some style → mark ≡ style.mark
+  pub its_mark : (place : ℕ) (style : Style) → place_of styles parts.symbol ≡ Some place
+      → slice_get styles place ≡ Some style → mark ≡ style.mark
 
 -- the text has not the form of an amount
 abbrev pub HasNoForm : List Style → List ℕ → Type 0

@@ -1,5 +1,7 @@
 -- What an amount is printed as (own rule), and what such a text has wherever it stands.
-use Rattle.std.specs.Prelude.{◌≡◌, ℕ, ℤ, pos, negsuc, unsigned_abs, ◌-◌, ◌==◌, ◌≤◌, ◌<◌, List, [], ◌∷◌, ◌++◌, length, slice_get, slice_index, Bool, true, false, ◌&&◌, ◌||◌, not, if◌then◌else◌, Option, Some, None, Ok}
+use Rattle.std.specs.Prelude.{◌≡◌, ℕ, ℤ, pos, negsuc, unsigned_abs, ◌-◌, ◌==◌, ◌≤◌, ◌<◌, List, [], ◌∷◌, ◌++◌, length}
+use Rattle.std.specs.Prelude.{slice_get, slice_index, Bool, true, false, ◌&&◌, ◌||◌, not, if◌then◌else◌, Option, Some}
+use Rattle.std.specs.Prelude.{None, Ok}
 use Rattle.std.specs.Str.{is_utf8}
 use Rattle.money_core.specs.declared.class.Class.TheVariants.{Symbol, Number}
 use Rattle.money_core.specs.declared.style.Style.{Style}
@@ -58,8 +60,8 @@ is_amount_text quoted (b ∷ bs) =
 abbrev pub longest_amount : ℕ
 longest_amount = 64
 
--- The text is that quantity of that commodity wherever it stands: it reads as it, is UTF-8, has only bytes of an amount,
--- no blank at an end, and is not too long.
+-- The text is that quantity of that commodity wherever it stands: it reads as it, is UTF-8, has only bytes of an
+-- amount, no blank at an end, and is not too long.
 pub record IsAmountText (styles : List Style) (unit : Commodity) (quantity : ℤ) (text : List ℕ) : Type 0 where
   pub reads : amount styles text ≡ Ok (unit, quantity)
   pub utf8 : is_utf8 text ≡ true
@@ -77,8 +79,10 @@ pub record IsDeclared (styles : List Style) (unit : Commodity) (quantity : ℤ) 
 -- Each amount of these styles is printed as a text that reads as it.
 abbrev pub AmountsPrint : List Style → Type 0
 AmountsPrint styles =
-    (unit : Commodity) (quantity : ℤ) → IsDeclared styles unit quantity → IsAmountText styles unit quantity (printed_in styles unit quantity)
+    (unit : Commodity) (quantity : ℤ) → IsDeclared styles unit quantity
+    → IsAmountText styles unit quantity (printed_in styles unit quantity)
 
 -- What is read is of a declared commodity and within the limit.
 abbrev pub AmountsBound : List Style → Type 0
-AmountsBound styles = (text : List ℕ) (unit : Commodity) (quantity : ℤ) → amount styles text ≡ Ok (unit, quantity) → IsDeclared styles unit quantity
+AmountsBound styles = (text : List ℕ) (unit : Commodity) (quantity : ℤ) → amount styles text ≡ Ok (unit, quantity)
+    → IsDeclared styles unit quantity

@@ -1,7 +1,16 @@
 -- The refusals with their numbers and names (own rule; docs/RULES.md, "Refusals").
 use Rattle.std.specs.Prelude.{ℕ, List, codes}
 use Rattle.money_core.specs.declared.cause.Cause.{Cause}
-use Rattle.money_core.specs.declared.cause.Cause.TheVariants.{Utf8, TooLong, Date, Header, Directive, StrayLine, Account, Amount, UnknownCommodity, Decimals, CommodityStyle, Cost, CostNotExact, Assignment, Virtual, Marks, TwoBlanks, Unbalanced, UnknownBranch, BranchName, CommodityExists, Full, MarkClash, ReservedMark, ReservedAccount, Locked, Limit, ClaimFailed, SameBranch, UnknownTransfer, WrongBranch, AlreadyReceived, TooEarly, LockBack, NothingToClose, BadAccount, BadAmount, BadId, OutOfMemory, Store, Closed, Damaged, Request, ReadFault, WriteFault, TooMuch}
+use Rattle.money_core.specs.declared.cause.Cause.TheVariants.{Utf8, TooLong, Date, Header, Directive, StrayLine}
+use Rattle.money_core.specs.declared.cause.Cause.TheVariants.{Account, Amount, UnknownCommodity, Decimals}
+use Rattle.money_core.specs.declared.cause.Cause.TheVariants.{CommodityStyle, Cost, CostNotExact, Assignment, Virtual}
+use Rattle.money_core.specs.declared.cause.Cause.TheVariants.{Marks, TwoBlanks, Unbalanced, UnknownBranch, BranchName}
+use Rattle.money_core.specs.declared.cause.Cause.TheVariants.{CommodityExists, Full, MarkClash, ReservedMark}
+use Rattle.money_core.specs.declared.cause.Cause.TheVariants.{ReservedAccount, Locked, Limit, ClaimFailed, SameBranch}
+use Rattle.money_core.specs.declared.cause.Cause.TheVariants.{UnknownTransfer, WrongBranch, AlreadyReceived, TooEarly}
+use Rattle.money_core.specs.declared.cause.Cause.TheVariants.{LockBack, NothingToClose, BadAccount, BadAmount, BadId}
+use Rattle.money_core.specs.declared.cause.Cause.TheVariants.{OutOfMemory, Store, Closed, Damaged, Request, ReadFault}
+use Rattle.money_core.specs.declared.cause.Cause.TheVariants.{WriteFault, TooMuch}
 
 -- the number of a refusal
 abbrev pub number_of : Cause → ℕ

@@ -5,7 +5,8 @@ use Rattle.money_core.specs.declared.class.Class.{Class}
 use Rattle.money_core.specs.declared.class.Class.TheVariants.{Blank, Symbol, Number}
 use Rattle.money_core.specs.Blank.{is_blank}
 
--- whether a byte is of a class: a symbol without quotes has letters, `$` and what is not ASCII; a number has digits and marks
+-- whether a byte is of a class: a symbol without quotes has letters, `$` and what is not ASCII; a number has digits and
+-- marks
 abbrev pub has : Class → ℕ → Bool
 has Blank b = is_blank b
 has Symbol b = is_ascii_alphabetic b || (b == 36) || nat_le 128 b

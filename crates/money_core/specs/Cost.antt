@@ -1,5 +1,6 @@
 -- What an amount costs (hledger manual, "Costs"; that nothing is rounded, and the limit, are own rules).
-use Rattle.std.specs.Prelude.{ℕ, zero, suc, ℤ, pos, negsuc, neg_ℤ, unsigned_abs, ◌+◌, ◌*◌, ◌/◌, ◌%◌, ◌^◌, ◌==◌, nat_lt, List, slice_get, not, if◌then◌else◌, Option, Some, None, Result, Ok, Err}
+use Rattle.std.specs.Prelude.{ℕ, zero, suc, ℤ, pos, negsuc, neg_ℤ, unsigned_abs, ◌+◌, ◌*◌, ◌/◌, ◌%◌, ◌^◌, ◌==◌, nat_lt}
+use Rattle.std.specs.Prelude.{List, slice_get, not, if◌then◌else◌, Option, Some, None, Result, Ok, Err}
 use Rattle.money_core.specs.declared.style.Style.{Style}
 use Rattle.money_core.specs.declared.unit.Unit.{Unit as Commodity}
 use Rattle.money_core.specs.declared.price.Price.{Price}
@@ -27,9 +28,11 @@ exact q above below =
 abbrev pub cost_in : ℤ → Option Style → Option Style → Price → Result ℤ Cause
 cost_in q None style p = Err Cost
 cost_in q (Some own) None p = Err Cost
-cost_in q (Some own) (Some style) (Each unit digits decimals) = exact q (unsigned_abs q * digits * 10 ^ style.decimals) (10 ^ (own.decimals + decimals))
+cost_in q (Some own) (Some style) (Each unit digits decimals) =
+    exact q (unsigned_abs q * digits * 10 ^ style.decimals) (10 ^ (own.decimals + decimals))
 cost_in q (Some own) (Some style) (Total unit quantity) = Ok (signed_as q quantity)
 
 -- what a quantity of a commodity costs at a price: never in the commodity itself
 abbrev pub cost : List Style → ℤ → Commodity → Price → Result ℤ Cause
-cost styles q unit p = if unit.0 == (cost_unit p).0 then Err Cost else cost_in q (slice_get styles unit.0) (slice_get styles (cost_unit p).0) p
+cost styles q unit p = if unit.0 == (cost_unit p).0 then Err Cost
+    else cost_in q (slice_get styles unit.0) (slice_get styles (cost_unit p).0) p

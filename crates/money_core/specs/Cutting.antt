@@ -1,5 +1,7 @@
--- How an amount is cut into its parts from the left; that these are the parts of `Amount`, and the only ones, stands behind the clauses of `read_amount`.
-use Rattle.std.specs.Prelude.{ℕ, ◌==◌, List, length, take, drop, slice_index, nat_lt, Bool, true, false, ◌&&◌, ◌||◌, not, if◌then◌else◌, Option, Some, None, option_and_then}
+-- How an amount is cut into its parts from the left; that these are the parts of `Amount`, and the only ones, stands
+-- behind the clauses of `read_amount`.
+use Rattle.std.specs.Prelude.{ℕ, ◌==◌, List, length, take, drop, slice_index, nat_lt, Bool, true, false, ◌&&◌, ◌||◌}
+use Rattle.std.specs.Prelude.{not, if◌then◌else◌, Option, Some, None, option_and_then}
 use Rattle.std.specs.List.{position_or_len, before_first, after_first}
 use Rattle.money_core.specs.declared.class.Class.{Class}
 use Rattle.money_core.specs.declared.class.Class.TheVariants.{Blank, Symbol, Number}
@@ -60,7 +62,13 @@ unsigned text = if is_signed (sign_of (slice_index text 0)) then skip_blanks (dr
 abbrev pub left_number : Sign → List ℕ → List ℕ → Parts
 left_number sign symbol rest =
     if is_signed sign
-    then record { sign = sign; left = true; spaced = not (end_of Blank rest == 0); symbol = symbol; number = skip_blanks rest }
+    then record {
+      sign = sign;
+      left = true;
+      spaced = not (end_of Blank rest == 0);
+      symbol = symbol;
+      number = skip_blanks rest;
+    }
     else record {
       sign = sign_of (slice_index (skip_blanks rest) 0);
       left = true;
@@ -77,7 +85,13 @@ left_parts sign text = option_and_then (λ cut. Some (left_number sign cut.symbo
 unfoldable pub right_symbol : Sign → List ℕ → List ℕ → Option Parts
 right_symbol sign number rest = option_and_then (λ cut.
     if length cut.rest == 0
-    then Some (record { sign = sign; left = false; spaced = not (end_of Blank rest == 0); symbol = cut.symbol; number = number })
+    then Some (record {
+      sign = sign;
+      left = false;
+      spaced = not (end_of Blank rest == 0);
+      symbol = cut.symbol;
+      number = number;
+    })
     else None)
     (cut_symbol (skip_blanks rest))
 

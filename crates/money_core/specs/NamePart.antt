@@ -1,5 +1,6 @@
 -- What a symbol has of a part of an account name (own rule; docs/FORMATS.md, "Account names").
-use Rattle.std.specs.Prelude.{◌≡◌, ◌<◌, ◌≤◌, ℕ, ◌-◌, ◌==◌, nat_le, List, length, slice_index, Bool, true, false, ◌&&◌, not}
+use Rattle.std.specs.Prelude.{◌≡◌, ◌<◌, ◌≤◌, ℕ, ◌-◌, ◌==◌, nat_le, List, length, slice_index, Bool, true, false, ◌&&◌}
+use Rattle.std.specs.Prelude.{not}
 use Rattle.std.specs.List.{list_all}
 use Rattle.std.specs.Str.{is_utf8}
 use Rattle.money_core.specs.Symbol.{longest_symbol, no_double, is_symbol}

@@ -1,5 +1,7 @@
--- What a price is as a text, and which prices there are (hledger manual, "Costs"; what is kept, and the limits, are own rules).
-use Rattle.std.specs.Prelude.{◌≡◌, ◌≤◌, ℕ, ◌-◌, ◌%◌, ◌==◌, nat_le, List, [], ◌∷◌, ◌++◌, slice_get, Bool, true, false, ◌&&◌, ◌||◌, not, ◌⊎◌, Option, Some, None}
+-- What a price is as a text, and which prices there are (hledger manual, "Costs"; what is kept, and the limits, are own
+-- rules).
+use Rattle.std.specs.Prelude.{◌≡◌, ◌≤◌, ℕ, ◌-◌, ◌%◌, ◌==◌, nat_le, List, [], ◌∷◌, ◌++◌, slice_get, Bool, true, false}
+use Rattle.std.specs.Prelude.{◌&&◌, ◌||◌, not, ◌⊎◌, Option, Some, None}
 use Rattle.money_core.specs.declared.amount.Sign.{Sign}
 use Rattle.money_core.specs.declared.amount.Sign.TheVariants.{Absent, Plus, Minus}
 use Rattle.money_core.specs.declared.style.Style.{Style}
@@ -34,11 +36,13 @@ is_negative Absent n = false
 is_negative Plus n = false
 is_negative Minus n = not (n == 0)
 
--- what a unit cost is kept as: at least the declared decimals and no zeros at its end past them, within its limits, and not negative
+-- what a unit cost is kept as: at least the declared decimals and no zeros at its end past them, within its limits, and
+-- not negative
 pub record IsUnitCost (style : Style) (parts : Parts) (digits decimals : ℕ) : Type 0 where
   pub declared : style.decimals ≤ decimals
   pub exact : fits_decimals decimals (fraction_part style.mark parts.number) ≡ true
-  pub least : (decimals ≡ style.decimals) ⊎ (fits_decimals (decimals - 1) (fraction_part style.mark parts.number) ≡ false)
+  pub least : (decimals ≡ style.decimals)
+      ⊎ (fits_decimals (decimals - 1) (fraction_part style.mark parts.number) ≡ false)
   pub few : decimals ≤ max_cost_decimals
   pub value : digits ≡ quantity style.mark decimals parts.number
   pub small : digits ≤ unit_limit

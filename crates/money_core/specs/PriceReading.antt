@@ -1,5 +1,6 @@
 -- Which price a text is, or its first fault: the form, the commodity, the value (own order).
-use Rattle.std.specs.Prelude.{ℕ, ◌+◌, ◌==◌, nat_lt, max, List, [], ◌∷◌, drop, slice_index, slice_get, Bool, true, false, not, if◌then◌else◌, Option, Some, None, Result, Ok, Err}
+use Rattle.std.specs.Prelude.{ℕ, ◌+◌, ◌==◌, nat_lt, max, List, [], ◌∷◌, drop, slice_index, slice_get, Bool, true, false}
+use Rattle.std.specs.Prelude.{not, if◌then◌else◌, Option, Some, None, Result, Ok, Err}
 use Rattle.std.specs.List.{list_all}
 use Rattle.money_core.specs.declared.amount.Sign.{Sign}
 use Rattle.money_core.specs.declared.style.Style.{Style}
@@ -28,7 +29,8 @@ unit_cost style place sign number =
     if nat_lt max_cost_decimals (kept_decimals style number) then Err Cost
     else if nat_lt unit_limit (quantity style.mark (kept_decimals style number) number) then Err Cost
     else if is_negative sign (quantity style.mark (kept_decimals style number) number) then Err Cost
-    else Ok (Each (record { 0 = place }) (quantity style.mark (kept_decimals style number) number) (kept_decimals style number))
+    else Ok (Each (record { 0 = place }) (quantity style.mark (kept_decimals style number) number)
+    (kept_decimals style number))
 
 -- the cost of the whole amount: no further decimals, at most 10^16 smallest units, and not negative
 unfoldable pub total_cost : Style → ℕ → Sign → List ℕ → Result Price Cause
@@ -60,5 +62,6 @@ price_of_parts styles total (Some parts) = price_at styles total parts (place_of
 unfoldable pub price : List Style → List ℕ → Result Price Cause
 price styles text =
     if not (slice_index text 0 == 64) then Err Amount
-    else if slice_index (drop 1 text) 0 == 64 then price_of_parts styles true (amount_parts (skip_blanks (drop 1 (drop 1 text))))
+    else if slice_index (drop 1 text) 0 == 64
+    then price_of_parts styles true (amount_parts (skip_blanks (drop 1 (drop 1 text))))
     else price_of_parts styles false (amount_parts (skip_blanks (drop 1 text)))

@@ -1,5 +1,6 @@
 -- What a price is printed as (own rule), and what such a text has wherever it stands.
-use Rattle.std.specs.Prelude.{◌≡◌, ◌≤◌, ℕ, pos, ◌-◌, List, [], ◌∷◌, ◌++◌, length, slice_index, slice_get, true, false, Option, Some, None, Ok}
+use Rattle.std.specs.Prelude.{◌≡◌, ◌≤◌, ℕ, pos, ◌-◌, List, [], ◌∷◌, ◌++◌, length, slice_index, slice_get, true, false}
+use Rattle.std.specs.Prelude.{Option, Some, None, Ok}
 use Rattle.std.specs.Str.{is_utf8}
 use Rattle.money_core.specs.declared.style.Style.{Style}
 use Rattle.money_core.specs.declared.price.Price.{Price}
@@ -28,8 +29,8 @@ price_sign (Total unit quantity) = 64 ∷ 64 ∷ 32 ∷ []
 abbrev pub longest_price : ℕ
 longest_price = 70
 
--- The text is that price wherever it stands: it reads as it, is UTF-8, goes on behind `@ ` or `@@ ` with only bytes of an
--- amount, has no blank at its end, and is not too long.
+-- The text is that price wherever it stands: it reads as it, is UTF-8, goes on behind `@ ` or `@@ ` with only bytes of
+-- an amount, has no blank at its end, and is not too long.
 pub record IsPriceText (styles : List Style) (p : Price) (text : List ℕ) : Type 0 where
   pub reads : price styles text ≡ Ok p
   pub utf8 : is_utf8 text ≡ true

@@ -1,5 +1,6 @@
 -- What a number is printed as.
-use Rattle.std.specs.Prelude.{ℕ, zero, suc, ◌+◌, ◌/◌, ◌%◌, ◌^◌, ◌==◌, nat_lt, List, [], ◌∷◌, ◌++◌, Bool, ◌&&◌, not, if◌then◌else◌, decimal}
+use Rattle.std.specs.Prelude.{ℕ, zero, suc, ◌+◌, ◌/◌, ◌%◌, ◌^◌, ◌==◌, nat_lt, List, [], ◌∷◌, ◌++◌, Bool, ◌&&◌, not}
+use Rattle.std.specs.Prelude.{if◌then◌else◌, decimal}
 use Rattle.money_core.specs.declared.mark.Mark.{Mark}
 use Rattle.money_core.specs.Mark.{decimal_byte, group_byte}
 
@@ -12,7 +13,8 @@ places (suc k) n = places k (n / 10) ++ (48 + n % 10) ∷ []
 -- number counts down, and is over the second.
 abbrev pub grouped_within : ℕ → ℕ → ℕ → List ℕ
 grouped_within group zero n = []
-grouped_within group (suc turns) n = if nat_lt n 1000 then decimal n else grouped_within group turns (n / 1000) ++ group ∷ places 3 (n % 1000)
+grouped_within group (suc turns) n =
+    if nat_lt n 1000 then decimal n else grouped_within group turns (n / 1000) ++ group ∷ places 3 (n % 1000)
 
 -- the digits of a number in groups of three
 unfoldable pub grouped : ℕ → ℕ → List ℕ
@@ -22,7 +24,8 @@ grouped group n = grouped_within group (n + 1) n
 abbrev pub printed_whole : Mark → Bool → ℕ → List ℕ
 printed_whole mark groups n = if groups then grouped (group_byte mark) n else decimal n
 
--- what follows the whole part: the decimal mark and the decimals; where there are none, the decimal mark alone if a group mark was printed
+-- what follows the whole part: the decimal mark and the decimals; where there are none, the decimal mark alone if a
+-- group mark was printed
 abbrev pub printed_fraction : Mark → Bool → ℕ → ℕ → List ℕ
 printed_fraction mark groups decimals q =
     if decimals == 0 then (if groups && not (nat_lt q 1000) then decimal_byte mark ∷ [] else [])
@@ -30,4 +33,5 @@ printed_fraction mark groups decimals q =
 
 -- a quantity of smallest units as a number
 abbrev pub printed_number : Mark → Bool → ℕ → ℕ → List ℕ
-printed_number mark groups decimals q = printed_whole mark groups (q / 10 ^ decimals) ++ printed_fraction mark groups decimals q
+printed_number mark groups decimals q =
+    printed_whole mark groups (q / 10 ^ decimals) ++ printed_fraction mark groups decimals q

@@ -1,5 +1,7 @@
--- Which quantity of which commodity a text is, or its first fault: the form, the commodity, the decimals, the size (own order).
-use Rattle.std.specs.Prelude.{ℕ, ℤ, nat_lt, List, slice_get, ◌||◌, not, if◌then◌else◌, Option, Some, None, Result, Ok, Err}
+-- Which quantity of which commodity a text is, or its first fault: the form, the commodity, the decimals, the size (own
+-- order).
+use Rattle.std.specs.Prelude.{ℕ, ℤ, nat_lt, List, slice_get, ◌||◌, not, if◌then◌else◌, Option, Some, None, Result, Ok}
+use Rattle.std.specs.Prelude.{Err}
 use Rattle.money_core.specs.declared.mark.Mark.TheVariants.{Point, Comma}
 use Rattle.money_core.specs.declared.amount.Sign.{Sign}
 use Rattle.money_core.specs.declared.style.Style.{Style}

@@ -1,5 +1,7 @@
--- Which styles there are, and what a sample amount spells (hledger manual, "Commodity display style"; the sample's decimal mark is an own rule).
-use Rattle.std.specs.Prelude.{◌≡◌, ◌≤◌, ℕ, ◌==◌, nat_le, List, [], ◌∷◌, ◌++◌, length, slice_get, Bool, true, false, ◌&&◌, not, if◌then◌else◌, Option, Some, None, Result, Ok, Err}
+-- Which styles there are, and what a sample amount spells (hledger manual, "Commodity display style"; the sample's
+-- decimal mark is an own rule).
+use Rattle.std.specs.Prelude.{◌≡◌, ◌≤◌, ℕ, ◌==◌, nat_le, List, [], ◌∷◌, ◌++◌, length, slice_get, Bool, true, false}
+use Rattle.std.specs.Prelude.{◌&&◌, not, if◌then◌else◌, Option, Some, None, Result, Ok, Err}
 use Rattle.std.specs.List.{list_any}
 use Rattle.std.specs.Str.{bytes_eq}
 use Rattle.money_core.specs.declared.mark.Mark.{Mark}
@@ -29,7 +31,8 @@ max_commodities = 16
 abbrev pub is_style : Style → Bool
 is_style style = is_symbol style.symbol && nat_le style.decimals max_decimals
 
--- The text is a sample amount of the style: an amount without sign whose number shows its decimal mark, which is then its last mark and stands there once.
+-- The text is a sample amount of the style: an amount without sign whose number shows its decimal mark, which is then
+-- its last mark and stands there once.
 pub record IsSample (text : List ℕ) (style : Style) : Type 0 where
   pub parts : Parts
   pub amount : IsAmount style.mark text parts
@@ -74,14 +77,17 @@ style_eq s t =
 -- the answer where the symbol is declared with this style
 abbrev pub declared_with : Style → ℕ → Option Style → Result Declared Cause
 declared_with style place None = Err Full
-declared_with style place (Some held) = if style_eq held style then Ok (Same (record { 0 = place })) else Err CommodityExists
+declared_with style place (Some held) =
+    if style_eq held style then Ok (Same (record { 0 = place })) else Err CommodityExists
 
 -- the answer to a declaration, once its symbol was looked up
 abbrev pub declared_at : List Style → Style → Option ℕ → Result Declared Cause
 declared_at styles style (Some place) = declared_with style place (slice_get styles place)
-declared_at styles style None = if nat_le max_commodities (length styles) then Err Full else Ok (New (record { 0 = length styles }))
+declared_at styles style None =
+    if nat_le max_commodities (length styles) then Err Full else Ok (New (record { 0 = length styles }))
 
--- the answer to a declaration: an equal style, another style of the symbol, no room, or a new commodity with the next number
+-- the answer to a declaration: an equal style, another style of the symbol, no room, or a new commodity with the next
+-- number
 unfoldable pub declared : List Style → Style → Result Declared Cause
 declared styles style = declared_at styles style (place_of styles style.symbol)
 

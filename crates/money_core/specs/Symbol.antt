@@ -1,5 +1,7 @@
--- What a commodity's symbol is (hledger manual, "Commodity"; which characters need quotes, and the length, are own rules).
-use Rattle.std.specs.Prelude.{◌≡◌, ℕ, ◌-◌, ◌==◌, nat_lt, nat_le, List, [], ◌∷◌, ◌++◌, length, slice_index, Bool, true, ◌&&◌, not, ◌⊎◌}
+-- What a commodity's symbol is (hledger manual, "Commodity"; which characters need quotes, and the length, are own
+-- rules).
+use Rattle.std.specs.Prelude.{◌≡◌, ℕ, ◌-◌, ◌==◌, nat_lt, nat_le, List, [], ◌∷◌, ◌++◌, length, slice_index, Bool, true}
+use Rattle.std.specs.Prelude.{◌&&◌, not, ◌⊎◌}
 use Rattle.std.specs.Char.{is_whitespace}
 use Rattle.std.specs.List.{list_all, list_any}
 use Rattle.std.specs.Str.{chars, is_utf8}
@@ -37,7 +39,8 @@ has_no_outer_space symbol = not (slice_index symbol 0 == 32) && not (slice_index
 
 -- a symbol: one that can stand in quotes
 abbrev pub is_symbol : List ℕ → Bool
-is_symbol symbol = is_short symbol && is_utf8 symbol && list_all is_quoted_byte symbol && no_double symbol && has_no_outer_space symbol
+is_symbol symbol =
+    is_short symbol && is_utf8 symbol && list_all is_quoted_byte symbol && no_double symbol && has_no_outer_space symbol
 
 -- the symbol in quotes
 abbrev pub in_quotes : List ℕ → List ℕ
@@ -45,4 +48,5 @@ in_quotes symbol = 34 ∷ (symbol ++ 34 ∷ [])
 
 -- this is how the symbol may be written: bare, or in quotes
 abbrev pub WritesSymbol : List ℕ → List ℕ → Type 0
-WritesSymbol symbol written = ((is_bare symbol ≡ true) × (written ≡ symbol)) ⊎ ((is_symbol symbol ≡ true) × (written ≡ in_quotes symbol))
+WritesSymbol symbol written =
+    ((is_bare symbol ≡ true) × (written ≡ symbol)) ⊎ ((is_symbol symbol ≡ true) × (written ≡ in_quotes symbol))

@@ -16,4 +16,11 @@ parts_view p = record { sign = p.sign; left = p.left; spaced = p.spaced; symbol 
 
 -- the style without where its symbol lies in memory
 abbrev pub spelled_view : Spelled → Style
-spelled_view s = record { symbol = s.symbol.now; left = s.left; spaced = s.spaced; mark = s.mark; decimals = s.decimals; grouped = s.grouped }
+spelled_view s = record {
+  symbol = s.symbol.now;
+  left = s.left;
+  spaced = s.spaced;
+  mark = s.mark;
+  decimals = s.decimals;
+  grouped = s.grouped;
+}

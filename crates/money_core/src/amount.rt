@@ -3,7 +3,8 @@
 ghost use Rattle.std.specs.Prelude.{◌≡◌, ◌==◌, ◌<◌, ◌≤◌, ◌+◌, not, drop, take, length, slice_index};
 ghost use Rattle.std.specs.Option.{option_map};
 ghost use Rattle.money_core.specs.declared.class.Class.TheVariants.{Blank};
-ghost use Rattle.money_core.specs.Cutting.{end_of, sign_of, is_signed, unsigned, left_number, left_parts, right_symbol, right_parts, amount_parts};
+ghost use Rattle.money_core.specs.Cutting.{end_of, sign_of, is_signed, unsigned, left_number, left_parts, right_symbol};
+ghost use Rattle.money_core.specs.Cutting.{right_parts, amount_parts};
 ghost use Rattle.money_core.specs.Views.{parts_view};
 
 use crate::bytes::{behind, first_byte};

@@ -2,7 +2,8 @@
 
 ghost use Rattle.std.specs.Prelude.{◌≡◌, ◌↔◌, ◌≤◌, ◌++◌, take, length, IsTrue, OnOk, OnErr};
 ghost use Rattle.std.specs.Result.{IsOkUnless};
-ghost use Rattle.money_core.specs.AmountText.{minus, gap, printed_symbol, printed_signed, printed_with, printed_in, IsDeclared, IsAmountText, AmountsPrint, AmountsBound};
+ghost use Rattle.money_core.specs.AmountText.{minus, gap, printed_symbol, printed_signed, printed_with, printed_in};
+ghost use Rattle.money_core.specs.AmountText.{IsDeclared, IsAmountText, AmountsPrint, AmountsBound};
 
 use crate::cause::Cause;
 use crate::number::LIMIT;
@@ -14,8 +15,8 @@ use crate::symbol::is_bare;
 use crate::unit::Unit;
 use std::alloc::{AllocError, Global};
 
-/// Whether the commodity is declared, and the quantity at most 10^16 with either sign: the amounts that are printed, and
-/// that have a cost.
+/// Whether the commodity is declared, and the quantity at most 10^16 with either sign: the amounts that are printed,
+/// and that have a cost.
 pub fn is_declared(unit: Unit, qty: i64, styles: &Styles) -> bool
     ensures { IsTrue result ↔ IsDeclared styles.now unit qty }
 {

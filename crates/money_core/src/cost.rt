@@ -47,8 +47,8 @@ fn product(quantity: i64, digits: u64, decimals: u8) -> Result<i64, Cause>
     Ok(signed_as(quantity, (above / below) as u64))
 }
 
-/// What the quantity of the commodity costs at the price, in smallest units, with the sign of the quantity: at most 10^16
-/// with either sign.
+/// What the quantity of the commodity costs at the price, in smallest units, with the sign of the quantity: at most
+/// 10^16 with either sign.
 ///
 /// It is refused with 12 where the cost is in the commodity itself or over 10^16, and then with 13 where it is no whole
 /// number of smallest units.

@@ -1,11 +1,13 @@
 //! Numbers as texts.
 
-ghost use Rattle.std.specs.Prelude.{◌≡◌, ◌↔◌, ◌+◌, ◌*◌, ◌-◌, ◌^◌, ◌<◌, ◌≤◌, ◌++◌, filter, take, replicate, min, length, IsTrue, MatchOption};
+ghost use Rattle.std.specs.Prelude.{◌≡◌, ◌↔◌, ◌+◌, ◌*◌, ◌-◌, ◌^◌, ◌<◌, ◌≤◌, ◌++◌, filter, take, replicate, min, length};
+ghost use Rattle.std.specs.Prelude.{IsTrue, MatchOption};
 ghost use Rattle.std.specs.List.{position_or_len, list_all, slice_split};
 ghost use Rattle.std.specs.Prelude.{◌==◌, true, position, slice_index};
 ghost use Rattle.std.specs.Char.{is_ascii_digit, digit_value};
 ghost use Rattle.std.specs.Str.Parse.{digits_value};
-ghost use Rattle.money_core.specs.Number.{is_group, is_whole, is_number, whole_part, fraction_part, fits_decimals, quantity, unit_digits};
+ghost use Rattle.money_core.specs.Number.{is_group, is_whole, is_number, whole_part, fraction_part, fits_decimals};
+ghost use Rattle.money_core.specs.Number.{quantity, unit_digits};
 
 use crate::bytes::first_place;
 use crate::mark::Mark;

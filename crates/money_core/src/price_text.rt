@@ -5,7 +5,8 @@ ghost use Rattle.std.specs.Option.{option_map};
 ghost use Rattle.std.specs.Result.{IsOkUnless};
 ghost use Rattle.money_core.specs.Views.{parts_view};
 ghost use Rattle.money_core.specs.Number.{is_number};
-ghost use Rattle.money_core.specs.Price.{is_negative, is_cost, is_price, WritesPrice, HasNoPriceForm, NamesUndeclaredCost, HasNoCost};
+ghost use Rattle.money_core.specs.Price.{is_negative, is_cost, is_price, WritesPrice, HasNoPriceForm};
+ghost use Rattle.money_core.specs.Price.{NamesUndeclaredCost, HasNoCost};
 ghost use Rattle.money_core.specs.PriceReading.{significant, unit_cost, total_cost, price_of_parts, price};
 ghost use Rattle.money_core.specs.PriceText.{printed_cost, printed_price, IsPriceText, PricesPrint, PricesBound};
 
@@ -146,7 +147,8 @@ pub fn read_price(text: &str, styles: &Styles) -> Result<Price, Cause>
     ensures form { (result ≡ Err Cause.Amount) ↔ HasNoPriceForm styles.now text.now }
     ensures unknown { (result ≡ Err Cause.UnknownCommodity) ↔ NamesUndeclaredCost styles.now text.now }
     ensures cost { (result ≡ Err Cause.Cost) ↔ HasNoCost styles.now text.now }
-    ensures causes { IfErr result (λ cause. (cause ≡ Cause.Amount) ⊎ (cause ≡ Cause.UnknownCommodity) ⊎ (cause ≡ Cause.Cost)) }
+    ensures causes { IfErr result (λ cause.
+        (cause ≡ Cause.Amount) ⊎ (cause ≡ Cause.UnknownCommodity) ⊎ (cause ≡ Cause.Cost)) }
 
     // What is read can be printed, and has a cost.
     ensures good { IfOk result (λ p. is_price styles.now p ≡ true) }

@@ -1,6 +1,7 @@
 //! Numbers printed.
 
-ghost use Rattle.std.specs.Prelude.{◌≡◌, ◌+◌, ◌*◌, ◌-◌, ◌^◌, ◌<◌, ◌≤◌, [], ◌∷◌, ◌++◌, take, length, OnOk, OnErr, decimal};
+ghost use Rattle.std.specs.Prelude.{◌≡◌, ◌+◌, ◌*◌, ◌-◌, ◌^◌, ◌<◌, ◌≤◌, [], ◌∷◌, ◌++◌, take, length, OnOk, OnErr};
+ghost use Rattle.std.specs.Prelude.{decimal};
 ghost use Rattle.money_core.specs.Mark.{decimal_byte, group_byte};
 ghost use Rattle.money_core.specs.NumberText.{WritesQuantity};
 ghost use Rattle.money_core.specs.Printed.{places, grouped, printed_whole, printed_fraction, printed_number};

@@ -2,7 +2,8 @@
 
 ghost use Rattle.std.specs.Prelude.{◌≡◌, ◌↔◌, ◌⊎◌, ℕ, ℤ, pos, ◌≤◌, ◌<◌, IfErr};
 ghost use Rattle.std.specs.Option.{option_map};
-ghost use Rattle.money_core.specs.Amount.{with_sign, WritesAmount, HasNoForm, NamesUndeclared, HasFurtherDecimals, IsOverLimit};
+ghost use Rattle.money_core.specs.Amount.{with_sign, WritesAmount, HasNoForm, NamesUndeclared, HasFurtherDecimals};
+ghost use Rattle.money_core.specs.Amount.{IsOverLimit};
 ghost use Rattle.money_core.specs.Views.{parts_view};
 ghost use Rattle.money_core.specs.Reading.{quantity_in, amount, undeclared, amount_of_parts};
 
@@ -84,11 +85,13 @@ fn amount_of_parts(parts: Option<Parts<'_>>, styles: &Styles) -> Result<(Unit, i
 /// The faults, in this order: 8 where the text has not the form of an amount, 9 where its symbol is not declared, 10
 /// for further decimals that are not zeros, 8 for a quantity over 10^16.
 pub fn read_amount(text: &str, styles: &Styles) -> Result<(Unit, i64), Cause>
-    ensures reads { (place : ℕ) (units : ℤ) → (result ≡ Ok (record { 0 = place }, units)) ↔ WritesAmount styles.now text.now place units }
+    ensures reads { (place : ℕ) (units : ℤ)
+        → (result ≡ Ok (record { 0 = place }, units)) ↔ WritesAmount styles.now text.now place units }
     ensures amount { (result ≡ Err Cause.Amount) ↔ (HasNoForm styles.now text.now ⊎ IsOverLimit styles.now text.now) }
     ensures unknown { (result ≡ Err Cause.UnknownCommodity) ↔ NamesUndeclared styles.now text.now }
     ensures decimals { (result ≡ Err Cause.Decimals) ↔ HasFurtherDecimals styles.now text.now }
-    ensures causes { IfErr result (λ cause. (cause ≡ Cause.Amount) ⊎ (cause ≡ Cause.UnknownCommodity) ⊎ (cause ≡ Cause.Decimals)) }
+    ensures causes { IfErr result (λ cause.
+        (cause ≡ Cause.Amount) ⊎ (cause ≡ Cause.UnknownCommodity) ⊎ (cause ≡ Cause.Decimals)) }
 
     // The same by a function, for the laws of printed amounts.
     ensures answer { result ≡ amount styles.now text.now }

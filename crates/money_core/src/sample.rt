@@ -105,7 +105,8 @@ fn copied(alloc: Global, spelled: Spelled<'_>) -> Result<Style, Cause>
 
 /// The style that a sample amount spells (own rule: its number shows the decimal mark), such as `1,000.00 EUR`.
 ///
-/// It answers 8 where the text is no sample. Memory for the symbol is asked for last, and 40 answered where it is refused.
+/// It answers 8 where the text is no sample. Memory for the symbol is asked for last, and 40 answered where it is
+/// refused.
 pub fn read_style(alloc: Global, text: &str) -> Result<Style, Cause>
     ensures ok { IfOk result (λ style. IsSample text.now style) }
     ensures declarable { IfOk result (λ style. is_style style ≡ true) }

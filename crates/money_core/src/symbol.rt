@@ -1,13 +1,15 @@
 //! The symbols of commodities, bare and in quotes.
 
-ghost use Rattle.std.specs.Prelude.{◌≡◌, ◌↔◌, ℕ, List, Some, ◌==◌, ◌-◌, ◌<◌, ◌&&◌, not, true, drop, take, length, position, slice_index};
+ghost use Rattle.std.specs.Prelude.{◌≡◌, ◌↔◌, ℕ, List, Some, ◌==◌, ◌-◌, ◌<◌, ◌&&◌, not, true, drop, take, length};
+ghost use Rattle.std.specs.Prelude.{position, slice_index};
 ghost use Rattle.std.specs.List.{list_all, list_any};
 ghost use Rattle.std.specs.Char.{is_whitespace};
 ghost use Rattle.std.specs.Str.{chars, is_utf8};
 ghost use Rattle.std.specs.Option.{option_map};
 ghost use Rattle.money_core.specs.declared.class.Class.TheVariants.{Symbol as OfSymbol};
 ghost use Rattle.money_core.specs.Class.{has};
-ghost use Rattle.money_core.specs.Symbol.{is_short, is_dense, is_bare, is_quoted_byte, no_double, has_no_outer_space, is_symbol, WritesSymbol};
+ghost use Rattle.money_core.specs.Symbol.{is_short, is_dense, is_bare, is_quoted_byte, no_double, has_no_outer_space};
+ghost use Rattle.money_core.specs.Symbol.{is_symbol, WritesSymbol};
 ghost use Rattle.money_core.specs.Cutting.{cut_quoted, cut_bare, cut_symbol, symbol_of};
 ghost use Rattle.money_core.specs.NamePart.{SymbolsAreNameParts};
 ghost use Rattle.money_core.specs.Views.{cut_view};

@@ -17,7 +17,8 @@ use Rattle.treasury.specs.Word.{AnswersWord, Told, AreTold}
 use Rattle.treasury.specs.declared.words.left.Left.{Left}
 use Rattle.treasury.specs.declared.words.left.Left.TheVariants.{Closed}
 use Rattle.treasury.specs.Left.{HoldsRows, HoldsOf, IsLeft, IsCleanIn, MayBe}
-use Rattle.treasury.specs.OverFile.{HoldsState, LeavesState, ShowsState, AnswersOver, said_to, IsFileRefused, SaysOver, AreToldOver, AreAnsweredOver, AreToldBut}
+use Rattle.treasury.specs.OverFile.{HoldsState, LeavesState, ShowsState, AnswersOver, said_to, IsFileRefused, SaysOver}
+use Rattle.treasury.specs.OverFile.{AreToldOver, AreAnsweredOver, AreToldBut}
 use Rattle.treasury.proofs.LeftLemmas.{shows_rows}
 
 -- the files that were left hold what they held, and so does the database file alone
@@ -42,25 +43,33 @@ holds_of image f holds = record {
 
 module _ {D : Type 0} (g : disk.Ghosts D) where
   -- an opening of files that hold the rows of a state shows that state
-  pub shows_of : (image : Image) (c : Held (FileStore D g)) (f : Federation) → HoldsOf image f → FindsIn image (file_state c) → IsOpened c → ShowsState g c f
-  shows_of image c f holds finds opened = record { good = holds.good; short = holds.short; holds = shows_rows g image c (rows f) holds.held finds opened }
+  pub shows_of : (image : Image) (c : Held (FileStore D g)) (f : Federation) → HoldsOf image f
+      → FindsIn image (file_state c) → IsOpened c → ShowsState g c f
+  shows_of image c f holds finds opened =
+      record { good = holds.good; short = holds.short; holds = shows_rows g image c (rows f) holds.held finds opened }
 
   -- what is found of files that were closed holds the state that they were left with
-  pub found_closed : (start : Image) (left : Left D g) (next : Image) (f : Federation) → ((closed : Files D) × (left ≡ Closed closed) × LeavesState g closed f) → MayBe g start left next → HoldsState next f
+  pub found_closed : (start : Image) (left : Left D g) (next : Image) (f : Federation)
+      → ((closed : Files D) × (left ≡ Closed closed) × LeavesState g closed f) → MayBe g start left next
+      → HoldsState next f
   found_closed start left next f (closed, is, leaves) may =
       let found = subst (λ (l : Left D g). MayBe g start l next) is may in
       still_holds found.0 next f found.2 (leaves found.0 found.1)
 
   -- a word that is answered leads on from the state that the files hold
-  answered_on : (start : Image) (w : Told) (left : Left D g) (next : Image) (f : Federation) → HoldsOf start f → (word : AnswersOver g start w.request (said_to w) left) → AreClean g word.closed.log word.closed.db
-      → MayBe g start left next → (mid : Standing) × AnswersWord (record { now = f; failed = false }) w.request w.text w.refused mid × HoldsState next mid.now
+  answered_on : (start : Image) (w : Told) (left : Left D g) (next : Image) (f : Federation) → HoldsOf start f
+      → (word : AnswersOver g start w.request (said_to w) left) → AreClean g word.closed.log word.closed.db
+      → MayBe g start left next → (mid : Standing)
+      × AnswersWord (record { now = f; failed = false }) w.request w.text w.refused mid × HoldsState next mid.now
   answered_on start w left next f holds word clean may =
       let shown = shows_of start word.opened f holds (word.found clean) (word.serves clean) in
       let answered = word.answers clean f shown in
       (answered.0, answered.1, found_closed start left next answered.0.now (word.closed, word.is_left, answered.2) may)
 
-  -- words one after another, each answered on the state that the files held, leave the files holding the state where they lead
-  pub answers_file : (start : Image) (words : List Told) (end : Image) (f : Federation) → HoldsState start f → AreAnsweredOver g start words end
+  -- words one after another, each answered on the state that the files held, leave the files holding the state where
+  -- they lead
+  pub answers_file : (start : Image) (words : List Told) (end : Image) (f : Federation) → HoldsState start f
+      → AreAnsweredOver g start words end
       → (last : Federation) × AreTold f words last × HoldsState end last
   answers_file start [] end f holds same = (f, refl, subst (λ (image : Image). HoldsState image f) (sym same) holds)
   answers_file start (w ∷ ws) end f holds (left, word, clean, (next, may, more)) =
@@ -73,25 +82,35 @@ module _ {D : Type 0} (g : disk.Ghosts D) where
   LeadsTo f w mid = (ws : List Told) → (end : Federation) → AreToldBut mid ws end → AreToldBut f (w ∷ ws) end
 
   -- a word that is refused leaves what it found
-  left_alone : (w : Told) (next : Image) (f : Federation) → IsGoodState f → HasShortLocks f → IsFileRefused (said_to w) → ∥ HoldsRows next (rows f) ∥₁ → ∥ ((mid : Federation) × LeadsTo f w mid × HoldsOf next mid) ∥₁
+  left_alone : (w : Told) (next : Image) (f : Federation) → IsGoodState f → HasShortLocks f → IsFileRefused (said_to w)
+      → ∥ HoldsRows next (rows f) ∥₁ → ∥ ((mid : Federation) × LeadsTo f w mid × HoldsOf next mid) ∥₁
   left_alone w next f good short refused held = ∥∥₁_map held (λ one.
-      let r : (mid : Federation) × LeadsTo f w mid × HoldsOf next mid = (f, λ ws end told. inr (refused, told), record { good = good; short = short; held = one }) in r)
+      let r : (mid : Federation) × LeadsTo f w mid × HoldsOf next mid =
+      (f, λ ws end told. inr (refused, told), record { good = good; short = short; held = one }) in r)
 
   -- one word, be it answered or refused
-  keeps_one : (start : Image) (w : Told) (left : Left D g) (next : Image) (f : Federation) → HoldsOf start f → SaysOver g start w.request (said_to w) left → IsCleanIn g left → MayBe g start left next
+  keeps_one : (start : Image) (w : Told) (left : Left D g) (next : Image) (f : Federation) → HoldsOf start f
+      → SaysOver g start w.request (said_to w) left → IsCleanIn g left → MayBe g start left next
       → ∥ ((mid : Federation) × LeadsTo f w mid × HoldsOf next mid) ∥₁
-  keeps_one start w left next f holds (inl (inl memory, keeps)) clean may = left_alone w next f holds.good holds.short (inl memory) (keeps.finds clean next may (rows f) holds.held)
-  keeps_one start w left next f holds (inl (inr damaged, keeps)) clean may = left_alone w next f holds.good holds.short (inr (inr damaged)) (keeps.finds clean next may (rows f) holds.held)
-  keeps_one start w left next f holds (inr (inl (store, done))) clean may = left_alone w next f holds.good holds.short (inr (inl store)) (done.finds clean next may f holds)
+  keeps_one start w left next f holds (inl (inl memory, keeps)) clean may =
+      left_alone w next f holds.good holds.short (inl memory) (keeps.finds clean next may (rows f) holds.held)
+  keeps_one start w left next f holds (inl (inr damaged, keeps)) clean may =
+      left_alone w next f holds.good holds.short (inr (inr damaged)) (keeps.finds clean next may (rows f) holds.held)
+  keeps_one start w left next f holds (inr (inl (store, done))) clean may =
+      left_alone w next f holds.good holds.short (inr (inl store)) (done.finds clean next may f holds)
   keeps_one start w left next f holds (inr (inr word)) clean may =
-      let one = answered_on start w left next f holds word (subst (λ (l : Left D g). IsCleanIn g l) word.is_left clean) may in
-      let r : (mid : Federation) × LeadsTo f w mid × HoldsOf next mid = (one.0.now, λ ws end told. inl (one.0, one.1, told), holds_of next one.0.now one.2) in ∣ r ∣₁
+      let one =
+      answered_on start w left next f holds word (subst (λ (l : Left D g). IsCleanIn g l) word.is_left clean) may in
+      let r : (mid : Federation) × LeadsTo f w mid × HoldsOf next mid =
+      (one.0.now, λ ws end told. inl (one.0, one.1, told), holds_of next one.0.now one.2) in ∣ r ∣₁
 
   -- and so do words of which some are refused, each of which leaves what it found
-  pub keeps_file : (start : Image) (words : List Told) (end : Image) (f : Federation) → HoldsOf start f → AreToldOver g start words end
+  pub keeps_file : (start : Image) (words : List Told) (end : Image) (f : Federation) → HoldsOf start f
+      → AreToldOver g start words end
       → ∥ ((last : Federation) × AreToldBut f words last × HoldsOf end last) ∥₁
   keeps_file start [] end f holds same = ∣ (f, refl, subst (λ (image : Image). HoldsOf image f) (sym same) holds) ∣₁
   keeps_file start (w ∷ ws) end f holds (left, says, clean, (next, may, more)) =
       ∥∥₁_elim (keeps_one start w left next f holds says clean may) squash₁ (λ one.
       ∥∥₁_map (keeps_file next ws end one.0 one.2 more) (λ behind.
-      let r : (last : Federation) × AreToldBut f (w ∷ ws) last × HoldsOf end last = (behind.0, one.1 ws behind.0 behind.1, behind.2) in r))
+      let r : (last : Federation) × AreToldBut f (w ∷ ws) last × HoldsOf end last =
+      (behind.0, one.1 ws behind.0 behind.1, behind.2) in r))

@@ -1,5 +1,6 @@
 -- A word over a database file: its treasury is started, answers and is closed.
-use Rattle.std.proofs.Common.{◌≡◌, ◌≤◌, ◌<◌, ◌⊎◌, ℕ, Bool, true, false, List, [], length, Option, Result, Ok, Err, IfOk, IfErr, MatchResult, IsTrue, codes, refl, sym, ap, ◌∙◌, subst, inl, inr, arith}
+use Rattle.std.proofs.Common.{◌≡◌, ◌≤◌, ◌<◌, ◌⊎◌, ℕ, Bool, true, false, List, [], length, Option, Result, Ok, Err, IfOk}
+use Rattle.std.proofs.Common.{IfErr, MatchResult, IsTrue, codes, refl, sym, ap, ◌∙◌, subst, inl, inr, arith}
 use Rattle.std.proofs.KnownBytes.{Appends-nil}
 use Rattle.std.specs.Fmt.{digits}
 use Rattle.std.specs.Io.KnownBytes.{Appends}
@@ -44,7 +45,8 @@ use Rattle.treasury.specs.declared.words.left.Left.{Left}
 use Rattle.treasury.specs.declared.words.left.Left.TheVariants.{Untouched, Closed, Shut}
 use Rattle.treasury.specs.Word.{AnswersWord, SaysTo}
 use Rattle.treasury.specs.Left.{HoldsOf, HaveRows, KeepsFile}
-use Rattle.treasury.specs.OverFile.{Spoken, IsRefusedBy, IsFileRefused, ShowsState, LeavesState, AnswersOver, MakesOver, HaveRowsBehind, MayHaveDone, Tells, SaysOver, SaysToJournal, SaysToWord, IsTold}
+use Rattle.treasury.specs.OverFile.{Spoken, IsRefusedBy, IsFileRefused, ShowsState, LeavesState, AnswersOver, MakesOver}
+use Rattle.treasury.specs.OverFile.{HaveRowsBehind, MayHaveDone, Tells, SaysOver, SaysToJournal, SaysToWord, IsTold}
 use Rattle.treasury.specs.declared.words.said.Said.{Said}
 use Rattle.treasury.specs.declared.words.over_file.Answered.{Answered}
 use Rattle.treasury.specs.Started.{spoken, refusal_of, IsOpenedOn, StartsOn, IsStarted, IsClosedAs, IsUnclosed}
@@ -62,7 +64,12 @@ some_40 = subst (λ (text : List ℕ). 0 < length text) line_of_40 (omega arith)
 pub tells_nothing : {W : Type 0} (contents : W → Option (List ℕ)) (w0 w1 : W) (status : ℕ) → w1 ≡ w0 → status ≡ 1
     → Tells contents w0 w1 status (record { text = answer_text [] (Err (Plain OutOfMemory)); refused = true })
 tells_nothing {W} contents w0 w1 status same one =
-    inr (0, some_40, subst (λ (w : W). Appends (contents w0) (contents w) []) (sym same) (Appends-nil (contents w0)), one)
+    inr (
+      0,
+      some_40,
+      subst (λ (w : W). Appends (contents w0) (contents w) []) (sym same) (Appends-nil (contents w0)),
+      one,
+    )
 
 no_more : (n m : ℕ) → n ≤ m → m ≡ 0 → n ≡ 0
 no_more n m within none = le-zero (subst (λ k. n ≤ k) none within)
@@ -78,10 +85,12 @@ file_refused (why.Strange told) said refused = inr (inr refused)
 module _ {D : Type 0} (g : disk.Ghosts D) where
   -- a treasury is started on a store that was opened on a connection
   pub starts_on : (opened : Held (FileStore D g)) (s : Store (FileStore D g)) (t : Treasury (FileStore D g))
-      → ((file_state opened).committed ≡ (file_state opened).now → (rows : Tables) → HoldsEither (file_state opened).now rows → TablesAre over_files s.conn rows)
+      → ((file_state opened).committed ≡ (file_state opened).now → (rows : Tables)
+      → HoldsEither (file_state opened).now rows → TablesAre over_files s.conn rows)
       → doubt (file_state opened).is_clean ≤ doubt (file_state s.conn).is_clean
       → (HasCleanDisk (file_state s.conn) → IsTrue (file_state s.conn).is_open)
-      → (HasCleanDisk (file_state t.store.conn) → (f : Federation) → IsGoodState f → HasShortLocks f → TablesAre over_files s.conn (rows f) → IsTreasuryOf over_files t f)
+      → (HasCleanDisk (file_state t.store.conn) → (f : Federation) → IsGoodState f → HasShortLocks f
+      → TablesAre over_files s.conn (rows f) → IsTreasuryOf over_files t f)
       → t.store.failed ≡ false
       → KeepsTables over_files s.conn t.store.conn
       → (HasCleanDisk (file_state t.store.conn) → IsTrue (file_state t.store.conn).is_open)
@@ -98,20 +107,25 @@ module _ {D : Type 0} (g : disk.Ghosts D) where
       middle : HasCleanDisk (file_state t.store.conn) → HasCleanDisk (file_state s.conn)
       middle k = no_more _ _ keeps.clean k
 
-      tables : HasCleanDisk (file_state t.store.conn) → (file_state opened).committed ≡ (file_state opened).now → (rows : Tables) → HoldsEither (file_state opened).now rows → TablesAre over_files t.store.conn rows
+      tables : HasCleanDisk (file_state t.store.conn) → (file_state opened).committed ≡ (file_state opened).now
+          → (rows : Tables) → HoldsEither (file_state opened).now rows → TablesAre over_files t.store.conn rows
       tables k same rows holds _ _ =
           let held = upgraded same rows holds (middle k) (is_open (middle k)) in
           let stay = kept k held.0.schema held.1 in
           (subst (λ (d : Database). Holds d rows) (sym stay.0) held.0, stay.1 ∙ (held.1 ∙ sym stay.0))
 
   -- a treasury is started on files that were opened, or they keep what they held
-  pub started_by : {E : Type 0} (left_of : E → Left D g) (result : Result (Treasury (FileStore D g)) E) (image : Image) (opened : Held (FileStore D g)) → IsOpenedOn g image opened
-      → MatchResult result (λ t. StartsOn g opened t) (λ r. (image : Image) → IsOpenedOn g image opened → KeepsFile g image (left_of r)) → MatchResult result (λ t. IsStarted g image t) (λ r. KeepsFile g image (left_of r))
+  pub started_by : {E : Type 0} (left_of : E → Left D g) (result : Result (Treasury (FileStore D g)) E) (image : Image)
+      (opened : Held (FileStore D g)) → IsOpenedOn g image opened
+      → MatchResult result (λ t. StartsOn g opened t)
+      (λ r. (image : Image) → IsOpenedOn g image opened → KeepsFile g image (left_of r))
+      → MatchResult result (λ t. IsStarted g image t) (λ r. KeepsFile g image (left_of r))
   started_by left_of (Ok t) image opened on starts = record { opened = opened; on = on; starts = starts }
   started_by left_of (Err r) image opened on keeps = keeps image on
 
   -- what a file holds whose connection is closed, and shows the rows of a good state
-  pub left_behind : (c : Held (FileStore D g)) (closed : Files D) (f : Federation) → IsLive (file_state c) → IsCopied c closed → IsGoodState f → HasShortLocks f
+  pub left_behind : (c : Held (FileStore D g)) (closed : Files D) (f : Federation) → IsLive (file_state c)
+      → IsCopied c closed → IsGoodState f → HasShortLocks f
       → TablesAre over_files c (rows f) → LeavesState g closed f
   left_behind c closed f live copied good short tables left image =
       let held = tables copied.was_clean copied.was_open in record {
@@ -120,25 +134,34 @@ module _ {D : Type 0} (g : disk.Ghosts D) where
         db = (file_state c).now;
         listed = (live copied.was_open).0;
         tables = held.0;
-        alone = subst (λ (trees : Trees). HoldsAlone left trees) (ap (λ (db : Database). db.trees) held.1) (alone_in g c closed left copied image);
+        alone = subst (λ (trees : Trees). HoldsAlone left trees) (ap (λ (db : Database). db.trees) held.1)
+            (alone_in g c closed left copied image);
       }
 
   -- what an opening shows is committed
-  pub committed_in : (image : Image) (c : Held (FileStore D g)) → IsOpenedOn g image c → HasCleanDisk (file_state c) → (file_state c).committed ≡ (file_state c).now
+  pub committed_in : (image : Image) (c : Held (FileStore D g)) → IsOpenedOn g image c → HasCleanDisk (file_state c)
+      → (file_state c).committed ≡ (file_state c).now
   committed_in image c on k = sym (on.serves k).0.clean
 
-  pub closed_of : (one other : Held (FileStore D g)) (closed : Files D) → one ≡ other → IsLive (file_state one) → (AreClean g closed.log closed.db → IsCopied one closed) → IsClosedAs g other closed
-  closed_of one other closed same live copied = subst (λ (c : Held (FileStore D g)). IsClosedAs g c closed) same (record { live = live; copied = copied })
+  pub closed_of : (one other : Held (FileStore D g)) (closed : Files D) → one ≡ other → IsLive (file_state one)
+      → (AreClean g closed.log closed.db → IsCopied one closed) → IsClosedAs g other closed
+  closed_of one other closed same live copied =
+      subst (λ (c : Held (FileStore D g)). IsClosedAs g c closed) same (record { live = live; copied = copied })
 
   -- a closing of one connection is that of an equal one
-  pub closed_alike : (result : Result (Files D) (FileStore D g)) (one other : Held (FileStore D g)) → one ≡ other → IsLive (file_state one)
-      → IfOk result (λ closed. AreClean g closed.log closed.db → IsCopied one closed) → IfErr result (λ it. IsUnclosed g one it)
+  pub closed_alike : (result : Result (Files D) (FileStore D g)) (one other : Held (FileStore D g)) → one ≡ other
+      → IsLive (file_state one)
+      → IfOk result (λ closed. AreClean g closed.log closed.db → IsCopied one closed)
+      → IfErr result (λ it. IsUnclosed g one it)
       → MatchResult result (λ closed. IsClosedAs g other closed) (λ it. IsUnclosed g other it)
-  closed_alike (Ok closed) one other same live copied shut = subst (λ (c : Held (FileStore D g)). IsClosedAs g c closed) same (record { live = live; copied = copied })
-  closed_alike (Err it) one other same live copied shut = subst (λ (c : Held (FileStore D g)). IsUnclosed g c it) same shut
+  closed_alike (Ok closed) one other same live copied shut =
+      subst (λ (c : Held (FileStore D g)). IsClosedAs g c closed) same (record { live = live; copied = copied })
+  closed_alike (Err it) one other same live copied shut =
+      subst (λ (c : Held (FileStore D g)). IsUnclosed g c it) same shut
 
   -- its treasury answers a request, and the file is closed
-  pub over : (image : Image) (request : Request) (old new : Treasury (FileStore D g)) (text : List ℕ) (refused : Bool) (closed : Files D)
+  pub over : (image : Image) (request : Request) (old new : Treasury (FileStore D g)) (text : List ℕ) (refused : Bool)
+      (closed : Files D)
       → IsStarted g image old → SaysTo over_files old request text refused new → IsClosedAs g new.store.conn closed
       → AnswersOver g image request (record { text = text; refused = refused }) (Closed closed)
   over image request old new text refused closed started says closes = record {
@@ -154,27 +177,36 @@ module _ {D : Type 0} (g : disk.Ghosts D) where
       at_first k = started.starts.clean (says.clean (closes.copied k).was_clean)
 
       answers : AreClean g closed.log closed.db → (f : Federation) → ShowsState g started.opened f
-          → (end : Standing) × AnswersWord (record { now = f; failed = false }) request text refused end × LeavesState g closed end.now
+          → (end : Standing) × AnswersWord (record { now = f; failed = false }) request text refused end
+          × LeavesState g closed end.now
       answers k f shows =
           let at_end = (closes.copied k).was_clean in
-          let of = started.starts.of (says.clean at_end) (committed_in image started.opened started.on (at_first k)) f shows in
+          let of = started.starts.of (says.clean at_end) (committed_in image started.opened started.on (at_first k)) f
+          shows in
           let r = says.answers at_end f of in (
             standing new r.0,
-            subst (λ (failed : Bool). AnswersWord (record { now = f; failed = failed }) request text refused (standing new r.0)) started.starts.unfailed r.1.1,
-            left_behind new.store.conn closed r.0 closes.live (closes.copied k) r.1.0.store.good r.1.0.short r.1.0.store.tables,
+            subst (λ (failed : Bool). AnswersWord (record { now = f; failed = failed }) request text refused
+                (standing new r.0)) started.starts.unfailed r.1.1,
+            left_behind new.store.conn closed r.0 closes.live (closes.copied k) r.1.0.store.good r.1.0.short
+                r.1.0.store.tables,
           )
 
   module _ (stays : SeenMayStay g) where
     -- or the file cannot be closed: what may come back has the rows of the state, or of the one where the request leads
-    pub may_have_done : (image : Image) (request : Request) (old new : Treasury (FileStore D g)) (text : List ℕ) (refused : Bool) (it : FileStore D g)
-        → IsStarted g image old → SaysTo over_files old request text refused new → LeavesRequest over_files old new request → IsUnclosed g new.store.conn it → MayHaveDone g image request (Shut it)
+    pub may_have_done : (image : Image) (request : Request) (old new : Treasury (FileStore D g)) (text : List ℕ)
+        (refused : Bool) (it : FileStore D g)
+        → IsStarted g image old → SaysTo over_files old request text refused new
+        → LeavesRequest over_files old new request → IsUnclosed g new.store.conn it
+        → MayHaveDone g image request (Shut it)
     may_have_done image request old new text refused it started says leaves quiet = record {
       finds = λ clean next none. absurd none;
-      comes_back = λ clean trees may f holds. back (omega (arith, quiet.clean, clean.0)) trees (quiet.outcomes trees may) f holds;
+      comes_back = λ clean trees may f holds.
+          back (omega (arith, quiet.clean, clean.0)) trees (quiet.outcomes trees may) f holds;
       spared = λ clean. tt;
     }
       where
-        back : HasCleanDisk (file_state new.store.conn) → (trees : Trees) → (file_state new.store.conn).may_leave trees → (f : Federation) → HoldsOf image f
+        back : HasCleanDisk (file_state new.store.conn) → (trees : Trees) → (file_state new.store.conn).may_leave trees
+            → (f : Federation) → HoldsOf image f
             → HaveRows trees (rows f) ⊎ HaveRowsBehind g trees f request
         back last trees may f holds =
             let before = says.clean last in
@@ -182,11 +214,13 @@ module _ {D : Type 0} (g : disk.Ghosts D) where
             let shows : ShowsState g started.opened f = record {
               good = holds.good;
               short = holds.short;
-              holds = shows_rows g image started.opened (rows f) holds.held (started.on.found first) (started.on.serves first);
+              holds = shows_rows g image started.opened (rows f) holds.held (started.on.found first)
+                  (started.on.serves first);
             } in
             let of = started.starts.of before (committed_in image started.opened started.on first) f shows in
             let answered = (says.answers last f of).1.1.1.0 in
-            let asks = subst (λ (failed : Bool). AsksOf failed f.styles request answered.asked) started.starts.unfailed answered.asks in
+            let asks = subst (λ (failed : Bool). AsksOf failed f.styles request answered.asked) started.starts.unfailed
+            answered.asks in
             let asked = answered.asked in
             let r = reply f asked in
             elim (leaves last (started.starts.is_open before) f of asked answered.asks last trees may) [
@@ -195,26 +229,46 @@ module _ {D : Type 0} (g : disk.Ghosts D) where
                 request_text f asked r,
                 is_refusal r,
                 next (record { now = f; failed = false }) asked r,
-                (r, (record { asked = asked; days = answered.days; asks = asks; replies = inl refl; text = refl; left = refl }, refl)),
+                (
+                  r,
+                  (
+                    record {
+                      asked = asked;
+                      days = answered.days;
+                      asks = asks;
+                      replies = inl refl;
+                      text = refl;
+                      left = refl;
+                    },
+                    refl,
+                  ),
+                ),
                 made,
               )
             ]
 
     -- nothing was asked of its treasury, and the file is closed, or cannot be
-    pub keeps_started : (image : Image) (t : Treasury (FileStore D g)) (closed : Files D) → IsStarted g image t → IsClosedAs g t.store.conn closed → KeepsFile g image (Closed closed)
+    pub keeps_started : (image : Image) (t : Treasury (FileStore D g)) (closed : Files D) → IsStarted g image t
+        → IsClosedAs g t.store.conn closed → KeepsFile g image (Closed closed)
     keeps_started image t closed started closes =
-        keeps_closed g stays image started.opened t.store.conn closed (Closed closed) started.on refl closes.live closes.copied started.starts.clean (λ k left_so rows holds.
-        let held = started.starts.tables k (committed_in image started.opened started.on (started.starts.clean k)) rows holds k left_so in (inl held.0, held.1))
+        keeps_closed g stays image started.opened t.store.conn closed (Closed closed) started.on refl closes.live
+        closes.copied started.starts.clean (λ k left_so rows holds.
+        let held = started.starts.tables k (committed_in image started.opened started.on (started.starts.clean k)) rows
+        holds k left_so in (inl held.0, held.1))
 
-    pub keeps_unclosed : (image : Image) (t : Treasury (FileStore D g)) (it : FileStore D g) → IsStarted g image t → IsUnclosed g t.store.conn it → KeepsFile g image (Shut it)
+    pub keeps_unclosed : (image : Image) (t : Treasury (FileStore D g)) (it : FileStore D g) → IsStarted g image t
+        → IsUnclosed g t.store.conn it → KeepsFile g image (Shut it)
     keeps_unclosed image t it started quiet =
-        keeps_shut g stays image started.opened t.store.conn (Shut it) started.on (it, refl, quiet) started.starts.clean (λ k rows holds trees may.
+        keeps_shut g stays image started.opened t.store.conn (Shut it) started.on (it, refl, quiet) started.starts.clean
+        (λ k rows holds trees may.
         let left_so = started.starts.is_open k in
-        let held = started.starts.tables k (committed_in image started.opened started.on (started.starts.clean k)) rows holds k left_so in
+        let held = started.starts.tables k (committed_in image started.opened started.on (started.starts.clean k)) rows
+        holds k left_so in
         inl ((file_state t.store.conn).now, settles g stays t.store.conn trees left_so held.1 may, held.0))
 
   -- what keeps a file has done nothing of a request
-  pub keeps_undone : (image : Image) (request : Request) (left : Left D g) → KeepsFile g image left → MayHaveDone g image request left
+  pub keeps_undone : (image : Image) (request : Request) (left : Left D g) → KeepsFile g image left
+      → MayHaveDone g image request left
   keeps_undone image request left keeps = record {
     finds = λ clean next may f holds. keeps.finds clean next may (rows f) holds.held;
     comes_back = λ clean trees may f holds. inl (keeps.comes_back clean trees may (rows f) holds.held);
@@ -222,9 +276,11 @@ module _ {D : Type 0} (g : disk.Ghosts D) where
   }
 
   -- a file that serves no word keeps what it held, whatever the cause is
-  pub says_refused : (image : Image) (request : Request) (said : Spoken) (left : Left D g) → IsFileRefused said → KeepsFile g image left → SaysOver g image request said left
+  pub says_refused : (image : Image) (request : Request) (said : Spoken) (left : Left D g) → IsFileRefused said
+      → KeepsFile g image left → SaysOver g image request said left
   says_refused image request said left (inl memory) keeps = inl (inl memory, keeps)
-  says_refused image request said left (inr (inl store)) keeps = inr (inl (store, keeps_undone image request left keeps))
+  says_refused image request said left (inr (inl store)) keeps =
+      inr (inl (store, keeps_undone image request left keeps))
   says_refused image request said left (inr (inr damaged)) keeps = inl (inr damaged, keeps)
 
   -- tables are made on a connection, and the file is closed
@@ -240,46 +296,69 @@ module _ {D : Type 0} (g : disk.Ghosts D) where
     is_left = refl;
     found = λ k. on.found (no_more _ _ first (closes.copied k).was_clean);
     free = free;
-    makes = λ k none. left_behind s.conn closed empty_state closes.live (closes.copied k) (made none).good tt (made none).tables;
+    makes = λ k none. left_behind s.conn closed empty_state closes.live (closes.copied k) (made none).good tt
+        (made none).tables;
   }
 
   -- what is said to one request is said to an equal one
-  pub said_alike : (image : Image) (one other : Request) (said : Spoken) (left : Left D g) → one ≡ other → SaysOver g image one said left → SaysOver g image other said left
+  pub said_alike : (image : Image) (one other : Request) (said : Spoken) (left : Left D g) → one ≡ other
+      → SaysOver g image one said left → SaysOver g image other said left
   said_alike image one other said left same says = subst (λ (r : Request). SaysOver g image r said left) same says
 
   -- there is no memory for a request, and no file was opened
-  pub says_before : (image : Image) (request : Request) (said : Said) (cause : Cause) (a : Answered D g) → a ≡ record { said = said; left = Untouched } → cause ≡ OutOfMemory → IsRefusedBy cause (spoken said)
+  pub says_before : (image : Image) (request : Request) (said : Said) (cause : Cause) (a : Answered D g)
+      → a ≡ record { said = said; left = Untouched } → cause ≡ OutOfMemory → IsRefusedBy cause (spoken said)
       → SaysOver g image request (spoken a.said) a.left
   says_before image request said cause a is memory refused =
       subst (λ (b : Answered D g). SaysOver g image request (spoken b.said) b.left) (sym is)
-      (inl (inl (subst (λ (c : Cause). IsRefusedBy c (spoken said)) memory refused), keeps_untouched g image Untouched refl))
+      (inl (
+        inl (subst (λ (c : Cause). IsRefusedBy c (spoken said)) memory refused),
+        keeps_untouched g image Untouched refl,
+      ))
 
   -- a journal cannot be read, and no file was opened
-  pub journal_before : (image : Image) (branch : List ℕ) (has : Option (List ℕ)) (said : Said) (cause : Cause) (a : Answered D g) → a ≡ record { said = said; left = Untouched }
-      → (cause ≡ ReadFault) ⊎ (cause ≡ OutOfMemory) → IsRefusedBy cause (spoken said) → SaysToJournal g image branch has (spoken a.said) a.left
+  pub journal_before : (image : Image) (branch : List ℕ) (has : Option (List ℕ)) (said : Said) (cause : Cause)
+      (a : Answered D g) → a ≡ record { said = said; left = Untouched }
+      → (cause ≡ ReadFault) ⊎ (cause ≡ OutOfMemory) → IsRefusedBy cause (spoken said)
+      → SaysToJournal g image branch has (spoken a.said) a.left
   journal_before image branch has said cause a is (inl fault) refused =
-      subst (λ (b : Answered D g). SaysToJournal g image branch has (spoken b.said) b.left) (sym is) (inl (inl (subst (λ (c : Cause). IsRefusedBy c (spoken said)) fault refused), refl))
+      subst (λ (b : Answered D g). SaysToJournal g image branch has (spoken b.said) b.left) (sym is)
+      (inl (inl (subst (λ (c : Cause). IsRefusedBy c (spoken said)) fault refused), refl))
   journal_before image branch has said cause a is (inr memory) refused =
-      subst (λ (b : Answered D g). SaysToJournal g image branch has (spoken b.said) b.left) (sym is) (inl (inr (subst (λ (c : Cause). IsRefusedBy c (spoken said)) memory refused), refl))
+      subst (λ (b : Answered D g). SaysToJournal g image branch has (spoken b.said) b.left) (sym is)
+      (inl (inr (subst (λ (c : Cause). IsRefusedBy c (spoken said)) memory refused), refl))
 
   -- a word is told 40
-  pub told_40 : {W : Type 0} (image : Image) (contents : W → Option (List ℕ)) (w0 w1 : W) (status : ℕ) (word : List ℕ) (values : List Row) (left : Left D g)
-      → left ≡ Untouched → Tells contents w0 w1 status (record { text = codes "refused 40 OutOfMemory\n"; refused = true }) → IsTold g image contents w0 w1 status word values left
-  told_40 image contents w0 w1 status word values left none tells = (record { text = codes "refused 40 OutOfMemory\n"; refused = true }, tells, inl ((line_of_40, refl), none))
+  pub told_40 : {W : Type 0} (image : Image) (contents : W → Option (List ℕ)) (w0 w1 : W) (status : ℕ) (word : List ℕ)
+      (values : List Row) (left : Left D g)
+      → left ≡ Untouched → Tells contents w0 w1 status
+      (record { text = codes "refused 40 OutOfMemory\n"; refused = true })
+      → IsTold g image contents w0 w1 status word values left
+  told_40 image contents w0 w1 status word values left none tells =
+      (record { text = codes "refused 40 OutOfMemory\n"; refused = true }, tells, inl ((line_of_40, refl), none))
 
   -- or nothing, where there is no memory to read the words
-  pub told_nothing : {W : Type 0} (image : Image) (contents : W → Option (List ℕ)) (w0 w1 : W) (status : ℕ) (word : List ℕ) (values : List Row) (left : Left D g)
+  pub told_nothing : {W : Type 0} (image : Image) (contents : W → Option (List ℕ)) (w0 w1 : W) (status : ℕ)
+      (word : List ℕ) (values : List Row) (left : Left D g)
       → left ≡ Untouched → w1 ≡ w0 → status ≡ 1 → IsTold g image contents w0 w1 status word values left
-  told_nothing image contents w0 w1 status word values left none same one =
-      (record { text = answer_text [] (Err (Plain OutOfMemory)); refused = true }, tells_nothing contents w0 w1 status same one, inl ((refl, refl), none))
+  told_nothing image contents w0 w1 status word values left none same one = (
+    record { text = answer_text [] (Err (Plain OutOfMemory)); refused = true },
+    tells_nothing contents w0 w1 status same one,
+    inl ((refl, refl), none),
+  )
 
   -- or what is said to it
-  pub told : {W : Type 0} (image : Image) (contents : W → Option (List ℕ)) (w0 w1 : W) (status : ℕ) (word : List ℕ) (values : List Row) (said : Spoken) (left : Left D g)
-      → Tells contents w0 w1 status said → SaysToWord g image word values said left → IsTold g image contents w0 w1 status word values left
+  pub told : {W : Type 0} (image : Image) (contents : W → Option (List ℕ)) (w0 w1 : W) (status : ℕ) (word : List ℕ)
+      (values : List Row) (said : Spoken) (left : Left D g)
+      → Tells contents w0 w1 status said → SaysToWord g image word values said left
+      → IsTold g image contents w0 w1 status word values left
   told image contents w0 w1 status word values said left tells says = (said, tells, inr says)
 
   -- what is told to one word is told to an equal one
-  pub told_alike : {W : Type 0} (image : Image) (contents : W → Option (List ℕ)) (w0 w1 : W) (status : ℕ) (one other : List ℕ) (these those : List Row) (left : Left D g)
-      → (one ≡ other) × (these ≡ those) → IsTold g image contents w0 w1 status one these left → IsTold g image contents w0 w1 status other those left
+  pub told_alike : {W : Type 0} (image : Image) (contents : W → Option (List ℕ)) (w0 w1 : W) (status : ℕ)
+      (one other : List ℕ) (these those : List Row) (left : Left D g)
+      → (one ≡ other) × (these ≡ those) → IsTold g image contents w0 w1 status one these left
+      → IsTold g image contents w0 w1 status other those left
   told_alike image contents w0 w1 status one other these those left (same, alike) is =
-      subst (λ (word : List ℕ). IsTold g image contents w0 w1 status word those left) same (subst (λ (values : List Row). IsTold g image contents w0 w1 status one values left) alike is)
+      subst (λ (word : List ℕ). IsTold g image contents w0 w1 status word those left) same
+      (subst (λ (values : List Row). IsTold g image contents w0 w1 status one values left) alike is)

@@ -8,7 +8,8 @@ use Rattle.clap.specs.declared.parser.matches.ArgMatches.{ArgMatches}
 use Rattle.clap.specs.declared.parser.matches.ArgMatches.TheViews.{out-ArgMatches, out-SubCommand}
 use Rattle.clap.specs.declared.parser.matches.SubCommand.{SubCommand}
 use Rattle.treasury.specs.Known.{known}
-use Rattle.std.proofs.Common.{◌≡◌, ◌≢◌, ℕ, true, List, [], Result, Ok, Err, OnOk, OnErr, MatchResult, ap, refl, sym, ◌∙◌, subst, inl, inr, ◌⊎◌}
+use Rattle.std.proofs.Common.{◌≡◌, ◌≢◌, ℕ, true, List, [], Result, Ok, Err, OnOk, OnErr, MatchResult, ap, refl, sym}
+use Rattle.std.proofs.Common.{◌∙◌, subst, inl, inr, ◌⊎◌}
 use Rattle.money_core.specs.declared.cause.Cause.{Cause}
 use Rattle.clap.specs.Simple.{App}
 use Rattle.clap.specs.Kinds.{IsAmong}
@@ -28,23 +29,32 @@ unfolding objections
 fault_of_known app words is = ap (λ a. fault_of a words) is
 
 -- words that clap takes are taken
-pub taken : (app : App) (words : List (List ℕ)) → app ≡ known → (is_simple_and_free app ≡ true → fault_of app words ≡ []) → AreTaken words
+pub taken : (app : App) (words : List (List ℕ)) → app ≡ known
+    → (is_simple_and_free app ≡ true → fault_of app words ≡ []) → AreTaken words
 taken app words is none = sym (fault_of_known app words is) ∙ none (ap is_simple_and_free is ∙ known_is_simple)
 
 -- words that are not taken fail for want of memory, or by one of the objections to them
-pub fails_by : (app : App) (words : List (List ℕ)) (kind : ErrorKind) → app ≡ known → (is_simple_and_free app ≡ true → (kind ≡ OutOfMemory) ⊎ IsAmong kind (fault_of app words)) → (kind ≡ OutOfMemory) ⊎ IsAmong kind (objections words)
-fails_by app words kind is fails = subst (λ kinds. (kind ≡ OutOfMemory) ⊎ IsAmong kind kinds) (fault_of_known app words is) (fails (ap is_simple_and_free is ∙ known_is_simple))
+pub fails_by : (app : App) (words : List (List ℕ)) (kind : ErrorKind) → app ≡ known
+    → (is_simple_and_free app ≡ true → (kind ≡ OutOfMemory) ⊎ IsAmong kind (fault_of app words))
+    → (kind ≡ OutOfMemory) ⊎ IsAmong kind (objections words)
+fails_by app words kind is fails =
+    subst (λ kinds. (kind ≡ OutOfMemory) ⊎ IsAmong kind kinds) (fault_of_known app words is)
+    (fails (ap is_simple_and_free is ∙ known_is_simple))
 
 -- words that are taken fail only for want of memory
-pub taken_fails : (words : List (List ℕ)) (kind : ErrorKind) → (kind ≡ OutOfMemory) ⊎ IsAmong kind (objections words) → AreTaken words → kind ≡ OutOfMemory
+pub taken_fails : (words : List (List ℕ)) (kind : ErrorKind) → (kind ≡ OutOfMemory) ⊎ IsAmong kind (objections words)
+    → AreTaken words → kind ≡ OutOfMemory
 taken_fails words kind (inl memory) asks = memory
 taken_fails words kind (inr among) asks = absurd (subst (IsAmong kind) asks among)
 
-pub run_fails : (words : List (List ℕ)) (kind : ErrorKind) → (kind ≡ OutOfMemory) ⊎ IsAmong kind (objections words) → AskForRun words → kind ≡ OutOfMemory
+pub run_fails : (words : List (List ℕ)) (kind : ErrorKind) → (kind ≡ OutOfMemory) ⊎ IsAmong kind (objections words)
+    → AskForRun words → kind ≡ OutOfMemory
 run_fails words kind fails asks = taken_fails words kind fails asks.0
 
 -- the word that a parse met is the one that the words name
-name_of : {Z : Type 0} (o : Option (Box SubCommand Z)) → option_map (λ (p : List ℕ × List Row). p.0) (subcommand_rows o) ≡ option_map (λ b. (out-SubCommand (box_value b)).name.now) o
+name_of : {Z : Type 0} (o : Option (Box SubCommand Z))
+    → option_map (λ (p : List ℕ × List Row). p.0) (subcommand_rows o)
+    ≡ option_map (λ b. (out-SubCommand (box_value b)).name.now) o
 name_of None = refl
 name_of (Some b) = refl
 
@@ -52,33 +62,40 @@ known_is_plain : is_simple known ≡ true
 unfolding clap_on_literals
 known_is_plain = refl
 
-pub named_word : (app : App) (words : List (List ℕ)) (m : ArgMatches) → app ≡ known → HasMatchesOf app words m → option_map (λ (p : List ℕ × List Row). p.0) (named words) ≡ subcommand_name_of m
+pub named_word : (app : App) (words : List (List ℕ)) (m : ArgMatches) → app ≡ known → HasMatchesOf app words m
+    → option_map (λ (p : List ℕ × List Row). p.0) (named words) ≡ subcommand_name_of m
 unfolding named
 named_word app words m is matches =
     let found = (matches (ap is_simple is ∙ known_is_plain)).1 in
     ap (λ (a : App). option_map (λ (p : List ℕ × List Row). p.0) (subcommand_of a words)) (sym is)
-    ∙ (ap (λ (o : Option (List ℕ × List Row)). option_map (λ (p : List ℕ × List Row). p.0) o) (sym found) ∙ name_of (out-ArgMatches m).subcommand)
+    ∙ (ap (λ (o : Option (List ℕ × List Row)). option_map (λ (p : List ℕ × List Row). p.0) o) (sym found) ∙ name_of
+    (out-ArgMatches m).subcommand)
 
 -- and so are its values
-pub named_rows : (app : App) (words : List (List ℕ)) (m : ArgMatches) → app ≡ known → HasMatchesOf app words m → named words ≡ subcommand_rows_of m
+pub named_rows : (app : App) (words : List (List ℕ)) (m : ArgMatches) → app ≡ known → HasMatchesOf app words m
+    → named words ≡ subcommand_rows_of m
 unfolding named
 named_rows app words m is matches =
     ap (λ (a : App). subcommand_of a words) (sym is) ∙ sym (matches (ap is_simple is ∙ known_is_plain)).1
 
 -- a parse that met a word with its values met that word
-pub met_name : (m : ArgMatches) (word : List ℕ) (values : List Row) → subcommand_rows_of m ≡ Some (word, values) → subcommand_name_of m ≡ Some word
+pub met_name : (m : ArgMatches) (word : List ℕ) (values : List Row) → subcommand_rows_of m ≡ Some (word, values)
+    → subcommand_name_of m ≡ Some word
 met_name m word values met =
-    sym (name_of (out-ArgMatches m).subcommand) ∙ ap (λ (o : Option (List ℕ × List Row)). option_map (λ (p : List ℕ × List Row). p.0) o) met
+    sym (name_of (out-ArgMatches m).subcommand) ∙ ap
+    (λ (o : Option (List ℕ × List Row)). option_map (λ (p : List ℕ × List Row). p.0) o) met
 
 pub same_some : {X : Type 0} (a b : X) → Some a ≡ Some b → a ≡ b
 same_some a b same = cc
 
 -- and what is lent of it is that word, with those values
-pub met_word : (m : ArgMatches) (word lent : List ℕ) (values rows : List Row) → subcommand_rows_of m ≡ Some (word, values) → Some lent ≡ subcommand_name_of m
+pub met_word : (m : ArgMatches) (word lent : List ℕ) (values rows : List Row)
+    → subcommand_rows_of m ≡ Some (word, values) → Some lent ≡ subcommand_name_of m
     → Some rows ≡ option_map (λ (p : List ℕ × List Row). p.1) (subcommand_rows_of m) → (lent ≡ word) × (rows ≡ values)
 met_word m word lent values rows met named found = (
   same_some lent word (named ∙ met_name m word values met),
-  same_some rows values (found ∙ ap (λ (o : Option (List ℕ × List Row)). option_map (λ (p : List ℕ × List Row). p.1) o) met),
+  same_some rows values (found ∙ ap (λ (o : Option (List ℕ × List Row)). option_map (λ (p : List ℕ × List Row). p.1) o)
+      met),
 )
 
 -- the kinds whose text is written to the output
@@ -87,44 +104,55 @@ IsShown kind = (kind ≡ DisplayHelp) ⊎ (kind ≡ DisplayVersion)
 
 shown_is_no_want : (kind : ErrorKind) → IsShown kind → kind ≡ OutOfMemory → ⊥
 shown_is_no_want kind (inl help) memory = let clash : DisplayHelp ≡ OutOfMemory = sym help ∙ memory in absurd cc
-shown_is_no_want kind (inr version) memory = let clash : DisplayVersion ≡ OutOfMemory = sym version ∙ memory in absurd cc
+shown_is_no_want kind (inr version) memory =
+    let clash : DisplayVersion ≡ OutOfMemory = sym version ∙ memory in absurd cc
 
 -- help and the version are shown only to words that may ask for them
-pub help_shown : (words : List (List ℕ)) (kind : ErrorKind) → (kind ≡ OutOfMemory) ⊎ IsAmong kind (objections words) → IsShown kind → MayAskForHelp words
+pub help_shown : (words : List (List ℕ)) (kind : ErrorKind) → (kind ≡ OutOfMemory) ⊎ IsAmong kind (objections words)
+    → IsShown kind → MayAskForHelp words
 help_shown words kind (inl memory) shown = absurd (shown_is_no_want kind shown memory)
 help_shown words kind (inr among) (inl help) = inl (subst (λ k. IsAmong k (objections words)) help among)
 help_shown words kind (inr among) (inr version) = inr (subst (λ k. IsAmong k (objections words)) version among)
 
 -- and never to words that are taken
-pub taken_shows_none : (words : List (List ℕ)) (kind : ErrorKind) → (kind ≡ OutOfMemory) ⊎ IsAmong kind (objections words) → IsShown kind → AreTaken words → ⊥
+pub taken_shows_none : (words : List (List ℕ)) (kind : ErrorKind)
+    → (kind ≡ OutOfMemory) ⊎ IsAmong kind (objections words) → IsShown kind → AreTaken words → ⊥
 taken_shows_none words kind fails shown asks = shown_is_no_want kind shown (taken_fails words kind fails asks)
 
 -- the status of a run that is cut off
-pub cut_off_status : {T : Type 0} (result : Result T Cause) (status : ℕ) (P : Type 0) → MatchResult result (λ _. status ≡ 0) (λ _. status ≡ 1) → OnErr result P → status ≢ 0 → (status ≡ 1) × P
+pub cut_off_status : {T : Type 0} (result : Result T Cause) (status : ℕ) (P : Type 0)
+    → MatchResult result (λ _. status ≡ 0) (λ _. status ≡ 1) → OnErr result P → status ≢ 0 → (status ≡ 1) × P
 cut_off_status (Ok x) status P is cut other = absurd (other is)
 cut_off_status (Err cause) status P is cut other = (is, cut)
 
 -- the status of a run that is not
-pub done_status : {T : Type 0} (result : Result T Cause) (status : ℕ) (P : Type 0) → MatchResult result (λ _. status ≡ 0) (λ _. status ≡ 1) → OnOk result P → status ≡ 0 → P
+pub done_status : {T : Type 0} (result : Result T Cause) (status : ℕ) (P : Type 0)
+    → MatchResult result (λ _. status ≡ 0) (λ _. status ≡ 1) → OnOk result P → status ≡ 0 → P
 done_status (Ok x) status P is done zero = done
 done_status (Err cause) status P is done zero = let clash : 1 ≡ 0 = sym is ∙ zero in absurd cc
 
 -- words that are not taken, and may not ask for help or for the version, are answered 2, or 1 for want of memory
-pub untaken : {W : Type 0} (words : List (List ℕ)) (kind : ErrorKind) (w0 w1 : W) (status : ℕ) → (kind ≡ OutOfMemory) ⊎ IsAmong kind (objections words) → (MayAskForHelp words → ⊥)
+pub untaken : {W : Type 0} (words : List (List ℕ)) (kind : ErrorKind) (w0 w1 : W) (status : ℕ)
+    → (kind ≡ OutOfMemory) ⊎ IsAmong kind (objections words) → (MayAskForHelp words → ⊥)
     → AnswersUntaken kind w0 w1 status → ((status ≡ 2) ⊎ (status ≡ 1)) × (w1 ≡ w0)
 untaken words kind w0 w1 status fails helpless (inl (memory, (one, same))) = (inr one, same)
-untaken words kind w0 w1 status fails helpless (inr (inl (shown, other))) = absurd (helpless (help_shown words kind fails shown))
+untaken words kind w0 w1 status fails helpless (inr (inl (shown, other))) =
+    absurd (helpless (help_shown words kind fails shown))
 untaken words kind w0 w1 status fails helpless (inr (inr (other, (two, same)))) = (inl two, same)
 
 -- where that is 2, nothing is written
-pub unwritten_on_2 : {W : Type 0} (kind : ErrorKind) (w0 w1 : W) (status : ℕ) → AnswersUntaken kind w0 w1 status → status ≡ 2 → w1 ≡ w0
+pub unwritten_on_2 : {W : Type 0} (kind : ErrorKind) (w0 w1 : W) (status : ℕ) → AnswersUntaken kind w0 w1 status
+    → status ≡ 2 → w1 ≡ w0
 unwritten_on_2 kind w0 w1 status (inl (memory, (one, same))) two = same
 unwritten_on_2 kind w0 w1 status (inr (inl (shown, other))) two = absurd (other two)
 unwritten_on_2 kind w0 w1 status (inr (inr (other, (is, same)))) two = same
 
 -- and words that are taken are answered 1, for want of memory
-pub taken_untold : {W : Type 0} (words : List (List ℕ)) (kind : ErrorKind) (w0 w1 : W) (status : ℕ) → (kind ≡ OutOfMemory) ⊎ IsAmong kind (objections words) → AreTaken words
+pub taken_untold : {W : Type 0} (words : List (List ℕ)) (kind : ErrorKind) (w0 w1 : W) (status : ℕ)
+    → (kind ≡ OutOfMemory) ⊎ IsAmong kind (objections words) → AreTaken words
     → AnswersUntaken kind w0 w1 status → (status ≡ 1) × (w1 ≡ w0)
 taken_untold words kind w0 w1 status fails asks (inl (memory, told)) = told
-taken_untold words kind w0 w1 status fails asks (inr (inl (shown, other))) = absurd (taken_shows_none words kind fails shown asks)
-taken_untold words kind w0 w1 status fails asks (inr (inr (other, told))) = absurd (other (taken_fails words kind fails asks))
+taken_untold words kind w0 w1 status fails asks (inr (inl (shown, other))) =
+    absurd (taken_shows_none words kind fails shown asks)
+taken_untold words kind w0 w1 status fails asks (inr (inr (other, told))) =
+    absurd (other (taken_fails words kind fails asks))

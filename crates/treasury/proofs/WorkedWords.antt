@@ -1,6 +1,9 @@
 -- What words ask for, worked out by hand, whatever name the program is called by.
 use Rattle.std.specs.Prelude.{◌≡◌, ℕ, List, [], ◌∷◌, Some, option_and_then, codes, refl}
-use Rattle.clap.specs.declared.error.kind.ErrorKind.TheVariants.{UnknownArgument, InvalidSubcommand, ArgumentConflict, MissingRequiredArgument, ValueValidation, DisplayHelp, DisplayVersion, DisplayHelpOnMissingArgumentOrSubcommand}
+use Rattle.clap.specs.declared.error.kind.ErrorKind.TheVariants.{UnknownArgument, InvalidSubcommand, ArgumentConflict}
+use Rattle.clap.specs.declared.error.kind.ErrorKind.TheVariants.{MissingRequiredArgument, ValueValidation, DisplayHelp}
+use Rattle.clap.specs.declared.error.kind.ErrorKind.TheVariants.{DisplayVersion}
+use Rattle.clap.specs.declared.error.kind.ErrorKind.TheVariants.{DisplayHelpOnMissingArgumentOrSubcommand}
 use Rattle.clap.proofs.OnLiterals.{clap_on_literals}
 use Rattle.treasury_api.specs.declared.request.Request.TheVariants.{Branch, Journal}
 use Rattle.treasury.specs.Words.{objections, named}
@@ -36,34 +39,50 @@ version_is_asked_for name = refl
 
 -- words over a database file
 
-pub balance_is_taken : (name : List ℕ) → objections (name ∷ codes "balance" ∷ codes "--db" ∷ codes "t.db" ∷ codes "--branch" ∷ codes "north" ∷ codes "--day" ∷ codes "2024-01-31" ∷ []) ≡ []
+pub balance_is_taken : (name : List ℕ)
+    → objections (name ∷ codes "balance" ∷ codes "--db" ∷ codes "t.db" ∷ codes "--branch" ∷ codes "north"
+    ∷ codes "--day" ∷ codes "2024-01-31" ∷ []) ≡ []
 unfolding clap_on_literals objections
 balance_is_taken name = refl
 
-pub no_file_is_given : (name : List ℕ) → objections (name ∷ codes "transit" ∷ codes "--day" ∷ codes "2024-01-31" ∷ []) ≡ MissingRequiredArgument ∷ []
+pub no_file_is_given : (name : List ℕ)
+    → objections (name ∷ codes "transit" ∷ codes "--day" ∷ codes "2024-01-31" ∷ []) ≡ MissingRequiredArgument ∷ []
 unfolding clap_on_literals objections
 no_file_is_given name = refl
 
-pub option_is_given_twice : (name : List ℕ) → objections (name ∷ codes "journal" ∷ codes "--db" ∷ codes "t.db" ∷ codes "--db" ∷ codes "t.db" ∷ codes "--branch" ∷ codes "north" ∷ []) ≡ ArgumentConflict ∷ []
+pub option_is_given_twice : (name : List ℕ)
+    → objections (name ∷ codes "journal" ∷ codes "--db" ∷ codes "t.db" ∷ codes "--db" ∷ codes "t.db" ∷ codes "--branch"
+    ∷ codes "north" ∷ []) ≡ ArgumentConflict ∷ []
 unfolding clap_on_literals objections
 option_is_given_twice name = refl
 
-pub serve_is_taken : (name : List ℕ) → objections (name ∷ codes "serve" ∷ codes "--db" ∷ codes "t.db" ∷ codes "--port" ∷ codes "65535" ∷ codes "--requests" ∷ codes "4294967295" ∷ []) ≡ []
+pub serve_is_taken : (name : List ℕ)
+    → objections (name ∷ codes "serve" ∷ codes "--db" ∷ codes "t.db" ∷ codes "--port" ∷ codes "65535"
+    ∷ codes "--requests" ∷ codes "4294967295" ∷ []) ≡ []
 unfolding clap_on_literals objections
 serve_is_taken name = refl
 
-pub port_is_too_large : (name : List ℕ) → objections (name ∷ codes "serve" ∷ codes "--db" ∷ codes "t.db" ∷ codes "--port" ∷ codes "65536" ∷ codes "--requests" ∷ codes "1" ∷ []) ≡ ValueValidation ∷ []
+pub port_is_too_large : (name : List ℕ)
+    → objections (name ∷ codes "serve" ∷ codes "--db" ∷ codes "t.db" ∷ codes "--port" ∷ codes "65536"
+    ∷ codes "--requests" ∷ codes "1" ∷ []) ≡ ValueValidation ∷ []
 unfolding clap_on_literals objections
 port_is_too_large name = refl
 
-pub number_of_connections_is_too_large : (name : List ℕ) → objections (name ∷ codes "serve" ∷ codes "--db" ∷ codes "t.db" ∷ codes "--port" ∷ codes "0" ∷ codes "--requests" ∷ codes "4294967296" ∷ []) ≡ ValueValidation ∷ []
+pub number_of_connections_is_too_large : (name : List ℕ)
+    → objections (name ∷ codes "serve" ∷ codes "--db" ∷ codes "t.db" ∷ codes "--port" ∷ codes "0" ∷ codes "--requests"
+    ∷ codes "4294967296" ∷ []) ≡ ValueValidation ∷ []
 unfolding clap_on_literals objections
 number_of_connections_is_too_large name = refl
 
-pub journal_is_asked_for : (name : List ℕ) → option_and_then (λ p. request_in p.0 p.1) (named (name ∷ codes "journal" ∷ codes "--db" ∷ codes "t.db" ∷ codes "--branch" ∷ codes "north" ∷ [])) ≡ Some (Journal (codes "north"))
+pub journal_is_asked_for : (name : List ℕ)
+    → option_and_then (λ p. request_in p.0 p.1)
+    (named (name ∷ codes "journal" ∷ codes "--db" ∷ codes "t.db" ∷ codes "--branch" ∷ codes "north" ∷ []))
+    ≡ Some (Journal (codes "north"))
 unfolding clap_on_literals named
 journal_is_asked_for name = refl
 
-pub branch_is_asked_for : (name : List ℕ) → option_and_then (λ p. request_in p.0 p.1) (named (name ∷ codes "branch" ∷ codes "--db=t.db" ∷ codes "north" ∷ [])) ≡ Some (Branch (codes "north"))
+pub branch_is_asked_for : (name : List ℕ)
+    → option_and_then (λ p. request_in p.0 p.1) (named (name ∷ codes "branch" ∷ codes "--db=t.db" ∷ codes "north" ∷ []))
+    ≡ Some (Branch (codes "north"))
 unfolding clap_on_literals named
 branch_is_asked_for name = refl

@@ -4,7 +4,8 @@ use Rattle.clap.specs.Walk.{Rule}
 use Rattle.clap.specs.Simple.{App, Shape, new_rule, new_shape}
 use Rattle.clap.specs.declared.builder.value_parser.ValueParser.TheVariants.{Signed}
 
--- an option that may be given, `--NAME VALUE`; one that has to be; and a value that stands by itself and has to be given
+-- an option that may be given, `--NAME VALUE`; one that has to be; and a value that stands by itself and has to be
+-- given
 abbrev pub optional : List ℕ → Rule
 optional name = record (new_rule name) { long = Some name; value_names = 1 }
 
@@ -54,7 +55,8 @@ months =
 -- those of transfers
 abbrev pub transfers : List Shape
 transfers =
-    word (codes "dispatch") (id ∷ option (codes "from") ∷ option (codes "to") ∷ day ∷ option (codes "amount") ∷ account ∷ [])
+    word (codes "dispatch") (id ∷ option (codes "from") ∷ option (codes "to") ∷ day ∷ option (codes "amount") ∷ account
+    ∷ [])
     ∷ word (codes "receive") (id ∷ branch ∷ day ∷ account ∷ optional (codes "part") ∷ optional (codes "amount") ∷ [])
     ∷ word (codes "transit") (day ∷ [])
     ∷ []

@@ -1,5 +1,5 @@
--- What a word leaves of the files that it is over, the database and its log (own rules; docs/RULES.md, "The program"), while the disk
--- returns what was written. An image is what the two files hold; that of a word, when it begins.
+-- What a word leaves of the files that it is over, the database and its log (own rules; docs/RULES.md, "The program"),
+-- while the disk returns what was written. An image is what the two files hold; that of a word, when it begins.
 use Rattle.std.specs.Prelude.{◌≡◌, ◌⊎◌, [], IsTrue, ⊤}
 use Rattle.sqlite_disk.specs.declared.Disk as disk
 use Rattle.sqlite_disk.specs.declared.Files.{Files}
@@ -62,8 +62,9 @@ module _ {D : Type 0} (g : disk.Ghosts D) where
   IsCleanIn (Shut it) = IsCleanStore it
   IsCleanIn (Unopened unopened) = IsCleanLeft unopened
 
-  -- What the next word may find: what was there, where no file was opened; closed files, with the log beside the database file or
-  -- without; and files that were left with their log. Of files that a failure shut, or that were not opened, it is not said here.
+  -- What the next word may find: what was there, where no file was opened; closed files, with the log beside the
+  -- database file or without; and files that were left with their log. Of files that a failure shut, or that were not
+  -- opened, it is not said here.
   abbrev pub MayBe : Image → Left D g → Image → Type 0
   MayBe image Untouched next = next ≡ image
   MayBe image (Closed closed) next = (left : Image) × IsImageOf closed.log closed.db left × IsLeft left next
@@ -78,13 +79,16 @@ module _ {D : Type 0} (g : disk.Ghosts D) where
   MayComeBack (Unopened (rest.Store it)) trees = recovers it trees
   MayComeBack _ trees = ⊥
 
-  -- files that were not opened are spared as the kit has it: at most a log is copied, and what is no database may be written over
+  -- files that were not opened are spared as the kit has it: at most a log is copied, and what is no database may be
+  -- written over
   abbrev pub AreSpared : Image → Left D g → Type 0
   AreSpared image (Unopened unopened) = (found : Files D) × (image_of g found ≡ image) × LeavesFiles found unopened
   AreSpared image _ = ⊤
 
   -- Whichever rows the files held, what is left holds these: what the next word may find, and what may come back.
   pub record KeepsFile (image : Image) (left : Left D g) : Type 0 where
-    pub finds : IsCleanIn left → (next : Image) → MayBe image left next → (t : Tables) → HoldsRows image t → ∥ HoldsRows next t ∥₁
-    pub comes_back : IsCleanIn left → (trees : Trees) → MayComeBack left trees → (t : Tables) → HoldsRows image t → HaveRows trees t
+    pub finds : IsCleanIn left → (next : Image) → MayBe image left next → (t : Tables) → HoldsRows image t
+        → ∥ HoldsRows next t ∥₁
+    pub comes_back : IsCleanIn left → (trees : Trees) → MayComeBack left trees → (t : Tables) → HoldsRows image t
+        → HaveRows trees t
     pub spared : IsCleanIn left → AreSpared image left

@@ -1,6 +1,8 @@
--- What is said to a word over a database file, and what it leaves of the file (own rules; docs/RULES.md, "The program"), while the
--- disk returns what was written. An image is what the files, the database and its log, hold; that of a word, when they were opened.
-use Rattle.std.specs.Prelude.{◌≡◌, ◌≢◌, ◌<◌, ◌⊎◌, ℕ, Bool, true, false, if◌then◌else◌, List, [], ◌∷◌, take, length, Option, None, Some, IfSome, Ok, Err, codes}
+-- What is said to a word over a database file, and what it leaves of the file (own rules; docs/RULES.md, "The
+-- program"), while the disk returns what was written. An image is what the files, the database and its log, hold; that
+-- of a word, when they were opened.
+use Rattle.std.specs.Prelude.{◌≡◌, ◌≢◌, ◌<◌, ◌⊎◌, ℕ, Bool, true, false, if◌then◌else◌, List, [], ◌∷◌, take, length}
+use Rattle.std.specs.Prelude.{Option, None, Some, IfSome, Ok, Err, codes}
 use Rattle.std.specs.Io.KnownBytes.{Appends}
 use Rattle.clap.specs.Walk.{Row, first_of}
 use Rattle.sqlite_disk.specs.declared.Disk as disk
@@ -15,7 +17,8 @@ use Rattle.sqlite.specs.Tree.{Trees}
 use Rattle.sqlite.specs.Files.{file_state, IsOpened}
 use Rattle.sqlite.specs.Closing.{HoldsAlone}
 use Rattle.money_core.specs.declared.cause.Cause.{Cause}
-use Rattle.money_core.specs.declared.cause.Cause.TheVariants.{OutOfMemory, Store, Damaged, Request as NoRequest, ReadFault}
+use Rattle.money_core.specs.declared.cause.Cause.TheVariants.{OutOfMemory, Store, Damaged, Request as NoRequest}
+use Rattle.money_core.specs.declared.cause.Cause.TheVariants.{ReadFault}
 use Rattle.book_core.specs.declared.refusal.Refusal.TheVariants.{Plain}
 use Rattle.treasury_core.specs.declared.command.Answer.TheVariants.{Done}
 use Rattle.treasury_core.specs.Federation.{Federation}
@@ -33,7 +36,8 @@ use Rattle.treasury.specs.Spelling.{request_in}
 use Rattle.treasury.specs.Word.{AnswersWord, Told}
 use Rattle.treasury.specs.declared.words.left.Left.{Left}
 use Rattle.treasury.specs.declared.words.left.Left.TheVariants.{Untouched, Closed}
-use Rattle.treasury.specs.Left.{HoldsRows, HoldsOf, HaveRows, IsImageOf, IsCleanIn, MayBe, MayComeBack, AreSpared, KeepsFile}
+use Rattle.treasury.specs.Left.{HoldsRows, HoldsOf, HaveRows, IsImageOf, IsCleanIn, MayBe, MayComeBack, AreSpared}
+use Rattle.treasury.specs.Left.{KeepsFile}
 
 -- what is said to a word: a text for standard output, and whether that is a refusal
 pub record Spoken : Type 0 where
@@ -63,17 +67,18 @@ said_to w = record { text = w.text; refused = w.refused }
 
 -- ---- what is told: a text on standard output, and an exit status
 
--- All of the text is written, and the status is 1 where it is a refusal, else 0; or the output takes a part of it and no more, and
--- it is 1.
+-- All of the text is written, and the status is 1 where it is a refusal, else 0; or the output takes a part of it and
+-- no more, and it is 1.
 abbrev pub Tells : {W : Type 0} → (W → Option (List ℕ)) → W → W → ℕ → Spoken → Type 0
 Tells contents w0 w1 status said =
     (Appends (contents w0) (contents w1) said.text × (status ≡ (if said.refused then 1 else 0)))
-    ⊎ ((taken : ℕ) × (taken < length said.text) × Appends (contents w0) (contents w1) (take taken said.text) × (status ≡ 1))
+    ⊎ ((taken : ℕ) × (taken < length said.text) × Appends (contents w0) (contents w1) (take taken said.text)
+    × (status ≡ 1))
 
 -- ---- what a file holds, and what is said by it
 
--- The files hold tables that are the rows of a good state, with lock days that a table takes, and so does the database file with no
--- log beside it.
+-- The files hold tables that are the rows of a good state, with lock days that a table takes, and so does the database
+-- file with no log beside it.
 pub record HoldsState (image : Image) (f : Federation) : Type 0 where
   pub good : IsGoodState f
   pub short : HasShortLocks f
@@ -83,7 +88,8 @@ pub record HoldsState (image : Image) (f : Federation) : Type 0 where
   pub alone : HoldsAlone image db.trees
 
 module _ {D : Type 0} (g : disk.Ghosts D) where
-  -- a connection shows tables, of version 2 or of version 1, that are the rows of a good state, with lock days that a table takes
+  -- a connection shows tables, of version 2 or of version 1, that are the rows of a good state, with lock days that a
+  -- table takes
   pub record ShowsState (c : Held (FileStore D g)) (f : Federation) : Type 0 where
     pub good : IsGoodState f
     pub short : HasShortLocks f
@@ -93,9 +99,9 @@ module _ {D : Type 0} (g : disk.Ghosts D) where
   abbrev pub LeavesState : Files D → Federation → Type 0
   LeavesState closed f = (left : Image) → IsImageOf g closed.log closed.db left → HoldsState left f
 
-  -- A file was opened and closed, and that is what is left. What its connection showed first is what the image holds, and of whichever
-  -- state these are the rows: the request is answered as by that state, and the file that is closed holds the rows of the state where
-  -- the answer leads.
+  -- A file was opened and closed, and that is what is left. What its connection showed first is what the image holds,
+  -- and of whichever state these are the rows: the request is answered as by that state, and the file that is closed
+  -- holds the rows of the state where the answer leads.
   pub record AnswersOver (image : Image) (request : Request) (said : Spoken) (left : Left D g) : Type 0 where
     pub opened : Held (FileStore D g)
     pub closed : Files D
@@ -103,28 +109,33 @@ module _ {D : Type 0} (g : disk.Ghosts D) where
     pub found : AreClean g closed.log closed.db → FindsIn image (file_state opened)
     pub serves : AreClean g closed.log closed.db → IsOpened opened
     pub answers : AreClean g closed.log closed.db → (f : Federation) → ShowsState opened f
-        → (end : Standing) × AnswersWord (record { now = f; failed = false }) request said.text said.refused end × LeavesState closed end.now
+        → (end : Standing) × AnswersWord (record { now = f; failed = false }) request said.text said.refused end
+        × LeavesState closed end.now
 
-  -- A file was opened and closed, and that is what is left. Where its connection showed no table first, the file that is closed holds
-  -- the rows of a state that has nothing; in no case was there a table with one of our names.
+  -- A file was opened and closed, and that is what is left. Where its connection showed no table first, the file that
+  -- is closed holds the rows of a state that has nothing; in no case was there a table with one of our names.
   pub record MakesOver (image : Image) (left : Left D g) : Type 0 where
     pub opened : Held (FileStore D g)
     pub closed : Files D
     pub is_left : left ≡ Closed closed
     pub found : AreClean g closed.log closed.db → FindsIn image (file_state opened)
     pub free : has_one (file_state opened).now.schema ≡ false
-    pub makes : AreClean g closed.log closed.db → (file_state opened).now.schema ≡ no_schema → LeavesState closed empty_state
+    pub makes : AreClean g closed.log closed.db → (file_state opened).now.schema ≡ no_schema
+        → LeavesState closed empty_state
 
   -- trees of a database with the rows of the state where a request leads that is answered by a state
   abbrev pub HaveRowsBehind : Trees → Federation → Request → Type 0
   HaveRowsBehind trees f request =
-      (text : List ℕ) × (refused : Bool) × (end : Standing) × AnswersWord (record { now = f; failed = false }) request text refused end × AreTreesOf trees (rows end.now)
+      (text : List ℕ) × (refused : Bool) × (end : Standing)
+      × AnswersWord (record { now = f; failed = false }) request text refused end × AreTreesOf trees (rows end.now)
 
-  -- What the next word may find holds the rows that the files held; what may come back of a database that a failure shut has these, or
-  -- the rows of the state where the request leads.
+  -- What the next word may find holds the rows that the files held; what may come back of a database that a failure
+  -- shut has these, or the rows of the state where the request leads.
   pub record MayHaveDone (image : Image) (request : Request) (left : Left D g) : Type 0 where
-    pub finds : IsCleanIn g left → (next : Image) → MayBe g image left next → (f : Federation) → HoldsOf image f → ∥ HoldsRows next (rows f) ∥₁
-    pub comes_back : IsCleanIn g left → (trees : Trees) → MayComeBack g left trees → (f : Federation) → HoldsOf image f → HaveRows trees (rows f) ⊎ HaveRowsBehind trees f request
+    pub finds : IsCleanIn g left → (next : Image) → MayBe g image left next → (f : Federation) → HoldsOf image f
+        → ∥ HoldsRows next (rows f) ∥₁
+    pub comes_back : IsCleanIn g left → (trees : Trees) → MayComeBack g left trees → (f : Federation) → HoldsOf image f
+        → HaveRows trees (rows f) ⊎ HaveRowsBehind trees f request
     pub spared : IsCleanIn g left → AreSpared g image left
 
   -- `init`: refused, by 40, 41 or 43, it leaves the file
@@ -133,8 +144,8 @@ module _ {D : Type 0} (g : disk.Ghosts D) where
       (IsFileRefused said × KeepsFile g image left)
       ⊎ (MakesOver image left × (said ≡ record { text = answer_text [] (Ok Done); refused = false }))
 
-  -- The request is answered over a file. Or the file is refused: by 40 or 43, and it is left as it was; or by 41, and the request may
-  -- have been done.
+  -- The request is answered over a file. Or the file is refused: by 40 or 43, and it is left as it was; or by 41, and
+  -- the request may have been done.
   abbrev pub SaysOver : Image → Request → Spoken → Left D g → Type 0
   SaysOver image request said left =
       ((IsRefusedBy OutOfMemory said ⊎ IsRefusedBy Damaged said) × KeepsFile g image left)
@@ -144,16 +155,20 @@ module _ {D : Type 0} (g : disk.Ghosts D) where
   abbrev pub IsRefusedBefore : Cause → Spoken → Left D g → Type 0
   IsRefusedBefore cause said left = IsRefusedBy cause said × (left ≡ Untouched)
 
-  -- The same of `import`, whose journal is read first: it is refused, or what its reader has, where that is known, up to the limit.
+  -- The same of `import`, whose journal is read first: it is refused, or what its reader has, where that is known, up
+  -- to the limit.
   abbrev pub SaysToJournal : Image → List ℕ → Option (List ℕ) → Spoken → Left D g → Type 0
   SaysToJournal image branch has said left =
       (IsJournalRefused said × (left ≡ Untouched))
-      ⊎ ((journal : List ℕ) × IfSome has (λ bytes. journal ≡ take most_journal bytes) × SaysOver image (Import branch journal) said left)
+      ⊎ ((journal : List ℕ) × IfSome has (λ bytes. journal ≡ take most_journal bytes)
+      × SaysOver image (Import branch journal) said left)
 
   abbrev pub SaysToImport : Image → List Row → Spoken → Left D g → Type 0
   SaysToImport image values said left =
-      (((first_of (codes "branch") values ≡ None) ⊎ (first_of (codes "journal") values ≡ None)) × IsRefusedBefore NoRequest said left)
-      ⊎ ((branch : List ℕ) × (has : Option (List ℕ)) × (first_of (codes "branch") values ≡ Some branch) × SaysToJournal image branch has said left)
+      (((first_of (codes "branch") values ≡ None) ⊎ (first_of (codes "journal") values ≡ None))
+      × IsRefusedBefore NoRequest said left)
+      ⊎ ((branch : List ℕ) × (has : Option (List ℕ)) × (first_of (codes "branch") values ≡ Some branch)
+      × SaysToJournal image branch has said left)
 
   -- and of a word whose values spell its request
   abbrev pub SaysToForm : Image → List ℕ → List Row → Spoken → Left D g → Type 0
@@ -172,27 +187,32 @@ module _ {D : Type 0} (g : disk.Ghosts D) where
   -- a word is told what is said to it; or 40, and no file was opened
   abbrev pub IsTold : {W : Type 0} → Image → (W → Option (List ℕ)) → W → W → ℕ → List ℕ → List Row → Left D g → Type 0
   IsTold image contents w0 w1 status word values left =
-      (said : Spoken) × Tells contents w0 w1 status said × (IsRefusedBefore OutOfMemory said left ⊎ SaysToWord image word values said left)
+      (said : Spoken) × Tells contents w0 w1 status said
+      × (IsRefusedBefore OutOfMemory said left ⊎ SaysToWord image word values said left)
 
   -- ---- words over a file, one after another
 
-  -- Words over a file, while the disk returns what was written and nobody else writes to the file: something is said to each, be it
-  -- answered or refused, and it finds what the one before it left.
+  -- Words over a file, while the disk returns what was written and nobody else writes to the file: something is said to
+  -- each, be it answered or refused, and it finds what the one before it left.
   abbrev pub AreToldOver : Image → List Told → Image → Type 0
   AreToldOver start [] end = end ≡ start
   AreToldOver start (w ∷ ws) end =
-      (left : Left D g) × SaysOver start w.request (said_to w) left × IsCleanIn g left × ((next : Image) × MayBe g start left next × AreToldOver next ws end)
+      (left : Left D g) × SaysOver start w.request (said_to w) left × IsCleanIn g left
+      × ((next : Image) × MayBe g start left next × AreToldOver next ws end)
 
   -- The same of words of which none is refused for the file's sake: each is answered.
   abbrev pub AreAnsweredOver : Image → List Told → Image → Type 0
   AreAnsweredOver start [] end = end ≡ start
   AreAnsweredOver start (w ∷ ws) end =
-      (left : Left D g) × (word : AnswersOver start w.request (said_to w) left) × AreClean g word.closed.log word.closed.db
+      (left : Left D g) × (word : AnswersOver start w.request (said_to w) left)
+      × AreClean g word.closed.log word.closed.db
       × ((next : Image) × MayBe g start left next × AreAnsweredOver next ws end)
 
--- The states between words over a file: a word is answered by the state, and leads on; or it is refused by 40, 41 or 43, and leaves it.
+-- The states between words over a file: a word is answered by the state, and leads on; or it is refused by 40, 41 or
+-- 43, and leaves it.
 abbrev pub AreToldBut : Federation → List Told → Federation → Type 0
 AreToldBut f [] end = end ≡ f
 AreToldBut f (w ∷ ws) end =
-    ((mid : Standing) × AnswersWord (record { now = f; failed = false }) w.request w.text w.refused mid × AreToldBut mid.now ws end)
+    ((mid : Standing) × AnswersWord (record { now = f; failed = false }) w.request w.text w.refused mid
+    × AreToldBut mid.now ws end)
     ⊎ (IsFileRefused (said_to w) × AreToldBut f ws end)

@@ -1,6 +1,8 @@
--- What `serve` says and does over a database file (own rules; docs/RULES.md, "The program"), while the disk returns what was written.
--- Of what a socket gives or takes nothing is said: whichever calls come, they are answered one after another.
-use Rattle.std.specs.Prelude.{◌≡◌, ◌<◌, ◌⊎◌, ◌^◌, ℕ, false, if◌then◌else◌, List, [], ◌++◌, take, Option, None, Some, codes}
+-- What `serve` says and does over a database file (own rules; docs/RULES.md, "The program"), while the disk returns
+-- what was written. Of what a socket gives or takes nothing is said: whichever calls come, they are answered one after
+-- another.
+use Rattle.std.specs.Prelude.{◌≡◌, ◌<◌, ◌⊎◌, ◌^◌, ℕ, false, if◌then◌else◌, List, [], ◌++◌, take, Option, None, Some}
+use Rattle.std.specs.Prelude.{codes}
 use Rattle.std.specs.Io.KnownBytes.{Appends}
 use Rattle.std.specs.Str.Parse.{IsNumeral, without_leading_plus, digits_value}
 use Rattle.clap.specs.Walk.{Row, first_of, one_of}
@@ -35,7 +37,8 @@ LacksNumber bits name values =
 -- the file, the port or the number of connections is not given
 abbrev pub LacksValue : List Row → Type 0
 LacksValue values =
-    (first_of (codes "db") values ≡ None) ⊎ (LacksNumber 16 (codes "port") values ⊎ LacksNumber 32 (codes "requests") values)
+    (first_of (codes "db") values ≡ None)
+    ⊎ (LacksNumber 16 (codes "port") values ⊎ LacksNumber 32 (codes "requests") values)
 
 -- ---- what is said
 
@@ -51,17 +54,17 @@ silent = record { text = []; refused = false }
 abbrev pub after_listening : Spoken → Spoken
 after_listening said = record said { text = listening ++ said.text }
 
--- All of the text is written, and the status is 1 where it ends as a refusal, else 0; or the output takes no more behind a part of it, or
--- does not hand on what it took, and it is 1.
+-- All of the text is written, and the status is 1 where it ends as a refusal, else 0; or the output takes no more
+-- behind a part of it, or does not hand on what it took, and it is 1.
 abbrev pub TellsServing : {W : Type 0} → (W → Option (List ℕ)) → W → W → ℕ → Spoken → Type 0
 TellsServing contents w0 w1 status said =
     (Appends (contents w0) (contents w1) said.text × (status ≡ (if said.refused then 1 else 0)))
     ⊎ ((taken : ℕ) × Appends (contents w0) (contents w1) (take taken said.text) × (status ≡ 1))
 
 module _ {D : Type 0} (g : disk.Ghosts D) where
-  -- A file was opened and closed, and that is what is left; calls were answered in between. What its connection showed first is what
-  -- the image holds, and of whichever state these are the rows: each call is answered by the state that the one before it left, and the
-  -- file that is closed holds the rows of the state where the last one leads.
+  -- A file was opened and closed, and that is what is left; calls were answered in between. What its connection showed
+  -- first is what the image holds, and of whichever state these are the rows: each call is answered by the state that
+  -- the one before it left, and the file that is closed holds the rows of the state where the last one leads.
   pub record ServesOver (image : Image) (left : Left D g) : Type 0 where
     pub opened : Held (FileStore D g)
     pub closed : Files D
@@ -69,15 +72,17 @@ module _ {D : Type 0} (g : disk.Ghosts D) where
     pub found : AreClean g closed.log closed.db → FindsIn image (file_state opened)
     pub serves : AreClean g closed.log closed.db → IsOpened opened
     pub answers : AreClean g closed.log closed.db → (f : Federation) → ShowsState g opened f
-        → (calls : List AnsweredCall) × (end : Standing) × AreServed (record { now = f; failed = false }) calls end × LeavesState g closed end.now
+        → (calls : List AnsweredCall) × (end : Standing) × AreServed (record { now = f; failed = false }) calls end
+        × LeavesState g closed end.now
 
-  -- how it ends once connections can be made: they are served, or one of them cannot be accepted, which is 45; or the file cannot be
-  -- closed
+  -- how it ends once connections can be made: they are served, or one of them cannot be accepted, which is 45; or the
+  -- file cannot be closed
   abbrev pub EndsServing : Image → Spoken → Left D g → Type 0
-  EndsServing image said left = (ServesOver image left × ((said ≡ silent) ⊎ IsRefusedBy ReadFault said)) ⊎ IsRefusedBy Store said
+  EndsServing image said left =
+      (ServesOver image left × ((said ≡ silent) ⊎ IsRefusedBy ReadFault said)) ⊎ IsRefusedBy Store said
 
-  -- what is said to `serve`: a value is lacking, which is 44; or the file is refused, and is left as it was; or the port, which is 45,
-  -- where the file may not be closed, which is 41; or connections can be made
+  -- what is said to `serve`: a value is lacking, which is 44; or the file is refused, and is left as it was; or the
+  -- port, which is 45, where the file may not be closed, which is 41; or connections can be made
   abbrev pub SaysToServe : Image → List Row → Spoken → Left D g → Type 0
   SaysToServe image values said left =
       (LacksValue values × IsRefusedBefore g NoRequest said left)
@@ -89,4 +94,5 @@ module _ {D : Type 0} (g : disk.Ghosts D) where
   -- `serve` is told what is said to it; or 40, and no file was opened
   abbrev pub IsServed : {W : Type 0} → Image → (W → Option (List ℕ)) → W → W → ℕ → List Row → Left D g → Type 0
   IsServed image contents w0 w1 status values left =
-      (said : Spoken) × TellsServing contents w0 w1 status said × (IsRefusedBefore g OutOfMemory said left ⊎ SaysToServe image values said left)
+      (said : Spoken) × TellsServing contents w0 w1 status said
+      × (IsRefusedBefore g OutOfMemory said left ⊎ SaysToServe image values said left)

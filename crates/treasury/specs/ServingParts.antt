@@ -42,5 +42,6 @@ module _ {D : Type 0} (g : disk.Ghosts D) where
 
   -- and where it did not begin
   abbrev pub SaysServing : Image → List Row → Option Ending → Spoken → Left D g → Type 0
-  SaysServing image values None said left = (LacksValue values × IsRefusedBefore g NoRequest said left) ⊎ (IsFileRefused said × KeepsFile g image left)
+  SaysServing image values None said left =
+      (LacksValue values × IsRefusedBefore g NoRequest said left) ⊎ (IsFileRefused said × KeepsFile g image left)
   SaysServing image values (Some ending) said left = EndsBy image ending said left

@@ -1,5 +1,5 @@
--- The request that a word over a database file spells (own rule; docs/RULES.md, "The program"): the one that a line of `run`
--- spells whose keys have the word's values.
+-- The request that a word over a database file spells (own rule; docs/RULES.md, "The program"): the one that a line of
+-- `run` spells whose keys have the word's values.
 use Rattle.std.specs.Prelude.{ℕ, List, codes, Option, Some, None, option_map, option_and_then, if◌then◌else◌}
 use Rattle.std.specs.Str.{bytes_eq}
 use Rattle.clap.specs.Walk.{Row, first_of}
@@ -7,7 +7,8 @@ use Rattle.money_core.specs.declared.day.Day.{Day}
 use Rattle.journal_lines.specs.DateReading.{date_of}
 use Rattle.treasury_api.specs.declared.request.WrittenPart.{WrittenPart}
 use Rattle.treasury_api.specs.declared.request.Request.{Request}
-use Rattle.treasury_api.specs.declared.request.Request.TheVariants.{Branch, Commodity, Dispatch, Receive, Lock, Close, Balance, Register, Transit, Journal}
+use Rattle.treasury_api.specs.declared.request.Request.TheVariants.{Branch, Commodity, Dispatch, Receive, Lock, Close}
+use Rattle.treasury_api.specs.declared.request.Request.TheVariants.{Balance, Register, Transit, Journal}
 use Rattle.treasury_api.specs.Request.{written}
 
 -- the day that is given, where it is a date
@@ -17,8 +18,10 @@ day_in rows = option_and_then date_of (first_of (codes "day") rows)
 -- what `dispatch` spells, and `receive`
 abbrev pub dispatch_in : List Row → Option Request
 dispatch_in rows =
-    option_and_then (λ id. option_and_then (λ from. option_and_then (λ to. option_and_then (λ day. option_and_then (λ amount.
-    option_map (λ account. Dispatch id from to day amount account) (first_of (codes "account") rows)) (first_of (codes "amount") rows))
+    option_and_then (λ id. option_and_then (λ from.
+    option_and_then (λ to. option_and_then (λ day. option_and_then (λ amount.
+    option_map (λ account. Dispatch id from to day amount account) (first_of (codes "account") rows))
+    (first_of (codes "amount") rows))
     (day_in rows)) (first_of (codes "to") rows)) (first_of (codes "from") rows)) (first_of (codes "id") rows)
 
 -- a part is spelled by its key and its amount: both are given, or neither
@@ -43,7 +46,8 @@ report_in word rows =
     if bytes_eq word (codes "balance")
     then option_and_then (λ branch. option_map (Balance branch) (day_in rows)) (first_of (codes "branch") rows)
     else if bytes_eq word (codes "register")
-    then option_and_then (λ branch. option_map (λ account. Register branch account (first_of (codes "tag") rows)) (first_of (codes "account") rows))
+    then option_and_then (λ branch.
+    option_map (λ account. Register branch account (first_of (codes "tag") rows)) (first_of (codes "account") rows))
     (first_of (codes "branch") rows)
     else if bytes_eq word (codes "transit") then option_map Transit (day_in rows)
     else if bytes_eq word (codes "journal") then option_map Journal (first_of (codes "branch") rows)
@@ -59,5 +63,7 @@ request_in word rows =
     else if bytes_eq word (codes "lock")
     then option_and_then (λ branch. option_map (Lock branch) (day_in rows)) (first_of (codes "branch") rows)
     else if bytes_eq word (codes "close")
-    then option_and_then (λ branch. option_map (λ day. Close branch day (first_of (codes "accounts") rows) (first_of (codes "into") rows)) (day_in rows)) (first_of (codes "branch") rows)
+    then option_and_then (λ branch.
+    option_map (λ day. Close branch day (first_of (codes "accounts") rows) (first_of (codes "into") rows))
+    (day_in rows)) (first_of (codes "branch") rows)
     else report_in word rows

@@ -41,7 +41,8 @@ refusal_of (why.NoTreasury reason) = Damaged
 refusal_of (why.OtherVersion version) = Damaged
 refusal_of (why.Strange told) = Damaged
 
--- words that are not taken are answered 1 for want of memory, 2 where they ask for nothing, and otherwise where they ask for help or for the version
+-- words that are not taken are answered 1 for want of memory, 2 where they ask for nothing, and otherwise where they
+-- ask for help or for the version
 abbrev pub AnswersUntaken : {W : Type 0} → ErrorKind → W → W → ℕ → Type 0
 AnswersUntaken kind w0 w1 status =
     ((kind ≡ NoMemory) × ((status ≡ 1) × (w1 ≡ w0)))
@@ -63,10 +64,13 @@ abbrev pub IsLeftOpen : {D : Type 0} {g : disk.Ghosts D} → Held (FileStore D g
 IsLeftOpen {D} {g} c left = (it : FileStore D g) × (left ≡ Open it) × IsLeftBy c it
 
 abbrev pub IsLeftShut : {D : Type 0} {g : disk.Ghosts D} → Held (FileStore D g) → Left D g → Type 0
-IsLeftShut {D} {g} c left = (it : FileStore D g) × (left ≡ Shut it) × IsQuiet view faults recovers is_shielded c.store it
+IsLeftShut {D} {g} c left =
+    (it : FileStore D g) × (left ≡ Shut it) × IsQuiet view faults recovers is_shielded c.store it
 
 abbrev pub IsLeftClosed : {D : Type 0} {g : disk.Ghosts D} → Held (FileStore D g) → Left D g → Type 0
-IsLeftClosed {D} {g} c left = IsLive (file_state c) × (((closed : Files D) × (left ≡ Closed closed) × (AreClean g closed.log closed.db → IsCopied c closed)) ⊎ IsLeftShut c left)
+IsLeftClosed {D} {g} c left = IsLive (file_state c)
+    × (((closed : Files D) × (left ≡ Closed closed) × (AreClean g closed.log closed.db → IsCopied c closed))
+    ⊎ IsLeftShut c left)
 
 -- of one that could be closed, or not
 abbrev pub IsClosedOrShut : {D : Type 0} {g : disk.Ghosts D} → Left D g → Type 0
@@ -82,7 +86,8 @@ unopened_as None = Untouched
 unopened_as (Some rest) = Unopened rest
 
 -- a connection was asked at most which version its tables name
-pub record IsAsked {D : Type 0} (g : disk.Ghosts D) (old : Held (FileStore D g)) (cause : Cause) (new : Held (FileStore D g)) : Type 0 where
+pub record IsAsked {D : Type 0} (g : disk.Ghosts D) (old : Held (FileStore D g)) (cause : Cause)
+    (new : Held (FileStore D g)) : Type 0 where
   pub same : (cause ≡ Damaged → ⊥) → new ≡ old
   pub clean : HasCleanDisk (file_state new) → HasCleanDisk (file_state old)
 
@@ -96,8 +101,10 @@ module _ {D : Type 0} (g : disk.Ghosts D) where
   pub record StartsOn (opened : Held (FileStore D g)) (t : Treasury (FileStore D g)) : Type 0 where
     pub clean : HasCleanDisk (file_state t.store.conn) → HasCleanDisk (file_state opened)
     pub is_open : HasCleanDisk (file_state t.store.conn) → IsTrue (file_state t.store.conn).is_open
-    pub tables : HasCleanDisk (file_state t.store.conn) → (file_state opened).committed ≡ (file_state opened).now → (rows : Tables) → HoldsEither (file_state opened).now rows → TablesAre over_files t.store.conn rows
-    pub of : HasCleanDisk (file_state t.store.conn) → (file_state opened).committed ≡ (file_state opened).now → (f : Federation) → ShowsState g opened f → IsTreasuryOf over_files t f
+    pub tables : HasCleanDisk (file_state t.store.conn) → (file_state opened).committed ≡ (file_state opened).now
+        → (rows : Tables) → HoldsEither (file_state opened).now rows → TablesAre over_files t.store.conn rows
+    pub of : HasCleanDisk (file_state t.store.conn) → (file_state opened).committed ≡ (file_state opened).now
+        → (f : Federation) → ShowsState g opened f → IsTreasuryOf over_files t f
     pub unfailed : t.store.failed ≡ false
 
   -- a treasury was started on a file that was opened

@@ -28,7 +28,8 @@ AskForRun words = AreTaken words × (option_map (λ p. p.0) (named words) ≡ So
 
 -- the words ask for a word over a file, with these values
 abbrev pub AskForWord : List (List ℕ) → List ℕ → List Row → Type 0
-AskForWord words word values = AreTaken words × ((named words ≡ Some (word, values)) × (word ≢ codes "run") × (word ≢ codes "serve"))
+AskForWord words word values =
+    AreTaken words × ((named words ≡ Some (word, values)) × (word ≢ codes "run") × (word ≢ codes "serve"))
 
 -- the words ask for connections to be served, with these values
 abbrev pub AskToServe : List (List ℕ) → List Row → Type 0
@@ -38,7 +39,8 @@ AskToServe words values = AreTaken words × (named words ≡ Some (codes "serve"
 abbrev pub MayAskForHelp : List (List ℕ) → Type 0
 MayAskForHelp words = IsAmong DisplayHelp (objections words) ⊎ IsAmong DisplayVersion (objections words)
 
--- A run over a federation that has nothing yet was cut off, or there was no memory for its words or its tables, and it read and wrote nothing.
+-- A run over a federation that has nothing yet was cut off, or there was no memory for its words or its tables, and it
+-- read and wrote nothing.
 abbrev pub IsCutOff : {R W : Type 0} → (R → Option (List ℕ)) → R → R → (W → Option (List ℕ)) → W → W → Type 0
 IsCutOff remaining r0 r1 contents w0 w1 = ((r1 ≡ r0) × (w1 ≡ w0))
     ⊎ ((cause : Cause) × (end : Standing) × IsCutOffBy cause remaining r0 r1 contents w0 w1 at_first end)

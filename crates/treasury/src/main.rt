@@ -1,4 +1,5 @@
-//! The program `treasury`: a federation's books over a file, word by word, or its requests from standard input in memory.
+//! The program `treasury`: a federation's books over a file, word by word, or its requests from standard input in
+//! memory.
 #![tactic(auto)]
 
 mod explain;

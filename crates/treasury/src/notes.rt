@@ -1,4 +1,5 @@
-//! What standard error says beside an answer that is no refusal: what may have been meant otherwise, and what cannot be undone.
+//! What standard error says beside an answer that is no refusal: what may have been meant otherwise, and what cannot be
+//! undone.
 
 mod accounts;
 mod again;
@@ -208,7 +209,8 @@ fn push_notes<L: Ledger>(
     }
 }
 
-/// The notes of a request that was answered, and no refusal, as far as there is memory for them. `source` names the journal.
+/// The notes of a request that was answered, and no refusal, as far as there is memory for them. `source` names the
+/// journal.
 pub fn notes_of<S: Alter>(
     alloc: Global,
     treasury: &Treasury<S>,

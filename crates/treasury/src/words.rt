@@ -14,7 +14,8 @@ mod spelling;
 mod tables;
 mod waiting;
 
-ghost use Rattle.std.specs.Prelude.{◌≡◌, ◌⊎◌, ◌≢◌, ℕ, List, map, codes, false, None, Some, IfOk, OnOk, OnErr, MatchResult};
+ghost use Rattle.std.specs.Prelude.{◌≡◌, ◌⊎◌, ◌≢◌, ℕ, List, map, codes, false, None, Some, IfOk, OnOk, OnErr};
+ghost use Rattle.std.specs.Prelude.{MatchResult};
 ghost use Rattle.clap.specs.Matches.{found_of, subcommand_name_of};
 ghost use Rattle.clap.specs.Simple.{subcommand_rows_of};
 ghost use Rattle.clap.specs.Walk.{Row, rows_of};
@@ -109,7 +110,8 @@ fn treasury_in_memory(alloc: Global) -> Result<Treasury<MemoryStore>, Cause>
 
 /// Runs from the input to the output, over a federation that has nothing yet.
 fn run<R: Read, W: Write>(alloc: Global, input: &mut R, output: &mut W) -> Result<(), Cause>
-    ensures done { OnOk result ((end : Standing) × AnswersAll R.remaining input.old input.new W.contents output.old output.new at_first end) }
+    ensures done { OnOk result ((end : Standing)
+        × AnswersAll R.remaining input.old input.new W.contents output.old output.new at_first end) }
     ensures cut_off { OnErr result (IsCutOff R.remaining input.old input.new W.contents output.old output.new) }
 {
     run_law();
@@ -155,7 +157,8 @@ fn show_text<W: Write>(rt: &HostRuntime, text: &Error, output: &mut W) -> u8
 /// The answer where there is no memory for one.
 const NO_MEMORY: &[u8] = b"refused 40 OutOfMemory\n";
 
-/// The exit status where the output takes no more, which is said on standard error; of a pipe that nobody reads it is not.
+/// The exit status where the output takes no more, which is said on standard error; of a pipe that nobody reads it is
+/// not.
 fn unwritten<H: Eprint>(rt: &H) -> u8
     ensures { result ≡ 1 }
 {
@@ -165,7 +168,8 @@ fn unwritten<H: Eprint>(rt: &H) -> u8
     status(rt, Err(Cause::WriteFault))
 }
 
-/// Writes the answer to a word to the output, and answers the exit status: 1 where it is a refusal or cannot be written.
+/// Writes the answer to a word to the output, and answers the exit status: 1 where it is a refusal or cannot be
+/// written.
 fn write_answer<W: Write>(rt: &HostRuntime, answer: &[u8], is_refused: bool, output: &mut W) -> u8
     ensures { Tells W.contents output.old output.new result (record { text = answer.now; refused = is_refused }) }
 {
@@ -201,7 +205,8 @@ fn do_over_file<W: Write, S: Start>(
     output: &mut W,
     start: S,
 ) -> Ended<FileFrom<S>>
-    ensures told { IsTold ⟦<FileFrom<S> as Disk>⟧ (image_at S.Start) W.contents output.old output.new result.status word.now (rows_of (found_of values.now)) result.left }
+    ensures told { IsTold ⟦<FileFrom<S> as Disk>⟧ (image_at S.Start) W.contents output.old output.new result.status
+        word.now (rows_of (found_of values.now)) result.left }
     ensures usage { result.status ≢ 2 }
 {
     words_law();
@@ -220,14 +225,16 @@ fn do_over_file<W: Write, S: Start>(
     Ended { status, left }
 }
 
-/// Serves connections as `serve` says: the output says when they can be made, and what refuses it; standard error says why.
+/// Serves connections as `serve` says: the output says when they can be made, and what refuses it; standard error says
+/// why.
 fn do_serve<W: Write, S: Start>(
     rt: &HostRuntime,
     values: &ArgMatches<'_>,
     output: &mut W,
     start: S,
 ) -> Ended<FileFrom<S>>
-    ensures served { IsServed ⟦<FileFrom<S> as Disk>⟧ (image_at S.Start) W.contents output.old output.new result.status (rows_of (found_of values.now)) result.left }
+    ensures served { IsServed ⟦<FileFrom<S> as Disk>⟧ (image_at S.Start) W.contents output.old output.new result.status
+        (rows_of (found_of values.now)) result.left }
     ensures usage { result.status ≢ 2 }
 {
     serving_law::<FileFrom<S>>();
@@ -263,12 +270,16 @@ fn do_word<R: Read, W: Write, S: Start>(
         → (end : Standing) × AnswersAll R.remaining input.old input.new W.contents output.old output.new at_first end }
     ensures cut_off { subcommand_name_of matches.now ≡ Some (codes "run") → result.status ≢ 0
         → (result.status ≡ 1) × IsCutOff R.remaining input.old input.new W.contents output.old output.new }
-    ensures word { (word : List ℕ) → (values : List Row) → subcommand_rows_of matches.now ≡ Some (word, values) → word ≢ codes "run" → word ≢ codes "serve"
-        → IsTold ⟦<FileFrom<S> as Disk>⟧ (image_at S.Start) W.contents output.old output.new result.status word values result.left }
+    ensures word { (word : List ℕ) → (values : List Row) → subcommand_rows_of matches.now ≡ Some (word, values)
+        → word ≢ codes "run" → word ≢ codes "serve"
+        → IsTold ⟦<FileFrom<S> as Disk>⟧ (image_at S.Start) W.contents output.old output.new result.status word values
+        result.left }
     ensures serve { (values : List Row) → subcommand_rows_of matches.now ≡ Some (codes "serve", values)
-        → IsServed ⟦<FileFrom<S> as Disk>⟧ (image_at S.Start) W.contents output.old output.new result.status values result.left }
+        → IsServed ⟦<FileFrom<S> as Disk>⟧ (image_at S.Start) W.contents output.old output.new result.status values
+        result.left }
     ensures other { (subcommand_name_of matches.now ≡ Some (codes "run") → ⊥) → input.new ≡ input.old }
-    ensures usage { result.status ≡ 2 → (subcommand_rows_of matches.now ≡ None) × ((input.new ≡ input.old) × (output.new ≡ output.old)) }
+    ensures usage { result.status ≡ 2
+        → (subcommand_rows_of matches.now ≡ None) × ((input.new ≡ input.old) × (output.new ≡ output.old)) }
 {
     match matches.subcommand_matches("run") {
         Some(_) => Ended {
@@ -288,8 +299,8 @@ fn do_word<R: Read, W: Write, S: Start>(
     }
 }
 
-/// Answers words that are not taken: 2, with the reason and the usage on standard error; or help or the version, which are
-/// written to the output; or 1 for want of memory.
+/// Answers words that are not taken: 2, with the reason and the usage on standard error; or help or the version, which
+/// are written to the output; or 1 for want of memory.
 fn answer_untaken<W: Write>(rt: &HostRuntime, error: &Error, output: &mut W) -> u8
     ensures { AnswersUntaken (kind_of error.now) output.old output.new result }
 {
@@ -306,9 +317,9 @@ fn answer_untaken<W: Write>(rt: &HostRuntime, error: &Error, output: &mut W) -> 
 /// Does what the words say, and answers the exit status, with what is left of the files of a word.
 ///
 /// The words begin with the program's name. 0: done, whatever was refused. 1: cut off, because memory was refused, the
-/// input broke or a write failed, with the refusal and its meaning on standard error; and a word over a file that is refused.
-/// 2: words that say nothing to do, with the reason and the usage on standard error. `--help` and `--version` are written to
-/// the output. `start` stands for what the database file of a word holds when it is opened.
+/// input broke or a write failed, with the refusal and its meaning on standard error; and a word over a file that is
+/// refused. 2: words that say nothing to do, with the reason and the usage on standard error. `--help` and `--version`
+/// are written to the output. `start` stands for what the database file of a word holds when it is opened.
 pub fn run_words<R, W, S>(
     rt: &HostRuntime,
     words: &[String],
@@ -328,19 +339,22 @@ where
 
     // A word over a database file is answered over that file, and leaves it as is said.
     ensures word { (word : List ℕ) → (values : List Row) → AskForWord (map string_bytes words.now) word values
-        → IsTold ⟦<FileFrom<S> as Disk>⟧ (image_at S.Start) W.contents output.old output.new result.status word values result.left }
+        → IsTold ⟦<FileFrom<S> as Disk>⟧ (image_at S.Start) W.contents output.old output.new result.status word values
+        result.left }
 
     // `serve` answers the calls of connections over it.
     ensures serve { (values : List Row) → AskToServe (map string_bytes words.now) values
-        → IsServed ⟦<FileFrom<S> as Disk>⟧ (image_at S.Start) W.contents output.old output.new result.status values result.left }
+        → IsServed ⟦<FileFrom<S> as Disk>⟧ (image_at S.Start) W.contents output.old output.new result.status values
+        result.left }
 
-    // Others read none, and those that are not taken, but for those that may ask for help or for the version, are answered 2; or 1
-    // for want of memory. No other words are answered 2.
+    // Others read none, and those that are not taken, but for those that may ask for help or for the version, are
+    // answered 2; or 1 for want of memory. No other words are answered 2.
     ensures other { (AskForRun (map string_bytes words.now) → ⊥) → input.new ≡ input.old }
     ensures wrong { (AreTaken (map string_bytes words.now) → ⊥) → (MayAskForHelp (map string_bytes words.now) → ⊥)
         → ((result.status ≡ 2) ⊎ (result.status ≡ 1)) × (output.new ≡ output.old) }
     ensures usage { result.status ≡ 2 → (input.new ≡ input.old) × (output.new ≡ output.old) }
-    ensures unused { result.status ≡ 2 → AreTaken (map string_bytes words.now) → named (map string_bytes words.now) ≡ None }
+    ensures unused { result.status ≡ 2 → AreTaken (map string_bytes words.now)
+        → named (map string_bytes words.now) ≡ None }
 {
     let alloc = rt.alloc();
     let known = match known_words(alloc) {

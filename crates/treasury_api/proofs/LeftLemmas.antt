@@ -1,5 +1,6 @@
 -- What a request leaves of a treasury, and why it is refused.
-use Rattle.std.proofs.Common.{◌≡◌, ◌≤◌, ◌⊎◌, ℕ, ℤ, List, Bool, true, false, IfErr, Option, Some, None, Result, Ok, Err, OnOk, IsTrue, refl, ap, ◌∙◌, sym, subst, inl, inr, arith}
+use Rattle.std.proofs.Common.{◌≡◌, ◌≤◌, ◌⊎◌, ℕ, ℤ, List, Bool, true, false, IfErr, Option, Some, None, Result, Ok, Err}
+use Rattle.std.proofs.Common.{OnOk, IsTrue, refl, ap, ◌∙◌, sym, subst, inl, inr, arith}
 use Rattle.std.specs.Prelude.{IfSome}
 use Rattle.sqlite.specs.Store.{Ghosts}
 use Rattle.sqlite.specs.State.{HasCleanDisk}
@@ -7,7 +8,8 @@ use Rattle.sqlite.specs.Held.{Held, state}
 use Rattle.money_core.specs.declared.style.Style.{Style}
 use Rattle.money_core.specs.declared.unit.Unit.{Unit as Commodity}
 use Rattle.money_core.specs.declared.cause.Cause.{Cause}
-use Rattle.money_core.specs.declared.cause.Cause.TheVariants.{OutOfMemory, UnknownBranch, Amount, UnknownCommodity, Decimals, Closed, Damaged, Store as Failed}
+use Rattle.money_core.specs.declared.cause.Cause.TheVariants.{OutOfMemory, UnknownBranch, Amount, UnknownCommodity}
+use Rattle.money_core.specs.declared.cause.Cause.TheVariants.{Decimals, Closed, Damaged, Store as Failed}
 use Rattle.money_core.specs.declared.cause.Fault.{Fault}
 use Rattle.money_core.specs.Sampling.{style_of}
 use Rattle.money_core.specs.Reading.{amount}
@@ -26,10 +28,16 @@ use Rattle.treasury_core.specs.History.{Replies as Steps}
 use Rattle.treasury_store.specs.Rows.{Tables}
 use Rattle.treasury_store.specs.Kept.{ShutsByFault}
 use Rattle.treasury_store.specs.Store.{TablesAre, AnswersState}
-use Rattle.treasury_store.specs.Treasury.{Treasury, IsTreasuryOf, AddsNothing, FailsBy, is_by_rules, MayReply as MayPerform}
+use Rattle.treasury_store.specs.Treasury.{Treasury, IsTreasuryOf, AddsNothing, FailsBy, is_by_rules}
+use Rattle.treasury_store.specs.Treasury.{MayReply as MayPerform}
 use Rattle.treasury_store.specs.Left.{LeavesRows, LeavesEither, LeavesSame, LeavesStep}
 use Rattle.treasury_api.specs.declared.request.Request.{Request}
-use Rattle.treasury_api.specs.declared.request.Request.TheVariants.{Branch as ForBranch, Commodity as ForCommodity, Import as ForImport, Dispatch as ForDispatch, Receive as ForReceive, Lock as ForLock, Close as ForClose, Balance as ForBalance, Register as ForRegister, Transit as ForTransit, Journal as ForJournal}
+use Rattle.treasury_api.specs.declared.request.Request.TheVariants.{Branch as ForBranch, Commodity as ForCommodity}
+use Rattle.treasury_api.specs.declared.request.Request.TheVariants.{Import as ForImport, Dispatch as ForDispatch}
+use Rattle.treasury_api.specs.declared.request.Request.TheVariants.{Receive as ForReceive, Lock as ForLock}
+use Rattle.treasury_api.specs.declared.request.Request.TheVariants.{Close as ForClose, Balance as ForBalance}
+use Rattle.treasury_api.specs.declared.request.Request.TheVariants.{Register as ForRegister, Transit as ForTransit}
+use Rattle.treasury_api.specs.declared.request.Request.TheVariants.{Journal as ForJournal}
 use Rattle.treasury_api.specs.declared.asking.Asked.{Asked}
 use Rattle.treasury_api.specs.declared.asking.Asked.TheVariants.{Command}
 use Rattle.treasury_api.specs.Asked.{asked_by_sample, asked_by_amount, asked_by_part, JournalAsks, RequestAsks, AsksOf}
@@ -39,15 +47,20 @@ use Rattle.treasury_api.proofs.ReplyLemmas.{at_held, refusal_is, fits_of}
 
 -- ---- a request asks one thing
 
-journal_once : (styles : List Style) (name journal : List ℕ) (one other : Result Asked Refusal) → JournalAsks styles name journal one → JournalAsks styles name journal other → one ≡ other
+journal_once : (styles : List Style) (name journal : List ℕ) (one other : Result Asked Refusal)
+    → JournalAsks styles name journal one → JournalAsks styles name journal other → one ≡ other
 journal_once styles name journal one other (inl (list, (reads, is))) (inl (more, (also, same))) =
-    is ∙ (ap (λ (xs : List Located). Ok (Command (cmd.Enter name xs))) (one_list styles journal list more reads also) ∙ sym same)
-journal_once styles name journal one other (inl (list, (reads, is))) (inr (fault, (first, same))) = absurd (no_fault_read styles journal list fault reads first)
-journal_once styles name journal one other (inr (fault, (first, is))) (inl (list, (reads, same))) = absurd (no_fault_read styles journal list fault reads first)
+    is ∙ (ap (λ (xs : List Located). Ok (Command (cmd.Enter name xs))) (one_list styles journal list more reads also) ∙
+    sym same)
+journal_once styles name journal one other (inl (list, (reads, is))) (inr (fault, (first, same))) =
+    absurd (no_fault_read styles journal list fault reads first)
+journal_once styles name journal one other (inr (fault, (first, is))) (inl (list, (reads, same))) =
+    absurd (no_fault_read styles journal list fault reads first)
 journal_once styles name journal one other (inr (fault, (first, is))) (inr (more, (also, same))) =
     is ∙ (ap (λ (x : Fault). Err (Text x)) (one_fault styles journal fault more first also) ∙ sym same)
 
-request_once : (styles : List Style) (request : Request) (one other : Result Asked Refusal) → RequestAsks styles request one → RequestAsks styles request other → one ≡ other
+request_once : (styles : List Style) (request : Request) (one other : Result Asked Refusal)
+    → RequestAsks styles request one → RequestAsks styles request other → one ≡ other
 request_once styles (ForBranch name) one other a b = a ∙ sym b
 request_once styles (ForCommodity sample) one other a b = a ∙ sym b
 request_once styles (ForImport name journal) one other a b = journal_once styles name journal one other a b
@@ -70,26 +83,33 @@ pub leaves_first : {S : Type 0} (g : Ghosts S) (h : Held S) (t u : Tables) → L
 leaves_first g h t u left clean trees may = inl (left clean trees may)
 
 -- nothing was committed
-pub left_same : {S : Type 0} (g : Ghosts S) (old new : Treasury S) (request : Request) → LeavesSame g old.store.conn new.store.conn → LeavesRequest g old new request
-left_same g old new request same clean is_open f of asked asks = leaves_first g new.store.conn (rows f) _ (same is_open (rows f) of.store.tables)
+pub left_same : {S : Type 0} (g : Ghosts S) (old new : Treasury S) (request : Request)
+    → LeavesSame g old.store.conn new.store.conn → LeavesRequest g old new request
+left_same g old new request same clean is_open f of asked asks =
+    leaves_first g new.store.conn (rows f) _ (same is_open (rows f) of.store.tables)
 
 -- a command, behind the loading of the state
 pub left_command : {S : Type 0} (g : Ghosts S) (old mid new : Treasury S) (request : Request) (c : AnyCommand)
     → (HasCleanDisk (state g new.store.conn) → HasCleanDisk (state g mid.store.conn))
-    → (HasCleanDisk (state g mid.store.conn) → IsTrue (state g old.store.conn).is_open → IsTrue (state g mid.store.conn).is_open)
+    → (HasCleanDisk (state g mid.store.conn) → IsTrue (state g old.store.conn).is_open
+    → IsTrue (state g mid.store.conn).is_open)
     → (HasCleanDisk (state g mid.store.conn) → (f : Federation) → IsTreasuryOf g old f → IsTreasuryOf g mid f)
-    → old.store.failed ≡ false → IsHeldFor mid c → ((f : Federation) → IsTreasuryOf g mid f → RequestAsks f.styles request (Ok (Command c)))
+    → old.store.failed ≡ false → IsHeldFor mid c
+    → ((f : Federation) → IsTreasuryOf g mid f → RequestAsks f.styles request (Ok (Command c)))
     → LeavesStep g mid new c → LeavesRequest g old new request
 left_command g old mid new request c cleaner opens of_mid unfailed held means step clean is_open f of asked asks =
     let there = of_mid (cleaner clean) f of in
     let same : Ok (Command c) ≡ asked =
-    request_once f.styles request (Ok (Command c)) asked (means f there) (subst (λ (b : Bool). AsksOf b f.styles request asked) unfailed asks) in
-    subst (λ (a : Result Asked Refusal). LeavesAsked g new.store.conn f a) same (step (opens (cleaner clean) is_open) f there (fits_of g mid f c there held))
+    request_once f.styles request (Ok (Command c)) asked (means f there)
+    (subst (λ (b : Bool). AsksOf b f.styles request asked) unfailed asks) in
+    subst (λ (a : Result Asked Refusal). LeavesAsked g new.store.conn f a) same
+    (step (opens (cleaner clean) is_open) f there (fits_of g mid f c there held))
 
 -- ---- whether the database is open
 
 -- where a call is refused by 40
-pub open_or_fault : {S T : Type 0} (g : Ghosts S) (old new : Held S) (result : Result T Refusal) → ShutsByFault g old new → HasCleanDisk (state g new) → IsTrue (state g old).is_open
+pub open_or_fault : {S T : Type 0} (g : Ghosts S) (old new : Held S) (result : Result T Refusal)
+    → ShutsByFault g old new → HasCleanDisk (state g new) → IsTrue (state g old).is_open
     → result ≡ Err (Plain OutOfMemory) → IsOpenBut g old new result
 open_or_fault g old new result shuts clean is_open memory = elim (shuts.closes clean is_open) [
   | inl still ↦ inl still
@@ -97,23 +117,29 @@ open_or_fault g old new result shuts clean is_open memory = elim (shuts.closes c
 ]
 
 -- where it is done
-pub open_done : {S T : Type 0} (g : Ghosts S) (old new : Held S) (result : Result T Refusal) → IsOpenBut g old new result → OnOk result (IsTrue (state g new).is_open)
+pub open_done : {S T : Type 0} (g : Ghosts S) (old new : Held S) (result : Result T Refusal)
+    → IsOpenBut g old new result → OnOk result (IsTrue (state g new).is_open)
 open_done g old new (Ok x) (inl still) = still
 open_done g old new (Ok x) (inr (inl failed)) = absurd cc
 open_done g old new (Ok x) (inr (inr (memory, more))) = absurd cc
 open_done g old new (Err refusal) but = tt
 
 -- one call behind another
-pub open_then : {S T : Type 0} (g : Ghosts S) (old mid new : Held S) (result : Result T Refusal) → (state g old).faults ≤ (state g mid).faults → IsOpenBut g mid new result → IsOpenBut g old new result
+pub open_then : {S T : Type 0} (g : Ghosts S) (old mid new : Held S) (result : Result T Refusal)
+    → (state g old).faults ≤ (state g mid).faults → IsOpenBut g mid new result → IsOpenBut g old new result
 open_then g old mid new result counts (inl still) = inl still
 open_then g old mid new result counts (inr (inl failed)) = inr (inl failed)
 open_then g old mid new result counts (inr (inr (memory, more))) = inr (inr (memory, omega (arith, counts, more)))
 
 -- a command that is refused on the state in memory: a refusal by the step writes nothing
-pub open_refused : {S T : Type 0} (g : Ghosts S) (old new : Treasury S) (c : AnyCommand) (r : Result Answer Refusal) (refusal : Refusal) (result : Result T Refusal) → r ≡ Err refusal → result ≡ Err refusal
-    → IsHeldFor old c → IfSome old.held (λ s. MayPerform s c r) → IfSome old.held (λ s. AddsNothing s c → Steps s c r × (new ≡ old))
-    → ShutsByFault g old.store.conn new.store.conn → HasCleanDisk (state g new.store.conn) → IsTrue (state g old.store.conn).is_open → IsOpenBut g old.store.conn new.store.conn result
-open_refused {S = S} g old new c r refusal result is answered (s, (held, fits)) replies nothing shuts clean is_open = by_reply (at_held old.held s (λ x. MayPerform x c r) held replies)
+pub open_refused : {S T : Type 0} (g : Ghosts S) (old new : Treasury S) (c : AnyCommand) (r : Result Answer Refusal)
+    (refusal : Refusal) (result : Result T Refusal) → r ≡ Err refusal → result ≡ Err refusal
+    → IsHeldFor old c → IfSome old.held (λ s. MayPerform s c r)
+    → IfSome old.held (λ s. AddsNothing s c → Steps s c r × (new ≡ old))
+    → ShutsByFault g old.store.conn new.store.conn → HasCleanDisk (state g new.store.conn)
+    → IsTrue (state g old.store.conn).is_open → IsOpenBut g old.store.conn new.store.conn result
+open_refused {S = S} g old new c r refusal result is answered (s, (held, fits)) replies nothing shuts clean is_open =
+    by_reply (at_held old.held s (λ x. MayPerform x c r) held replies)
   where
     by_reply : MayPerform s c r → IsOpenBut g old.store.conn new.store.conn result
     by_reply (inl (inl step)) =
@@ -122,28 +148,41 @@ open_refused {S = S} g old new c r refusal result is answered (s, (held, fits)) 
         let same = (at_held old.held s (λ x. AddsNothing x c → Steps x c r × (new ≡ old)) held nothing none).1 in
         inl (subst (λ (t : Treasury S). IsTrue (state g t.store.conn).is_open) (sym same) is_open)
     by_reply (inl (inr memory)) =
-        open_or_fault g old.store.conn new.store.conn result shuts clean is_open (answered ∙ ap (λ (e : Refusal). Err e) (refusal_is r refusal (Plain OutOfMemory) is memory))
-    by_reply (inr failed) = inr (inl (answered ∙ ap (λ (e : Refusal). Err e) (refusal_is r refusal (Plain Failed) is failed)))
+        open_or_fault g old.store.conn new.store.conn result shuts clean is_open
+        (answered ∙ ap (λ (e : Refusal). Err e) (refusal_is r refusal (Plain OutOfMemory) is memory))
+    by_reply (inr failed) =
+        inr (inl (answered ∙ ap (λ (e : Refusal). Err e) (refusal_is r refusal (Plain Failed) is failed)))
 
 -- the state of a treasury could not be had
-pub open_unheld : {S T : Type 0} (g : Ghosts S) (old new : Treasury S) (cause : Cause) (held : Result (Unit {0}) Cause) (result : Result T Refusal) → held ≡ Err cause → result ≡ Err (Plain cause)
-    → (old.store.failed ≡ false → AnswersState held new.store.failed) → (IsTrue old.store.failed → (held ≡ Err Closed) × (new ≡ old)) → (held ≡ Err Damaged → ⊥)
-    → ShutsByFault g old.store.conn new.store.conn → HasCleanDisk (state g new.store.conn) → IsTrue (state g old.store.conn).is_open → IsOpenBut g old.store.conn new.store.conn result
-open_unheld {S = S} g old new cause held result is refuses answers closed undamaged shuts clean is_open = by_failed old.store.failed refl
+pub open_unheld : {S T : Type 0} (g : Ghosts S) (old new : Treasury S) (cause : Cause) (held : Result (Unit {0}) Cause)
+    (result : Result T Refusal) → held ≡ Err cause → result ≡ Err (Plain cause)
+    → (old.store.failed ≡ false → AnswersState held new.store.failed)
+    → (IsTrue old.store.failed → (held ≡ Err Closed) × (new ≡ old)) → (held ≡ Err Damaged → ⊥)
+    → ShutsByFault g old.store.conn new.store.conn → HasCleanDisk (state g new.store.conn)
+    → IsTrue (state g old.store.conn).is_open → IsOpenBut g old.store.conn new.store.conn result
+open_unheld {S = S} g old new cause held result is refuses answers closed undamaged shuts clean is_open =
+    by_failed old.store.failed refl
   where
-    by_answer : AnswersState {T = Unit {0}} (Err cause) new.store.failed → IsOpenBut g old.store.conn new.store.conn result
-    by_answer (inl (inl (memory, unfailed))) = open_or_fault g old.store.conn new.store.conn result shuts clean is_open (refuses ∙ ap (λ (x : Cause). Err (Plain x)) memory)
+    by_answer : AnswersState {T = Unit {0}} (Err cause) new.store.failed
+        → IsOpenBut g old.store.conn new.store.conn result
+    by_answer (inl (inl (memory, unfailed))) =
+        open_or_fault g old.store.conn new.store.conn result shuts clean is_open
+        (refuses ∙ ap (λ (x : Cause). Err (Plain x)) memory)
     by_answer (inl (inr (failed, closes))) = inr (inl (refuses ∙ ap (λ (x : Cause). Err (Plain x)) failed))
     by_answer (inr (damaged, unfailed)) = absurd (undamaged (is ∙ damaged))
 
     by_failed : (failed : Bool) → old.store.failed ≡ failed → IsOpenBut g old.store.conn new.store.conn result
-    by_failed true failed = inl (subst (λ (t : Treasury S). IsTrue (state g t.store.conn).is_open) (sym (closed failed).1) is_open)
-    by_failed false unfailed = by_answer (subst (λ (r : Result (Unit {0}) Cause). AnswersState r new.store.failed) is (answers unfailed))
+    by_failed true failed =
+        inl (subst (λ (t : Treasury S). IsTrue (state g t.store.conn).is_open) (sym (closed failed).1) is_open)
+    by_failed false unfailed =
+        by_answer (subst (λ (r : Result (Unit {0}) Cause). AnswersState r new.store.failed) is (answers unfailed))
 
 -- ---- whether a call of the database fails
 
-pub fails_not : {T : Type 0} (result : Result T Refusal) (failed : Bool) → failed ≡ false → (result ≡ Err (Plain Failed) → ⊥) → FailsWith result failed
-fails_not result failed unfailed other = ((λ is. absurd (let clash : true ≡ false = sym is ∙ unfailed in cc)), (λ is. absurd (other is)))
+pub fails_not : {T : Type 0} (result : Result T Refusal) (failed : Bool) → failed ≡ false
+    → (result ≡ Err (Plain Failed) → ⊥) → FailsWith result failed
+fails_not result failed unfailed other =
+    ((λ is. absurd (let clash : true ≡ false = sym is ∙ unfailed in cc)), (λ is. absurd (other is)))
 
 plain_is : {T : Type 0} (a b : Cause) → ◌≡◌ {A = Result T Refusal} (Err (Plain a)) (Err (Plain b)) → a ≡ b
 plain_is a b same = cc
@@ -155,39 +194,53 @@ err_is : {T : Type 0} (a b : Refusal) → ◌≡◌ {A = Result T Refusal} (Err 
 err_is a b same = cc
 
 -- the state could not be had
-pub fails_unheld : {T X : Type 0} (cause : Cause) (failed : Bool) → AnswersState {T = X} (Err cause) failed → FailsWith {T = T} (Err (Plain cause)) failed
+pub fails_unheld : {T X : Type 0} (cause : Cause) (failed : Bool) → AnswersState {T = X} (Err cause) failed
+    → FailsWith {T = T} (Err (Plain cause)) failed
 fails_unheld {T = T} cause failed (inl (inl (memory, unfailed))) =
-    fails_not (Err (Plain cause)) failed unfailed (λ is. let clash : OutOfMemory ≡ Failed = sym memory ∙ plain_is {T = T} cause Failed is in absurd cc)
-fails_unheld cause failed (inl (inr (failure, is_so))) = ((λ is. ap (λ (x : Cause). Err (Plain x)) failure), (λ is. is_so))
+    fails_not (Err (Plain cause)) failed unfailed
+    (λ is. let clash : OutOfMemory ≡ Failed = sym memory ∙ plain_is {T = T} cause Failed is in absurd cc)
+fails_unheld cause failed (inl (inr (failure, is_so))) =
+    ((λ is. ap (λ (x : Cause). Err (Plain x)) failure), (λ is. is_so))
 fails_unheld {T = T} {X = X} cause failed (inr (damaged, unfailed)) =
-    fails_not (Err (Plain cause)) failed unfailed (λ is. let clash : Damaged ≡ Failed = sym (cause_is {T = X} cause Damaged damaged) ∙ plain_is {T = T} cause Failed is in absurd cc)
+    fails_not (Err (Plain cause)) failed unfailed
+    (λ is. let clash : Damaged ≡ Failed =
+    sym (cause_is {T = X} cause Damaged damaged) ∙ plain_is {T = T} cause Failed is in absurd cc)
 
 -- a command is refused, or not
-pub fails_refused : {T : Type 0} (refusal : Refusal) (failed : Bool) → FailsBy (Err refusal) failed → FailsWith {T = T} (Err refusal) failed
-fails_refused {T = T} refusal failed by =
-    ((λ is. ap (λ (x : Refusal). Err x) (err_is {T = Answer} refusal (Plain Failed) (by.0 is))), (λ is. by.1 (ap (λ (x : Refusal). Err x) (err_is {T = T} refusal (Plain Failed) is))))
+pub fails_refused : {T : Type 0} (refusal : Refusal) (failed : Bool) → FailsBy (Err refusal) failed
+    → FailsWith {T = T} (Err refusal) failed
+fails_refused {T = T} refusal failed by = (
+  (λ is. ap (λ (x : Refusal). Err x) (err_is {T = Answer} refusal (Plain Failed) (by.0 is))),
+  (λ is. by.1 (ap (λ (x : Refusal). Err x) (err_is {T = T} refusal (Plain Failed) is))),
+)
 
-pub fails_done : {T : Type 0} (answer : Answer) (x : T) (failed : Bool) → FailsBy (Ok answer) failed → FailsWith (Ok x) failed
+pub fails_done : {T : Type 0} (answer : Answer) (x : T) (failed : Bool) → FailsBy (Ok answer) failed
+    → FailsWith (Ok x) failed
 fails_done answer x failed by = ((λ is. absurd (let clash = by.0 is in cc)), (λ is. absurd cc))
 
 -- ---- why a request is refused
 
-pub unread_state : {T X : Type 0} (cause : Cause) (failed : Bool) → AnswersState {T = X} (Err cause) failed → IsUnread {T = T} (Err (Plain cause))
+pub unread_state : {T X : Type 0} (cause : Cause) (failed : Bool) → AnswersState {T = X} (Err cause) failed
+    → IsUnread {T = T} (Err (Plain cause))
 unread_state cause failed (inl (inl (memory, unfailed))) = inr (inl (ap (λ (x : Cause). Err (Plain x)) memory))
 unread_state cause failed (inl (inr (failure, is_so))) = inr (inr (ap (λ (x : Cause). Err (Plain x)) failure))
-unread_state {X = X} cause failed (inr (damaged, unfailed)) = inl (ap (λ (x : Cause). Err (Plain x)) (cause_is {T = X} cause Damaged damaged))
+unread_state {X = X} cause failed (inr (damaged, unfailed)) =
+    inl (ap (λ (x : Cause). Err (Plain x)) (cause_is {T = X} cause Damaged damaged))
 
 -- behind a call that failed
-pub refused_closed : {T X : Type 0} (cause : Cause) → ◌≡◌ {A = Result X Cause} (Err cause) (Err Closed) → ◌≡◌ {A = Result T Refusal} (Err (Plain cause)) (Err (Plain Closed))
+pub refused_closed : {T X : Type 0} (cause : Cause) → ◌≡◌ {A = Result X Cause} (Err cause) (Err Closed)
+    → ◌≡◌ {A = Result T Refusal} (Err (Plain cause)) (Err (Plain Closed))
 refused_closed {X = X} cause closed = ap (λ (x : Cause). Err (Plain x)) (cause_is {T = X} cause Closed closed)
 
-amount_ruled : (cause : Cause) → (cause ≡ Amount) ⊎ (cause ≡ UnknownCommodity) ⊎ (cause ≡ Decimals) → is_by_rules (Plain cause) ≡ true
+amount_ruled : (cause : Cause) → (cause ≡ Amount) ⊎ (cause ≡ UnknownCommodity) ⊎ (cause ≡ Decimals)
+    → is_by_rules (Plain cause) ≡ true
 amount_ruled cause (inl e) = ap (λ (x : Cause). is_by_rules (Plain x)) e
 amount_ruled cause (inr (inl e)) = ap (λ (x : Cause). is_by_rules (Plain x)) e
 amount_ruled cause (inr (inr e)) = ap (λ (x : Cause). is_by_rules (Plain x)) e
 
 -- a refusal of the texts is one by the rules
-texts_ruled : (styles : List Style) (request : Request) (refusal : Refusal) → RequestAsks styles request (Err refusal) → is_by_rules refusal ≡ true
+texts_ruled : (styles : List Style) (request : Request) (refusal : Refusal) → RequestAsks styles request (Err refusal)
+    → is_by_rules refusal ≡ true
 texts_ruled styles (ForBranch name) refusal asks = absurd cc
 texts_ruled styles (ForCommodity sample) refusal asks = by_style (style_of sample) asks
   where
@@ -195,18 +248,27 @@ texts_ruled styles (ForCommodity sample) refusal asks = by_style (style_of sampl
     by_style None e = let k : refusal ≡ Plain Amount = cc in ap (λ (x : Refusal). is_by_rules x) k
     by_style (Some style) e = absurd cc
 texts_ruled styles (ForImport name journal) refusal (inl reads) = absurd (let e = reads.1.1 in cc)
-texts_ruled styles (ForImport name journal) refusal (inr (fault, (first, e))) = let k : refusal ≡ Text fault = cc in ap (λ (x : Refusal). is_by_rules x) k
-texts_ruled styles (ForDispatch id from to day text account) refusal asks = by_amount (amount styles text) (one_of_causes styles text (amount styles text) refl) asks
+texts_ruled styles (ForImport name journal) refusal (inr (fault, (first, e))) =
+    let k : refusal ≡ Text fault = cc in ap (λ (x : Refusal). is_by_rules x) k
+texts_ruled styles (ForDispatch id from to day text account) refusal asks =
+    by_amount (amount styles text) (one_of_causes styles text (amount styles text) refl) asks
   where
-    by_amount : (r : Result (Commodity × ℤ) Cause) → IfErr r (λ cause. (cause ≡ Amount) ⊎ (cause ≡ UnknownCommodity) ⊎ (cause ≡ Decimals)) → Err refusal ≡ asked_by_amount id from to day account r → is_by_rules refusal ≡ true
+    by_amount : (r : Result (Commodity × ℤ) Cause)
+        → IfErr r (λ cause. (cause ≡ Amount) ⊎ (cause ≡ UnknownCommodity) ⊎ (cause ≡ Decimals))
+        → Err refusal ≡ asked_by_amount id from to day account r → is_by_rules refusal ≡ true
     by_amount (Ok (unit, qty)) causes e = absurd cc
-    by_amount (Err cause) causes e = let k : refusal ≡ Plain cause = cc in ap (λ (x : Refusal). is_by_rules x) k ∙ amount_ruled cause causes
+    by_amount (Err cause) causes e =
+        let k : refusal ≡ Plain cause = cc in ap (λ (x : Refusal). is_by_rules x) k ∙ amount_ruled cause causes
 texts_ruled styles (ForReceive id name day account None) refusal asks = absurd cc
-texts_ruled styles (ForReceive id name day account (Some part)) refusal asks = by_amount (amount styles part.amount) (one_of_causes styles part.amount (amount styles part.amount) refl) asks
+texts_ruled styles (ForReceive id name day account (Some part)) refusal asks =
+    by_amount (amount styles part.amount) (one_of_causes styles part.amount (amount styles part.amount) refl) asks
   where
-    by_amount : (r : Result (Commodity × ℤ) Cause) → IfErr r (λ cause. (cause ≡ Amount) ⊎ (cause ≡ UnknownCommodity) ⊎ (cause ≡ Decimals)) → Err refusal ≡ asked_by_part id name day account part.key r → is_by_rules refusal ≡ true
+    by_amount : (r : Result (Commodity × ℤ) Cause)
+        → IfErr r (λ cause. (cause ≡ Amount) ⊎ (cause ≡ UnknownCommodity) ⊎ (cause ≡ Decimals))
+        → Err refusal ≡ asked_by_part id name day account part.key r → is_by_rules refusal ≡ true
     by_amount (Ok (unit, qty)) causes e = absurd cc
-    by_amount (Err cause) causes e = let k : refusal ≡ Plain cause = cc in ap (λ (x : Refusal). is_by_rules x) k ∙ amount_ruled cause causes
+    by_amount (Err cause) causes e =
+        let k : refusal ≡ Plain cause = cc in ap (λ (x : Refusal). is_by_rules x) k ∙ amount_ruled cause causes
 texts_ruled styles (ForLock name day) refusal asks = absurd cc
 texts_ruled styles (ForClose name day accounts into) refusal asks = absurd cc
 texts_ruled styles (ForBalance name day) refusal asks = absurd cc
@@ -214,8 +276,10 @@ texts_ruled styles (ForRegister name account tag) refusal asks = absurd cc
 texts_ruled styles (ForTransit day) refusal asks = absurd cc
 texts_ruled styles (ForJournal name) refusal asks = absurd cc
 
-pub ruled_texts : (styles : List Style) (request : Request) (refusal : Refusal) → OrMemory (RequestAsks styles request) (Err refusal) → is_by_rules refusal ≡ true
-ruled_texts styles request refusal (inl memory) = let k : refusal ≡ Plain OutOfMemory = cc in ap (λ (x : Refusal). is_by_rules x) k
+pub ruled_texts : (styles : List Style) (request : Request) (refusal : Refusal)
+    → OrMemory (RequestAsks styles request) (Err refusal) → is_by_rules refusal ≡ true
+ruled_texts styles request refusal (inl memory) =
+    let k : refusal ≡ Plain OutOfMemory = cc in ap (λ (x : Refusal). is_by_rules x) k
 ruled_texts styles request refusal (inr asks) = texts_ruled styles request refusal asks
 
 -- and so is that of a report
@@ -224,6 +288,9 @@ ruled_report cause (inl nowhere) = ap (λ (x : Cause). is_by_rules (Plain x)) no
 ruled_report cause (inr memory) = ap (λ (x : Cause). is_by_rules (Plain x)) memory
 
 -- no refusal by the rules is 41
-pub fails_ruled : {T : Type 0} (refusal : Refusal) (failed : Bool) → is_by_rules refusal ≡ true → failed ≡ false → FailsWith {T = T} (Err refusal) failed
+pub fails_ruled : {T : Type 0} (refusal : Refusal) (failed : Bool) → is_by_rules refusal ≡ true → failed ≡ false
+    → FailsWith {T = T} (Err refusal) failed
 fails_ruled {T = T} refusal failed ruled unfailed =
-    fails_not (Err refusal) failed unfailed (λ is. let clash : true ≡ false = sym ruled ∙ ap (λ (x : Refusal). is_by_rules x) (err_is {T = T} refusal (Plain Failed) is) in absurd cc)
+    fails_not (Err refusal) failed unfailed
+    (λ is. let clash : true ≡ false =
+    sym ruled ∙ ap (λ (x : Refusal). is_by_rules x) (err_is {T = T} refusal (Plain Failed) is) in absurd cc)

@@ -1,5 +1,6 @@
 -- One request is answered on a treasury.
-use Rattle.std.proofs.Common.{◌≡◌, ◌++◌, ◌⊎◌, ◌||◌, ℕ, List, [], ◌∷◌, Bool, true, false, Result, Ok, Err, MatchResult, if◌then◌else◌, refl, ap, ◌∙◌, sym, subst, inl, inr}
+use Rattle.std.proofs.Common.{◌≡◌, ◌++◌, ◌⊎◌, ◌||◌, ℕ, List, [], ◌∷◌, Bool, true, false, Result, Ok, Err, MatchResult}
+use Rattle.std.proofs.Common.{if◌then◌else◌, refl, ap, ◌∙◌, sym, subst, inl, inr}
 use Rattle.sqlite.specs.Store.{Ghosts}
 use Rattle.sqlite.specs.State.{HasCleanDisk}
 use Rattle.sqlite.specs.Held.{state}
@@ -26,22 +27,27 @@ use Rattle.treasury_api.proofs.HistoryLemmas.{command_replied, failure_leaves}
 use Rattle.treasury_api.proofs.ServeLemmas.{after_plain, leads, refused_only, data_line}
 
 -- what is written is the text of the reply
-written_text : (f : Federation) (failed : Bool) (asked : Result Asked Refusal) (answer : Answer) (written : List ℕ) → MayReply (record { now = f; failed = failed }) asked (Ok answer) → written ≡ [] ++ body_of f asked answer
+written_text : (f : Federation) (failed : Bool) (asked : Result Asked Refusal) (answer : Answer) (written : List ℕ)
+    → MayReply (record { now = f; failed = failed }) asked (Ok answer) → written ≡ [] ++ body_of f asked answer
     → written ≡ request_text f asked (Ok answer)
 written_text f failed (Ok (Command c)) answer written replies said = said
 written_text f failed (Ok (Report report)) answer written replies said = said
 written_text f failed (Err refusal) answer written replies said = refused_only f failed refusal answer _ replies
 
 -- a refusal's text is its line, whatever was asked
-refusal_line : (f : Federation) (asked : Result Asked Refusal) (refusal : Refusal) → answer_text f.styles (Err refusal) ≡ request_text f asked (Err refusal)
+refusal_line : (f : Federation) (asked : Result Asked Refusal) (refusal : Refusal)
+    → answer_text f.styles (Err refusal) ≡ request_text f asked (Err refusal)
 refusal_line f (Ok (Command c)) refusal = refl
 refusal_line f (Ok (Report report)) refusal = refl
 refusal_line f (Err e) refusal = refl
 
 -- a request that is done, repeated or reported
-pub said_done : {S : Type 0} (g : Ghosts S) (old new : Treasury S) (written : List ℕ) (request : Request) (Tells : Result Answer Refusal → Type 0) (made : Result (Unit {0}) Refusal) (x : Unit {0}) → made ≡ Ok x → HasDayNumbers request
+pub said_done : {S : Type 0} (g : Ghosts S) (old new : Treasury S) (written : List ℕ) (request : Request)
+    (Tells : Result Answer Refusal → Type 0) (made : Result (Unit {0}) Refusal) (x : Unit {0}) → made ≡ Ok x
+    → HasDayNumbers request
     → (HasCleanDisk (state g new.store.conn) → HasCleanDisk (state g old.store.conn))
-    → (HasCleanDisk (state g new.store.conn) → (f : Federation) → IsTreasuryOf g old f → IsAnswered g old.store.failed new f request made [] written)
+    → (HasCleanDisk (state g new.store.conn) → (f : Federation) → IsTreasuryOf g old f
+    → IsAnswered g old.store.failed new f request made [] written)
     → ((answer : Answer) → Tells (Ok answer)) → RepliesOn g old request written Tells new
 said_done g old new written request Tells made x ok days clean answers tells = record {
   clean = clean;
@@ -49,10 +55,15 @@ said_done g old new written request Tells made x ok days clean answers tells = r
 }
   where
     by_reply : (f : Federation) → IsAnswered g old.store.failed new f request made [] written
-        → (end : Federation) × (IsTreasuryOf g new end × ((reply : Result Answer Refusal) × (AnswersRequest (standing old f) request written reply (standing new end) × Tells reply)))
+        → (end : Federation) × (IsTreasuryOf g new end
+        × ((reply : Result Answer Refusal)
+        × (AnswersRequest (standing old f) request written reply (standing new end) × Tells reply)))
     by_reply f (asked, (asks, r)) =
-        let told = subst (λ (m : Result (Unit {0}) Refusal). MatchResult m (λ _. (answer : Answer) × ((r.reply ≡ Ok answer) × (written ≡ [] ++ body_of f asked answer))) (λ refusal. (r.reply ≡ Err refusal) × (written ≡ []))) ok r.text in
-        let replies = subst (λ (y : Result Answer Refusal). MayReply (record { now = f; failed = old.store.failed }) asked y) told.1.0 r.replies in (
+        let told = subst (λ (m : Result (Unit {0}) Refusal).
+        MatchResult m (λ _. (answer : Answer) × ((r.reply ≡ Ok answer) × (written ≡ [] ++ body_of f asked answer)))
+        (λ refusal. (r.reply ≡ Err refusal) × (written ≡ []))) ok r.text in
+        let replies = subst (λ (y : Result Answer Refusal).
+        MayReply (record { now = f; failed = old.store.failed }) asked y) told.1.0 r.replies in (
           after f asked (Ok told.0),
           (
             subst (λ (y : Result Answer Refusal). IsTreasuryOf g new (after f asked y)) told.1.0 r.of,
@@ -65,7 +76,8 @@ said_done g old new written request Tells made x ok days clean answers tells = r
                   asks = asks;
                   replies = replies;
                   text = written_text f old.store.failed asked told.0 written replies told.1.1;
-                  left = leads old new f asked (Ok told.0) (r.left ∙ ap (λ (y : Result Answer Refusal). old.store.failed || is_failure y) told.1.0);
+                  left = leads old new f asked (Ok told.0)
+                      (r.left ∙ ap (λ (y : Result Answer Refusal). old.store.failed || is_failure y) told.1.0);
                 },
                 tells told.0,
               ),
@@ -77,21 +89,28 @@ said_done g old new written request Tells made x ok days clean answers tells = r
 abbrev pub IsToldAs : Federation → Refusal → List ℕ → (Result Answer Refusal → Type 0) → Type 0
 IsToldAs f refusal text Tells =
     ((text ≡ answer_text f.styles (Err refusal)) × Tells (Err refusal))
-    ⊎ ((text ≡ answer_text f.styles (Err (Plain OutOfMemory))) × (is_failure (Err refusal) ≡ false) × Tells (Err (Plain OutOfMemory)))
+    ⊎ ((text ≡ answer_text f.styles (Err (Plain OutOfMemory))) × (is_failure (Err refusal) ≡ false)
+    × Tells (Err (Plain OutOfMemory)))
 
 -- a request that is refused: by its line, or by that of 40 in its place
-pub said_as : {S : Type 0} (g : Ghosts S) (old new : Treasury S) (written text : List ℕ) (request : Request) (Tells : Result Answer Refusal → Type 0) (made : Result (Unit {0}) Refusal) (refusal : Refusal) → made ≡ Err refusal → HasDayNumbers request
+pub said_as : {S : Type 0} (g : Ghosts S) (old new : Treasury S) (written text : List ℕ) (request : Request)
+    (Tells : Result Answer Refusal → Type 0) (made : Result (Unit {0}) Refusal) (refusal : Refusal) → made ≡ Err refusal
+    → HasDayNumbers request
     → (HasCleanDisk (state g new.store.conn) → HasCleanDisk (state g old.store.conn))
-    → (HasCleanDisk (state g new.store.conn) → (f : Federation) → IsTreasuryOf g old f → IsAnswered g old.store.failed new f request made [] written)
+    → (HasCleanDisk (state g new.store.conn) → (f : Federation) → IsTreasuryOf g old f
+    → IsAnswered g old.store.failed new f request made [] written)
     → ((f : Federation) → IsTreasuryOf g new f → IsToldAs f refusal text Tells) → RepliesOn g old request text Tells new
 said_as g old new written text request Tells made refusal refused days clean answers said = record {
   clean = clean;
   answers = λ k f of. by_reply f (answers k f of);
 }
   where
-    by_line : (f : Federation) (asked : Result Asked Refusal) → AsksOf old.store.failed f.styles request asked → MayReply (record { now = f; failed = old.store.failed }) asked (Err refusal) → IsTreasuryOf g new f
+    by_line : (f : Federation) (asked : Result Asked Refusal) → AsksOf old.store.failed f.styles request asked
+        → MayReply (record { now = f; failed = old.store.failed }) asked (Err refusal) → IsTreasuryOf g new f
         → new.store.failed ≡ (old.store.failed || is_failure (Err refusal))
-        → IsToldAs f refusal text Tells → (reply : Result Answer Refusal) × (AnswersRequest (standing old f) request text reply (standing new f) × Tells reply)
+        → IsToldAs f refusal text Tells
+        → (reply : Result Answer Refusal)
+        × (AnswersRequest (standing old f) request text reply (standing new f) × Tells reply)
     by_line f asked asks replies of left (inl (told, tells)) = (
       Err refusal,
       (
@@ -101,7 +120,8 @@ said_as g old new written text request Tells made refusal refused days clean ans
           asks = asks;
           replies = replies;
           text = told ∙ refusal_line f asked refusal;
-          left = ap (λ (x : Federation). standing new x) (after_plain f asked refusal) ∙ leads old new f asked (Err refusal) left;
+          left = ap (λ (x : Federation). standing new x) (after_plain f asked refusal) ∙ leads old new f asked
+              (Err refusal) left;
         },
         tells,
       ),
@@ -116,34 +136,49 @@ said_as g old new written text request Tells made refusal refused days clean ans
           replies = inr (inl refl);
           text = told ∙ refusal_line f asked (Plain OutOfMemory);
           left = ap (λ (x : Federation). standing new x) (after_plain f asked (Plain OutOfMemory))
-              ∙ leads old new f asked (Err (Plain OutOfMemory)) (left ∙ ap (λ (b : Bool). old.store.failed || b) harmless);
+              ∙ leads old new f asked (Err (Plain OutOfMemory))
+              (left ∙ ap (λ (b : Bool). old.store.failed || b) harmless);
         },
         tells,
       ),
     )
 
     by_reply : (f : Federation) → IsAnswered g old.store.failed new f request made [] written
-        → (end : Federation) × (IsTreasuryOf g new end × ((reply : Result Answer Refusal) × (AnswersRequest (standing old f) request text reply (standing new end) × Tells reply)))
+        → (end : Federation) × (IsTreasuryOf g new end
+        × ((reply : Result Answer Refusal)
+        × (AnswersRequest (standing old f) request text reply (standing new end) × Tells reply)))
     by_reply f (asked, (asks, r)) =
-        let told = subst (λ (m : Result (Unit {0}) Refusal). MatchResult m (λ _. (answer : Answer) × ((r.reply ≡ Ok answer) × (written ≡ [] ++ body_of f asked answer))) (λ e. (r.reply ≡ Err e) × (written ≡ []))) refused r.text in
-        let of : IsTreasuryOf g new f = subst (IsTreasuryOf g new) (sym (after_plain f asked refusal)) (subst (λ (y : Result Answer Refusal). IsTreasuryOf g new (after f asked y)) told.0 r.of) in (
+        let told = subst (λ (m : Result (Unit {0}) Refusal).
+        MatchResult m (λ _. (answer : Answer) × ((r.reply ≡ Ok answer) × (written ≡ [] ++ body_of f asked answer)))
+        (λ e. (r.reply ≡ Err e) × (written ≡ []))) refused r.text in
+        let of : IsTreasuryOf g new f =
+        subst (IsTreasuryOf g new) (sym (after_plain f asked refusal))
+        (subst (λ (y : Result Answer Refusal). IsTreasuryOf g new (after f asked y)) told.0 r.of) in (
           f,
           (
             of,
-            by_line f asked asks (subst (λ (y : Result Answer Refusal). MayReply (record { now = f; failed = old.store.failed }) asked y) told.0 r.replies) of
+            by_line f asked asks (subst (λ (y : Result Answer Refusal).
+                MayReply (record { now = f; failed = old.store.failed }) asked y) told.0 r.replies) of
                 (r.left ∙ ap (λ (y : Result Answer Refusal). old.store.failed || is_failure y) told.0) (said f of),
           ),
         )
 
 -- the same where it is told alike of both lines
-pub said_refusal : {S : Type 0} (g : Ghosts S) (old new : Treasury S) (written text : List ℕ) (request : Request) (Tells : Result Answer Refusal → Type 0) (made : Result (Unit {0}) Refusal) (refusal : Refusal) → made ≡ Err refusal → HasDayNumbers request
+pub said_refusal : {S : Type 0} (g : Ghosts S) (old new : Treasury S) (written text : List ℕ) (request : Request)
+    (Tells : Result Answer Refusal → Type 0) (made : Result (Unit {0}) Refusal) (refusal : Refusal) → made ≡ Err refusal
+    → HasDayNumbers request
     → (HasCleanDisk (state g new.store.conn) → HasCleanDisk (state g old.store.conn))
-    → (HasCleanDisk (state g new.store.conn) → (f : Federation) → IsTreasuryOf g old f → IsAnswered g old.store.failed new f request made [] written)
-    → IsLineOf new refusal text → Tells (Err refusal) → Tells (Err (Plain OutOfMemory)) → RepliesOn g old request text Tells new
+    → (HasCleanDisk (state g new.store.conn) → (f : Federation) → IsTreasuryOf g old f
+    → IsAnswered g old.store.failed new f request made [] written)
+    → IsLineOf new refusal text → Tells (Err refusal) → Tells (Err (Plain OutOfMemory))
+    → RepliesOn g old request text Tells new
 said_refusal g old new written text request Tells made refusal refused days clean answers said tells memory =
-    said_as g old new written text request Tells made refusal refused days clean answers (λ f of. by_line f (data_line g new f refusal text of said))
+    said_as g old new written text request Tells made refusal refused days clean answers
+    (λ f of. by_line f (data_line g new f refusal text of said))
   where
-    by_line : (f : Federation) → (text ≡ answer_text f.styles (Err refusal)) ⊎ ((text ≡ answer_text f.styles (Err (Plain OutOfMemory))) × (is_failure (Err refusal) ≡ false)) → IsToldAs f refusal text Tells
+    by_line : (f : Federation) → (text ≡ answer_text f.styles (Err refusal))
+        ⊎ ((text ≡ answer_text f.styles (Err (Plain OutOfMemory))) × (is_failure (Err refusal) ≡ false))
+        → IsToldAs f refusal text Tells
     by_line f (inl told) = inl (told, tells)
     by_line f (inr (told, harmless)) = inr (told, harmless, memory)
 
@@ -154,20 +189,31 @@ abbrev pub IsRunTo : Federation → List Turn → Federation → Type 0
 IsRunTo f turns end = IsRun f turns × (end ≡ state_after f turns)
 
 -- the command of a request, if it is one, and those behind it
-behind : (f : Federation) (request : Request) (asked : Result Asked Refusal) (r : Result Answer Refusal) (turns : List Turn) (end : Federation)
+behind : (f : Federation) (request : Request) (asked : Result Asked Refusal) (r : Result Answer Refusal)
+    (turns : List Turn) (end : Federation)
     → HasDayNumbers request → RequestAsks f.styles request asked → MayReply (record { now = f; failed = false }) asked r
     → IsRunTo (after f asked r) turns end → IsRunTo f (command_if asked r ++ turns) end
 behind f request (Ok (Command c)) r turns end days asks replies rest = commanded (is_failure r) refl
   where
-    commanded : (failure : Bool) → is_failure r ≡ failure → IsRunTo f ((if failure then [] else record { command = c; reply = r } ∷ []) ++ turns) end
+    commanded : (failure : Bool) → is_failure r ≡ failure
+        → IsRunTo f ((if failure then [] else record { command = c; reply = r } ∷ []) ++ turns) end
     commanded true failed = subst (λ (g : Federation). IsRunTo g turns end) (failure_leaves f c r failed) rest
-    commanded false failed = ((request_fits f.styles request c days asks, command_replied (record { now = f; failed = false }) c r failed replies, rest.0), rest.1)
+    commanded false failed = (
+      (
+        request_fits f.styles request c days asks,
+        command_replied (record { now = f; failed = false }) c r failed replies,
+        rest.0,
+      ),
+      rest.1,
+    )
 behind f request (Ok (Report report)) r turns end days asks replies rest = rest
 behind f request (Err refusal) r turns end days asks replies rest = rest
 
 -- a request that is answered, and commands behind it
-pub request_run : (f : Federation) (request : Request) (text : List ℕ) (reply : Result Answer Refusal) (t : Standing) (turns : List Turn) (end : Federation)
-    → AnswersRequest (record { now = f; failed = false }) request text reply t → IsRunTo t.now turns end → (all : List Turn) × IsRunTo f all end
+pub request_run : (f : Federation) (request : Request) (text : List ℕ) (reply : Result Answer Refusal) (t : Standing)
+    (turns : List Turn) (end : Federation)
+    → AnswersRequest (record { now = f; failed = false }) request text reply t → IsRunTo t.now turns end
+    → (all : List Turn) × IsRunTo f all end
 request_run f request text reply t turns end answers rest = (
   command_if answers.asked reply ++ turns,
   behind f request answers.asked reply turns end answers.days answers.asks answers.replies
@@ -175,11 +221,14 @@ request_run f request text reply t turns end answers rest = (
 )
 
 -- a refusal leaves the state
-refusal_leaves : (f : Federation) (asked : Result Asked Refusal) (r : Result Answer Refusal) → is_refusal r ≡ true → after f asked r ≡ f
+refusal_leaves : (f : Federation) (asked : Result Asked Refusal) (r : Result Answer Refusal) → is_refusal r ≡ true
+    → after f asked r ≡ f
 refusal_leaves f asked (Ok answer) refused = absurd cc
 refusal_leaves f (Ok (Command c)) (Err refusal) refused = refl
 refusal_leaves f (Ok (Report report)) (Err refusal) refused = refl
 refusal_leaves f (Err fault) (Err refusal) refused = refl
 
-pub request_leaves : (s : Standing) (request : Request) (text : List ℕ) (reply : Result Answer Refusal) (t : Standing) → AnswersRequest s request text reply t → is_refusal reply ≡ true → t.now ≡ s.now
-request_leaves s request text reply t answers refused = ap (λ (x : Standing). x.now) answers.left ∙ refusal_leaves s.now answers.asked reply refused
+pub request_leaves : (s : Standing) (request : Request) (text : List ℕ) (reply : Result Answer Refusal) (t : Standing)
+    → AnswersRequest s request text reply t → is_refusal reply ≡ true → t.now ≡ s.now
+request_leaves s request text reply t answers refused =
+    ap (λ (x : Standing). x.now) answers.left ∙ refusal_leaves s.now answers.asked reply refused

@@ -1,5 +1,6 @@
 -- How many keys an object has, and what bytes spell that are UTF-8 or not.
-use Rattle.std.proofs.Common.{◌≡◌, ℕ, Bool, true, false, List, [], ◌∷◌, length, Option, Some, None, String, Global, option_and_then, arith, ap, refl}
+use Rattle.std.proofs.Common.{◌≡◌, ℕ, Bool, true, false, List, [], ◌∷◌, length, Option, Some, None, String, Global}
+use Rattle.std.proofs.Common.{option_and_then, arith, ap, refl}
 use Rattle.std.proofs.lemmas.Grind.{common_steps}
 use Rattle.std.proofs.lemmas.Str.{is_utf8-from_IsUtf8, IsUtf8-from_is_utf8}
 use Rattle.std.specs.Prelude.{if◌then◌else◌}
@@ -27,9 +28,11 @@ key_count-object (object os) ms e = (let h : os ≡ ms = cc in ap count_members 
 pub spelled-utf8 : (bytes : List ℕ) → IsUtf8 bytes → spelled bytes ≡ option_and_then request_of (read bytes)
 unfolding spelled
 spelled-utf8 bytes text =
-    ap (λ (t : Bool). let held : Option Request = (if t then option_and_then request_of (read bytes) else None) in held) (is_utf8-from_IsUtf8 bytes text)
+    ap (λ (t : Bool). let held : Option Request = (if t then option_and_then request_of (read bytes) else None) in held)
+    (is_utf8-from_IsUtf8 bytes text)
 
-spelled_if : (bytes : List ℕ) (t : Bool) → is_utf8 bytes ≡ t → (IsUtf8 bytes → ⊥) → (if t then option_and_then request_of (read bytes) else None) ≡ None
+spelled_if : (bytes : List ℕ) (t : Bool) → is_utf8 bytes ≡ t → (IsUtf8 bytes → ⊥)
+    → (if t then option_and_then request_of (read bytes) else None) ≡ None
 spelled_if bytes true e lacks = absurd (lacks (IsUtf8-from_is_utf8 bytes e))
 spelled_if bytes false e lacks = refl
 

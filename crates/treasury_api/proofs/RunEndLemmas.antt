@@ -1,6 +1,7 @@
--- What a run on a treasury leaves: turns lead to its end, also where it is cut off, and so it keeps the books; and what is left of the
--- tables.
-use Rattle.std.proofs.Common.{◌≡◌, ◌≤◌, ◌⊎◌, ◌||◌, ℕ, Bool, true, false, IsTrue, List, [], ◌∷◌, ◌++◌, Option, Result, Ok, Err, IfErr, refl, sym, subst, ap, ◌∙◌, inl, inr, arith, append_assoc}
+-- What a run on a treasury leaves: turns lead to its end, also where it is cut off, and so it keeps the books; and what
+-- is left of the tables.
+use Rattle.std.proofs.Common.{◌≡◌, ◌≤◌, ◌⊎◌, ◌||◌, ℕ, Bool, true, false, IsTrue, List, [], ◌∷◌, ◌++◌, Option, Result}
+use Rattle.std.proofs.Common.{Ok, Err, IfErr, refl, sym, subst, ap, ◌∙◌, inl, inr, arith, append_assoc}
 use Rattle.sqlite.specs.Store.{Ghosts}
 use Rattle.sqlite.specs.State.{HasCleanDisk}
 use Rattle.sqlite.specs.Held.{state}
@@ -21,7 +22,8 @@ use Rattle.treasury_api.specs.History.{Turn, after_turn, AreTurns, end_of, texts
 use Rattle.treasury_api.specs.Left.{LeavesAsked, IsOpenBut, FailedAt, LostAt, LeavesRun}
 use Rattle.treasury_api.specs.Replied.{standing, Serves}
 use Rattle.treasury_api.specs.Kept.{Runs}
-use Rattle.treasury_api.proofs.HistoryLemmas.{IsRunOf, transcript_of, failure_is, commands_run, commands_end, turns_leave, lines_leave}
+use Rattle.treasury_api.proofs.HistoryLemmas.{IsRunOf, transcript_of, failure_is, commands_run, commands_end}
+use Rattle.treasury_api.proofs.HistoryLemmas.{turns_leave, lines_leave}
 use Rattle.treasury_api.proofs.LeftLemmas.{LeavesShown}
 
 -- ---- turns, and further ones behind them
@@ -36,20 +38,25 @@ end_then s (t ∷ ts) us = end_then (after_turn s t) ts us
 
 -- ---- lines that are served one after another
 
-pub shuts_along : {S : Type 0} (g : Ghosts S) (a b : Treasury S) (requests : List (List ℕ)) (output : List ℕ) → AnswersInTurn (Serves g) a requests output b → ShutsByFault g a.store.conn b.store.conn
-shuts_along {S = S} g a b [] output (none, same) = subst (λ (t : Treasury S). ShutsByFault g a.store.conn t.store.conn) (sym same) (shuts_same g a.store.conn)
+pub shuts_along : {S : Type 0} (g : Ghosts S) (a b : Treasury S) (requests : List (List ℕ)) (output : List ℕ)
+    → AnswersInTurn (Serves g) a requests output b → ShutsByFault g a.store.conn b.store.conn
+shuts_along {S = S} g a b [] output (none, same) =
+    subst (λ (t : Treasury S). ShutsByFault g a.store.conn t.store.conn) (sym same) (shuts_same g a.store.conn)
 shuts_along g a b (request ∷ requests) output (mid, answer, rest, (step, more, split)) =
     shuts_then g a.store.conn mid.store.conn b.store.conn step.shuts (shuts_along g mid b requests rest more)
 
-pub closed_along : {S : Type 0} (g : Ghosts S) (a b : Treasury S) (requests : List (List ℕ)) (output : List ℕ) → AnswersInTurn (Serves g) a requests output b → IsTrue a.store.failed → b ≡ a
+pub closed_along : {S : Type 0} (g : Ghosts S) (a b : Treasury S) (requests : List (List ℕ)) (output : List ℕ)
+    → AnswersInTurn (Serves g) a requests output b → IsTrue a.store.failed → b ≡ a
 closed_along g a b [] output (none, same) failed = same
 closed_along {S = S} g a b (request ∷ requests) output (mid, answer, rest, (step, more, split)) failed =
     let stays : mid ≡ a = step.closed failed in
-    closed_along g mid b requests rest more (subst (λ (t : Treasury S). IsTrue t.store.failed) (sym stays) failed) ∙ stays
+    closed_along g mid b requests rest more (subst (λ (t : Treasury S). IsTrue t.store.failed) (sym stays) failed) ∙
+    stays
 
 -- ---- what is left along turns
 
--- the treasury is open; or one of the turns was answered 41, and a call has failed; or one was answered 40, and the disk has failed
+-- the treasury is open; or one of the turns was answered 41, and a call has failed; or one was answered 40, and the
+-- disk has failed
 abbrev Leaving : {S : Type 0} → Ghosts S → Treasury S → Treasury S → Standing → List Turn → Type 0
 Leaving g old new start turns =
     IsTrue (state g new.store.conn).is_open
@@ -57,12 +64,16 @@ Leaving g old new start turns =
 
 -- the same of turns that begin on an open treasury, on which no call has failed
 abbrev LeavingIf : {S : Type 0} → Ghosts S → Treasury S → Treasury S → Standing → List Turn → Type 0
-LeavingIf g old new start turns = IsTrue (state g old.store.conn).is_open → old.store.failed ≡ false → Leaving g old new start turns
+LeavingIf g old new start turns =
+    IsTrue (state g old.store.conn).is_open → old.store.failed ≡ false → Leaving g old new start turns
 
-module _ {S : Type 0} (g : Ghosts S) (old mid new : Treasury S) (before_mid : (state g old.store.conn).faults ≤ (state g mid.store.conn).faults)
-    (behind_mid : (state g mid.store.conn).faults ≤ (state g new.store.conn).faults) (closed : IsTrue mid.store.failed → new ≡ mid) where
+module _ {S : Type 0} (g : Ghosts S) (old mid new : Treasury S)
+    (before_mid : (state g old.store.conn).faults ≤ (state g mid.store.conn).faults)
+    (behind_mid : (state g mid.store.conn).faults ≤ (state g new.store.conn).faults)
+    (closed : IsTrue mid.store.failed → new ≡ mid) where
   -- a turn, and what is left along those behind it
-  leaving_first : (f e : Federation) (turn : Turn) (turns : List Turn) → standing mid e ≡ after_turn (standing old f) turn → old.store.failed ≡ false
+  leaving_first : (f e : Federation) (turn : Turn) (turns : List Turn)
+      → standing mid e ≡ after_turn (standing old f) turn → old.store.failed ≡ false
       → LeavesAsked g mid.store.conn f turn.asked × IsOpenBut g old.store.conn mid.store.conn turn.reply
       → LeavingIf g mid new (after_turn (standing old f) turn) turns → Leaving g old new (standing old f) (turn ∷ turns)
   leaving_first f e turn turns at unfailed (asked, but) then = by_failure (is_failure turn.reply) refl
@@ -70,7 +81,8 @@ module _ {S : Type 0} (g : Ghosts S) (old mid new : Treasury S) (before_mid : (s
       flag : mid.store.failed ≡ is_failure turn.reply
       flag = ap (λ (s : Standing). s.failed) at ∙ ap (λ (b : Bool). b || is_failure turn.reply) unfailed
 
-      shift : Leaving g mid new (after_turn (standing old f) turn) turns → Leaving g old new (standing old f) (turn ∷ turns)
+      shift : Leaving g mid new (after_turn (standing old f) turn) turns
+          → Leaving g old new (standing old f) (turn ∷ turns)
       shift (inl still) = inl still
       shift (inr (inl (there, closes))) = inr (inl (
         record {
@@ -92,11 +104,20 @@ module _ {S : Type 0} (g : Ghosts S) (old mid new : Treasury S) (before_mid : (s
         fault = let fault = there.fault in omega (arith, before_mid, fault);
       }))
 
-      by_open : is_failure turn.reply ≡ false → IsOpenBut g old.store.conn mid.store.conn turn.reply → Leaving g old new (standing old f) (turn ∷ turns)
+      by_open : is_failure turn.reply ≡ false → IsOpenBut g old.store.conn mid.store.conn turn.reply
+          → Leaving g old new (standing old f) (turn ∷ turns)
       by_open harmless (inl still) = shift (then still (flag ∙ harmless))
-      by_open harmless (inr (inl failed)) = absurd (let clash : true ≡ false = sym (ap is_failure failed) ∙ harmless in cc)
+      by_open harmless (inr (inl failed)) =
+          absurd (let clash : true ≡ false = sym (ap is_failure failed) ∙ harmless in cc)
       by_open harmless (inr (inr (memory, more))) =
-          inr (inr (record { before = []; turn = turn; behind = turns; split = refl; lost = memory; fault = omega (arith, behind_mid, more) }))
+          inr (inr (record {
+            before = [];
+            turn = turn;
+            behind = turns;
+            split = refl;
+            lost = memory;
+            fault = omega (arith, behind_mid, more);
+          }))
 
       by_failure : (failed : Bool) → is_failure turn.reply ≡ failed → Leaving g old new (standing old f) (turn ∷ turns)
       by_failure true is =
@@ -116,18 +137,30 @@ module _ {S : Type 0} (g : Ghosts S) (old mid new : Treasury S) (before_mid : (s
       by_failure false is = by_open is but
 
   -- turns, and one more behind them
-  leaving_last : (start : Standing) (e end : Federation) (turns : List Turn) (turn : Turn) → standing mid e ≡ end_of start turns → standing new end ≡ after_turn (standing mid e) turn
-      → (IsTrue (state g mid.store.conn).is_open → mid.store.failed ≡ false → LeavesAsked g new.store.conn e turn.asked × IsOpenBut g mid.store.conn new.store.conn turn.reply)
+  leaving_last : (start : Standing) (e end : Federation) (turns : List Turn) (turn : Turn)
+      → standing mid e ≡ end_of start turns → standing new end ≡ after_turn (standing mid e) turn
+      → (IsTrue (state g mid.store.conn).is_open → mid.store.failed ≡ false
+      → LeavesAsked g new.store.conn e turn.asked × IsOpenBut g mid.store.conn new.store.conn turn.reply)
       → Leaving g old mid start turns → Leaving g old new start (turns ++ turn ∷ [])
   leaving_last start e end turns turn at next step (inl still) = by_failed mid.store.failed refl
     where
-      by_open : is_failure turn.reply ≡ false → IsOpenBut g mid.store.conn new.store.conn turn.reply → Leaving g old new start (turns ++ turn ∷ [])
+      by_open : is_failure turn.reply ≡ false → IsOpenBut g mid.store.conn new.store.conn turn.reply
+          → Leaving g old new start (turns ++ turn ∷ [])
       by_open harmless (inl still) = inl still
-      by_open harmless (inr (inl failed)) = absurd (let clash : true ≡ false = sym (ap is_failure failed) ∙ harmless in cc)
+      by_open harmless (inr (inl failed)) =
+          absurd (let clash : true ≡ false = sym (ap is_failure failed) ∙ harmless in cc)
       by_open harmless (inr (inr (memory, more))) =
-          inr (inr (record { before = turns; turn = turn; behind = []; split = refl; lost = memory; fault = omega (arith, before_mid, more) }))
+          inr (inr (record {
+            before = turns;
+            turn = turn;
+            behind = [];
+            split = refl;
+            lost = memory;
+            fault = omega (arith, before_mid, more);
+          }))
 
-      by_failure : (failed : Bool) → is_failure turn.reply ≡ failed → mid.store.failed ≡ false → LeavesAsked g new.store.conn e turn.asked × IsOpenBut g mid.store.conn new.store.conn turn.reply
+      by_failure : (failed : Bool) → is_failure turn.reply ≡ failed → mid.store.failed ≡ false
+          → LeavesAsked g new.store.conn e turn.asked × IsOpenBut g mid.store.conn new.store.conn turn.reply
           → Leaving g old new start (turns ++ turn ∷ [])
       by_failure true is unfailed (asked, but) = inr (inl (
         record {
@@ -143,7 +176,8 @@ module _ {S : Type 0} (g : Ghosts S) (old mid new : Treasury S) (before_mid : (s
       by_failure false is unfailed (asked, but) = by_open is but
 
       by_failed : (failed : Bool) → mid.store.failed ≡ failed → Leaving g old new start (turns ++ turn ∷ [])
-      by_failed true is = inl (subst (λ (t : Treasury S). IsTrue (state g t.store.conn).is_open) (sym (closed is)) still)
+      by_failed true is =
+          inl (subst (λ (t : Treasury S). IsTrue (state g t.store.conn).is_open) (sym (closed is)) still)
       by_failed false is = by_failure (is_failure turn.reply) refl is (step still is)
   leaving_last start e end turns turn at next step (inr (inl (there, closes))) =
       let same : mid ≡ new = sym (closed closes) in
@@ -152,9 +186,11 @@ module _ {S : Type 0} (g : Ghosts S) (old mid new : Treasury S) (before_mid : (s
           before = there.before;
           turn = there.turn;
           behind = there.behind ++ turn ∷ [];
-          split = ap (λ (ts : List Turn). ts ++ turn ∷ []) there.split ∙ append_assoc there.before (there.turn ∷ there.behind) (turn ∷ []);
+          split = ap (λ (ts : List Turn). ts ++ turn ∷ []) there.split ∙ append_assoc there.before
+              (there.turn ∷ there.behind) (turn ∷ []);
           failed = there.failed;
-          left = subst (λ (t : Treasury S). LeavesAsked g t.store.conn (end_of start there.before).now there.turn.asked) same there.left;
+          left = subst (λ (t : Treasury S). LeavesAsked g t.store.conn (end_of start there.before).now there.turn.asked)
+              same there.left;
         },
         subst (λ (t : Treasury S). IsTrue t.store.failed) same closes,
       ))
@@ -162,21 +198,25 @@ module _ {S : Type 0} (g : Ghosts S) (old mid new : Treasury S) (before_mid : (s
     before = there.before;
     turn = there.turn;
     behind = there.behind ++ turn ∷ [];
-    split = ap (λ (ts : List Turn). ts ++ turn ∷ []) there.split ∙ append_assoc there.before (there.turn ∷ there.behind) (turn ∷ []);
+    split = ap (λ (ts : List Turn). ts ++ turn ∷ []) there.split ∙ append_assoc there.before (there.turn ∷ there.behind)
+        (turn ∷ []);
     lost = there.lost;
     fault = let fault = there.fault in omega (arith, behind_mid, fault);
   }))
 
 -- ---- the turns of lines that are served
 
-record AreServed {S : Type 0} (g : Ghosts S) (old new : Treasury S) (start : Standing) (requests : List (List ℕ)) (output : List ℕ) (end : Federation) (turns : List Turn) : Type 0 where
+record AreServed {S : Type 0} (g : Ghosts S) (old new : Treasury S) (start : Standing) (requests : List (List ℕ))
+    (output : List ℕ) (end : Federation) (turns : List Turn) : Type 0 where
   run : IsRunOf start requests output (standing new end) turns
   leaving : LeavingIf g old new start turns
 
 -- from whichever state the treasury is of
-serve_all : {S : Type 0} (g : Ghosts S) (old new : Treasury S) (requests : List (List ℕ)) (output : List ℕ) → AnswersInTurn (Serves g) old requests output new → HasCleanDisk (state g new.store.conn)
+serve_all : {S : Type 0} (g : Ghosts S) (old new : Treasury S) (requests : List (List ℕ)) (output : List ℕ)
+    → AnswersInTurn (Serves g) old requests output new → HasCleanDisk (state g new.store.conn)
     → (f : Federation) → IsTreasuryOf g old f
-    → (end : Federation) × (IsTreasuryOf g new end × ((turns : List Turn) × AreServed g old new (standing old f) requests output end turns))
+    → (end : Federation) × (IsTreasuryOf g new end
+    × ((turns : List Turn) × AreServed g old new (standing old f) requests output end turns))
 serve_all {S = S} g old new [] output (none, same) clean f of = (
   f,
   (
@@ -184,8 +224,10 @@ serve_all {S = S} g old new [] output (none, same) clean f of = (
     (
       [],
       record {
-        run = record { requests = refl; follow = tt; written = none; left = ap (λ (t : Treasury S). standing t f) same };
-        leaving = λ is_open unfailed. inl (subst (λ (t : Treasury S). IsTrue (state g t.store.conn).is_open) (sym same) is_open);
+        run =
+            record { requests = refl; follow = tt; written = none; left = ap (λ (t : Treasury S). standing t f) same };
+        leaving = λ is_open unfailed. inl
+            (subst (λ (t : Treasury S). IsTrue (state g t.store.conn).is_open) (sym same) is_open);
       },
     ),
   ),
@@ -207,11 +249,13 @@ serve_all {S = S} g old new (request ∷ requests) output (mid, answer, rest, (s
             run = record {
               requests = ap (λ (lines : List (List ℕ)). request ∷ lines) from.1.run.requests;
               follow = (a.asks, a.replies, from.1.run.follow);
-              written = split ∙ (ap (λ (xs : List ℕ). answer ++ xs) from.1.run.written ∙ ap (λ (xs : List ℕ). xs ++ texts_of (after_turn (standing old f) turn) from.0) a.text);
+              written = split ∙ (ap (λ (xs : List ℕ). answer ++ xs) from.1.run.written ∙ ap
+                  (λ (xs : List ℕ). xs ++ texts_of (after_turn (standing old f) turn) from.0) a.text);
               left = from.1.run.left;
             };
             leaving = λ is_open unfailed.
-                leaving_first g old mid new step.shuts.counts later.counts (closed_along g mid new requests rest more) f first.0 turn from.0 a.left unfailed
+                leaving_first g old mid new step.shuts.counts later.counts (closed_along g mid new requests rest more) f
+                first.0 turn from.0 a.left unfailed
                 (first.1.1.1 is_open unfailed) from.1.leaving;
           },
         ),
@@ -219,24 +263,29 @@ serve_all {S = S} g old new (request ∷ requests) output (mid, answer, rest, (s
     )
 
 -- their transcript
-told : {S : Type 0} (g : Ghosts S) (old new : Treasury S) (start : Standing) (input output : List ℕ) (end : Federation) (turns : List Turn) → AreServed g old new start (requests_in input) output end turns
+told : {S : Type 0} (g : Ghosts S) (old new : Treasury S) (start : Standing) (input output : List ℕ) (end : Federation)
+    (turns : List Turn) → AreServed g old new start (requests_in input) output end turns
     → IsTranscript Answers start input output (standing new end)
 told g old new start input output end turns served =
     let run = served.run in
-    transcript_of start input output (standing new end) turns (record { requests = run.requests; follow = run.follow; written = run.written; left = run.left })
+    transcript_of start input output (standing new end) turns
+    (record { requests = run.requests; follow = run.follow; written = run.written; left = run.left })
 
 -- ---- runs
 
 -- turns that lead to the end of a run that is cut off
-record IsLed {S : Type 0} (g : Ghosts S) (cause : Cause) (r0 r1 w0 w1 : Option (List ℕ)) (old new : Treasury S) (start : Standing) (end : Federation) (turns : List Turn) : Type 0 where
+record IsLed {S : Type 0} (g : Ghosts S) (cause : Cause) (r0 r1 w0 w1 : Option (List ℕ)) (old new : Treasury S)
+    (start : Standing) (end : Federation) (turns : List Turn) : Type 0 where
   ends : EndsBy cause Answers most_input r0 r1 w0 w1 start (standing new end)
   follow : AreTurns start turns
   last : standing new end ≡ end_of start turns
   leaving : LeavingIf g old new start turns
 
-led_where_cut_off : {S : Type 0} (g : Ghosts S) (cause : Cause) (r0 r1 w0 w1 : Option (List ℕ)) (old new : Treasury S) → EndsBy cause (Serves g) most_input r0 r1 w0 w1 old new
+led_where_cut_off : {S : Type 0} (g : Ghosts S) (cause : Cause) (r0 r1 w0 w1 : Option (List ℕ)) (old new : Treasury S)
+    → EndsBy cause (Serves g) most_input r0 r1 w0 w1 old new
     → HasCleanDisk (state g new.store.conn) → (f : Federation) → IsTreasuryOf g old f
-    → (end : Federation) × (IsTreasuryOf g new end × ((turns : List Turn) × IsLed g cause r0 r1 w0 w1 old new (standing old f) end turns))
+    → (end : Federation) × (IsTreasuryOf g new end
+    × ((turns : List Turn) × IsLed g cause r0 r1 w0 w1 old new (standing old f) end turns))
 led_where_cut_off g OutOfMemory r0 r1 w0 w1 old new ends clean f of =
     let stops = ends.stops in
     let all = serve_all g old new (requests_in stops.whole) stops.written stops.transcript clean f of in
@@ -306,7 +355,8 @@ led_where_cut_off g WriteFault r0 r1 w0 w1 old new ends clean f of =
     let stops = ends.stops in
     let step = stops.last in
     let mid = stops.mid in
-    let all = serve_all g old mid (requests_in stops.whole) stops.written stops.transcript (step.shuts.clean clean) f of in
+    let all =
+    serve_all g old mid (requests_in stops.whole) stops.written stops.transcript (step.shuts.clean clean) f of in
     let served = all.1.1.1 in
     let turns = all.1.1.0 in
     let then = step.answers clean all.0 all.1.0 in
@@ -340,10 +390,14 @@ led_where_cut_off g WriteFault r0 r1 w0 w1 old new ends clean f of =
                 appended = stops.appended;
               };
             };
-            follow = turns_then (standing old f) turns (turn ∷ []) served.run.follow (subst (λ (s : Standing). AreTurns s (turn ∷ [])) at follow);
-            last = a.left ∙ (ap (λ (s : Standing). end_of s (turn ∷ [])) at ∙ sym (end_then (standing old f) turns (turn ∷ [])));
+            follow = turns_then (standing old f) turns (turn ∷ []) served.run.follow
+                (subst (λ (s : Standing). AreTurns s (turn ∷ [])) at follow);
+            last = a.left ∙ (ap (λ (s : Standing). end_of s (turn ∷ [])) at ∙ sym
+                (end_then (standing old f) turns (turn ∷ [])));
             leaving = λ is_open unfailed.
-                leaving_last g old mid new (shuts_along g old mid (requests_in stops.whole) stops.written stops.transcript).counts step.shuts.counts step.closed (standing old f) all.0 then.0 turns turn at a.left
+                leaving_last g old mid new (shuts_along g old mid (requests_in stops.whole) stops.written
+                stops.transcript).counts step.shuts.counts step.closed (standing old f) all.0 then.0 turns turn at
+                a.left
                 then.1.1.1 (served.leaving is_open unfailed);
           },
         ),
@@ -352,21 +406,30 @@ led_where_cut_off g WriteFault r0 r1 w0 w1 old new ends clean f of =
 led_where_cut_off g _ r0 r1 w0 w1 old new ends clean f of = absurd ends
 
 -- the state behind turns is the one behind their commands
-left_by : (start : Standing) (turns : List Turn) (end : Standing) → end ≡ end_of start turns → end.now ≡ state_after start.now (commands_of turns)
+left_by : (start : Standing) (turns : List Turn) (end : Standing) → end ≡ end_of start turns
+    → end.now ≡ state_after start.now (commands_of turns)
 left_by start turns end last = ap (λ (s : Standing). s.now) last ∙ commands_end start turns
 
-leaves_run : {S : Type 0} (g : Ghosts S) → LeavesShown g → (old new : Treasury S) (start : Standing) (turns : List Turn) (end : Federation) → IsTreasuryOf g new end → LeavingIf g old new start turns → LeavesRun g old new start turns (standing new end)
+leaves_run : {S : Type 0} (g : Ghosts S) → LeavesShown g
+    → (old new : Treasury S) (start : Standing) (turns : List Turn) (end : Federation) → IsTreasuryOf g new end
+    → LeavingIf g old new start turns → LeavesRun g old new start turns (standing new end)
 leaves_run g shown old new start turns end of leaving is_open unfailed = by_end (leaving is_open unfailed)
   where
-    by_end : Leaving g old new start turns → (IsTrue (state g new.store.conn).is_open × LeavesRows g new.store.conn (rows end)) ⊎ (FailedAt g new.store.conn start turns ⊎ LostAt g old.store.conn new.store.conn turns)
+    by_end : Leaving g old new start turns
+        → (IsTrue (state g new.store.conn).is_open × LeavesRows g new.store.conn (rows end))
+        ⊎ (FailedAt g new.store.conn start turns ⊎ LostAt g old.store.conn new.store.conn turns)
     by_end (inl still) = inl (still, shown new.store.conn (rows end) of.store.tables still)
     by_end (inr (inl (failed, closes))) = inr (inl failed)
     by_end (inr (inr lost)) = inr (inr lost)
 
 -- a run on a treasury of a state ends as it may, keeps the books, and leaves of the tables what its turns say
-pub kept : {S T R W : Type 0} (g : Ghosts S) → LeavesShown g → (result : Result T Cause) (remaining : R → Option (List ℕ)) (r0 r1 : R) (contents : W → Option (List ℕ)) (w0 w1 : W) (old new : Treasury S)
-    → Ends result (Serves g) most_input remaining r0 r1 contents w0 w1 old new → HasCleanDisk (state g new.store.conn) → (f : Federation) → IsTreasuryOf g old f
-    → (end : Federation) × (IsTreasuryOf g new end × Runs g old new result remaining r0 r1 contents w0 w1 (standing old f) (standing new end))
+pub kept : {S T R W : Type 0} (g : Ghosts S) → LeavesShown g
+    → (result : Result T Cause) (remaining : R → Option (List ℕ)) (r0 r1 : R) (contents : W → Option (List ℕ))
+    (w0 w1 : W) (old new : Treasury S)
+    → Ends result (Serves g) most_input remaining r0 r1 contents w0 w1 old new → HasCleanDisk (state g new.store.conn)
+    → (f : Federation) → IsTreasuryOf g old f
+    → (end : Federation) × (IsTreasuryOf g new end
+    × Runs g old new result remaining r0 r1 contents w0 w1 (standing old f) (standing new end))
 kept g shown (Ok x) remaining r0 r1 contents w0 w1 old new finished clean f of =
     let start = standing old f in
     let all = serve_all g old new (requests_in finished.seen) finished.written finished.transcript clean f of in
@@ -402,7 +465,8 @@ kept g shown (Ok x) remaining r0 r1 contents w0 w1 old new finished clean f of =
     )
 kept g shown (Err cause) remaining r0 r1 contents w0 w1 old new ends clean f of =
     let start = standing old f in
-    let all = led_where_cut_off g cause (remaining r0) (remaining r1) (contents w0) (contents w1) old new ends clean f of in
+    let all =
+    led_where_cut_off g cause (remaining r0) (remaining r1) (contents w0) (contents w1) old new ends clean f of in
     let turns = all.1.1.0 in
     let led = all.1.1.1 in
     let commanded = commands_run start turns led.follow in (
@@ -428,33 +492,47 @@ kept g shown (Err cause) remaining r0 r1 contents w0 w1 old new ends clean f of 
 -- ---- whatever the disk returned
 
 -- a run that ends, whichever way, is lines that are served one after another
-pub served_along : {S T R W : Type 0} (g : Ghosts S) (P : Treasury S → Treasury S → Type 0) (result : Result T Cause) (most : ℕ) (remaining : R → Option (List ℕ)) (r0 r1 : R) (contents : W → Option (List ℕ)) (w0 w1 : W) (old new : Treasury S)
-    → ((a b : Treasury S) (requests : List (List ℕ)) (output : List ℕ) → AnswersInTurn (Serves g) a requests output b → P a b)
+pub served_along : {S T R W : Type 0} (g : Ghosts S) (P : Treasury S → Treasury S → Type 0) (result : Result T Cause)
+    (most : ℕ) (remaining : R → Option (List ℕ)) (r0 r1 : R) (contents : W → Option (List ℕ)) (w0 w1 : W)
+    (old new : Treasury S)
+    → ((a b : Treasury S) (requests : List (List ℕ)) (output : List ℕ) → AnswersInTurn (Serves g) a requests output b
+    → P a b)
     → ((a b c : Treasury S) (line text : List ℕ) → P a b → Serves g b line text c → P a c)
     → Ends result (Serves g) most remaining r0 r1 contents w0 w1 old new → P old new
-served_along g P (Ok x) most remaining r0 r1 contents w0 w1 old new lines then ends = lines old new (requests_in ends.seen) ends.written ends.transcript
-served_along g P (Err OutOfMemory) most remaining r0 r1 contents w0 w1 old new lines then ends = let stops = ends.stops in lines old new (requests_in stops.whole) stops.written stops.transcript
-served_along g P (Err ReadFault) most remaining r0 r1 contents w0 w1 old new lines then ends = let answered = ends.answered in lines old new (requests_in answered.whole) answered.written answered.transcript
+served_along g P (Ok x) most remaining r0 r1 contents w0 w1 old new lines then ends =
+    lines old new (requests_in ends.seen) ends.written ends.transcript
+served_along g P (Err OutOfMemory) most remaining r0 r1 contents w0 w1 old new lines then ends =
+    let stops = ends.stops in lines old new (requests_in stops.whole) stops.written stops.transcript
+served_along g P (Err ReadFault) most remaining r0 r1 contents w0 w1 old new lines then ends =
+    let answered = ends.answered in lines old new (requests_in answered.whole) answered.written answered.transcript
 served_along g P (Err WriteFault) most remaining r0 r1 contents w0 w1 old new lines then ends =
     let stops = ends.stops in
-    then old stops.mid new stops.request stops.answer (lines old stops.mid (requests_in stops.whole) stops.written stops.transcript) stops.last
+    then old stops.mid new stops.request stops.answer
+    (lines old stops.mid (requests_in stops.whole) stops.written stops.transcript) stops.last
 served_along g P (Err _) most remaining r0 r1 contents w0 w1 old new lines then ends = absurd ends
 
-pub run_shuts : {S T R W : Type 0} (g : Ghosts S) (result : Result T Cause) (most : ℕ) (remaining : R → Option (List ℕ)) (r0 r1 : R) (contents : W → Option (List ℕ)) (w0 w1 : W) (old new : Treasury S)
+pub run_shuts : {S T R W : Type 0} (g : Ghosts S) (result : Result T Cause) (most : ℕ) (remaining : R → Option (List ℕ))
+    (r0 r1 : R) (contents : W → Option (List ℕ)) (w0 w1 : W) (old new : Treasury S)
     → Ends result (Serves g) most remaining r0 r1 contents w0 w1 old new → ShutsByFault g old.store.conn new.store.conn
 run_shuts {S = S} g result most remaining r0 r1 contents w0 w1 old new ends =
-    served_along g (λ (a b : Treasury S). ShutsByFault g a.store.conn b.store.conn) result most remaining r0 r1 contents w0 w1 old new (shuts_along g)
+    served_along g (λ (a b : Treasury S). ShutsByFault g a.store.conn b.store.conn) result most remaining r0 r1 contents
+    w0 w1 old new (shuts_along g)
     (λ a b c line text one step. shuts_then g a.store.conn b.store.conn c.store.conn one step.shuts) ends
 
-pub run_closed : {S T R W : Type 0} (g : Ghosts S) (result : Result T Cause) (most : ℕ) (remaining : R → Option (List ℕ)) (r0 r1 : R) (contents : W → Option (List ℕ)) (w0 w1 : W) (old new : Treasury S)
+pub run_closed : {S T R W : Type 0} (g : Ghosts S) (result : Result T Cause) (most : ℕ)
+    (remaining : R → Option (List ℕ)) (r0 r1 : R) (contents : W → Option (List ℕ)) (w0 w1 : W) (old new : Treasury S)
     → Ends result (Serves g) most remaining r0 r1 contents w0 w1 old new → IsTrue old.store.failed → new ≡ old
 run_closed {S = S} g result most remaining r0 r1 contents w0 w1 old new ends =
-    served_along g (λ (a b : Treasury S). IsTrue a.store.failed → b ≡ a) result most remaining r0 r1 contents w0 w1 old new (closed_along g)
-    (λ a b c line text one step failed. step.closed (subst (λ (t : Treasury S). IsTrue t.store.failed) (sym (one failed)) failed) ∙ one failed) ends
+    served_along g (λ (a b : Treasury S). IsTrue a.store.failed → b ≡ a) result most remaining r0 r1 contents w0 w1 old
+    new (closed_along g)
+    (λ a b c line text one step failed.
+    step.closed (subst (λ (t : Treasury S). IsTrue t.store.failed) (sym (one failed)) failed) ∙ one failed) ends
 
 -- a run is refused by 40, 45 or 46
-pub run_causes : {S T R W : Type 0} (Step : S → List ℕ → List ℕ → S → Type 0) (result : Result T Cause) (most : ℕ) (remaining : R → Option (List ℕ)) (r0 r1 : R) (contents : W → Option (List ℕ)) (w0 w1 : W) (start end : S)
-    → Ends result Step most remaining r0 r1 contents w0 w1 start end → IfErr result (λ cause. (cause ≡ OutOfMemory) ⊎ ((cause ≡ ReadFault) ⊎ (cause ≡ WriteFault)))
+pub run_causes : {S T R W : Type 0} (Step : S → List ℕ → List ℕ → S → Type 0) (result : Result T Cause) (most : ℕ)
+    (remaining : R → Option (List ℕ)) (r0 r1 : R) (contents : W → Option (List ℕ)) (w0 w1 : W) (start end : S)
+    → Ends result Step most remaining r0 r1 contents w0 w1 start end
+    → IfErr result (λ cause. (cause ≡ OutOfMemory) ⊎ ((cause ≡ ReadFault) ⊎ (cause ≡ WriteFault)))
 run_causes Step (Ok x) most remaining r0 r1 contents w0 w1 start end ends = tt
 run_causes Step (Err OutOfMemory) most remaining r0 r1 contents w0 w1 start end ends = inl refl
 run_causes Step (Err ReadFault) most remaining r0 r1 contents w0 w1 start end ends = inr (inl refl)

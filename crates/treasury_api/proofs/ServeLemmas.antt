@@ -1,5 +1,7 @@
 -- A line is served on a treasury as a run answers it.
-use Rattle.std.proofs.Common.{◌≡◌, ◌++◌, ◌⊎◌, ◌||◌, ℕ, ℤ, List, [], Bool, true, false, not, if◌then◌else◌, Option, Some, None, Result, Ok, Err, IsSome, IsTrue, MatchResult, refl, ap, ◌∙◌, sym, subst, inl, inr, append-nil}
+use Rattle.std.proofs.Common.{◌≡◌, ◌++◌, ◌⊎◌, ◌||◌, ℕ, ℤ, List, [], Bool, true, false, not, if◌then◌else◌, Option, Some}
+use Rattle.std.proofs.Common.{None, Result, Ok, Err, IsSome, IsTrue, MatchResult, refl, ap, ◌∙◌, sym, subst, inl, inr}
+use Rattle.std.proofs.Common.{append-nil}
 use Rattle.sqlite.specs.Store.{Ghosts}
 use Rattle.sqlite.specs.State.{HasCleanDisk}
 use Rattle.sqlite.specs.Held.{Held, state}
@@ -9,7 +11,8 @@ use Rattle.money_core.specs.declared.day.Day.{Day}
 use Rattle.money_core.specs.Sampling.{style_of}
 use Rattle.money_core.specs.Reading.{amount}
 use Rattle.money_core.specs.declared.cause.Cause.{Cause}
-use Rattle.money_core.specs.declared.cause.Cause.TheVariants.{OutOfMemory, UnknownBranch, Closed, Request as NoRequest, Store as Failed}
+use Rattle.money_core.specs.declared.cause.Cause.TheVariants.{OutOfMemory, UnknownBranch, Closed, Request as NoRequest}
+use Rattle.money_core.specs.declared.cause.Cause.TheVariants.{Store as Failed}
 use Rattle.book_core.specs.declared.refusal.Refusal.{Refusal}
 use Rattle.book_core.specs.declared.refusal.Refusal.TheVariants.{Plain, Text, ClaimFailed}
 use Rattle.treasury_core.specs.declared.command.Answer.{Answer}
@@ -21,7 +24,12 @@ use Rattle.treasury_store.specs.Kept.{ShutsByFault}
 use Rattle.treasury_store.specs.Treasury.{Treasury, IsTreasuryOf}
 use Rattle.treasury_store.proofs.LeftLemmas.{shuts_same}
 use Rattle.treasury_api.specs.declared.request.Request.{Request}
-use Rattle.treasury_api.specs.declared.request.Request.TheVariants.{Branch as ForBranch, Commodity as ForCommodity, Import as ForImport, Dispatch as ForDispatch, Receive as ForReceive, Lock as ForLock, Close as ForClose, Balance as ForBalance, Register as ForRegister, Transit as ForTransit, Journal as ForJournal}
+use Rattle.treasury_api.specs.declared.request.Request.TheVariants.{Branch as ForBranch, Commodity as ForCommodity}
+use Rattle.treasury_api.specs.declared.request.Request.TheVariants.{Import as ForImport, Dispatch as ForDispatch}
+use Rattle.treasury_api.specs.declared.request.Request.TheVariants.{Receive as ForReceive, Lock as ForLock}
+use Rattle.treasury_api.specs.declared.request.Request.TheVariants.{Close as ForClose, Balance as ForBalance}
+use Rattle.treasury_api.specs.declared.request.Request.TheVariants.{Register as ForRegister, Transit as ForTransit}
+use Rattle.treasury_api.specs.declared.request.Request.TheVariants.{Journal as ForJournal}
 use Rattle.treasury_api.specs.declared.asking.Asked.{Asked}
 use Rattle.treasury_api.specs.declared.asking.Asked.TheVariants.{Command, Report}
 use Rattle.treasury_api.specs.declared.report.Report.{Report as AnyReport}
@@ -40,14 +48,16 @@ use Rattle.treasury_api.proofs.ReplyLemmas.{state_is, same_line, refusal_is}
 use Rattle.treasury_api.proofs.LeftLemmas.{LeavesShown, leaves_first}
 
 -- every line asks something
-line_asks : ReadsAll → (failed : Bool) (styles : List Style) (line : List ℕ) → (asked : Result Asked Refusal) × Asks failed styles line asked
+line_asks : ReadsAll → (failed : Bool) (styles : List Style) (line : List ℕ)
+    → (asked : Result Asked Refusal) × Asks failed styles line asked
 line_asks law failed styles line = by_request (spelled line) refl
   where
     of_request : (b : Bool) (request : Request) → (asked : Result Asked Refusal) × AsksOf b styles request asked
     of_request true request = (Err (Plain Closed), refl)
     of_request false request = request_asks law styles request
 
-    by_request : (o : Option Request) → spelled line ≡ o → (asked : Result Asked Refusal) × Asks failed styles line asked
+    by_request : (o : Option Request) → spelled line ≡ o
+        → (asked : Result Asked Refusal) × Asks failed styles line asked
     by_request (Some request) e = let a = of_request failed request in (a.0, inl (request, (e, a.1)))
     by_request None e = (Err (Plain NoRequest), inr (e, refl))
 
@@ -56,34 +66,57 @@ or_false true = refl
 or_false false = refl
 
 -- a plain refusal is the same line under all commodities
-pub plain_line : (styles : List Style) (cause : Cause) → answer_text [] (Err (Plain cause)) ≡ answer_text styles (Err (Plain cause))
+pub plain_line : (styles : List Style) (cause : Cause)
+    → answer_text [] (Err (Plain cause)) ≡ answer_text styles (Err (Plain cause))
 unfolding answer_text
 plain_line styles cause = refl
 
 -- the line of a refusal, on an empty vector
-pub refused_line : (styles : List Style) (refusal : Refusal) (cause : Cause) (empty text : List ℕ) → empty ≡ [] → text ≡ empty ++ answer_text styles (Err refusal) → cause ≡ cause_of refusal → IsLineBy styles refusal cause text
-refused_line styles (Plain because) cause empty text none said is = (said ∙ (ap (λ (xs : List ℕ). xs ++ answer_text styles (Err (Plain because))) none ∙ sym (plain_line styles because)), is)
-refused_line styles (Text fault) cause empty text none said is = inr (said ∙ ap (λ (xs : List ℕ). xs ++ answer_text styles (Err (Text fault))) none, is)
-refused_line styles (ClaimFailed failure) cause empty text none said is = inr (said ∙ ap (λ (xs : List ℕ). xs ++ answer_text styles (Err (ClaimFailed failure))) none, is)
+pub refused_line : (styles : List Style) (refusal : Refusal) (cause : Cause) (empty text : List ℕ) → empty ≡ []
+    → text ≡ empty ++ answer_text styles (Err refusal) → cause ≡ cause_of refusal → IsLineBy styles refusal cause text
+refused_line styles (Plain because) cause empty text none said is = (
+  said ∙ (ap (λ (xs : List ℕ). xs ++ answer_text styles (Err (Plain because))) none ∙ sym
+      (plain_line styles because)),
+  is,
+)
+refused_line styles (Text fault) cause empty text none said is =
+    inr (said ∙ ap (λ (xs : List ℕ). xs ++ answer_text styles (Err (Text fault))) none, is)
+refused_line styles (ClaimFailed failure) cause empty text none said is =
+    inr (said ∙ ap (λ (xs : List ℕ). xs ++ answer_text styles (Err (ClaimFailed failure))) none, is)
 
 -- that of want of memory in place of one that is not plain
-pub memory_line : (styles : List Style) (refusal : Refusal) (empty mid text : List ℕ) → empty ≡ [] → mid ≡ empty → text ≡ mid ++ answer_text styles (Err (Plain OutOfMemory)) → (IsPlainAnswer (Err refusal) → ⊥) → IsLineBy styles refusal OutOfMemory text
+pub memory_line : (styles : List Style) (refusal : Refusal) (empty mid text : List ℕ) → empty ≡ [] → mid ≡ empty
+    → text ≡ mid ++ answer_text styles (Err (Plain OutOfMemory)) → (IsPlainAnswer (Err refusal) → ⊥)
+    → IsLineBy styles refusal OutOfMemory text
 memory_line styles (Plain because) empty mid text none same said other = absurd (other tt)
-memory_line styles (Text fault) empty mid text none same said other = inl (said ∙ (ap (λ (xs : List ℕ). xs ++ answer_text styles (Err (Plain OutOfMemory))) (same ∙ none) ∙ sym (plain_line styles OutOfMemory)), refl)
-memory_line styles (ClaimFailed failure) empty mid text none same said other = inl (said ∙ (ap (λ (xs : List ℕ). xs ++ answer_text styles (Err (Plain OutOfMemory))) (same ∙ none) ∙ sym (plain_line styles OutOfMemory)), refl)
+memory_line styles (Text fault) empty mid text none same said other =
+    inl (
+      said ∙ (ap (λ (xs : List ℕ). xs ++ answer_text styles (Err (Plain OutOfMemory))) (same ∙ none) ∙ sym
+          (plain_line styles OutOfMemory)),
+      refl,
+    )
+memory_line styles (ClaimFailed failure) empty mid text none same said other =
+    inl (
+      said ∙ (ap (λ (xs : List ℕ). xs ++ answer_text styles (Err (Plain OutOfMemory))) (same ∙ none) ∙ sym
+          (plain_line styles OutOfMemory)),
+      refl,
+    )
 
 -- what is known of the line alone
-line_in : (styles : List Style) (refusal : Refusal) (cause : Cause) (text : List ℕ) → IsLineBy styles refusal cause text → IsLineIn styles refusal text
+line_in : (styles : List Style) (refusal : Refusal) (cause : Cause) (text : List ℕ) → IsLineBy styles refusal cause text
+    → IsLineIn styles refusal text
 line_in styles (Plain because) cause text by = by.0
 line_in styles (Text fault) cause text (inl memory) = inl memory.0
 line_in styles (Text fault) cause text (inr said) = inr said.0
 line_in styles (ClaimFailed failure) cause text (inl memory) = inl memory.0
 line_in styles (ClaimFailed failure) cause text (inr said) = inr said.0
 
-pub line_of : {S : Type 0} (t : Treasury S) (refusal : Refusal) (cause : Cause) (text : List ℕ) → IsToldBy t refusal cause text → IsLineOf t refusal text
+pub line_of : {S : Type 0} (t : Treasury S) (refusal : Refusal) (cause : Cause) (text : List ℕ)
+    → IsToldBy t refusal cause text → IsLineOf t refusal text
 line_of t (Plain because) cause text by = by.0
 line_of t (Text fault) cause text (s, (held, by)) = (s, (held, line_in s.styles (Text fault) cause text by))
-line_of t (ClaimFailed failure) cause text (s, (held, by)) = (s, (held, line_in s.styles (ClaimFailed failure) cause text by))
+line_of t (ClaimFailed failure) cause text (s, (held, by)) =
+    (s, (held, line_in s.styles (ClaimFailed failure) cause text by))
 
 -- ---- a line that spells no request, or for which there was no memory
 
@@ -92,20 +125,36 @@ after_plain f (Ok (Command c)) refusal = refl
 after_plain f (Ok (Report report)) refusal = refl
 after_plain f (Err e) refusal = refl
 
-stays : {S : Type 0} (t : Treasury S) (f : Federation) (asked : Result Asked Refusal) (cause : Cause) → is_failure (Err (Plain cause)) ≡ false → standing t f ≡ next (standing t f) asked (Err (Plain cause))
+stays : {S : Type 0} (t : Treasury S) (f : Federation) (asked : Result Asked Refusal) (cause : Cause)
+    → is_failure (Err (Plain cause)) ≡ false → standing t f ≡ next (standing t f) asked (Err (Plain cause))
 stays t f asked cause harmless =
-    let same : t.store.failed ≡ (t.store.failed || is_failure (Err (Plain cause))) = or_false t.store.failed ∙ ap (λ (b : Bool). t.store.failed || b) (sym harmless) in
-    ap (λ (now : Federation). record { now = now; failed = t.store.failed }) (after_plain f asked (Plain cause)) ∙ ap (λ (b : Bool). record { now = after f asked (Err (Plain cause)); failed = b }) same
+    let same : t.store.failed ≡ (t.store.failed || is_failure (Err (Plain cause))) =
+    or_false t.store.failed ∙ ap (λ (b : Bool). t.store.failed || b) (sym harmless) in
+    ap (λ (now : Federation). record { now = now; failed = t.store.failed }) (after_plain f asked (Plain cause)) ∙ ap
+    (λ (b : Bool). record { now = after f asked (Err (Plain cause)); failed = b }) same
 
-pub unread : {S : Type 0} → ReadsAll → (g : Ghosts S) → LeavesShown g → (t : Treasury S) (line text : List ℕ) (cause : Cause) (read : Result Request Cause) → read ≡ Err cause → (read ≡ Err NoRequest → spelled line ≡ None)
+pub unread : {S : Type 0} → ReadsAll → (g : Ghosts S) → LeavesShown g
+    → (t : Treasury S) (line text : List ℕ) (cause : Cause) (read : Result Request Cause) → read ≡ Err cause
+    → (read ≡ Err NoRequest → spelled line ≡ None)
     → (cause ≡ NoRequest) ⊎ (cause ≡ OutOfMemory) → text ≡ answer_text [] (Err (Plain cause)) → Serves g t line text t
 unread law g shown t line text cause read is none causes said = record {
-  answers = λ clean f of. (f, (of, (by_cause f causes, λ is_open unfailed. (leaves_first g t.store.conn (rows f) _ (shown t.store.conn (rows f) of.store.tables is_open), inl is_open))));
+  answers = λ clean f of. (
+    f,
+    (
+      of,
+      (
+        by_cause f causes,
+        λ is_open unfailed.
+            (leaves_first g t.store.conn (rows f) _ (shown t.store.conn (rows f) of.store.tables is_open), inl is_open),
+      ),
+    ),
+  );
   shuts = shuts_same g t.store.conn;
   closed = λ failed. refl;
 }
   where
-    by_cause : (f : Federation) → (cause ≡ NoRequest) ⊎ (cause ≡ OutOfMemory) → Answers (standing t f) line text (standing t f)
+    by_cause : (f : Federation) → (cause ≡ NoRequest) ⊎ (cause ≡ OutOfMemory)
+        → Answers (standing t f) line text (standing t f)
     by_cause f (inl form) = record {
       asked = Err (Plain NoRequest);
       reply = Err (Plain NoRequest);
@@ -128,7 +177,8 @@ unread law g shown t line text cause read is none causes said = record {
 -- ---- a request that is answered
 
 -- a report asks for a report
-asks_report : (failed : Bool) (styles : List Style) (request : Request) (c : AnyCommand) → AsksOf failed styles request (Ok (Command c)) → is_report request ≡ false
+asks_report : (failed : Bool) (styles : List Style) (request : Request) (c : AnyCommand)
+    → AsksOf failed styles request (Ok (Command c)) → is_report request ≡ false
 asks_report true styles request c asks = absurd cc
 asks_report false styles (ForBalance name day) c asks = absurd cc
 asks_report false styles (ForRegister name account tag) c asks = absurd cc
@@ -146,23 +196,28 @@ by_sample : (o : Option Style) (report : AnyReport) (P : Type 0) → Ok (Report 
 by_sample None report P e = absurd cc
 by_sample (Some style) report P e = absurd cc
 
-by_amount : (id from to account : List ℕ) (day : Day) (r : Result (Commodity × ℤ) Cause) (report : AnyReport) (P : Type 0) → Ok (Report report) ≡ asked_by_amount id from to day account r → P
+by_amount : (id from to account : List ℕ) (day : Day) (r : Result (Commodity × ℤ) Cause) (report : AnyReport)
+    (P : Type 0) → Ok (Report report) ≡ asked_by_amount id from to day account r → P
 by_amount id from to account day (Ok (unit, qty)) report P e = absurd cc
 by_amount id from to account day (Err cause) report P e = absurd cc
 
-by_part : (id name account key : List ℕ) (day : Day) (r : Result (Commodity × ℤ) Cause) (report : AnyReport) (P : Type 0) → Ok (Report report) ≡ asked_by_part id name day account key r → P
+by_part : (id name account key : List ℕ) (day : Day) (r : Result (Commodity × ℤ) Cause) (report : AnyReport)
+    (P : Type 0) → Ok (Report report) ≡ asked_by_part id name day account key r → P
 by_part id name account key day (Ok (unit, qty)) report P e = absurd cc
 by_part id name account key day (Err cause) report P e = absurd cc
 
-no_report : (failed : Bool) (styles : List Style) (request : Request) (report : AnyReport) → AsksOf failed styles request (Ok (Report report)) → is_report request ≡ true
+no_report : (failed : Bool) (styles : List Style) (request : Request) (report : AnyReport)
+    → AsksOf failed styles request (Ok (Report report)) → is_report request ≡ true
 no_report true styles request report asks = absurd cc
 no_report false styles (ForBranch name) report asks = absurd cc
 no_report false styles (ForCommodity sample) report asks = by_sample (style_of sample) report _ asks
 no_report false styles (ForImport name journal) report (inl reads) = absurd (let e = reads.1.1 in cc)
 no_report false styles (ForImport name journal) report (inr fault) = absurd (let e = fault.1.1 in cc)
-no_report false styles (ForDispatch id from to day text account) report asks = by_amount id from to account day (amount styles text) report _ asks
+no_report false styles (ForDispatch id from to day text account) report asks =
+    by_amount id from to account day (amount styles text) report _ asks
 no_report false styles (ForReceive id name day account None) report asks = absurd cc
-no_report false styles (ForReceive id name day account (Some part)) report asks = by_part id name account part.key day (amount styles part.amount) report _ asks
+no_report false styles (ForReceive id name day account (Some part)) report asks =
+    by_part id name account part.key day (amount styles part.amount) report _ asks
 no_report false styles (ForLock name day) report asks = absurd cc
 no_report false styles (ForClose name day accounts into) report asks = absurd cc
 no_report false styles (ForBalance name day) report asks = refl
@@ -171,14 +226,17 @@ no_report false styles (ForTransit day) report asks = refl
 no_report false styles (ForJournal name) report asks = refl
 
 -- what is replied leads on
-pub leads : {S : Type 0} (old new : Treasury S) (f : Federation) (asked : Result Asked Refusal) (r : Result Answer Refusal) → new.store.failed ≡ (old.store.failed || is_failure r) → standing new (after f asked r) ≡ next (standing old f) asked r
+pub leads : {S : Type 0} (old new : Treasury S) (f : Federation) (asked : Result Asked Refusal)
+    (r : Result Answer Refusal) → new.store.failed ≡ (old.store.failed || is_failure r)
+    → standing new (after f asked r) ≡ next (standing old f) asked r
 leads old new f asked r left = ap (λ (b : Bool). record { now = after f asked r; failed = b }) left
 
 spelled_some : (line : List ℕ) (request : Request) → spelled line ≡ Some request → IsSome (spelled line)
 spelled_some line request is = subst (λ (o : Option Request). IsSome o) (sym is) cc
 
 -- a report whose branch is there is replied to by `ok`
-done_only : (f : Federation) (failed : Bool) (report : AnyReport) (answer : Answer) → MayReply (record { now = f; failed = failed }) (Ok (Report report)) (Ok answer) → answer ≡ Done
+done_only : (f : Federation) (failed : Bool) (report : AnyReport) (answer : Answer)
+    → MayReply (record { now = f; failed = failed }) (Ok (Report report)) (Ok answer) → answer ≡ Done
 done_only f failed report answer (inl e) = by_branch (has_its_branch f report) e
   where
     by_branch : (t : Bool) → Ok answer ≡ (if not t then Err (Plain UnknownBranch) else Ok Done) → answer ≡ Done
@@ -188,32 +246,44 @@ done_only f failed report answer (inr (inl e)) = absurd cc
 done_only f failed report answer (inr (inr e)) = absurd (let k = e.1 in cc)
 
 -- nothing that is refused is answered
-pub refused_only : (f : Federation) (failed : Bool) (refusal : Refusal) (answer : Answer) (P : Type 0) → MayReply (record { now = f; failed = failed }) (Err refusal) (Ok answer) → P
+pub refused_only : (f : Federation) (failed : Bool) (refusal : Refusal) (answer : Answer) (P : Type 0)
+    → MayReply (record { now = f; failed = failed }) (Err refusal) (Ok answer) → P
 refused_only f failed refusal answer P (inl e) = absurd cc
 refused_only f failed refusal answer P (inr (inl e)) = absurd cc
 refused_only f failed refusal answer P (inr (inr e)) = absurd (let k = e.1 in cc)
 
 -- the text of an answer: the line that ends a report stands behind it
-whole_text : (f : Federation) (failed : Bool) (request : Request) (asked : Result Asked Refusal) (answer : Answer) (written text : List ℕ) → AsksOf failed f.styles request asked
-    → MayReply (record { now = f; failed = failed }) asked (Ok answer) → written ≡ [] ++ body_of f asked answer → text ≡ written ++ end_of_report request → text ≡ reply_text f asked (Ok answer)
+whole_text : (f : Federation) (failed : Bool) (request : Request) (asked : Result Asked Refusal) (answer : Answer)
+    (written text : List ℕ) → AsksOf failed f.styles request asked
+    → MayReply (record { now = f; failed = failed }) asked (Ok answer) → written ≡ [] ++ body_of f asked answer
+    → text ≡ written ++ end_of_report request → text ≡ reply_text f asked (Ok answer)
 whole_text f failed request (Ok (Command c)) answer written text asks replies said ended =
-    let none : end_of_report request ≡ [] = ap (λ (t : Bool). if t then answer_text [] (Ok Done) else []) (asks_report failed f.styles request c asks) in
+    let none : end_of_report request ≡ [] =
+    ap (λ (t : Bool). if t then answer_text [] (Ok Done) else []) (asks_report failed f.styles request c asks) in
     ended ∙ (ap (λ (xs : List ℕ). written ++ xs) none ∙ (append-nil written ∙ said))
 whole_text f failed request (Ok (Report report)) answer written text asks replies said ended =
-    let last : end_of_report request ≡ answer_text [] (Ok Done) = ap (λ (t : Bool). if t then answer_text [] (Ok Done) else []) (no_report failed f.styles request report asks) in
-    ended ∙ (ap (λ (xs : List ℕ). written ++ xs) (last ∙ same_line f.styles Done) ∙ (ap (λ (xs : List ℕ). xs ++ answer_text f.styles (Ok Done)) said
-    ∙ ap (λ (a : Answer). report_text f report ++ answer_text f.styles (Ok a)) (sym (done_only f failed report answer replies))))
-whole_text f failed request (Err refusal) answer written text asks replies said ended = refused_only f failed refusal answer _ replies
+    let last : end_of_report request ≡ answer_text [] (Ok Done) =
+    ap (λ (t : Bool). if t then answer_text [] (Ok Done) else []) (no_report failed f.styles request report asks) in
+    ended ∙ (ap (λ (xs : List ℕ). written ++ xs) (last ∙ same_line f.styles Done) ∙
+    (ap (λ (xs : List ℕ). xs ++ answer_text f.styles (Ok Done)) said
+    ∙ ap (λ (a : Answer). report_text f report ++ answer_text f.styles (Ok a))
+    (sym (done_only f failed report answer replies))))
+whole_text f failed request (Err refusal) answer written text asks replies said ended =
+    refused_only f failed refusal answer _ replies
 
 -- what else a request makes of a treasury
-pub record Beside {S : Type 0} (g : Ghosts S) (old new : Treasury S) (request : Request) (made : Result (Unit {0}) Refusal) : Type 0 where
+pub record Beside {S : Type 0} (g : Ghosts S) (old new : Treasury S) (request : Request)
+    (made : Result (Unit {0}) Refusal) : Type 0 where
   pub shuts : ShutsByFault g old.store.conn new.store.conn
   pub closed : IsTrue old.store.failed → (made ≡ Err (Plain Closed)) × (new ≡ old)
-  pub open_but : HasCleanDisk (state g new.store.conn) → IsTrue (state g old.store.conn).is_open → (f : Federation) → IsTreasuryOf g old f → IsOpenBut g old.store.conn new.store.conn made
+  pub open_but : HasCleanDisk (state g new.store.conn) → IsTrue (state g old.store.conn).is_open → (f : Federation)
+      → IsTreasuryOf g old f → IsOpenBut g old.store.conn new.store.conn made
   pub left : LeavesRequest g old new request
 
 -- where it is replied to so, the database is open, or not
-replied_open : {S T X : Type 0} (g : Ghosts S) (old new : Held S) (made : Result T Refusal) (reply : Result X Refusal) → (made ≡ Err (Plain Failed) → reply ≡ Err (Plain Failed)) → (made ≡ Err (Plain OutOfMemory) → reply ≡ Err (Plain OutOfMemory))
+replied_open : {S T X : Type 0} (g : Ghosts S) (old new : Held S) (made : Result T Refusal) (reply : Result X Refusal)
+    → (made ≡ Err (Plain Failed) → reply ≡ Err (Plain Failed))
+    → (made ≡ Err (Plain OutOfMemory) → reply ≡ Err (Plain OutOfMemory))
     → IsOpenBut g old new made → IsOpenBut g old new reply
 replied_open g old new made reply failed memory (inl still) = inl still
 replied_open g old new made reply failed memory (inr (inl is)) = inr (inl (failed is))
@@ -223,9 +293,11 @@ done_not : (r : Result (Unit {0}) Refusal) (x : Unit {0}) (e : Refusal) → r �
 done_not r x e h k = cc
 
 -- an answer with its end
-pub served : {S : Type 0} (g : Ghosts S) (old new : Treasury S) (line written text : List ℕ) (request : Request) (made : Result (Unit {0}) Refusal) (x : Unit {0}) → spelled line ≡ Some request → made ≡ Ok x
+pub served : {S : Type 0} (g : Ghosts S) (old new : Treasury S) (line written text : List ℕ) (request : Request)
+    (made : Result (Unit {0}) Refusal) (x : Unit {0}) → spelled line ≡ Some request → made ≡ Ok x
     → Beside g old new request made
-    → (HasCleanDisk (state g new.store.conn) → (f : Federation) → IsTreasuryOf g old f → IsAnswered g old.store.failed new f request made [] written)
+    → (HasCleanDisk (state g new.store.conn) → (f : Federation) → IsTreasuryOf g old f
+    → IsAnswered g old.store.failed new f request made [] written)
     → text ≡ written ++ end_of_report request → Serves g old line text new
 served g old new line written text request made x is ok beside answers ended = record {
   answers = λ k f of. by_reply k f of (answers k f of);
@@ -233,10 +305,14 @@ served g old new line written text request made x is ok beside answers ended = r
   closed = λ failed. (beside.closed failed).1;
 }
   where
-    by_reply : HasCleanDisk (state g new.store.conn) → (f : Federation) → IsTreasuryOf g old f → IsAnswered g old.store.failed new f request made [] written
-        → (end : Federation) × (IsTreasuryOf g new end × ((a : Answers (standing old f) line text (standing new end)) × LeavesReply g old new f a.asked a.reply))
+    by_reply : HasCleanDisk (state g new.store.conn) → (f : Federation) → IsTreasuryOf g old f
+        → IsAnswered g old.store.failed new f request made [] written
+        → (end : Federation) × (IsTreasuryOf g new end
+        × ((a : Answers (standing old f) line text (standing new end)) × LeavesReply g old new f a.asked a.reply))
     by_reply clean f of (asked, (asks, r)) =
-        let told = subst (λ (m : Result (Unit {0}) Refusal). MatchResult m (λ _. (answer : Answer) × ((r.reply ≡ Ok answer) × (written ≡ [] ++ body_of f asked answer))) (λ refusal. (r.reply ≡ Err refusal) × (written ≡ []))) ok r.text in (
+        let told = subst (λ (m : Result (Unit {0}) Refusal).
+        MatchResult m (λ _. (answer : Answer) × ((r.reply ≡ Ok answer) × (written ≡ [] ++ body_of f asked answer)))
+        (λ refusal. (r.reply ≡ Err refusal) × (written ≡ []))) ok r.text in (
           after f asked r.reply,
           (
             r.of,
@@ -246,22 +322,28 @@ served g old new line written text request made x is ok beside answers ended = r
                 reply = r.reply;
                 asks = inl (request, (is, asks));
                 replies = (r.replies, λ _. spelled_some line request is);
-                text = whole_text f old.store.failed request asked told.0 written text asks (subst (λ (y : Result Answer Refusal). MayReply (record { now = f; failed = old.store.failed }) asked y) told.1.0 r.replies) told.1.1 ended
+                text = whole_text f old.store.failed request asked told.0 written text asks
+                    (subst (λ (y : Result Answer Refusal).
+                    MayReply (record { now = f; failed = old.store.failed }) asked y) told.1.0 r.replies) told.1.1 ended
                     ∙ ap (λ (y : Result Answer Refusal). reply_text f asked y) (sym told.1.0);
                 left = leads old new f asked r.reply r.left;
               },
               λ is_open unfailed. (
                 beside.left clean is_open f of asked asks,
-                replied_open g old.store.conn new.store.conn made r.reply (λ e. absurd (done_not made x (Plain Failed) ok e)) (λ e. absurd (done_not made x (Plain OutOfMemory) ok e)) (beside.open_but clean is_open f of),
+                replied_open g old.store.conn new.store.conn made r.reply
+                    (λ e. absurd (done_not made x (Plain Failed) ok e))
+                    (λ e. absurd (done_not made x (Plain OutOfMemory) ok e)) (beside.open_but clean is_open f of),
               ),
             ),
           ),
         )
 
 -- want of memory in place of the end of a report
-pub served_memory : {S : Type 0} (g : Ghosts S) (old new : Treasury S) (line written text : List ℕ) (request : Request) (made : Result (Unit {0}) Refusal) (x : Unit {0}) → spelled line ≡ Some request → made ≡ Ok x
+pub served_memory : {S : Type 0} (g : Ghosts S) (old new : Treasury S) (line written text : List ℕ) (request : Request)
+    (made : Result (Unit {0}) Refusal) (x : Unit {0}) → spelled line ≡ Some request → made ≡ Ok x
     → Beside g old new request made
-    → (HasCleanDisk (state g new.store.conn) → (f : Federation) → IsTreasuryOf g old f → IsAnswered g old.store.failed new f request made [] written)
+    → (HasCleanDisk (state g new.store.conn) → (f : Federation) → IsTreasuryOf g old f
+    → IsAnswered g old.store.failed new f request made [] written)
     → is_report request ≡ true → text ≡ answer_text [] (Err (Plain OutOfMemory)) → Serves g old line text new
 served_memory g old new line written text request made x is ok beside answers report said = record {
   answers = λ k f of. by_reply k f of (answers k f of);
@@ -270,11 +352,16 @@ served_memory g old new line written text request made x is ok beside answers re
 }
   where
     Told : Federation → Type 0
-    Told f = (end : Federation) × (IsTreasuryOf g new end × ((a : Answers (standing old f) line text (standing new end)) × LeavesReply g old new f a.asked a.reply))
+    Told f = (end : Federation) × (IsTreasuryOf g new end
+        × ((a : Answers (standing old f) line text (standing new end)) × LeavesReply g old new f a.asked a.reply))
 
-    by_asked : (f : Federation) (asked : Result Asked Refusal) (answer : Answer) → AsksOf old.store.failed f.styles request asked → MayReply (record { now = f; failed = old.store.failed }) asked (Ok answer)
-        → IsTreasuryOf g new (after f asked (Ok answer)) → new.store.failed ≡ (old.store.failed || false) → LeavesReply g old new f asked (Err (Plain OutOfMemory)) → Told f
-    by_asked f (Ok (Command c)) answer asks replies of left leaves = absurd (let e : true ≡ false = sym report ∙ asks_report old.store.failed f.styles request c asks in cc)
+    by_asked : (f : Federation) (asked : Result Asked Refusal) (answer : Answer)
+        → AsksOf old.store.failed f.styles request asked
+        → MayReply (record { now = f; failed = old.store.failed }) asked (Ok answer)
+        → IsTreasuryOf g new (after f asked (Ok answer)) → new.store.failed ≡ (old.store.failed || false)
+        → LeavesReply g old new f asked (Err (Plain OutOfMemory)) → Told f
+    by_asked f (Ok (Command c)) answer asks replies of left leaves =
+        absurd (let e : true ≡ false = sym report ∙ asks_report old.store.failed f.styles request c asks in cc)
     by_asked f (Ok (Report asked)) answer asks replies of left leaves = (
       f,
       (
@@ -292,32 +379,47 @@ served_memory g old new line written text request made x is ok beside answers re
         ),
       ),
     )
-    by_asked f (Err refusal) answer asks replies of left leaves = refused_only f old.store.failed refusal answer _ replies
+    by_asked f (Err refusal) answer asks replies of left leaves =
+        refused_only f old.store.failed refusal answer _ replies
 
-    by_reply : HasCleanDisk (state g new.store.conn) → (f : Federation) → IsTreasuryOf g old f → IsAnswered g old.store.failed new f request made [] written → Told f
+    by_reply : HasCleanDisk (state g new.store.conn) → (f : Federation) → IsTreasuryOf g old f
+        → IsAnswered g old.store.failed new f request made [] written → Told f
     by_reply clean f of (asked, (asks, r)) =
-        let told = subst (λ (m : Result (Unit {0}) Refusal). MatchResult m (λ _. (answer : Answer) × ((r.reply ≡ Ok answer) × (written ≡ [] ++ body_of f asked answer))) (λ refusal. (r.reply ≡ Err refusal) × (written ≡ []))) ok r.text in
-        by_asked f asked told.0 asks (subst (λ (y : Result Answer Refusal). MayReply (record { now = f; failed = old.store.failed }) asked y) told.1.0 r.replies)
-        (subst (λ (y : Result Answer Refusal). IsTreasuryOf g new (after f asked y)) told.1.0 r.of) (r.left ∙ ap (λ (y : Result Answer Refusal). old.store.failed || is_failure y) told.1.0)
+        let told = subst (λ (m : Result (Unit {0}) Refusal).
+        MatchResult m (λ _. (answer : Answer) × ((r.reply ≡ Ok answer) × (written ≡ [] ++ body_of f asked answer)))
+        (λ refusal. (r.reply ≡ Err refusal) × (written ≡ []))) ok r.text in
+        by_asked f asked told.0 asks (subst
+        (λ (y : Result Answer Refusal). MayReply (record { now = f; failed = old.store.failed }) asked y) told.1.0
+        r.replies)
+        (subst (λ (y : Result Answer Refusal). IsTreasuryOf g new (after f asked y)) told.1.0 r.of)
+        (r.left ∙ ap (λ (y : Result Answer Refusal). old.store.failed || is_failure y) told.1.0)
         (λ is_open unfailed. (
           beside.left clean is_open f of asked asks,
-          replied_open g old.store.conn new.store.conn made (Err (Plain OutOfMemory)) (λ e. absurd (done_not made x (Plain Failed) ok e)) (λ e. refl) (beside.open_but clean is_open f of),
+          replied_open g old.store.conn new.store.conn made (Err (Plain OutOfMemory))
+              (λ e. absurd (done_not made x (Plain Failed) ok e)) (λ e. refl) (beside.open_but clean is_open f of),
         ))
 
 -- ---- a request that is refused
 
 -- the line of a refusal on the treasury that is of the state, or that of 40
-pub data_line : {S : Type 0} (g : Ghosts S) (new : Treasury S) (f : Federation) (refusal : Refusal) (text : List ℕ) → IsTreasuryOf g new f → IsLineOf new refusal text
-    → (text ≡ answer_text f.styles (Err refusal)) ⊎ ((text ≡ answer_text f.styles (Err (Plain OutOfMemory))) × (is_failure (Err refusal) ≡ false))
+pub data_line : {S : Type 0} (g : Ghosts S) (new : Treasury S) (f : Federation) (refusal : Refusal) (text : List ℕ)
+    → IsTreasuryOf g new f → IsLineOf new refusal text
+    → (text ≡ answer_text f.styles (Err refusal))
+    ⊎ ((text ≡ answer_text f.styles (Err (Plain OutOfMemory))) × (is_failure (Err refusal) ≡ false))
 data_line g new f (Plain cause) text of said = inl (said ∙ plain_line f.styles cause)
 data_line g new f (Text fault) text of (s, (held, inl memory)) = inr (memory ∙ plain_line f.styles OutOfMemory, refl)
-data_line g new f (Text fault) text of (s, (held, inr said)) = inl (said ∙ ap (λ (x : Federation). answer_text x.styles (Err (Text fault))) (state_is g new s f of held))
-data_line g new f (ClaimFailed failure) text of (s, (held, inl memory)) = inr (memory ∙ plain_line f.styles OutOfMemory, refl)
-data_line g new f (ClaimFailed failure) text of (s, (held, inr said)) = inl (said ∙ ap (λ (x : Federation). answer_text x.styles (Err (ClaimFailed failure))) (state_is g new s f of held))
+data_line g new f (Text fault) text of (s, (held, inr said)) =
+    inl (said ∙ ap (λ (x : Federation). answer_text x.styles (Err (Text fault))) (state_is g new s f of held))
+data_line g new f (ClaimFailed failure) text of (s, (held, inl memory)) =
+    inr (memory ∙ plain_line f.styles OutOfMemory, refl)
+data_line g new f (ClaimFailed failure) text of (s, (held, inr said)) =
+    inl (said ∙ ap (λ (x : Federation). answer_text x.styles (Err (ClaimFailed failure))) (state_is g new s f of held))
 
-pub served_refusal : {S : Type 0} (g : Ghosts S) (old new : Treasury S) (line written text : List ℕ) (request : Request) (made : Result (Unit {0}) Refusal) (refusal : Refusal) → spelled line ≡ Some request → made ≡ Err refusal
+pub served_refusal : {S : Type 0} (g : Ghosts S) (old new : Treasury S) (line written text : List ℕ) (request : Request)
+    (made : Result (Unit {0}) Refusal) (refusal : Refusal) → spelled line ≡ Some request → made ≡ Err refusal
     → Beside g old new request made
-    → (HasCleanDisk (state g new.store.conn) → (f : Federation) → IsTreasuryOf g old f → IsAnswered g old.store.failed new f request made [] written)
+    → (HasCleanDisk (state g new.store.conn) → (f : Federation) → IsTreasuryOf g old f
+    → IsAnswered g old.store.failed new f request made [] written)
     → IsLineOf new refusal text → Serves g old line text new
 served_refusal g old new line written text request made refusal is refused beside answers said = record {
   answers = λ k f of. by_reply k f of (answers k f of);
@@ -326,14 +428,18 @@ served_refusal g old new line written text request made refusal is refused besid
 }
   where
     Told : Federation → Type 0
-    Told f = (end : Federation) × (IsTreasuryOf g new end × ((a : Answers (standing old f) line text (standing new end)) × LeavesReply g old new f a.asked a.reply))
+    Told f = (end : Federation) × (IsTreasuryOf g new end
+        × ((a : Answers (standing old f) line text (standing new end)) × LeavesReply g old new f a.asked a.reply))
 
     same_refusal : (other : Refusal) → made ≡ Err other → refusal ≡ other
     same_refusal other e = refusal_is made refusal other refused e
 
-    by_line : HasCleanDisk (state g new.store.conn) → (f : Federation) → IsTreasuryOf g old f → (asked : Result Asked Refusal) → AsksOf old.store.failed f.styles request asked
-        → MayReply (record { now = f; failed = old.store.failed }) asked (Err refusal) → IsTreasuryOf g new f → new.store.failed ≡ (old.store.failed || is_failure (Err refusal))
-        → (text ≡ answer_text f.styles (Err refusal)) ⊎ ((text ≡ answer_text f.styles (Err (Plain OutOfMemory))) × (is_failure (Err refusal) ≡ false)) → Told f
+    by_line : HasCleanDisk (state g new.store.conn) → (f : Federation) → IsTreasuryOf g old f
+        → (asked : Result Asked Refusal) → AsksOf old.store.failed f.styles request asked
+        → MayReply (record { now = f; failed = old.store.failed }) asked (Err refusal) → IsTreasuryOf g new f
+        → new.store.failed ≡ (old.store.failed || is_failure (Err refusal))
+        → (text ≡ answer_text f.styles (Err refusal))
+        ⊎ ((text ≡ answer_text f.styles (Err (Plain OutOfMemory))) × (is_failure (Err refusal) ≡ false)) → Told f
     by_line clean f was asked asks replies of left (inl told) = (
       f,
       (
@@ -345,11 +451,14 @@ served_refusal g old new line written text request made refusal is refused besid
             asks = inl (request, (is, asks));
             replies = (replies, λ _. spelled_some line request is);
             text = told;
-            left = ap (λ (x : Federation). standing new x) (after_plain f asked refusal) ∙ leads old new f asked (Err refusal) left;
+            left = ap (λ (x : Federation). standing new x) (after_plain f asked refusal) ∙ leads old new f asked
+                (Err refusal) left;
           },
           λ is_open unfailed. (
             beside.left clean is_open f was asked asks,
-            replied_open g old.store.conn new.store.conn made (Err refusal) (λ e. ap (λ (x : Refusal). Err x) (same_refusal (Plain Failed) e)) (λ e. ap (λ (x : Refusal). Err x) (same_refusal (Plain OutOfMemory) e))
+            replied_open g old.store.conn new.store.conn made (Err refusal)
+                (λ e. ap (λ (x : Refusal). Err x) (same_refusal (Plain Failed) e))
+                (λ e. ap (λ (x : Refusal). Err x) (same_refusal (Plain OutOfMemory) e))
                 (beside.open_but clean is_open f was),
           ),
         ),
@@ -367,20 +476,31 @@ served_refusal g old new line written text request made refusal is refused besid
             replies = (inr (inl refl), λ _. spelled_some line request is);
             text = told;
             left = ap (λ (x : Federation). standing new x) (after_plain f asked (Plain OutOfMemory))
-                ∙ leads old new f asked (Err (Plain OutOfMemory)) (left ∙ ap (λ (b : Bool). old.store.failed || b) harmless);
+                ∙ leads old new f asked (Err (Plain OutOfMemory))
+                (left ∙ ap (λ (b : Bool). old.store.failed || b) harmless);
           },
           λ is_open unfailed. (
             beside.left clean is_open f was asked asks,
-            replied_open g old.store.conn new.store.conn made (Err (Plain OutOfMemory)) (λ e. absurd (let clash : true ≡ false = sym (ap (λ (x : Refusal). is_failure (Err x)) (same_refusal (Plain Failed) e)) ∙ harmless in cc))
+            replied_open g old.store.conn new.store.conn made (Err (Plain OutOfMemory))
+                (λ e. absurd (let clash : true ≡ false =
+                sym (ap (λ (x : Refusal). is_failure (Err x)) (same_refusal (Plain Failed) e)) ∙ harmless in cc))
                 (λ e. refl) (beside.open_but clean is_open f was),
           ),
         ),
       ),
     )
 
-    by_reply : HasCleanDisk (state g new.store.conn) → (f : Federation) → IsTreasuryOf g old f → IsAnswered g old.store.failed new f request made [] written → Told f
+    by_reply : HasCleanDisk (state g new.store.conn) → (f : Federation) → IsTreasuryOf g old f
+        → IsAnswered g old.store.failed new f request made [] written → Told f
     by_reply clean f was (asked, (asks, r)) =
-        let told = subst (λ (m : Result (Unit {0}) Refusal). MatchResult m (λ _. (answer : Answer) × ((r.reply ≡ Ok answer) × (written ≡ [] ++ body_of f asked answer))) (λ e. (r.reply ≡ Err e) × (written ≡ []))) refused r.text in
-        let of : IsTreasuryOf g new f = subst (IsTreasuryOf g new) (sym (after_plain f asked refusal)) (subst (λ (y : Result Answer Refusal). IsTreasuryOf g new (after f asked y)) told.0 r.of) in
-        by_line clean f was asked asks (subst (λ (y : Result Answer Refusal). MayReply (record { now = f; failed = old.store.failed }) asked y) told.0 r.replies) of
-        (r.left ∙ ap (λ (y : Result Answer Refusal). old.store.failed || is_failure y) told.0) (data_line g new f refusal text of said)
+        let told = subst (λ (m : Result (Unit {0}) Refusal).
+        MatchResult m (λ _. (answer : Answer) × ((r.reply ≡ Ok answer) × (written ≡ [] ++ body_of f asked answer)))
+        (λ e. (r.reply ≡ Err e) × (written ≡ []))) refused r.text in
+        let of : IsTreasuryOf g new f =
+        subst (IsTreasuryOf g new) (sym (after_plain f asked refusal))
+        (subst (λ (y : Result Answer Refusal). IsTreasuryOf g new (after f asked y)) told.0 r.of) in
+        by_line clean f was asked asks (subst
+        (λ (y : Result Answer Refusal). MayReply (record { now = f; failed = old.store.failed }) asked y) told.0
+        r.replies) of
+        (r.left ∙ ap (λ (y : Result Answer Refusal). old.store.failed || is_failure y) told.0)
+        (data_line g new f refusal text of said)

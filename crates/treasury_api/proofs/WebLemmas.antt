@@ -1,5 +1,6 @@
 -- A call is answered on a treasury, and a connection served.
-use Rattle.std.proofs.Common.{◌≡◌, ◌≢◌, ◌⊎◌, ◌++◌, ℕ, List, [], ◌∷◌, Bool, true, false, Option, Some, None, Result, Ok, Err, take, codes, refl, ap, ◌∙◌, sym, subst, inl, inr}
+use Rattle.std.proofs.Common.{◌≡◌, ◌≢◌, ◌⊎◌, ◌++◌, ℕ, List, [], ◌∷◌, Bool, true, false, Option, Some, None, Result, Ok}
+use Rattle.std.proofs.Common.{Err, take, codes, refl, ap, ◌∙◌, sym, subst, inl, inr}
 use Rattle.std.specs.Io.KnownBytes.{Appends}
 use Rattle.sqlite.specs.Store.{Ghosts}
 use Rattle.http_request.specs.declared.call.Call.{Call}
@@ -21,7 +22,8 @@ use Rattle.treasury_api.specs.Step.{Standing, after}
 use Rattle.treasury_api.specs.Replied.{standing}
 use Rattle.treasury_api.specs.OneRequest.{AnswersRequest, RepliesOn, is_refusal}
 use Rattle.treasury_api.specs.WebReply.{status_of, status_of_number, whole_reply}
-use Rattle.treasury_api.specs.Web.{asked_by, IsNoAnswer, AnswersCall, AnswersOn, AnswersRead, FailsBy, ServesOne, AnsweredCall, AreServed, HasServed}
+use Rattle.treasury_api.specs.Web.{asked_by, IsNoAnswer, AnswersCall, AnswersOn, AnswersRead, FailsBy, ServesOne}
+use Rattle.treasury_api.specs.Web.{AnsweredCall, AreServed, HasServed}
 use Rattle.treasury_api.specs.WebServing.{IsToldBy}
 use Rattle.treasury_api.proofs.ReplyLemmas.{state_is}
 use Rattle.treasury_api.proofs.ServeLemmas.{plain_line}
@@ -30,25 +32,37 @@ use Rattle.treasury_api.proofs.OneRequestLemmas.{IsToldAs, IsRunTo, request_run,
 -- ---- the status of a refusal
 
 -- the line of a refusal, and its cause, on the treasury that is of the state
-pub told_as : {S : Type 0} (g : Ghosts S) (new : Treasury S) (f : Federation) (refusal : Refusal) (cause : Cause) (status : ℕ) (text : List ℕ) → IsTreasuryOf g new f → IsToldBy new refusal cause text → status ≡ status_of_number (number_of cause)
+pub told_as : {S : Type 0} (g : Ghosts S) (new : Treasury S) (f : Federation) (refusal : Refusal) (cause : Cause)
+    (status : ℕ) (text : List ℕ) → IsTreasuryOf g new f → IsToldBy new refusal cause text
+    → status ≡ status_of_number (number_of cause)
     → IsToldAs f refusal text (λ (reply : Result Answer Refusal). status ≡ status_of reply)
-told_as g new f (Plain because) cause status text of (said, is) code = inl (said ∙ plain_line f.styles because, code ∙ ap (λ (c : Cause). status_of_number (number_of c)) is)
+told_as g new f (Plain because) cause status text of (said, is) code =
+    inl (said ∙ plain_line f.styles because, code ∙ ap (λ (c : Cause). status_of_number (number_of c)) is)
 told_as g new f (Text fault) cause status text of (s, (held, inl (memory, is))) code =
     inr (memory ∙ plain_line f.styles OutOfMemory, refl, code ∙ ap (λ (c : Cause). status_of_number (number_of c)) is)
 told_as g new f (Text fault) cause status text of (s, (held, inr (said, is))) code =
-    inl (said ∙ ap (λ (x : Federation). answer_text x.styles (Err (Text fault))) (state_is g new s f of held), code ∙ ap (λ (c : Cause). status_of_number (number_of c)) is)
+    inl (
+      said ∙ ap (λ (x : Federation). answer_text x.styles (Err (Text fault))) (state_is g new s f of held),
+      code ∙ ap (λ (c : Cause). status_of_number (number_of c)) is,
+    )
 told_as g new f (ClaimFailed failure) cause status text of (s, (held, inl (memory, is))) code =
     inr (memory ∙ plain_line f.styles OutOfMemory, refl, code ∙ ap (λ (c : Cause). status_of_number (number_of c)) is)
 told_as g new f (ClaimFailed failure) cause status text of (s, (held, inr (said, is))) code =
-    inl (said ∙ ap (λ (x : Federation). answer_text x.styles (Err (ClaimFailed failure))) (state_is g new s f of held), code ∙ ap (λ (c : Cause). status_of_number (number_of c)) is)
+    inl (
+      said ∙ ap (λ (x : Federation). answer_text x.styles (Err (ClaimFailed failure))) (state_is g new s f of held),
+      code ∙ ap (λ (c : Cause). status_of_number (number_of c)) is,
+    )
 
 -- ---- a call
 
 -- one that has no route
-pub nowhere_answered : {S : Type 0} (g : Ghosts S) (t : Treasury S) (status : ℕ) (body : List ℕ) → status ≡ 404 → body ≡ codes "not found\n" → AnswersOn g t Nowhere status body t
-nowhere_answered g t status body is said = record { clean = λ k. k; answers = λ k f of. (f, (of, inl (refl, (is, said), refl))) }
+pub nowhere_answered : {S : Type 0} (g : Ghosts S) (t : Treasury S) (status : ℕ) (body : List ℕ) → status ≡ 404
+    → body ≡ codes "not found\n" → AnswersOn g t Nowhere status body t
+nowhere_answered g t status body is said =
+    record { clean = λ k. k; answers = λ k f of. (f, (of, inl (refl, (is, said), refl))) }
 
-no_answer : (call : Call) (status : ℕ) (body : List ℕ) → call ≢ Nowhere → status ≡ 400 → body ≡ answer_text [] (Err (Plain NoRequest)) → IsNoAnswer call status body
+no_answer : (call : Call) (status : ℕ) (body : List ℕ) → call ≢ Nowhere → status ≡ 400
+    → body ≡ answer_text [] (Err (Plain NoRequest)) → IsNoAnswer call status body
 no_answer Unreadable status body other is said = (is, said)
 no_answer Nowhere status body other is said = absurd (other refl)
 no_answer (Command text) status body other is said = (is, said)
@@ -57,12 +71,21 @@ no_answer (Journal branch) status body other is said = (is, said)
 no_answer (Transit date) status body other is said = (is, said)
 
 -- one that asks nothing
-pub nothing_answered : {S : Type 0} (g : Ghosts S) (t : Treasury S) (call : Call) (status : ℕ) (body : List ℕ) → call ≢ Nowhere → None ≡ asked_by call → status ≡ 400 → body ≡ answer_text [] (Err (Plain NoRequest)) → AnswersOn g t call status body t
-nothing_answered g t call status body other none is said = record { clean = λ k. k; answers = λ k f of. (f, (of, inl (sym none, no_answer call status body other is said, refl))) }
+pub nothing_answered : {S : Type 0} (g : Ghosts S) (t : Treasury S) (call : Call) (status : ℕ) (body : List ℕ)
+    → call ≢ Nowhere → None ≡ asked_by call → status ≡ 400 → body ≡ answer_text [] (Err (Plain NoRequest))
+    → AnswersOn g t call status body t
+nothing_answered g t call status body other none is said =
+    record {
+      clean = λ k. k;
+      answers = λ k f of.
+          (f, (of, inl (sym none, no_answer call status body other is said, refl)));
+    }
 
 -- one that asks for a request
-pub request_answered : {S : Type 0} (g : Ghosts S) (old new : Treasury S) (call : Call) (request : Request) (status : ℕ) (body : List ℕ) → Some request ≡ asked_by call
-    → RepliesOn g old request body (λ (reply : Result Answer Refusal). status ≡ status_of reply) new → AnswersOn g old call status body new
+pub request_answered : {S : Type 0} (g : Ghosts S) (old new : Treasury S) (call : Call) (request : Request) (status : ℕ)
+    (body : List ℕ) → Some request ≡ asked_by call
+    → RepliesOn g old request body (λ (reply : Result Answer Refusal). status ≡ status_of reply) new
+    → AnswersOn g old call status body new
 request_answered g old new call request status body asks replies = record {
   clean = replies.clean;
   answers = λ k f of. let r = replies.answers k f of in (r.0, (r.1.0, inr (request, sym asks, r.1.1)));
@@ -71,15 +94,20 @@ request_answered g old new call request status body asks replies = record {
 -- ---- calls one after another
 
 -- a request that is answered, whether or not a call of the database has failed, and commands behind it
-request_run_of : (failed : Bool) (f : Federation) (request : Request) (text : List ℕ) (reply : Result Answer Refusal) (t : Standing) (turns : List Turn) (end : Federation)
-    → AnswersRequest (record { now = f; failed = failed }) request text reply t → IsRunTo t.now turns end → (all : List Turn) × IsRunTo f all end
-request_run_of false f request text reply t turns end answers rest = request_run f request text reply t turns end answers rest
+request_run_of : (failed : Bool) (f : Federation) (request : Request) (text : List ℕ) (reply : Result Answer Refusal)
+    (t : Standing) (turns : List Turn) (end : Federation)
+    → AnswersRequest (record { now = f; failed = failed }) request text reply t → IsRunTo t.now turns end
+    → (all : List Turn) × IsRunTo f all end
+request_run_of false f request text reply t turns end answers rest =
+    request_run f request text reply t turns end answers rest
 request_run_of true f request text reply t turns end answers rest =
-    let left : t.now ≡ f = ap (λ (s : Standing). s.now) answers.left ∙ ap (λ (asked : Result Asked Refusal). after f asked reply) answers.asks in
+    let left : t.now ≡ f = ap (λ (s : Standing). s.now) answers.left ∙ ap
+    (λ (asked : Result Asked Refusal). after f asked reply) answers.asks in
     (turns, subst (λ (g : Federation). IsRunTo g turns end) left rest)
 
 -- so their commands are a run
-pub calls_run : (start : Standing) (calls : List AnsweredCall) (end : Standing) → AreServed start calls end → (turns : List Turn) × IsRunTo start.now turns end.now
+pub calls_run : (start : Standing) (calls : List AnsweredCall) (end : Standing) → AreServed start calls end
+    → (turns : List Turn) × IsRunTo start.now turns end.now
 calls_run start [] end same = ([], (tt, ap (λ (s : Standing). s.now) same))
 calls_run start (c ∷ cs) end (mid, inl (none, answer, left), rest) =
     let more = calls_run mid cs end rest in
@@ -89,31 +117,44 @@ calls_run start (c ∷ cs) end (mid, inr (request, asks, (reply, (answers, told)
     request_run_of start.failed start.now request c.body reply mid more.0 end.now answers more.1
 
 -- a reply of another status leaves the state
-refuses : (status : ℕ) (reply : Result Answer Refusal) → status ≡ status_of reply → status ≢ 200 → is_refusal reply ≡ true
+refuses : (status : ℕ) (reply : Result Answer Refusal) → status ≡ status_of reply → status ≢ 200
+    → is_refusal reply ≡ true
 refuses status (Ok answer) is other = absurd (other is)
 refuses status (Err refusal) is other = refl
 
-pub refused_leaves : (s : Standing) (call : Call) (status : ℕ) (body : List ℕ) (t : Standing) → AnswersCall s call status body t → status ≢ 200 → t.now ≡ s.now
+pub refused_leaves : (s : Standing) (call : Call) (status : ℕ) (body : List ℕ) (t : Standing)
+    → AnswersCall s call status body t → status ≢ 200 → t.now ≡ s.now
 refused_leaves s call status body t (inl (none, answer, left)) other = ap (λ (x : Standing). x.now) left
-refused_leaves s call status body t (inr (request, asks, (reply, (answers, told)))) other = request_leaves s request body reply t answers (refuses status reply told other)
+refused_leaves s call status body t (inr (request, asks, (reply, (answers, told)))) other =
+    request_leaves s request body reply t answers (refuses status reply told other)
 
 -- ---- a connection
 
 -- it ends before anything is done
-pub ends_early : {S W : Type 0} (g : Ghosts S) (r0 r1 : Option (List ℕ)) (contents : W → Option (List ℕ)) (w : W) (t : Treasury S) (cause : Cause) → (cause ≡ ReadFault) ⊎ (cause ≡ OutOfMemory) → (cause ≡ ReadFault → IsStopped r0 r1)
+pub ends_early : {S W : Type 0} (g : Ghosts S) (r0 r1 : Option (List ℕ)) (contents : W → Option (List ℕ)) (w : W)
+    (t : Treasury S) (cause : Cause) → (cause ≡ ReadFault) ⊎ (cause ≡ OutOfMemory)
+    → (cause ≡ ReadFault → IsStopped r0 r1)
     → FailsBy cause g r0 r1 contents w w t t
-ends_early g r0 r1 contents w t cause (inl read) stopped = subst (λ (x : Cause). FailsBy x g r0 r1 contents w w t t) (sym read) (stopped read, refl, refl)
-ends_early g r0 r1 contents w t cause (inr memory) stopped = subst (λ (x : Cause). FailsBy x g r0 r1 contents w w t t) (sym memory) (refl, refl)
+ends_early g r0 r1 contents w t cause (inl read) stopped =
+    subst (λ (x : Cause). FailsBy x g r0 r1 contents w w t t) (sym read) (stopped read, refl, refl)
+ends_early g r0 r1 contents w t cause (inr memory) stopped =
+    subst (λ (x : Cause). FailsBy x g r0 r1 contents w w t t) (sym memory) (refl, refl)
 
 -- there is no memory to read what is asked
-pub ends_unread : {S W : Type 0} (g : Ghosts S) (r0 r1 : Option (List ℕ)) (contents : W → Option (List ℕ)) (w : W) (old new : Treasury S) (cause : Cause) → cause ≡ OutOfMemory → new ≡ old → FailsBy cause g r0 r1 contents w w old new
-ends_unread g r0 r1 contents w old new cause memory same = subst (λ (x : Cause). FailsBy x g r0 r1 contents w w old new) (sym memory) (refl, same)
+pub ends_unread : {S W : Type 0} (g : Ghosts S) (r0 r1 : Option (List ℕ)) (contents : W → Option (List ℕ)) (w : W)
+    (old new : Treasury S) (cause : Cause) → cause ≡ OutOfMemory → new ≡ old
+    → FailsBy cause g r0 r1 contents w w old new
+ends_unread g r0 r1 contents w old new cause memory same =
+    subst (λ (x : Cause). FailsBy x g r0 r1 contents w w old new) (sym memory) (refl, same)
 
 -- its reply is cut off
-pub ends_torn : {S W : Type 0} (g : Ghosts S) (r0 r1 : Option (List ℕ)) (contents : W → Option (List ℕ)) (w0 w1 : W) (old new : Treasury S) (cause : Cause) (status : ℕ) (body : List ℕ) → AnswersRead g r0 r1 old status body new
-    → (cause ≡ WriteFault) × ((taken : ℕ) × Appends (contents w0) (contents w1) (take taken (whole_reply status body))) → FailsBy cause g r0 r1 contents w0 w1 old new
+pub ends_torn : {S W : Type 0} (g : Ghosts S) (r0 r1 : Option (List ℕ)) (contents : W → Option (List ℕ)) (w0 w1 : W)
+    (old new : Treasury S) (cause : Cause) (status : ℕ) (body : List ℕ) → AnswersRead g r0 r1 old status body new
+    → (cause ≡ WriteFault) × ((taken : ℕ) × Appends (contents w0) (contents w1) (take taken (whole_reply status body)))
+    → FailsBy cause g r0 r1 contents w0 w1 old new
 ends_torn g r0 r1 contents w0 w1 old new cause status body answered (write, (taken, written)) =
-    subst (λ (x : Cause). FailsBy x g r0 r1 contents w0 w1 old new) (sym write) (record { status = status; body = body; taken = taken; answered = answered; written = written })
+    subst (λ (x : Cause). FailsBy x g r0 r1 contents w0 w1 old new) (sym write)
+    (record { status = status; body = body; taken = taken; answered = answered; written = written })
 
 -- ---- what connections make of a treasury
 
@@ -122,7 +163,8 @@ pub has_served_none : {S : Type 0} (g : Ghosts S) (t : Treasury S) → HasServed
 has_served_none g t = record { clean = λ k. k; served = λ k f of. (f, (of, ([], refl))) }
 
 -- one that is answered
-served_call : {S : Type 0} (g : Ghosts S) (old new : Treasury S) (call : Call) (status : ℕ) (body : List ℕ) → AnswersOn g old call status body new → HasServed g old new
+served_call : {S : Type 0} (g : Ghosts S) (old new : Treasury S) (call : Call) (status : ℕ) (body : List ℕ)
+    → AnswersOn g old call status body new → HasServed g old new
 served_call g old new call status body answers = record {
   clean = answers.clean;
   served = λ k f of.
@@ -130,31 +172,51 @@ served_call g old new call status body answers = record {
       (r.0, (r.1.0, (record { call = call; status = status; body = body } ∷ [], (standing new r.0, r.1.1, refl))));
 }
 
-served_read : {S : Type 0} (g : Ghosts S) (r0 r1 : Option (List ℕ)) (old new : Treasury S) (status : ℕ) (body : List ℕ) → AnswersRead g r0 r1 old status body new → HasServed g old new
+served_read : {S : Type 0} (g : Ghosts S) (r0 r1 : Option (List ℕ)) (old new : Treasury S) (status : ℕ) (body : List ℕ)
+    → AnswersRead g r0 r1 old status body new → HasServed g old new
 served_read g r0 r1 old new status body read = served_call g old new read.call status body read.answers
 
-served_failed : {S W : Type 0} (g : Ghosts S) (cause : Cause) (r0 r1 : Option (List ℕ)) (contents : W → Option (List ℕ)) (w0 w1 : W) (old new : Treasury S) → FailsBy cause g r0 r1 contents w0 w1 old new → HasServed g old new
-served_failed g OutOfMemory r0 r1 contents w0 w1 old new fails = subst (λ (t : Treasury _). HasServed g old t) (sym fails.1) (has_served_none g old)
-served_failed g ReadFault r0 r1 contents w0 w1 old new fails = subst (λ (t : Treasury _). HasServed g old t) (sym fails.2) (has_served_none g old)
-served_failed g WriteFault r0 r1 contents w0 w1 old new fails = served_read g r0 r1 old new fails.status fails.body fails.answered
+served_failed : {S W : Type 0} (g : Ghosts S) (cause : Cause) (r0 r1 : Option (List ℕ)) (contents : W → Option (List ℕ))
+    (w0 w1 : W) (old new : Treasury S) → FailsBy cause g r0 r1 contents w0 w1 old new → HasServed g old new
+served_failed g OutOfMemory r0 r1 contents w0 w1 old new fails =
+    subst (λ (t : Treasury _). HasServed g old t) (sym fails.1) (has_served_none g old)
+served_failed g ReadFault r0 r1 contents w0 w1 old new fails =
+    subst (λ (t : Treasury _). HasServed g old t) (sym fails.2) (has_served_none g old)
+served_failed g WriteFault r0 r1 contents w0 w1 old new fails =
+    served_read g r0 r1 old new fails.status fails.body fails.answered
 served_failed g _ r0 r1 contents w0 w1 old new fails = absurd fails
 
 -- one, however it ends
-pub has_served_one : {T S R W : Type 0} (result : Result T Cause) (g : Ghosts S) (remaining : R → Option (List ℕ)) (r0 r1 : R) (contents : W → Option (List ℕ)) (w0 w1 : W) (old new : Treasury S)
+pub has_served_one : {T S R W : Type 0} (result : Result T Cause) (g : Ghosts S) (remaining : R → Option (List ℕ))
+    (r0 r1 : R) (contents : W → Option (List ℕ)) (w0 w1 : W) (old new : Treasury S)
     → ServesOne result g remaining r0 r1 contents w0 w1 old new → HasServed g old new
-has_served_one (Ok x) g remaining r0 r1 contents w0 w1 old new served = served_read g (remaining r0) (remaining r1) old new served.status served.body served.answered
-has_served_one (Err cause) g remaining r0 r1 contents w0 w1 old new fails = served_failed g cause (remaining r0) (remaining r1) contents w0 w1 old new fails
+has_served_one (Ok x) g remaining r0 r1 contents w0 w1 old new served =
+    served_read g (remaining r0) (remaining r1) old new served.status served.body served.answered
+has_served_one (Err cause) g remaining r0 r1 contents w0 w1 old new fails =
+    served_failed g cause (remaining r0) (remaining r1) contents w0 w1 old new fails
 
-served_then : (start : Standing) (calls : List AnsweredCall) (mid : Standing) (more : List AnsweredCall) (end : Standing) → AreServed start calls mid → AreServed mid more end → AreServed start (calls ++ more) end
+served_then : (start : Standing) (calls : List AnsweredCall) (mid : Standing) (more : List AnsweredCall)
+    (end : Standing) → AreServed start calls mid → AreServed mid more end → AreServed start (calls ++ more) end
 served_then start [] mid more end first then = subst (λ (s : Standing). AreServed s more end) first then
-served_then start (c ∷ cs) mid more end (next, answers, rest) then = (next, answers, served_then next cs mid more end rest then)
+served_then start (c ∷ cs) mid more end (next, answers, rest) then =
+    (next, answers, served_then next cs mid more end rest then)
 
 -- some, and then others
-pub has_served_more : {S : Type 0} (g : Ghosts S) (old mid new : Treasury S) → HasServed g old mid → HasServed g mid new → HasServed g old new
+pub has_served_more : {S : Type 0} (g : Ghosts S) (old mid new : Treasury S) → HasServed g old mid → HasServed g mid new
+    → HasServed g old new
 has_served_more g old mid new first then = record {
   clean = λ k. first.clean (then.clean k);
   served = λ k f of.
       let one = first.served (then.clean k) f of in
-      let two = then.served k one.0 one.1.0 in
-      (two.0, (two.1.0, (one.1.1.0 ++ two.1.1.0, served_then (standing old f) one.1.1.0 (standing mid one.0) two.1.1.0 (standing new two.0) one.1.1.1 two.1.1.1)));
+      let two = then.served k one.0 one.1.0 in (
+        two.0,
+        (
+          two.1.0,
+          (
+            one.1.1.0 ++ two.1.1.0,
+            served_then (standing old f) one.1.1.0 (standing mid one.0) two.1.1.0 (standing new two.0) one.1.1.1
+                two.1.1.1,
+          ),
+        ),
+      );
 }

@@ -1,12 +1,14 @@
 -- A reply of HTTP: its head, and how it is written part by part.
-use Rattle.std.proofs.Common.{◌≡◌, ◌≤◌, ◌+◌, ◌++◌, ℕ, List, [], min, length, take, drop, codes, decimal, Option, arith, ap, ◌∙◌, sym, subst, refl, append_assoc, append-nil, length-append, Result, Ok, Err, OnOk}
+use Rattle.std.proofs.Common.{◌≡◌, ◌≤◌, ◌+◌, ◌++◌, ℕ, List, [], min, length, take, drop, codes, decimal, Option, arith}
+use Rattle.std.proofs.Common.{ap, ◌∙◌, sym, subst, refl, append_assoc, append-nil, length-append, Result, Ok, Err, OnOk}
 use Rattle.std.proofs.lemmas.List.{drop_at, take_at, take-append-le, take_min}
 use Rattle.std.proofs.Math.Seq.{take-add}
 use Rattle.std.proofs.KnownBytes.{Appends-trans}
 use Rattle.std.specs.Io.KnownBytes.{Appends}
 use Rattle.http.specs.StatusCode.{code_digits}
 use Rattle.treasury_api.specs.declared.web.status.Status.{Status}
-use Rattle.treasury_api.specs.declared.web.status.Status.TheVariants.{Done, BadRequest, NotFound, Conflict, Unprocessable, Internal, Unavailable}
+use Rattle.treasury_api.specs.declared.web.status.Status.TheVariants.{Done, BadRequest, NotFound, Conflict}
+use Rattle.treasury_api.specs.declared.web.status.Status.TheVariants.{Unprocessable, Internal, Unavailable}
 use Rattle.treasury_api.specs.WebReply.{reason_of, reply_head, whole_reply}
 use Rattle.treasury_api.specs.WebServing.{code_of}
 
@@ -15,27 +17,43 @@ use Rattle.treasury_api.specs.WebServing.{code_of}
 -- its pieces, as they are appended
 abbrev pub pieces : List ℕ → List ℕ → List ℕ → List ℕ
 pieces digits reason bytes =
-    codes "HTTP/1.1 " ++ (digits ++ (codes " " ++ (reason ++ (codes "\r\nContent-Type: text/plain; charset=utf-8\r\nContent-Length: " ++ (bytes ++ (codes "\r\nConnection: close\r\n\r\n" ++ []))))))
+    codes "HTTP/1.1 " ++ (digits ++ (codes " "
+    ++ (reason ++ (codes "\r\nContent-Type: text/plain; charset=utf-8\r\nContent-Length: "
+    ++ (bytes ++ (codes "\r\nConnection: close\r\n\r\n" ++ []))))))
 
-regroup : (h a s b x1 x2 x3 c y1 y2 y3 : List ℕ) → h ++ (a ++ (s ++ (b ++ ((x1 ++ (x2 ++ x3)) ++ (c ++ ((y1 ++ (y2 ++ y3)) ++ [])))))) ≡ h ++ a ++ s ++ b ++ x1 ++ x2 ++ x3 ++ c ++ y1 ++ y2 ++ y3
+regroup : (h a s b x1 x2 x3 c y1 y2 y3 : List ℕ)
+    → h ++ (a ++ (s ++ (b ++ ((x1 ++ (x2 ++ x3)) ++ (c ++ ((y1 ++ (y2 ++ y3)) ++ []))))))
+    ≡ h ++ a ++ s ++ b ++ x1 ++ x2 ++ x3 ++ c ++ y1 ++ y2 ++ y3
 regroup h a s b x1 x2 x3 c y1 y2 y3 = simp (append_assoc, append-nil)
 
-pieces_are : (digits reason bytes : List ℕ) (status size : ℕ) → digits ≡ code_digits status → reason ≡ reason_of status → bytes ≡ decimal size → pieces digits reason bytes ≡ reply_head status size
+pieces_are : (digits reason bytes : List ℕ) (status size : ℕ) → digits ≡ code_digits status → reason ≡ reason_of status
+    → bytes ≡ decimal size → pieces digits reason bytes ≡ reply_head status size
 pieces_are digits reason bytes status size d r b =
-    ap (λ (x : List ℕ). pieces x reason bytes) d ∙ (ap (λ (x : List ℕ). pieces (code_digits status) x bytes) r ∙ (ap (λ (x : List ℕ). pieces (code_digits status) (reason_of status) x) b
-    ∙ regroup (codes "HTTP/1.1 ") (code_digits status) (codes " ") (reason_of status) (codes "\r\n") (codes "Content-Type: text/plain; charset=utf-8\r\n") (codes "Content-Length: ") (decimal size) (codes "\r\n") (codes "Connection: close\r\n") (codes "\r\n")))
+    ap (λ (x : List ℕ). pieces x reason bytes) d ∙
+    (ap (λ (x : List ℕ). pieces (code_digits status) x bytes) r ∙
+    (ap (λ (x : List ℕ). pieces (code_digits status) (reason_of status) x) b
+    ∙ regroup (codes "HTTP/1.1 ") (code_digits status) (codes " ") (reason_of status) (codes "\r\n")
+    (codes "Content-Type: text/plain; charset=utf-8\r\n") (codes "Content-Length: ") (decimal size) (codes "\r\n")
+    (codes "Connection: close\r\n") (codes "\r\n")))
 
-pub head_appended : {T E : Type 0} (result : Result T E) (old new digits reason bytes : List ℕ) (status size : ℕ) → digits ≡ code_digits status → reason ≡ reason_of status → bytes ≡ decimal size
+pub head_appended : {T E : Type 0} (result : Result T E) (old new digits reason bytes : List ℕ) (status size : ℕ)
+    → digits ≡ code_digits status → reason ≡ reason_of status → bytes ≡ decimal size
     → OnOk result (new ≡ old ++ pieces digits reason bytes) → OnOk result (new ≡ old ++ reply_head status size)
-head_appended (Ok x) old new digits reason bytes status size d r b told = told ∙ ap (λ (t : List ℕ). old ++ t) (pieces_are digits reason bytes status size d r b)
+head_appended (Ok x) old new digits reason bytes status size d r b told =
+    told ∙ ap (λ (t : List ℕ). old ++ t) (pieces_are digits reason bytes status size d r b)
 head_appended (Err e) old new digits reason bytes status size d r b told = tt
 
-total : (h a s b m c l : List ℕ) → length (h ++ (a ++ (s ++ (b ++ (m ++ (c ++ (l ++ []))))))) ≡ length h + (length a + (length s + (length b + (length m + (length c + length l)))))
+total : (h a s b m c l : List ℕ)
+    → length (h ++ (a ++ (s ++ (b ++ (m ++ (c ++ (l ++ [])))))))
+    ≡ length h + (length a + (length s + (length b + (length m + (length c + length l)))))
 total h a s b m c l = simp (length-append, append-nil)
 
-pub head_fits : (n cap : ℕ) (digits reason bytes : List ℕ) → length digits ≡ 3 → length reason ≤ 21 → length bytes ≤ 40 → n + 192 ≤ cap → n + length (pieces digits reason bytes) ≤ cap
+pub head_fits : (n cap : ℕ) (digits reason bytes : List ℕ) → length digits ≡ 3 → length reason ≤ 21 → length bytes ≤ 40
+    → n + 192 ≤ cap → n + length (pieces digits reason bytes) ≤ cap
 head_fits n cap digits reason bytes d r b fits =
-    let e = total (codes "HTTP/1.1 ") digits (codes " ") reason (codes "\r\nContent-Type: text/plain; charset=utf-8\r\nContent-Length: ") bytes (codes "\r\nConnection: close\r\n\r\n") in
+    let e = total (codes "HTTP/1.1 ") digits (codes " ") reason
+    (codes "\r\nContent-Type: text/plain; charset=utf-8\r\nContent-Length: ") bytes
+    (codes "\r\nConnection: close\r\n\r\n") in
     omega (arith, e)
 
 pub reason_short : (s : Status) → length (reason_of (code_of s)) ≤ 21
@@ -50,32 +68,45 @@ reason_short Unavailable = omega arith
 -- ---- written
 
 -- a first part of the head
-torn_head : (a b : Option (List ℕ)) (taken : ℕ) (head body : List ℕ) → Appends a b (take taken head) → (n : ℕ) × Appends a b (take n (head ++ body))
+torn_head : (a b : Option (List ℕ)) (taken : ℕ) (head body : List ℕ) → Appends a b (take taken head)
+    → (n : ℕ) × Appends a b (take n (head ++ body))
 torn_head a b taken head body part = (
   min taken (length head),
-  subst (λ (t : List ℕ). Appends a b t) (sym (take-append-le (min taken (length head)) head body (omega arith) ∙ take_min taken head)) part,
+  subst (λ (t : List ℕ). Appends a b t)
+      (sym (take-append-le (min taken (length head)) head body (omega arith) ∙ take_min taken head)) part,
 )
 
 take_seam : (xs ys : List ℕ) (n : ℕ) → take (length xs + n) (xs ++ ys) ≡ xs ++ take n ys
 take_seam xs ys n =
     take-add (length xs) n (xs ++ ys)
-    ∙ (ap (λ (t : List ℕ). t ++ take n (drop (length xs) (xs ++ ys))) (take_at xs ys (length xs) refl) ∙ ap (λ (t : List ℕ). xs ++ take n t) (drop_at xs ys (length xs) refl))
+    ∙ (ap (λ (t : List ℕ). t ++ take n (drop (length xs) (xs ++ ys))) (take_at xs ys (length xs) refl) ∙ ap
+    (λ (t : List ℕ). xs ++ take n t) (drop_at xs ys (length xs) refl))
 
 -- the head, and a first part of the body
-pub torn_body : (a b c : Option (List ℕ)) (taken : ℕ) (head body : List ℕ) → Appends a b head → Appends b c (take taken body) → (n : ℕ) × Appends a c (take n (head ++ body))
+pub torn_body : (a b c : Option (List ℕ)) (taken : ℕ) (head body : List ℕ) → Appends a b head
+    → Appends b c (take taken body) → (n : ℕ) × Appends a c (take n (head ++ body))
 torn_body a b c taken head body first part = (
   length head + taken,
-  subst (λ (t : List ℕ). Appends a c t) (sym (take_seam head body taken)) (Appends-trans a b c head (take taken body) first part),
+  subst (λ (t : List ℕ). Appends a c t) (sym (take_seam head body taken))
+      (Appends-trans a b c head (take taken body) first part),
 )
 
 module _ (status : ℕ) (body : List ℕ) where
-  pub head_torn : (a b : Option (List ℕ)) (taken : ℕ) (slice : List ℕ) → slice ≡ reply_head status (length body) → Appends a b (take taken slice) → (n : ℕ) × Appends a b (take n (whole_reply status body))
-  head_torn a b taken slice is part = torn_head a b taken (reply_head status (length body)) body (subst (λ (t : List ℕ). Appends a b (take taken t)) is part)
+  pub head_torn : (a b : Option (List ℕ)) (taken : ℕ) (slice : List ℕ) → slice ≡ reply_head status (length body)
+      → Appends a b (take taken slice) → (n : ℕ) × Appends a b (take n (whole_reply status body))
+  head_torn a b taken slice is part =
+      torn_head a b taken (reply_head status (length body)) body
+      (subst (λ (t : List ℕ). Appends a b (take taken t)) is part)
 
-  pub body_torn : (a b c : Option (List ℕ)) (taken : ℕ) (slice text : List ℕ) → slice ≡ reply_head status (length body) → text ≡ body → Appends a b slice → Appends b c (take taken text) → (n : ℕ) × Appends a c (take n (whole_reply status body))
+  pub body_torn : (a b c : Option (List ℕ)) (taken : ℕ) (slice text : List ℕ) → slice ≡ reply_head status (length body)
+      → text ≡ body → Appends a b slice → Appends b c (take taken text)
+      → (n : ℕ) × Appends a c (take n (whole_reply status body))
   body_torn a b c taken slice text is same first part =
-      torn_body a b c taken (reply_head status (length body)) body (subst (λ (t : List ℕ). Appends a b t) is first) (subst (λ (t : List ℕ). Appends b c (take taken t)) same part)
+      torn_body a b c taken (reply_head status (length body)) body (subst (λ (t : List ℕ). Appends a b t) is first)
+      (subst (λ (t : List ℕ). Appends b c (take taken t)) same part)
 
-  pub both_written : (a b c : Option (List ℕ)) (slice text : List ℕ) → slice ≡ reply_head status (length body) → text ≡ body → Appends a b slice → Appends b c text → Appends a c (whole_reply status body)
+  pub both_written : (a b c : Option (List ℕ)) (slice text : List ℕ) → slice ≡ reply_head status (length body)
+      → text ≡ body → Appends a b slice → Appends b c text → Appends a c (whole_reply status body)
   both_written a b c slice text is same first second =
-      Appends-trans a b c (reply_head status (length body)) body (subst (λ (t : List ℕ). Appends a b t) is first) (subst (λ (t : List ℕ). Appends b c t) same second)
+      Appends-trans a b c (reply_head status (length body)) body (subst (λ (t : List ℕ). Appends a b t) is first)
+      (subst (λ (t : List ℕ). Appends b c t) same second)

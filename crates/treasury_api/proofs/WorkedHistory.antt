@@ -18,19 +18,24 @@ use Rattle.treasury_api.specs.Answer.{answer_text}
 use Rattle.treasury_api.specs.Step.{at_first, reply, reply_text}
 use Rattle.treasury_api.specs.History.{Turn, end_of, commands_of, IsRefusalOrRepeat}
 
--- Of six turns the first makes a branch, and the others leave the state. Three of them are commands, of which the last is
--- answered 41: it is left out, and the run is failed, so that what comes behind it is answered 42.
+-- Of six turns the first makes a branch, and the others leave the state. Three of them are commands, of which the last
+-- is answered 41: it is left out, and the run is failed, so that what comes behind it is answered 42.
 abbrev turns : Day → List Turn
 turns day =
     record { line = codes "a"; asked = Ok (Command (cmd.Branch (codes "north"))); reply = Ok Done }
     ∷ record { line = codes "b"; asked = Err (Plain Amount); reply = Err (Plain Amount) }
     ∷ record { line = codes "c"; asked = Ok (Report (report.Balance (codes "north") day)); reply = Ok Done }
-    ∷ record { line = codes "d"; asked = Ok (Command (cmd.Lock (codes "south") day)); reply = Err (Plain UnknownBranch) }
+    ∷ record {
+      line = codes "d";
+      asked = Ok (Command (cmd.Lock (codes "south") day));
+      reply = Err (Plain UnknownBranch);
+    }
     ∷ record { line = codes "e"; asked = Ok (Command (cmd.Lock (codes "north") day)); reply = Err (Plain Failed) }
     ∷ record { line = codes "f"; asked = Err (Plain Closed); reply = Err (Plain Closed) } ∷ []
 
 pub run : (day : Day)
-    → (end_of at_first (turns day) ≡ record { now = record { styles = []; branches = new_branch (codes "north") ∷ []; transfers = [] }; failed = true })
+    → (end_of at_first (turns day) ≡ record
+    { now = record { styles = []; branches = new_branch (codes "north") ∷ []; transfers = [] }; failed = true })
     × (commands_of (turns day)
     ≡ record { command = cmd.Branch (codes "north"); reply = Ok Done }
     ∷ record { command = cmd.Lock (codes "south") day; reply = Err (Plain UnknownBranch) } ∷ [])
@@ -38,16 +43,19 @@ unfolding done
 run day = (refl, refl)
 
 -- a report on a branch that is not there
-pub nowhere : (day : Day) → reply empty_state (Ok (Report (report.Balance (codes "north") day))) ≡ Err (Plain UnknownBranch)
+pub nowhere : (day : Day) → reply empty_state (Ok (Report (report.Balance (codes "north") day)))
+    ≡ Err (Plain UnknownBranch)
 nowhere day = refl
 
 -- whatever is asked, every refusal and `repeated` are answered with the lines that leave the state
-pub told_refusal : (f : Federation) (asked : Result Asked Refusal) (refusal : Refusal) → IsRefusalOrRepeat (reply_text f asked (Err refusal))
+pub told_refusal : (f : Federation) (asked : Result Asked Refusal) (refusal : Refusal)
+    → IsRefusalOrRepeat (reply_text f asked (Err refusal))
 unfolding answer_text
 told_refusal f asked (Plain cause) = inl (_, refl)
 told_refusal f asked (Text fault) = inl (_, refl)
 told_refusal f asked (ClaimFailed failure) = inl (_, refl)
 
-pub told_repeat : (f : Federation) (name : List ℕ) → IsRefusalOrRepeat (reply_text f (Ok (Command (cmd.Branch name))) (Ok Repeated))
+pub told_repeat : (f : Federation) (name : List ℕ)
+    → IsRefusalOrRepeat (reply_text f (Ok (Command (cmd.Branch name))) (Ok Repeated))
 unfolding answer_text
 told_repeat f name = inr refl

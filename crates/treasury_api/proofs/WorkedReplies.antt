@@ -10,23 +10,27 @@ use Rattle.treasury_api.specs.Web.{asked_by}
 use Rattle.treasury_api.specs.WebReply.{status_of, whole_reply}
 
 -- the table of statuses, at the ends of its rows
-pub done : (n m : ℕ) → (status_of (Ok Done) ≡ 200) × (status_of (Ok (Entered n m)) ≡ 200) × (status_of (Ok Repeated) ≡ 200)
+pub done : (n m : ℕ) → (status_of (Ok Done) ≡ 200) × (status_of (Ok (Entered n m)) ≡ 200)
+    × (status_of (Ok Repeated) ≡ 200)
 done n m = (refl, refl, refl)
 
 pub no_request : status_of (Err (Plain cause.Request)) ≡ 400
 no_request = refl
 
-pub conflicts : (status_of (Err (Plain cause.UnknownBranch)) ≡ 409) × (status_of (Err (Plain cause.BadId)) ≡ 409) × (status_of (Err (Plain cause.TooMuch)) ≡ 409)
+pub conflicts : (status_of (Err (Plain cause.UnknownBranch)) ≡ 409) × (status_of (Err (Plain cause.BadId)) ≡ 409)
+    × (status_of (Err (Plain cause.TooMuch)) ≡ 409)
 conflicts = (refl, refl, refl)
 
 pub texts : (line : ℕ)
-    → (status_of (Err (Text (record { line = line; cause = cause.Utf8 }))) ≡ 422) × (status_of (Err (Text (record { line = line; cause = cause.Unbalanced }))) ≡ 422)
+    → (status_of (Err (Text (record { line = line; cause = cause.Utf8 }))) ≡ 422)
+    × (status_of (Err (Text (record { line = line; cause = cause.Unbalanced }))) ≡ 422)
 texts line = (refl, refl)
 
 pub damaged : status_of (Err (Plain cause.Damaged)) ≡ 500
 damaged = refl
 
-pub unavailable : (status_of (Err (Plain cause.OutOfMemory)) ≡ 503) × (status_of (Err (Plain cause.Store)) ≡ 503) × (status_of (Err (Plain cause.Closed)) ≡ 503)
+pub unavailable : (status_of (Err (Plain cause.OutOfMemory)) ≡ 503) × (status_of (Err (Plain cause.Store)) ≡ 503)
+    × (status_of (Err (Plain cause.Closed)) ≡ 503)
 unavailable = (refl, refl, refl)
 
 -- a whole reply
@@ -36,5 +40,6 @@ unfolding digits
 not_found = refl
 
 -- parts of a path are taken as they stand
-pub parts : (asked_by (Journal (codes "%6eorth")) ≡ Some (asking.Journal (codes "%6eorth"))) × (asked_by Unreadable ≡ None) × (asked_by Nowhere ≡ None)
+pub parts : (asked_by (Journal (codes "%6eorth")) ≡ Some (asking.Journal (codes "%6eorth")))
+    × (asked_by Unreadable ≡ None) × (asked_by Nowhere ≡ None)
 parts = (refl, refl, refl)

@@ -6,11 +6,13 @@ use Rattle.treasury_api.specs.Request.{spelled}
 use Rattle.treasury_api.specs.declared.request.Request.TheVariants.{Register, Journal}
 
 -- a register with a tag and without one; the tag is the only key that may be missing
-pub tagged : spelled (codes "{\"do\":\"register\",\"branch\":\"x\",\"account\":\"a\",\"tag\":\"t=\"}") ≡ Some (Register (codes "x") (codes "a") (Some (codes "t=")))
+pub tagged : spelled (codes "{\"do\":\"register\",\"branch\":\"x\",\"account\":\"a\",\"tag\":\"t=\"}")
+    ≡ Some (Register (codes "x") (codes "a") (Some (codes "t=")))
 unfolding serde_json_on_literals spelled is_utf8 chars
 tagged = refl
 
-pub plain : spelled (codes "{\"do\":\"register\",\"branch\":\"x\",\"account\":\"a\"}") ≡ Some (Register (codes "x") (codes "a") None)
+pub plain : spelled (codes "{\"do\":\"register\",\"branch\":\"x\",\"account\":\"a\"}")
+    ≡ Some (Register (codes "x") (codes "a") None)
 unfolding serde_json_on_literals spelled is_utf8 chars
 plain = refl
 

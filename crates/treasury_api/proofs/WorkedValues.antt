@@ -52,12 +52,15 @@ unfolding serde_json_on_literals spelled is_utf8 chars
 no_object = refl
 
 -- want of memory, to which no input leads by itself
-pub no_memory : (styles : List Style) → answer_text styles (Err (Plain OutOfMemory)) ≡ codes "refused " ++ decimal 40 ++ codes " " ++ codes "OutOfMemory" ++ codes "\n"
+pub no_memory : (styles : List Style)
+    → answer_text styles (Err (Plain OutOfMemory))
+    ≡ codes "refused " ++ decimal 40 ++ codes " " ++ codes "OutOfMemory" ++ codes "\n"
 unfolding answer_text
 no_memory styles = refl
 
 -- the same while a journal is read: it is no fault of a line
 pub no_memory_for_a_journal : (styles : List Style) (line : ℕ)
-    → answer_text styles (Err (Text (record { line = line; cause = OutOfMemory }))) ≡ codes "refused " ++ decimal 40 ++ codes " " ++ codes "OutOfMemory" ++ [] ++ codes "\n"
+    → answer_text styles (Err (Text (record { line = line; cause = OutOfMemory })))
+    ≡ codes "refused " ++ decimal 40 ++ codes " " ++ codes "OutOfMemory" ++ [] ++ codes "\n"
 unfolding answer_text
 no_memory_for_a_journal styles line = refl

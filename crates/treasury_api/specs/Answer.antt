@@ -25,7 +25,8 @@ line_text _ line = codes " line " ++ decimal line
 -- where a leg stands
 abbrev pub place_text : Place → List ℕ
 place_text place =
-    codes " at " ++ printed_date place.day ++ codes " entry " ++ decimal place.entry ++ codes " leg " ++ decimal place.leg
+    codes " at " ++ printed_date place.day ++ codes " entry " ++ decimal place.entry ++ codes " leg "
+    ++ decimal place.leg
 
 -- the balance that an assertion states, and the one that was found
 abbrev pub difference_text : List Style → Failure → List ℕ

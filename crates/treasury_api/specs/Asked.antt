@@ -1,6 +1,7 @@
 -- What a line asks, once its texts are read (own rule; docs/FORMATS.md, "Requests"): a journal by the grammar's
 -- relation, or by its first fault.
-use Rattle.std.specs.Prelude.{◌≡◌, ℕ, ℤ, ◌==◌, Bool, true, false, List, ◌⊎◌, Option, Some, None, option_map, Result, Ok, Err}
+use Rattle.std.specs.Prelude.{◌≡◌, ℕ, ℤ, ◌==◌, Bool, true, false, List, ◌⊎◌, Option, Some, None, option_map, Result, Ok}
+use Rattle.std.specs.Prelude.{Err}
 use Rattle.std.specs.List.{slice_split}
 use Rattle.money_core.specs.declared.style.Style.{Style}
 use Rattle.money_core.specs.declared.unit.Unit.{Unit}
@@ -18,7 +19,8 @@ use Rattle.journal_format.specs.Fault.{IsFirstFault}
 use Rattle.treasury_core.specs.declared.command.Command.TheVariants as cmd
 use Rattle.treasury_api.specs.declared.request.WrittenPart.{WrittenPart}
 use Rattle.treasury_api.specs.declared.request.Request.{Request}
-use Rattle.treasury_api.specs.declared.request.Request.TheVariants.{Branch, Commodity, Import, Dispatch, Receive, Lock, Close, Balance, Register, Transit, Journal}
+use Rattle.treasury_api.specs.declared.request.Request.TheVariants.{Branch, Commodity, Import, Dispatch, Receive, Lock}
+use Rattle.treasury_api.specs.declared.request.Request.TheVariants.{Close, Balance, Register, Transit, Journal}
 use Rattle.treasury_api.specs.declared.asking.Asked.{Asked}
 use Rattle.treasury_api.specs.declared.asking.Asked.TheVariants.{Command, Report}
 use Rattle.treasury_api.specs.declared.report.Report.TheVariants as report
@@ -38,19 +40,28 @@ JournalAsks styles name journal asked =
 -- a dispatch of the amount that its text is; a text that is none asks for nothing, by its first fault
 abbrev pub asked_by_amount : List ℕ → List ℕ → List ℕ → Day → List ℕ → Result (Unit × ℤ) Cause → Result Asked Refusal
 asked_by_amount id from to day account (Ok (unit, qty)) =
-    Ok (Command (cmd.Dispatch (record { id = id; source = from; target = to; day = day; unit = unit; qty = qty; account = account })))
+    Ok (Command (cmd.Dispatch (record
+    { id = id; source = from; target = to; day = day; unit = unit; qty = qty; account = account })))
 asked_by_amount id from to day account (Err cause) = Err (Plain cause)
 
 -- a receipt of a part of the amount that its text is; a text that is none asks for nothing, by its first fault
 abbrev pub asked_by_part : List ℕ → List ℕ → Day → List ℕ → List ℕ → Result (Unit × ℤ) Cause → Result Asked Refusal
 asked_by_part id name day account key (Ok (unit, qty)) =
-    Ok (Command (cmd.Receive (record { id = id; branch = name; day = day; account = account; part = Some (record { key = key; unit = unit; qty = qty }) })))
+    Ok (Command (cmd.Receive (record {
+      id = id;
+      branch = name;
+      day = day;
+      account = account;
+      part = Some (record { key = key; unit = unit; qty = qty });
+    })))
 asked_by_part id name day account key (Err cause) = Err (Plain cause)
 
 -- a receipt of all that is left, or of a part
 abbrev pub asked_by_receipt : List Style → List ℕ → List ℕ → Day → List ℕ → Option WrittenPart → Result Asked Refusal
-asked_by_receipt styles id name day account None = Ok (Command (cmd.Receive (record { id = id; branch = name; day = day; account = account; part = None })))
-asked_by_receipt styles id name day account (Some part) = asked_by_part id name day account part.key (amount styles part.amount)
+asked_by_receipt styles id name day account None =
+    Ok (Command (cmd.Receive (record { id = id; branch = name; day = day; account = account; part = None })))
+asked_by_receipt styles id name day account (Some part) =
+    asked_by_part id name day account part.key (amount styles part.amount)
 
 -- a list, cut at each `;`: the empty text is one empty name
 unfoldable pub cut_list : List ℕ → List (List ℕ)
@@ -66,7 +77,8 @@ RequestAsks styles (Dispatch id from to day text account) asked =
 RequestAsks styles (Receive id name day account part) asked = asked ≡ asked_by_receipt styles id name day account part
 RequestAsks styles (Lock name day) asked = asked ≡ Ok (Command (cmd.Lock name day))
 RequestAsks styles (Close name day accounts into) asked =
-    asked ≡ Ok (Command (cmd.Close (record { branch = name; day = day; choice = record { accounts = option_map cut_list accounts; into = into } })))
+    asked ≡ Ok (Command (cmd.Close (record
+    { branch = name; day = day; choice = record { accounts = option_map cut_list accounts; into = into } })))
 RequestAsks styles (Balance name day) asked = asked ≡ Ok (Report (report.Balance name day))
 RequestAsks styles (Register name account tag) asked = asked ≡ Ok (Report (report.Register name account tag))
 RequestAsks styles (Transit day) asked = asked ≡ Ok (Report (report.Transit day))

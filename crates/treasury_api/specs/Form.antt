@@ -2,13 +2,17 @@
 use Rattle.std.specs.Option.{option_copied, option_map}
 use Rattle.treasury_api.specs.declared.request.WrittenPart.{WrittenPart}
 use Rattle.treasury_api.specs.declared.request.Request.{Request}
-use Rattle.treasury_api.specs.declared.request.Request.TheVariants.{Branch, Commodity, Import, Dispatch, Receive, Lock, Close, Balance, Register, Transit, Journal}
+use Rattle.treasury_api.specs.declared.request.Request.TheVariants.{Branch, Commodity, Import, Dispatch, Receive, Lock}
+use Rattle.treasury_api.specs.declared.request.Request.TheVariants.{Close, Balance, Register, Transit, Journal}
 use Rattle.treasury_api.specs.declared.request.form.PartForm.{PartForm}
 use Rattle.treasury_api.specs.declared.request.form.Form.{Form}
 use Rattle.treasury_api.specs.declared.request.form.Form.TheVariants.{Branch as BranchForm, Commodity as CommodityForm}
-use Rattle.treasury_api.specs.declared.request.form.Form.TheVariants.{Import as ImportForm, Dispatch as DispatchForm, Receive as ReceiveForm}
-use Rattle.treasury_api.specs.declared.request.form.Form.TheVariants.{Lock as LockForm, Close as CloseForm, Balance as BalanceForm}
-use Rattle.treasury_api.specs.declared.request.form.Form.TheVariants.{Register as RegisterForm, Transit as TransitForm, Journal as JournalForm}
+use Rattle.treasury_api.specs.declared.request.form.Form.TheVariants.{Import as ImportForm, Dispatch as DispatchForm}
+use Rattle.treasury_api.specs.declared.request.form.Form.TheVariants.{Receive as ReceiveForm}
+use Rattle.treasury_api.specs.declared.request.form.Form.TheVariants.{Lock as LockForm, Close as CloseForm}
+use Rattle.treasury_api.specs.declared.request.form.Form.TheVariants.{Balance as BalanceForm}
+use Rattle.treasury_api.specs.declared.request.form.Form.TheVariants.{Register as RegisterForm, Transit as TransitForm}
+use Rattle.treasury_api.specs.declared.request.form.Form.TheVariants.{Journal as JournalForm}
 
 -- the part of a receipt's form
 abbrev pub shown_part : PartForm → WrittenPart

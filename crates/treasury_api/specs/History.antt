@@ -23,7 +23,8 @@ after_turn s t = next s t.asked t.reply
 -- the turns follow one another: each asks what its line does, and is replied as the step says, by 40, or by 41
 abbrev pub AreTurns : Standing → List Turn → Type 0
 AreTurns s [] = ⊤
-AreTurns s (t ∷ ts) = Asks s.failed s.now.styles t.line t.asked × Replies s t.line t.asked t.reply × AreTurns (after_turn s t) ts
+AreTurns s (t ∷ ts) =
+    Asks s.failed s.now.styles t.line t.asked × Replies s t.line t.asked t.reply × AreTurns (after_turn s t) ts
 
 -- where a run stands at their end
 abbrev pub end_of : Standing → List Turn → Standing
@@ -42,7 +43,8 @@ pub record IsRun (start : Standing) (input output : List ℕ) (end : Standing) (
   pub written : output ≡ texts_of start turns
   pub left : end ≡ end_of start turns
 
--- the command that is asked for, with its reply; none where it is answered 41, or where a report is asked for, or nothing
+-- the command that is asked for, with its reply; none where it is answered 41, or where a report is asked for, or
+-- nothing
 abbrev pub command_if : Result Asked Refusal → Result Answer Refusal → List CommandTurn
 command_if (Ok (Command c)) r = if is_failure r then [] else record { command = c; reply = r } ∷ []
 command_if (Ok (Report report)) r = []
@@ -56,7 +58,8 @@ commands_of (t ∷ ts) = command_if t.asked t.reply ++ commands_of ts
 -- each turn whose reply is a refusal or `repeated` leaves the state
 abbrev pub RefusalsLeave : Standing → List Turn → Type 0
 RefusalsLeave s [] = ⊤
-RefusalsLeave s (t ∷ ts) = (IsRefusedOrRepeated t.reply → (after_turn s t).now ≡ s.now) × RefusalsLeave (after_turn s t) ts
+RefusalsLeave s (t ∷ ts) =
+    (IsRefusedOrRepeated t.reply → (after_turn s t).now ≡ s.now) × RefusalsLeave (after_turn s t) ts
 
 -- the line of a refusal, or of `repeated`
 abbrev pub IsRefusalOrRepeat : List ℕ → Type 0
@@ -66,4 +69,5 @@ IsRefusalOrRepeat text = ((rest : List ℕ) × (text ≡ codes "refused " ++ res
 abbrev pub RefusedLinesLeave : Standing → List Turn → Type 0
 RefusedLinesLeave s [] = ⊤
 RefusedLinesLeave s (t ∷ ts) =
-    (IsRefusalOrRepeat (reply_text s.now t.asked t.reply) → (after_turn s t).now ≡ s.now) × RefusedLinesLeave (after_turn s t) ts
+    (IsRefusalOrRepeat (reply_text s.now t.asked t.reply) → (after_turn s t).now ≡ s.now)
+    × RefusedLinesLeave (after_turn s t) ts

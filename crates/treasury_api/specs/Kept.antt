@@ -10,9 +10,9 @@ use Rattle.treasury_api.specs.Step.{Standing, Answers}
 use Rattle.treasury_api.specs.History.{Turn, AreTurns, end_of, IsRun, commands_of, RefusalsLeave, RefusedLinesLeave}
 use Rattle.treasury_api.specs.Left.{LeavesRun}
 
--- All of the input is answered, at most 64 MiB of it: by turns, one for each request. Their commands are a run of the machine of
--- commands, which leads to the state at the end, and of which the headline holds. Each reply that is a refusal or `repeated`, and
--- each whose text is the line of one, left the state as it was.
+-- All of the input is answered, at most 64 MiB of it: by turns, one for each request. Their commands are a run of the
+-- machine of commands, which leads to the state at the end, and of which the headline holds. Each reply that is a
+-- refusal or `repeated`, and each whose text is the line of one, left the state as it was.
 pub record AnswersAll {R W : Type 0} (remaining : R → Option (List ℕ)) (r0 r1 : R)
     (contents : W → Option (List ℕ)) (w0 w1 : W) (start end : Standing) : Type 0 where
   pub turns : List Turn
@@ -24,7 +24,8 @@ pub record AnswersAll {R W : Type 0} (remaining : R → Option (List ℕ)) (r0 r
   pub refusals : RefusalsLeave start turns
   pub lines : RefusedLinesLeave start turns
 
--- A run is cut off by this cause: memory, its input or its output. It ends by turns too, and of their commands the headline holds.
+-- A run is cut off by this cause: memory, its input or its output. It ends by turns too, and of their commands the
+-- headline holds.
 pub record IsCutOffBy {R W : Type 0} (cause : Cause) (remaining : R → Option (List ℕ)) (r0 r1 : R)
     (contents : W → Option (List ℕ)) (w0 w1 : W) (start end : Standing) : Type 0 where
   pub ends : EndsBy cause Answers most_input (remaining r0) (remaining r1) (contents w0) (contents w1) start end
@@ -36,9 +37,12 @@ pub record IsCutOffBy {R W : Type 0} (cause : Cause) (remaining : R → Option (
   pub headline : KeepsBooks start.now (commands_of turns)
   pub refusals : RefusalsLeave start turns
 
--- A run on a treasury of a state, by its result: all is answered, or it is cut off; and it leaves of the tables what its turns say.
-abbrev pub Runs : {T S R W : Type 0} → Ghosts S → Treasury S → Treasury S → Result T Cause → (R → Option (List ℕ)) → R → R
+-- A run on a treasury of a state, by its result: all is answered, or it is cut off; and it leaves of the tables what
+-- its turns say.
+abbrev pub Runs : {T S R W : Type 0} → Ghosts S → Treasury S → Treasury S → Result T Cause → (R → Option (List ℕ)) → R
+    → R
     → (W → Option (List ℕ)) → W → W → Standing → Standing → Type 0
 Runs g old new result remaining r0 r1 contents w0 w1 start end = MatchResult result
     (λ _. (run : AnswersAll remaining r0 r1 contents w0 w1 start end) × LeavesRun g old new start run.turns end)
-    (λ cause. (run : IsCutOffBy cause remaining r0 r1 contents w0 w1 start end) × LeavesRun g old new start run.turns end)
+    (λ cause. (run : IsCutOffBy cause remaining r0 r1 contents w0 w1 start end)
+    × LeavesRun g old new start run.turns end)

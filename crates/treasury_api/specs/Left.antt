@@ -1,5 +1,5 @@
--- What a request leaves of a treasury, beside its state: whether the database is open, and what the next opening may find, after a
--- crash, a stop, or a failure that shuts it (own rules; docs/RULES.md, "Runs").
+-- What a request leaves of a treasury, beside its state: whether the database is open, and what the next opening may
+-- find, after a crash, a stop, or a failure that shuts it (own rules; docs/RULES.md, "Runs").
 use Rattle.std.specs.Prelude.{◌≡◌, ◌⊎◌, ◌↔◌, Bool, false, List, ◌∷◌, ◌++◌, Result, Err, IsTrue}
 use Rattle.sqlite_disk.specs.Disk.{MoreFaults}
 use Rattle.sqlite.specs.Store.{Ghosts}
@@ -33,7 +33,8 @@ IsUnread r = (r ≡ Err (Plain Damaged)) ⊎ ((r ≡ Err (Plain OutOfMemory)) �
 abbrev pub IsOpenBut : {S T : Type 0} → Ghosts S → Held S → Held S → Result T Refusal → Type 0
 IsOpenBut g old new r =
     IsTrue (state g new).is_open
-    ⊎ ((r ≡ Err (Plain Failed)) ⊎ ((r ≡ Err (Plain OutOfMemory)) × MoreFaults (state g old).faults (state g new).faults))
+    ⊎ ((r ≡ Err (Plain Failed)) ⊎ ((r ≡ Err (Plain OutOfMemory))
+    × MoreFaults (state g old).faults (state g new).faults))
 
 -- the state where what is asked leads, once it is done
 abbrev pub end_state : Federation → Result Asked Refusal → Federation
@@ -43,23 +44,28 @@ end_state f asked = after f asked (reply f asked)
 abbrev pub LeavesAsked : {S : Type 0} → Ghosts S → Held S → Federation → Result Asked Refusal → Type 0
 LeavesAsked g h f asked = LeavesEither g h (rows f) (rows (end_state f asked))
 
--- a request on an open treasury of a state: whatever is left are the rows of that state, or of the one where what it asks leads
+-- a request on an open treasury of a state: whatever is left are the rows of that state, or of the one where what it
+-- asks leads
 abbrev pub LeavesRequest : {S : Type 0} → Ghosts S → Treasury S → Treasury S → Request → Type 0
 LeavesRequest g old new request =
-    HasCleanDisk (state g new.store.conn) → IsTrue (state g old.store.conn).is_open → (f : Federation) → IsTreasuryOf g old f
-    → (asked : Result Asked Refusal) → AsksOf old.store.failed f.styles request asked → LeavesAsked g new.store.conn f asked
+    HasCleanDisk (state g new.store.conn) → IsTrue (state g old.store.conn).is_open → (f : Federation)
+    → IsTreasuryOf g old f
+    → (asked : Result Asked Refusal) → AsksOf old.store.failed f.styles request asked
+    → LeavesAsked g new.store.conn f asked
 
 -- ---- one line of a run
 
 -- what is asked of an open treasury of a state, on which no call has failed, and replied to
-abbrev pub LeavesReply : {S : Type 0} → Ghosts S → Treasury S → Treasury S → Federation → Result Asked Refusal → Result Answer Refusal → Type 0
+abbrev pub LeavesReply : {S : Type 0} → Ghosts S → Treasury S → Treasury S → Federation → Result Asked Refusal
+    → Result Answer Refusal → Type 0
 LeavesReply g old new f asked r =
     IsTrue (state g old.store.conn).is_open → old.store.failed ≡ false
     → LeavesAsked g new.store.conn f asked × IsOpenBut g old.store.conn new.store.conn r
 
 -- ---- a run
 
--- One of the turns was answered 41: whatever is left are the rows of the state before what it asks, or of the one after it.
+-- One of the turns was answered 41: whatever is left are the rows of the state before what it asks, or of the one after
+-- it.
 pub record FailedAt {S : Type 0} (g : Ghosts S) (new : Held S) (start : Standing) (turns : List Turn) : Type 0 where
   pub before : List Turn
   pub turn : Turn
@@ -77,8 +83,9 @@ pub record LostAt {S : Type 0} (g : Ghosts S) (old new : Held S) (turns : List T
   pub lost : turn.reply ≡ Err (Plain OutOfMemory)
   pub fault : MoreFaults (state g old).faults (state g new).faults
 
--- What a run leaves of an open treasury of a state, on which no call has failed: it is open, and whatever is left are the rows of the
--- state at the end; or it failed at one turn, with the rows of the state before that or after it; or the disk failed where memory did.
+-- What a run leaves of an open treasury of a state, on which no call has failed: it is open, and whatever is left are
+-- the rows of the state at the end; or it failed at one turn, with the rows of the state before that or after it; or
+-- the disk failed where memory did.
 abbrev pub LeavesRun : {S : Type 0} → Ghosts S → Treasury S → Treasury S → Standing → List Turn → Standing → Type 0
 LeavesRun g old new start turns end =
     IsTrue (state g old.store.conn).is_open → old.store.failed ≡ false

@@ -1,5 +1,6 @@
--- What one request is answered that is no line of a run: a word over a file, a call from a network (own rules; docs/RULES.md,
--- "The program"). It is answered as the line of `run` that has it, but a report has no `ok` behind its lines.
+-- What one request is answered that is no line of a run: a word over a file, a call from a network (own rules;
+-- docs/RULES.md, "The program"). It is answered as the line of `run` that has it, but a report has no `ok` behind its
+-- lines.
 use Rattle.std.specs.Prelude.{◌≡◌, ℕ, Bool, true, false, List, Result, Ok, Err}
 use Rattle.sqlite.specs.Store.{Ghosts}
 use Rattle.sqlite.specs.State.{HasCleanDisk}
@@ -29,9 +30,11 @@ abbrev pub is_refusal : Result Answer Refusal → Bool
 is_refusal (Ok answer) = false
 is_refusal (Err refusal) = true
 
--- The request is answered with a text by this reply, and leads on: by what it asks, what may be replied to that, and what the reply
--- leaves. How else the reply is told, as by an exit status or by a status of HTTP, is for the reader of it to say.
-pub record AnswersRequest (s : Standing) (request : Request) (said : List ℕ) (reply : Result Answer Refusal) (t : Standing) : Type 0 where
+-- The request is answered with a text by this reply, and leads on: by what it asks, what may be replied to that, and
+-- what the reply leaves. How else the reply is told, as by an exit status or by a status of HTTP, is for the reader of
+-- it to say.
+pub record AnswersRequest (s : Standing) (request : Request) (said : List ℕ) (reply : Result Answer Refusal)
+    (t : Standing) : Type 0 where
   pub asked : Result Asked Refusal
   pub days : HasDayNumbers request
   pub asks : AsksOf s.failed s.now.styles request asked
@@ -39,10 +42,12 @@ pub record AnswersRequest (s : Standing) (request : Request) (said : List ℕ) (
   pub text : said ≡ request_text s.now asked reply
   pub left : t ≡ next s asked reply
 
--- What a request makes of a treasury: of whichever state it is, while the disk returns what was written, the request is answered by a
--- reply, which is told as `Tells` has it, and the treasury is of the state where that leads.
-pub record RepliesOn {S : Type 0} (g : Ghosts S) (old : Treasury S) (request : Request) (said : List ℕ) (Tells : Result Answer Refusal → Type 0) (new : Treasury S) : Type 0 where
+-- What a request makes of a treasury: of whichever state it is, while the disk returns what was written, the request is
+-- answered by a reply, which is told as `Tells` has it, and the treasury is of the state where that leads.
+pub record RepliesOn {S : Type 0} (g : Ghosts S) (old : Treasury S) (request : Request) (said : List ℕ)
+    (Tells : Result Answer Refusal → Type 0) (new : Treasury S) : Type 0 where
   pub clean : HasCleanDisk (state g new.store.conn) → HasCleanDisk (state g old.store.conn)
   pub answers : HasCleanDisk (state g new.store.conn) → (f : Federation) → IsTreasuryOf g old f
       → (end : Federation) × (IsTreasuryOf g new end
-      × ((reply : Result Answer Refusal) × (AnswersRequest (standing old f) request said reply (standing new end) × Tells reply)))
+      × ((reply : Result Answer Refusal)
+      × (AnswersRequest (standing old f) request said reply (standing new end) × Tells reply)))

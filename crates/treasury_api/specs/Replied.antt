@@ -28,9 +28,10 @@ body_of f (Ok (Command c)) answer = answer_text f.styles (Ok answer)
 body_of f (Ok (Report report)) answer = report_text f report
 body_of f (Err refusal) answer = []
 
--- What is asked is replied to: the treasury is of the state after the reply, and the answer stands behind what was written before; nothing does where
--- the reply is a refusal. `failed` is whether a call of the database had failed.
-pub record IsReplied {S T : Type 0} (g : Ghosts S) (failed : Bool) (new : Treasury S) (f : Federation) (asked : Result Asked Refusal) (result : Result T Refusal) (before written : List ℕ) : Type 0 where
+-- What is asked is replied to: the treasury is of the state after the reply, and the answer stands behind what was
+-- written before; nothing does where the reply is a refusal. `failed` is whether a call of the database had failed.
+pub record IsReplied {S T : Type 0} (g : Ghosts S) (failed : Bool) (new : Treasury S) (f : Federation)
+    (asked : Result Asked Refusal) (result : Result T Refusal) (before written : List ℕ) : Type 0 where
   pub reply : Result Answer Refusal
   pub replies : MayReply (record { now = f; failed = failed }) asked reply
   pub of : IsTreasuryOf g new (after f asked reply)
@@ -55,9 +56,9 @@ abbrev pub IsLineOf : {S : Type 0} → Treasury S → Refusal → List ℕ → T
 IsLineOf t (Plain cause) text = text ≡ answer_text [] (Err (Plain cause))
 IsLineOf t refusal text = (s : Federation) × ((t.held ≡ Some s) × IsLineIn s.styles refusal text)
 
--- What a line makes of a treasury: of whichever state it is, it is answered as a run's line is, and the treasury is of the state where the run
--- then stands; the database stays open, and leaves what it may, as the reply to the line says. Only a fault of the disk shuts it, and behind a
--- call that failed a line changes nothing.
+-- What a line makes of a treasury: of whichever state it is, it is answered as a run's line is, and the treasury is of
+-- the state where the run then stands; the database stays open, and leaves what it may, as the reply to the line says.
+-- Only a fault of the disk shuts it, and behind a call that failed a line changes nothing.
 pub record Serves {S : Type 0} (g : Ghosts S) (old : Treasury S) (line text : List ℕ) (new : Treasury S) : Type 0 where
   pub answers : HasCleanDisk (state g new.store.conn) → (f : Federation) → IsTreasuryOf g old f
       → (end : Federation) × (IsTreasuryOf g new end

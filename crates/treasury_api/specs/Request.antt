@@ -1,5 +1,6 @@
 -- The requests (own rule; docs/FORMATS.md, "Requests"). A request is one JSON object, and each of its values is a text.
--- What JSON is, `serde_json` says: arrays and objects nest 127 deep, and of a key that is written twice the last one stays.
+-- What JSON is, `serde_json` says: arrays and objects nest 127 deep, and of a key that is written twice the last one
+-- stays.
 use Rattle.std.specs.Prelude.{ℕ, ◌+◌, Bool, ◌==◌, ◌&&◌, if◌then◌else◌, List, codes, ⊤, true, false}
 use Rattle.std.specs.Prelude.{Option, Some, None, option_map, option_and_then}
 use Rattle.std.specs.Str.{bytes_eq, is_utf8}
@@ -11,7 +12,8 @@ use Rattle.journal_lines.specs.Date.{IsDayNumber}
 use Rattle.journal_lines.specs.DateReading.{date_of}
 use Rattle.treasury_api.specs.declared.request.WrittenPart.{WrittenPart}
 use Rattle.treasury_api.specs.declared.request.Request.{Request}
-use Rattle.treasury_api.specs.declared.request.Request.TheVariants.{Branch, Commodity, Import, Dispatch, Receive, Lock, Close, Balance, Register, Transit, Journal}
+use Rattle.treasury_api.specs.declared.request.Request.TheVariants.{Branch, Commodity, Import, Dispatch, Receive, Lock}
+use Rattle.treasury_api.specs.declared.request.Request.TheVariants.{Close, Balance, Register, Transit, Journal}
 
 -- the text at a key of an object
 abbrev pub text_at : List ℕ → Data → Option (List ℕ)
@@ -42,8 +44,10 @@ is_form name keys word d = bytes_eq word name && (key_count d == keys)
 -- the request of a dispatch, of a receipt, and of a receipt of a part: their keys are all there, each with a text
 abbrev pub dispatch_at : Data → Option Request
 dispatch_at d =
-    option_and_then (λ id. option_and_then (λ from. option_and_then (λ to. option_and_then (λ day. option_and_then (λ amount.
-    option_map (λ account. Dispatch id from to day amount account) (text_at (codes "account") d)) (text_at (codes "amount") d))
+    option_and_then (λ id. option_and_then (λ from.
+    option_and_then (λ to. option_and_then (λ day. option_and_then (λ amount.
+    option_map (λ account. Dispatch id from to day amount account) (text_at (codes "account") d))
+    (text_at (codes "amount") d))
     (day_at (codes "day") d)) (text_at (codes "to") d)) (text_at (codes "from") d)) (text_at (codes "id") d)
 
 abbrev pub receive_at : Data → Option Request
@@ -57,13 +61,16 @@ written key amount = record { key = key; amount = amount }
 
 abbrev pub part_at : Data → Option Request
 part_at d =
-    option_and_then (λ id. option_and_then (λ branch. option_and_then (λ day. option_and_then (λ account. option_and_then (λ key.
-    option_map (λ amount. Receive id branch day account (Some (written key amount))) (text_at (codes "amount") d)) (text_at (codes "part") d))
+    option_and_then (λ id. option_and_then (λ branch.
+    option_and_then (λ day. option_and_then (λ account. option_and_then (λ key.
+    option_map (λ amount. Receive id branch day account (Some (written key amount))) (text_at (codes "amount") d))
+    (text_at (codes "part") d))
     (text_at (codes "account") d)) (day_at (codes "day") d)) (text_at (codes "branch") d)) (text_at (codes "id") d)
 
 -- the request of a closing: without a choice, with one of its two keys, and with both
 abbrev pub close_at : Data → Option Request
-close_at d = option_and_then (λ branch. option_map (λ day. Close branch day None None) (day_at (codes "day") d)) (text_at (codes "branch") d)
+close_at d = option_and_then (λ branch. option_map (λ day. Close branch day None None) (day_at (codes "day") d))
+    (text_at (codes "branch") d)
 
 abbrev pub one_chosen : List ℕ → Day → Option (List ℕ) → Option (List ℕ) → Option Request
 one_chosen branch day (Some names) into = Some (Close branch day (Some names) None)
@@ -71,7 +78,8 @@ one_chosen branch day None into = option_map (λ account. Close branch day None 
 
 abbrev pub chosen_at : Data → Option Request
 chosen_at d =
-    option_and_then (λ branch. option_and_then (λ day. one_chosen branch day (text_at (codes "accounts") d) (text_at (codes "into") d))
+    option_and_then (λ branch. option_and_then (λ day.
+    one_chosen branch day (text_at (codes "accounts") d) (text_at (codes "into") d))
     (day_at (codes "day") d)) (text_at (codes "branch") d)
 
 abbrev pub both_at : Data → Option Request
@@ -83,7 +91,8 @@ both_at d =
 -- the request of a register, without a tag and with one
 abbrev pub register_at : Data → Option Request
 register_at d =
-    option_and_then (λ branch. option_map (λ account. Register branch account None) (text_at (codes "account") d)) (text_at (codes "branch") d)
+    option_and_then (λ branch. option_map (λ account. Register branch account None) (text_at (codes "account") d))
+    (text_at (codes "branch") d)
 
 abbrev pub tagged_at : Data → Option Request
 tagged_at d =
@@ -110,13 +119,15 @@ close_form word d =
     else if is_form (codes "close") 5 word d then both_at d
     else report_form word d
 
--- the request of each word: its keys are all there, each with a text, and since they are so many there is no further one
+-- the request of each word: its keys are all there, each with a text, and since they are so many there is no further
+-- one
 abbrev pub form : List ℕ → Data → Option Request
 form word d =
     if is_form (codes "branch") 2 word d then option_map Branch (text_at (codes "name") d)
     else if is_form (codes "commodity") 2 word d then option_map Commodity (text_at (codes "sample") d)
     else if is_form (codes "import") 3 word d
-    then option_and_then (λ branch. option_map (Import branch) (text_at (codes "journal") d)) (text_at (codes "branch") d)
+    then option_and_then (λ branch. option_map (Import branch) (text_at (codes "journal") d))
+    (text_at (codes "branch") d)
     else if is_form (codes "dispatch") 7 word d then dispatch_at d
     else if is_form (codes "receive") 5 word d then receive_at d
     else if is_form (codes "receive") 7 word d then part_at d

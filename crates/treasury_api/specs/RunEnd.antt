@@ -1,7 +1,9 @@
--- How a run over the lines of a reader ends (own rule; docs/RULES.md, "Runs"): with `Ok`, or with the refusal 40, 45 or 46.
--- `r0` and `r1` are the bytes that the reader has left before and after the run, `w0` and `w1` those that the writer holds,
--- where they are known, as those of readers and writers over memory are. `Step` is a step of a transcript.
-use Rattle.std.specs.Prelude.{◌≡◌, ◌≢◌, ◌≤◌, ℕ, List, [], ◌∷◌, ◌++◌, ◌⊎◌, Option, take, length, All, Result, MatchResult}
+-- How a run over the lines of a reader ends (own rule; docs/RULES.md, "Runs"): with `Ok`, or with the refusal 40, 45 or
+-- 46. `r0` and `r1` are the bytes that the reader has left before and after the run, `w0` and `w1` those that the
+-- writer holds, where they are known, as those of readers and writers over memory are. `Step` is a step of a
+-- transcript.
+use Rattle.std.specs.Prelude.{◌≡◌, ◌≢◌, ◌≤◌, ℕ, List, [], ◌∷◌, ◌++◌, ◌⊎◌, Option, take, length, All, Result}
+use Rattle.std.specs.Prelude.{MatchResult}
 use Rattle.std.specs.Io.KnownBytes.{Appends, Consumes, IsAtEnd}
 use Rattle.money_core.specs.declared.cause.Cause.{Cause}
 use Rattle.money_core.specs.declared.cause.Cause.TheVariants.{OutOfMemory, ReadFault, WriteFault}
@@ -51,8 +53,8 @@ pub record GaveUp {S : Type 0} (Step : S → List ℕ → List ℕ → S → Typ
   pub transcript : IsTranscript Step start whole written end
   pub appended : Appends w0 w1 written
 
--- 46: the lines `whole` are answered, and of the answer to the request behind them the first `taken` bytes were written; the
--- state at the end is the one after that request
+-- 46: the lines `whole` are answered, and of the answer to the request behind them the first `taken` bytes were
+-- written; the state at the end is the one after that request
 pub record Torn {S : Type 0} (Step : S → List ℕ → List ℕ → S → Type 0)
     (AtEnd : Type 0) (w0 w1 : Option (List ℕ)) (start : S) (seen : List ℕ) (end : S) : Type 0 where
   pub whole : List ℕ
@@ -87,7 +89,8 @@ pub record Finished {S : Type 0} (Step : S → List ℕ → List ℕ → S → T
   pub transcript : IsTranscript Step start seen written end
   pub appended : Appends w0 w1 written
 
--- 45: a read failed, or the input went on past `most` bytes, by the byte `over`; the complete lines before that are answered
+-- 45: a read failed, or the input went on past `most` bytes, by the byte `over`; the complete lines before that are
+-- answered
 pub record Broken {S : Type 0} (Step : S → List ℕ → List ℕ → S → Type 0)
     (most : ℕ) (r0 r1 w0 w1 : Option (List ℕ)) (start end : S) : Type 0 where
   pub seen : List ℕ

@@ -1,6 +1,7 @@
--- What is answered to a line, and where a run stands after it (own rules; docs/RULES.md, "Orders"): a command's step is that of
--- the machine of commands.
-use Rattle.std.specs.Prelude.{◌≡◌, ◌⊎◌, ℕ, Bool, true, false, not, ◌||◌, if◌then◌else◌, List, [], ◌++◌, IsSome, Result, Ok, Err}
+-- What is answered to a line, and where a run stands after it (own rules; docs/RULES.md, "Orders"): a command's step is
+-- that of the machine of commands.
+use Rattle.std.specs.Prelude.{◌≡◌, ◌⊎◌, ℕ, Bool, true, false, not, ◌||◌, if◌then◌else◌, List, [], ◌++◌, IsSome, Result}
+use Rattle.std.specs.Prelude.{Ok, Err}
 use Rattle.money_core.specs.declared.cause.Cause.TheVariants.{UnknownBranch, OutOfMemory, Store as Failed}
 use Rattle.book_core.specs.declared.refusal.Refusal.{Refusal}
 use Rattle.book_core.specs.declared.refusal.Refusal.TheVariants.{Plain}

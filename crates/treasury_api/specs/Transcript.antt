@@ -1,5 +1,5 @@
--- An input of requests and the answers to it (own rule; docs/FORMATS.md, "Requests"). A request stands on a line of its own.
--- LF or CR LF ends a line, the last line may lack its end, and a line of blanks alone is skipped.
+-- An input of requests and the answers to it (own rule; docs/FORMATS.md, "Requests"). A request stands on a line of its
+-- own. LF or CR LF ends a line, the last line may lack its end, and a line of blanks alone is skipped.
 use Rattle.std.specs.Prelude.{◌≡◌, ℕ, Bool, not, List, [], ◌∷◌, ◌++◌, filter}
 use Rattle.std.specs.List.{list_all}
 use Rattle.std.specs.Str.Lines.{lines}
@@ -17,8 +17,8 @@ requests_among lines = filter (λ line. not (is_blank_text line)) lines
 abbrev pub requests_in : List ℕ → List (List ℕ)
 requests_in input = requests_among (lines input)
 
--- the requests are answered one after another: each by a step, that relates the state before it, the request, its answer
--- and the state after it; the answers stand one behind the other
+-- the requests are answered one after another: each by a step, that relates the state before it, the request, its
+-- answer and the state after it; the answers stand one behind the other
 abbrev pub AnswersInTurn : {S : Type 0} → (S → List ℕ → List ℕ → S → Type 0) → S → List (List ℕ) → List ℕ → S → Type 0
 AnswersInTurn Step start [] output end = (output ≡ []) × (end ≡ start)
 AnswersInTurn {S = S} Step start (request ∷ requests) output end =

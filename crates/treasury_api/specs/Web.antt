@@ -1,6 +1,7 @@
--- HTTP over a treasury: what a call asks, what it is answered, and how a connection ends (own rules; docs/FORMATS.md, "HTTP"). What
--- the bytes of a connection call for, `http_request` says.
-use Rattle.std.specs.Prelude.{◌≡◌, ◌⊎◌, ℕ, List, [], ◌∷◌, take, Option, Some, None, option_map, Result, Err, MatchResult, codes}
+-- HTTP over a treasury: what a call asks, what it is answered, and how a connection ends (own rules; docs/FORMATS.md,
+-- "HTTP"). What the bytes of a connection call for, `http_request` says.
+use Rattle.std.specs.Prelude.{◌≡◌, ◌⊎◌, ℕ, List, [], ◌∷◌, take, Option, Some, None, option_map, Result, Err}
+use Rattle.std.specs.Prelude.{MatchResult, codes}
 use Rattle.std.specs.Io.KnownBytes.{Appends}
 use Rattle.sqlite.specs.Store.{Ghosts}
 use Rattle.sqlite.specs.State.{HasCleanDisk}
@@ -46,15 +47,17 @@ AnswersCall s call status body t =
     ⊎ ((request : Request) × (asked_by call ≡ Some request)
     × ((reply : Result Answer Refusal) × (AnswersRequest s request body reply t × (status ≡ status_of reply))))
 
--- What a call makes of a treasury: of whichever state it is, while the disk returns what was written, the call is answered, and the
--- treasury is of the state where that leads.
-pub record AnswersOn {S : Type 0} (g : Ghosts S) (old : Treasury S) (call : Call) (status : ℕ) (body : List ℕ) (new : Treasury S) : Type 0 where
+-- What a call makes of a treasury: of whichever state it is, while the disk returns what was written, the call is
+-- answered, and the treasury is of the state where that leads.
+pub record AnswersOn {S : Type 0} (g : Ghosts S) (old : Treasury S) (call : Call) (status : ℕ) (body : List ℕ)
+    (new : Treasury S) : Type 0 where
   pub clean : HasCleanDisk (state g new.store.conn) → HasCleanDisk (state g old.store.conn)
   pub answers : HasCleanDisk (state g new.store.conn) → (f : Federation) → IsTreasuryOf g old f
       → (end : Federation) × (IsTreasuryOf g new end × AnswersCall (standing old f) call status body (standing new end))
 
 -- what a reader gave calls for something, and that is answered
-pub record AnswersRead {S : Type 0} (g : Ghosts S) (r0 r1 : Option (List ℕ)) (old : Treasury S) (status : ℕ) (body : List ℕ) (new : Treasury S) : Type 0 where
+pub record AnswersRead {S : Type 0} (g : Ghosts S) (r0 r1 : Option (List ℕ)) (old : Treasury S) (status : ℕ)
+    (body : List ℕ) (new : Treasury S) : Type 0 where
   pub call : Call
   pub reads : Reads r0 r1 call
   pub answers : AnswersOn g old call status body new
@@ -75,15 +78,17 @@ pub record IsTorn {S : Type 0} (g : Ghosts S) (r0 r1 w0 w1 : Option (List ℕ)) 
   pub written : Appends w0 w1 (take taken (whole_reply status body))
 
 -- how a connection ends that is refused by this cause: by 40 and 45 nothing is written, and nothing has changed
-abbrev pub FailsBy : {S W : Type 0} → Cause → Ghosts S → Option (List ℕ) → Option (List ℕ) → (W → Option (List ℕ)) → W → W → Treasury S → Treasury S → Type 0
+abbrev pub FailsBy : {S W : Type 0} → Cause → Ghosts S → Option (List ℕ) → Option (List ℕ) → (W → Option (List ℕ)) → W
+    → W → Treasury S → Treasury S → Type 0
 FailsBy OutOfMemory g r0 r1 contents w0 w1 old new = (w1 ≡ w0) × (new ≡ old)
 FailsBy ReadFault g r0 r1 contents w0 w1 old new = IsStopped r0 r1 × (w1 ≡ w0) × (new ≡ old)
 FailsBy WriteFault g r0 r1 contents w0 w1 old new = IsTorn g r0 r1 (contents w0) (contents w1) old new
 FailsBy _ g r0 r1 contents w0 w1 old new = ⊥
 
--- how a connection ends, by its result; `remaining` and `contents` are what a reader has left and what a writer holds, where they
--- are known
-abbrev pub ServesOne : {T S R W : Type 0} → Result T Cause → Ghosts S → (R → Option (List ℕ)) → R → R → (W → Option (List ℕ)) → W → W → Treasury S → Treasury S → Type 0
+-- how a connection ends, by its result; `remaining` and `contents` are what a reader has left and what a writer holds,
+-- where they are known
+abbrev pub ServesOne : {T S R W : Type 0} → Result T Cause → Ghosts S → (R → Option (List ℕ)) → R → R
+    → (W → Option (List ℕ)) → W → W → Treasury S → Treasury S → Type 0
 ServesOne result g remaining r0 r1 contents w0 w1 old new = MatchResult result
     (λ _. IsServed g (remaining r0) (remaining r1) (contents w0) (contents w1) old new)
     (λ cause. FailsBy cause g (remaining r0) (remaining r1) contents w0 w1 old new)
@@ -101,9 +106,10 @@ abbrev pub AreServed : Standing → List AnsweredCall → Standing → Type 0
 AreServed s [] end = end ≡ s
 AreServed s (c ∷ cs) end = (mid : Standing) × AnswersCall s c.call c.status c.body mid × AreServed mid cs end
 
--- What connections make of a treasury: of whichever state it was, while the disk returned what was written, it is of the state where
--- those that were answered lead.
+-- What connections make of a treasury: of whichever state it was, while the disk returned what was written, it is of
+-- the state where those that were answered lead.
 pub record HasServed {S : Type 0} (g : Ghosts S) (old new : Treasury S) : Type 0 where
   pub clean : HasCleanDisk (state g new.store.conn) → HasCleanDisk (state g old.store.conn)
   pub served : HasCleanDisk (state g new.store.conn) → (f : Federation) → IsTreasuryOf g old f
-      → (end : Federation) × (IsTreasuryOf g new end × ((calls : List AnsweredCall) × AreServed (standing old f) calls (standing new end)))
+      → (end : Federation) × (IsTreasuryOf g new end
+      × ((calls : List AnsweredCall) × AreServed (standing old f) calls (standing new end)))

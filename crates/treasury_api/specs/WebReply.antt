@@ -1,5 +1,6 @@
 -- A reply of HTTP (RFC 9112, section 4; its statuses and its headers: own rule; docs/FORMATS.md, "HTTP").
-use Rattle.std.specs.Prelude.{ℕ, ◌==◌, ◌&&◌, ◌||◌, nat_le, if◌then◌else◌, List, [], ◌++◌, length, codes, decimal, unwrap_or, Result, Ok, Err}
+use Rattle.std.specs.Prelude.{ℕ, ◌==◌, ◌&&◌, ◌||◌, nat_le, if◌then◌else◌, List, [], ◌++◌, length, codes, decimal}
+use Rattle.std.specs.Prelude.{unwrap_or, Result, Ok, Err}
 use Rattle.http.specs.StatusCode.{code_digits, reason_phrase}
 use Rattle.money_core.specs.declared.cause.Cause.{Cause}
 use Rattle.money_core.specs.declared.cause.Cause.TheVariants.{ClaimFailed as ClaimCause}

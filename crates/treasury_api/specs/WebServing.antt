@@ -11,7 +11,8 @@ use Rattle.treasury_api.specs.declared.request.Request.{Request}
 use Rattle.treasury_api.specs.Request.{HasDayNumbers}
 use Rattle.treasury_api.specs.Answer.{answer_text}
 use Rattle.treasury_api.specs.declared.web.status.Status.{Status}
-use Rattle.treasury_api.specs.declared.web.status.Status.TheVariants.{Done, BadRequest, NotFound, Conflict, Unprocessable, Internal, Unavailable}
+use Rattle.treasury_api.specs.declared.web.status.Status.TheVariants.{Done, BadRequest, NotFound, Conflict}
+use Rattle.treasury_api.specs.declared.web.status.Status.TheVariants.{Unprocessable, Internal, Unavailable}
 use Rattle.treasury_api.specs.WebReply.{cause_of}
 
 -- the code of a status

@@ -37,14 +37,18 @@ fn answer_command<S: Alter>(
 ) -> Result<(), Refusal>
     requires held { IsHeldFor treasury.old command }
     requires unfailed { treasury.old.store.failed ≡ false }
-    ensures replies { HasCleanDisk (state S.Store treasury.new.store.conn) → (f : Federation) → IsTreasuryOf S.Store treasury.old f
+    ensures replies { HasCleanDisk (state S.Store treasury.new.store.conn) → (f : Federation)
+        → IsTreasuryOf S.Store treasury.old f
         → IsReplied S.Store false treasury.new f (Ok (Asked.Command command)) result out.old.items out.new.items }
     ensures err { OnErr result (out.new.items ≡ out.old.items) }
     ensures printable { IfErr result (IsPrintableIn treasury.new) }
-    ensures clean { HasCleanDisk (state S.Store treasury.new.store.conn) → HasCleanDisk (state S.Store treasury.old.store.conn) }
+    ensures clean { HasCleanDisk (state S.Store treasury.new.store.conn)
+        → HasCleanDisk (state S.Store treasury.old.store.conn) }
     ensures listed { IfErr result IsListed }
     ensures fails { FailsWith result treasury.new.store.failed }
-    ensures still_open { HasCleanDisk (state S.Store treasury.new.store.conn) → IsTrue (state S.Store treasury.old.store.conn).is_open → IsOpenBut S.Store treasury.old.store.conn treasury.new.store.conn result }
+    ensures still_open { HasCleanDisk (state S.Store treasury.new.store.conn)
+        → IsTrue (state S.Store treasury.old.store.conn).is_open
+        → IsOpenBut S.Store treasury.old.store.conn treasury.new.store.conn result }
     ensures shuts { ShutsByFault S.Store treasury.old.store.conn treasury.new.store.conn }
     ensures left { LeavesStep S.Store treasury.old treasury.new command }
 {
@@ -63,12 +67,12 @@ fn answer_command<S: Alter>(
     }
 }
 
-/// Does what a request asks of the treasury, and appends its answer: the line of a command that is accepted or repeated, or
-/// the lines of a report, without the `ok` behind them.
+/// Does what a request asks of the treasury, and appends its answer: the line of a command that is accepted or
+/// repeated, or the lines of a report, without the `ok` behind them.
 ///
-/// It refuses as the texts of the request, the command or the report are refused, and 40 to 43 as the treasury; the vector is
-/// then as it was. The room for the line of a command is made before it is performed. A call of the database fails just where it
-/// answers 41, and then every later call answers 42 and changes nothing.
+/// It refuses as the texts of the request, the command or the report are refused, and 40 to 43 as the treasury; the
+/// vector is then as it was. The room for the line of a command is made before it is performed. A call of the database
+/// fails just where it answers 41, and then every later call answers 42 and changes nothing.
 pub fn answer<S: Alter>(
     alloc: Global,
     request: &Request,
@@ -76,23 +80,32 @@ pub fn answer<S: Alter>(
     out: &mut Vec<u8>,
 ) -> Result<(), Refusal>
     requires { HasDayNumbers request.now }
-    ensures replies { HasCleanDisk (state S.Store treasury.new.store.conn) → (f : Federation) → IsTreasuryOf S.Store treasury.old f
+    ensures replies { HasCleanDisk (state S.Store treasury.new.store.conn) → (f : Federation)
+        → IsTreasuryOf S.Store treasury.old f
         → (asked : Result Meant Refused) × (AsksOf treasury.old.store.failed f.styles request.now asked
         × IsReplied S.Store treasury.old.store.failed treasury.new f asked result out.old.items out.new.items) }
     ensures err { OnErr result (out.new.items ≡ out.old.items) }
     ensures printable { IfErr result (IsPrintableIn treasury.new) }
-    ensures clean { HasCleanDisk (state S.Store treasury.new.store.conn) → HasCleanDisk (state S.Store treasury.old.store.conn) }
+    ensures clean { HasCleanDisk (state S.Store treasury.new.store.conn)
+        → HasCleanDisk (state S.Store treasury.old.store.conn) }
     // Whatever the disk returned, and whatever the tables are.
     ensures listed { treasury.old.store.failed ≡ false → IfErr result IsListed }
     ensures fails { treasury.old.store.failed ≡ false → FailsWith result treasury.new.store.failed }
-    ensures closed { IsTrue treasury.old.store.failed → (result ≡ Err (Refusal.Plain Cause.Closed)) × (treasury.new ≡ treasury.old) }
+    ensures closed { IsTrue treasury.old.store.failed
+        → (result ≡ Err (Refusal.Plain Cause.Closed)) × (treasury.new ≡ treasury.old) }
     // On tables that are no good state's: 43, or 40 or 41, and nothing is written.
-    ensures strange { HasCleanDisk (state S.Store treasury.new.store.conn) → treasury.old.store.failed ≡ false → treasury.old.held ≡ None → ShowsNoState (state S.Store treasury.old.store.conn).now
-        → IsUnread result × (IsTrue (state S.Store treasury.new.store.conn).is_open → StaysAsIs (state S.Store treasury.old.store.conn) (state S.Store treasury.new.store.conn)) }
-    // A database that was open is open where the request is done; on a treasury of a state also where it is refused, but by 41, or by
-    // 40 where the disk has failed once more. Only a fault of the disk shuts it.
-    ensures still_open { HasCleanDisk (state S.Store treasury.new.store.conn) → IsTrue (state S.Store treasury.old.store.conn).is_open → OnOk result (IsTrue (state S.Store treasury.new.store.conn).is_open) }
-    ensures open_but { HasCleanDisk (state S.Store treasury.new.store.conn) → IsTrue (state S.Store treasury.old.store.conn).is_open → (f : Federation) → IsTreasuryOf S.Store treasury.old f
+    ensures strange { HasCleanDisk (state S.Store treasury.new.store.conn) → treasury.old.store.failed ≡ false
+        → treasury.old.held ≡ None → ShowsNoState (state S.Store treasury.old.store.conn).now
+        → IsUnread result × (IsTrue (state S.Store treasury.new.store.conn).is_open
+        → StaysAsIs (state S.Store treasury.old.store.conn) (state S.Store treasury.new.store.conn)) }
+    // A database that was open is open where the request is done; on a treasury of a state also where it is refused,
+    // but by 41, or by 40 where the disk has failed once more. Only a fault of the disk shuts it.
+    ensures still_open { HasCleanDisk (state S.Store treasury.new.store.conn)
+        → IsTrue (state S.Store treasury.old.store.conn).is_open
+        → OnOk result (IsTrue (state S.Store treasury.new.store.conn).is_open) }
+    ensures open_but { HasCleanDisk (state S.Store treasury.new.store.conn)
+        → IsTrue (state S.Store treasury.old.store.conn).is_open → (f : Federation)
+        → IsTreasuryOf S.Store treasury.old f
         → IsOpenBut S.Store treasury.old.store.conn treasury.new.store.conn result }
     ensures shuts { ShutsByFault S.Store treasury.old.store.conn treasury.new.store.conn }
     // Whatever is left, also behind 41: the rows of the state before the request, or of the one after it.

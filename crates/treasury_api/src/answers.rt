@@ -7,7 +7,8 @@ ghost use Rattle.std.specs.Result.{IsOkUnless};
 ghost use Rattle.money_core.specs.AmountText.{IsDeclared};
 ghost use Rattle.journal_lines.specs.Date.{IsDayNumber};
 ghost use Rattle.treasury_api.specs.Answer.{refused_text, line_text, place_text, difference_text, refusal_text};
-ghost use Rattle.treasury_api.specs.Answer.{done_text, answer_text, IsPrintableRefusal, IsPrintableAnswer, IsPlainAnswer};
+ghost use Rattle.treasury_api.specs.Answer.{done_text, answer_text, IsPrintableRefusal, IsPrintableAnswer};
+ghost use Rattle.treasury_api.specs.Answer.{IsPlainAnswer};
 
 use book_core::{Failure, Place, Refusal};
 use itoa::Buffer;
@@ -23,7 +24,8 @@ pub const MOST_PLAIN: usize = 64;
 pub fn push_pieces(pieces: &[&[u8]], line: &mut Vec<u8>) -> Result<(), AllocError>
     ensures ok { OnOk result (line.new.items ≡ line.old.items ++ flat_map (λ piece. piece.now) pieces.now) }
     ensures err { OnErr result (line.new.items ≡ line.old.items) }
-    ensures room { length line.old.items + length (flat_map (λ piece. piece.now) pieces.now) ≤ vec_capacity line.old → IsOk result }
+    ensures room { length line.old.items + length (flat_map (λ piece. piece.now) pieces.now) ≤ vec_capacity line.old
+        → IsOk result }
     ensures capacity { vec_capacity line.old ≤ vec_capacity line.new }
 {
     let before = line.len();
@@ -38,7 +40,8 @@ pub fn push_pieces(pieces: &[&[u8]], line: &mut Vec<u8>) -> Result<(), AllocErro
 
 /// Appends the line that tells how many transactions are entered, and how many were there before.
 fn push_entered(new: usize, repeated: usize, line: &mut Vec<u8>) -> Result<(), AllocError>
-    ensures ok { OnOk result (line.new.items ≡ line.old.items ++ done_text (Answer.Entered new repeated) ++ codes "\n") }
+    ensures ok { OnOk result (line.new.items
+        ≡ line.old.items ++ done_text (Answer.Entered new repeated) ++ codes "\n") }
     ensures err { OnErr result (line.new.items ≡ line.old.items) }
     ensures room { length line.old.items + MOST_PLAIN ≤ vec_capacity line.old → IsOk result }
     ensures capacity { vec_capacity line.old ≤ vec_capacity line.new }
@@ -71,9 +74,11 @@ fn push_named<'a>(
     detail: &'a [u8],
     line: &mut Vec<u8>,
 ) -> Result<(), AllocError>
-    ensures ok { OnOk result (line.new.items ≡ line.old.items ++ codes "refused " ++ nr.now ++ codes " " ++ name.now ++ detail.now ++ codes "\n") }
+    ensures ok { OnOk result (line.new.items
+        ≡ line.old.items ++ codes "refused " ++ nr.now ++ codes " " ++ name.now ++ detail.now ++ codes "\n") }
     ensures err { OnErr result (line.new.items ≡ line.old.items) }
-    ensures room { length line.old.items + length nr.now + length name.now + length detail.now + 10 ≤ vec_capacity line.old → IsOk result }
+    ensures room { length line.old.items + length nr.now + length name.now + length detail.now + 10
+        ≤ vec_capacity line.old → IsOk result }
     ensures capacity { vec_capacity line.old ≤ vec_capacity line.new }
 {
     push_pieces(&[b"refused ", nr, b" ", name, detail, b"\n"], line)
@@ -150,7 +155,8 @@ fn push_refusal(
     ensures ok { OnOk result (line.new.items ≡ line.old.items ++ refusal_text styles.now refusal.now ++ codes "\n") }
     ensures err { OnErr result (line.new.items ≡ line.old.items) }
     ensures memory { IsOkUnless result Cause.OutOfMemory }
-    ensures room { IsPlainAnswer (Err refusal.now) → length line.old.items + MOST_PLAIN ≤ vec_capacity line.old → IsOk result }
+    ensures room { IsPlainAnswer (Err refusal.now) → length line.old.items + MOST_PLAIN ≤ vec_capacity line.old
+        → IsOk result }
     ensures capacity { vec_capacity line.old ≤ vec_capacity line.new }
 {
     match refusal {
@@ -170,12 +176,12 @@ fn push_refusal(
     Ok(())
 }
 
-/// Appends the line of an answer, which a line feed ends. Where memory is refused, it answers 40, and the vector is as it
-/// was. Where the answer is no text fault and no failed assertion, and there is room for `MOST_PLAIN` bytes, it takes no
-/// memory.
+/// Appends the line of an answer, which a line feed ends. Where memory is refused, it answers 40, and the vector is as
+/// it was. Where the answer is no text fault and no failed assertion, and there is room for `MOST_PLAIN` bytes, it
+/// takes no memory.
 ///
-/// A text fault names its line, but for want of memory, and a failed assertion its place, and the amounts that it states
-/// and finds.
+/// A text fault names its line, but for want of memory, and a failed assertion its place, and the amounts that it
+/// states and finds.
 pub fn answer_line(
     alloc: Global,
     answer: &Result<Answer, Refusal>,

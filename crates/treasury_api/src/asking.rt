@@ -6,7 +6,8 @@ ghost use Rattle.money_core.specs.declared.style.Style.{Style};
 ghost use Rattle.money_core.specs.Sampling.{style_of};
 ghost use Rattle.money_core.specs.Reading.{amount};
 ghost use Rattle.journal_lines.specs.Date.{IsDayNumber};
-ghost use Rattle.treasury_api.specs.Asked.{asked_by_sample, asked_by_amount, asked_by_part, asked_by_receipt, cut_list, JournalAsks, RequestAsks};
+ghost use Rattle.treasury_api.specs.Asked.{asked_by_sample, asked_by_amount, asked_by_part, asked_by_receipt, cut_list};
+ghost use Rattle.treasury_api.specs.Asked.{JournalAsks, RequestAsks};
 ghost use Rattle.treasury_api.specs.Request.{HasDayNumbers};
 ghost use Rattle.treasury_api.specs.Serving.{IsReady, OrMemory};
 
@@ -180,7 +181,14 @@ fn asked_by_choice(
     into: Option<Text>,
 ) -> Result<Asked, Refusal>
     requires { IsDayNumber day }
-    ensures asks { OrMemory (λ asked. asked ≡ Ok (Asked.Command (Command.Close (record { branch = branch; day = day; choice = record { accounts = option_map cut_list accounts; into = into } })))) result }
+    ensures asks { OrMemory (λ asked.
+        asked ≡ Ok (Asked.Command
+        (Command.Close
+        (record {
+          branch = branch;
+          day = day;
+          choice = record { accounts = option_map cut_list accounts; into = into };
+        })))) result }
     ensures ready { (styles : List Style) → IsReady styles result }
 {
     match cut_if_given(alloc, accounts) {
@@ -242,8 +250,8 @@ fn asked_by_request(alloc: Global, styles: &Styles, request: Request) -> Result<
     }
 }
 
-/// What the request asks: a command that fits the commodities, or a report. Or the first fault of its texts; 40 for want of
-/// memory. Each of these refusals can be printed.
+/// What the request asks: a command that fits the commodities, or a report. Or the first fault of its texts; 40 for
+/// want of memory. Each of these refusals can be printed.
 pub fn asked_by(alloc: Global, styles: &Styles, request: &Request) -> Result<Asked, Refusal>
     requires { HasDayNumbers request.now }
     ensures asks { OrMemory (RequestAsks styles.now request.now) result }

@@ -29,8 +29,10 @@ pub fn run_law()
 /// A law of turns: their commands fit, and are a run of the machine of commands that leads where the turns do. So all
 /// laws of its runs hold of them; those that the program calls nowhere else are called here. Costs nothing.
 pub fn commands_law()
-    ensures run { (start : Standing) (turns : List Turn) → AreTurns start turns → IsCommandRun start.now (commands_of turns) }
-    ensures end { (start : Standing) (turns : List Turn) → (end_of start turns).now ≡ state_after start.now (commands_of turns) }
+    ensures run { (start : Standing) (turns : List Turn) → AreTurns start turns
+        → IsCommandRun start.now (commands_of turns) }
+    ensures end { (start : Standing) (turns : List Turn)
+        → (end_of start turns).now ≡ state_after start.now (commands_of turns) }
 {
     joined_law();
     unchanged_law();
@@ -45,8 +47,8 @@ pub fn commands_law()
 }
 
 /// Laws of what is refused or repeated: along turns each such reply leaves the state, and so does every line whose
-/// answer is a refusal or `repeated`. Along a run so does each answer that stands in its output as such a line. A report
-/// leaves the state whatever is replied. Costs nothing.
+/// answer is a refusal or `repeated`. Along a run so does each answer that stands in its output as such a line. A
+/// report leaves the state whatever is replied. Costs nothing.
 pub fn refusal_law()
     ensures turns { (start : Standing) (turns : List Turn) → AreTurns start turns → RefusalsLeave start turns }
     ensures answered { (s : Standing) (line text : List ℕ) (t : Standing)

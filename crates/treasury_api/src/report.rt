@@ -17,8 +17,8 @@ pub enum Report {
         branch: Text,
         day: Day,
     },
-    /// What the account and its subaccounts have in the branch of that name, leg by leg; with a tag, only of entries that
-    /// have it.
+    /// What the account and its subaccounts have in the branch of that name, leg by leg; with a tag, only of entries
+    /// that have it.
     Register {
         branch: Text,
         account: Text,

@@ -58,8 +58,8 @@ pub enum Request {
         branch: Text,
         day: Day,
     },
-    /// The closing of the branch of that name at the day: of the accounts that are listed, joined by `;`, into that one,
-    /// each where it is given.
+    /// The closing of the branch of that name at the day: of the accounts that are listed, joined by `;`, into that
+    /// one, each where it is given.
     Close {
         branch: Text,
         day: Day,

@@ -1,6 +1,7 @@
 //! The run of a treasury over the lines of a reader.
 
-ghost use Rattle.std.specs.Prelude.{◌≡◌, ◌≤◌, ◌⊎◌, ◌++◌, [], None, Some, Err, vec_capacity, IsTrue, IfOk, IfErr, OnOk, OnErr};
+ghost use Rattle.std.specs.Prelude.{◌≡◌, ◌≤◌, ◌⊎◌, ◌++◌, [], None, Some, Err, vec_capacity, IsTrue, IfOk, IfErr, OnOk};
+ghost use Rattle.std.specs.Prelude.{OnErr};
 ghost use Rattle.sqlite.specs.State.{HasCleanDisk};
 ghost use Rattle.sqlite.specs.Held.{state};
 ghost use Rattle.treasury_core.specs.Federation.{Federation};
@@ -57,8 +58,8 @@ fn cause_of(refusal: &Refusal) -> Cause
     }
 }
 
-/// The line of a refusal, on an empty vector that has room for a plain one. Where memory is refused for another, it is the
-/// line of 40.
+/// The line of a refusal, on an empty vector that has room for a plain one. Where memory is refused for another, it is
+/// the line of 40.
 fn refuse_in(alloc: Global, styles: &Styles, refusal: Refusal, room: Vec<u8>) -> Line
     requires printable { IsPrintableRefusal styles.now refusal }
     requires empty { room.items ≡ [] }
@@ -100,7 +101,8 @@ pub fn refuse_by<S: Alter>(
     }
 }
 
-/// The line of a refusal by the treasury, in room for a plain one. Where memory is refused for another, it is the line of 40.
+/// The line of a refusal by the treasury, in room for a plain one. Where memory is refused for another, it is the line
+/// of 40.
 pub fn refuse<S: Alter>(
     alloc: Global,
     treasury: &Treasury<S>,
@@ -115,8 +117,8 @@ pub fn refuse<S: Alter>(
     refuse_by(alloc, treasury, refusal, room).text
 }
 
-/// What has to be left of memory before a command, in bytes: more than its rows take in a database in memory, and more than
-/// any block that is kept for later, so that the system is asked.
+/// What has to be left of memory before a command, in bytes: more than its rows take in a database in memory, and more
+/// than any block that is kept for later, so that the system is asked.
 const LEFT: usize = 0x200_0000;
 
 /// Whether so much memory is left. It is given back at once.
@@ -124,8 +126,8 @@ fn is_memory_left(alloc: Global) -> bool {
     Vec::<u8>::with_capacity(alloc, LEFT).is_ok()
 }
 
-/// The request that a line spells, as `read_line` reads it. Answers 40 for a command where too little memory is left for what
-/// it may write: while rows are written want of memory could only end the database.
+/// The request that a line spells, as `read_line` reads it. Answers 40 for a command where too little memory is left
+/// for what it may write: while rows are written want of memory could only end the database.
 fn read_within_memory(alloc: Global, line: &[u8]) -> Result<Request, Cause>
     ensures ok { IfOk result (λ request. spelled line.now ≡ Some request) }
     ensures days { IfOk result HasDayNumbers }
@@ -171,24 +173,28 @@ impl<S: Alter> Machine for Treasury<S> {
 ///
 /// On `Ok` all input was read, and what was written is its transcript. 45 comes where a read fails, whatever its error,
 /// or where the input goes on past 64 MiB: the complete lines before that are answered. 46 comes where a write fails or
-/// takes nothing: the last answer may be cut off, and its command stands. 40 comes where there is no memory for an answer:
-/// its request has changed nothing.
+/// takes nothing: the last answer may be cut off, and its command stands. 40 comes where there is no memory for an
+/// answer: its request has changed nothing.
 ///
-/// What a stop, a crash or a 41 leaves are the rows of the state where the run is, or of the one where the command leads that it
-/// was at.
+/// What a stop, a crash or a 41 leaves are the rows of the state where the run is, or of the one where the command
+/// leads that it was at.
 pub fn run_lines<R: Read, W: Write, S: Alter>(
     alloc: Global,
     reader: &mut R,
     writer: &mut W,
     treasury: &mut Treasury<S>,
 ) -> Result<(), Cause>
-    // Of whichever state the treasury is, while the disk returned what was written: a run, and the headline holds of it.
-    ensures runs { HasCleanDisk (state S.Store treasury.new.store.conn) → (f : Federation) → IsTreasuryOf S.Store treasury.old f
+    // Of whichever state the treasury is, while the disk returned what was written: a run, and the headline holds of
+    // it.
+    ensures runs { HasCleanDisk (state S.Store treasury.new.store.conn) → (f : Federation)
+        → IsTreasuryOf S.Store treasury.old f
         → (end : Federation) × (IsTreasuryOf S.Store treasury.new end
-        × Runs S.Store treasury.old treasury.new result R.remaining reader.old reader.new W.contents writer.old writer.new
+        × Runs S.Store treasury.old treasury.new result R.remaining reader.old reader.new W.contents writer.old
+        writer.new
         (standing treasury.old f) (standing treasury.new end)) }
     // Whatever the disk returned, and whatever the tables are.
-    ensures causes { IfErr result (λ cause. (cause ≡ Cause.OutOfMemory) ⊎ ((cause ≡ Cause.ReadFault) ⊎ (cause ≡ Cause.WriteFault))) }
+    ensures causes { IfErr result (λ cause.
+        (cause ≡ Cause.OutOfMemory) ⊎ ((cause ≡ Cause.ReadFault) ⊎ (cause ≡ Cause.WriteFault))) }
     ensures closed { IsTrue treasury.old.store.failed → treasury.new ≡ treasury.old }
     ensures shuts { ShutsByFault S.Store treasury.old.store.conn treasury.new.store.conn }
 {

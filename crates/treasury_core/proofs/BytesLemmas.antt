@@ -21,7 +21,8 @@ pub third_bytes : (a b c : List ℕ) → bytes_eq a b ≡ false → bytes_eq a c
 third_bytes a b c e f = by_test (bytes_eq b c) refl
   where
     by_test : (t : Bool) → bytes_eq b c ≡ t → t ≡ false
-    by_test true g = let h : bytes_eq a b ≡ true = (bytes_eq-Decides a b).1 (same_bytes a c f ∙ sym (same_bytes b c g)) in absurd cc
+    by_test true g =
+        let h : bytes_eq a b ≡ true = (bytes_eq-Decides a b).1 (same_bytes a c f ∙ sym (same_bytes b c g)) in absurd cc
     by_test false g = refl
 
 pub neither : (a b : Bool) → (a || b) ≡ false → (a ≡ false) × (b ≡ false)

@@ -1,5 +1,8 @@
 -- a choice that is not refused: its comments can be printed, and it selects nothing on transit
-use Rattle.std.proofs.Common.{◌≡◌, ◌∙◌, ◌≤◌, ◌<◌, ◌+◌, ◌-◌, ◌==◌, ◌||◌, ◌⊎◌, inl, inr, ℕ, zero, suc, Bool, true, false, not, nat_eq, List, [], ◌∷◌, ◌++◌, length, slice_index, refl, sym, ap, subst, arith, append_assoc, append-nil, length-append, drop, get_or, drop-cons, add-one, true≢false, Option, Some, None}
+use Rattle.std.proofs.Common.{◌≡◌, ◌∙◌, ◌≤◌, ◌<◌, ◌+◌, ◌-◌, ◌==◌, ◌||◌, ◌⊎◌, inl, inr, ℕ, zero, suc, Bool, true, false}
+use Rattle.std.proofs.Common.{not, nat_eq, List, [], ◌∷◌, ◌++◌, length, slice_index, refl, sym, ap, subst, arith}
+use Rattle.std.proofs.Common.{append_assoc, append-nil, length-append, drop, get_or, drop-cons, add-one, true≢false}
+use Rattle.std.proofs.Common.{Option, Some, None}
 use Rattle.std.specs.Prelude.{codes, nat_lt, nat_le, if◌then◌else◌, ⊤}
 use Rattle.std.specs.Bool.{Decides, one_answer}
 use Rattle.std.specs.Cmp.Lexicographic.{pointwise}
@@ -23,7 +26,9 @@ use Rattle.journal_format.specs.Printable.{is_note}
 use Rattle.journal_format.proofs.Utf8Lemmas.{utf8_joined, utf8_low}
 use Rattle.treasury_core.specs.declared.choice.Choice.{Choice}
 use Rattle.treasury_core.specs.Transfer.{is_account_text, is_reserved}
-use Rattle.treasury_core.specs.Choice.{is_revenue_or_expense, retained_earnings, is_among, is_selected, target_in, listed, list_text, accounts_comment, into_comment, choice_comments, holds_transit, choice_refusal}
+use Rattle.treasury_core.specs.Choice.{is_revenue_or_expense, retained_earnings, is_among, is_selected, target_in}
+use Rattle.treasury_core.specs.Choice.{listed, list_text, accounts_comment, into_comment, choice_comments}
+use Rattle.treasury_core.specs.Choice.{holds_transit, choice_refusal}
 use Rattle.treasury_core.proofs.BytesLemmas.{neither}
 
 -- ---- what is not refused
@@ -94,10 +99,12 @@ before_colon [] (c ∷ cs) x s h k e = absurd (let rest : cs ++ 58 ∷ s ≡ x =
   where
     within : (cs s x : List ℕ) → HasNoColon x → cs ++ 58 ∷ s ≡ x → ⊥
     within [] s [] k e = cc
-    within [] s (b ∷ bs) k e = let same : b ≡ 58 = cc in let one : nat_eq 58 58 ≡ false = subst (λ (n : ℕ). nat_eq n 58 ≡ false) same k.0 in cc
+    within [] s (b ∷ bs) k e =
+        let same : b ≡ 58 = cc in let one : nat_eq 58 58 ≡ false = subst (λ (n : ℕ). nat_eq n 58 ≡ false) same k.0 in cc
     within (c ∷ cs) s [] k e = cc
     within (c ∷ cs) s (b ∷ bs) k e = within cs s bs k.1 cc
-before_colon (c ∷ cs) [] x s h k e = absurd (let same : c ≡ 58 = cc in let one : nat_eq 58 58 ≡ false = subst (λ (n : ℕ). nat_eq n 58 ≡ false) same h.0 in cc)
+before_colon (c ∷ cs) [] x s h k e = absurd
+    (let same : c ≡ 58 = cc in let one : nat_eq 58 58 ≡ false = subst (λ (n : ℕ). nat_eq n 58 ≡ false) same h.0 in cc)
 before_colon (c ∷ cs) (b ∷ bs) x s h k e =
     let head : b ≡ c = cc in
     let rest : bs ++ 58 ∷ s ≡ cs ++ 58 ∷ x = cc in
@@ -106,7 +113,9 @@ before_colon (c ∷ cs) (b ∷ bs) x s h k e =
 
 only_assets : (top : List ℕ) → IsInside top transit → (top ≡ transit) ⊎ (top ≡ codes "assets")
 only_assets top (inl e) = inl (sym e)
-only_assets top (inr p) = inr (before_colon (codes "assets") top (codes "transit") p.0 (refl, (refl, (refl, (refl, (refl, (refl, tt)))))) (refl, (refl, (refl, (refl, (refl, (refl, (refl, tt))))))) (sym p.1))
+only_assets top (inr p) = inr (before_colon (codes "assets") top (codes "transit") p.0
+    (refl, (refl, (refl, (refl, (refl, (refl, tt)))))) (refl, (refl, (refl, (refl, (refl, (refl, (refl, tt)))))))
+    (sym p.1))
 
 above : (top : List ℕ) → (top ≡ transit) ⊎ (top ≡ codes "assets") → holds_transit top ≡ true
 above top (inl e) = ap holds_transit e
@@ -118,7 +127,9 @@ or_second false b e = e
 
 -- an account inside another and on transit: the other is on transit, or it is `assets`
 transit_above : (top account : List ℕ) → IsInside top account → IsInside transit account → holds_transit top ≡ true
-transit_above top account (inl e) on = or_second (bytes_eq top (codes "assets")) (is_reserved top) (ap is_reserved (sym e) ∙ (is_inside_decides transit account).1 on)
+transit_above top account (inl e) on =
+    or_second (bytes_eq top (codes "assets")) (is_reserved top)
+    (ap is_reserved (sym e) ∙ (is_inside_decides transit account).1 on)
 transit_above top account (inr p) (inl e) = above top (only_assets top (inr (p.0, sym e ∙ p.1)))
 transit_above top account (inr p) (inr q) = by_case (fronts transit top q.0 p.0 (sym p.1 ∙ q.1))
   where
@@ -126,14 +137,18 @@ transit_above top account (inr p) (inr q) = by_case (fronts transit top q.0 p.0 
     by_case (inl h) = or_second (bytes_eq top (codes "assets")) (is_reserved top) ((is_inside_decides transit top).1 h)
     by_case (inr h) = above top (only_assets top h)
 
-among_apart : (names : List (List ℕ)) (account : List ℕ) → list_any holds_transit names ≡ false → is_among names account ≡ true → is_reserved account ≡ true → ⊥
+among_apart : (names : List (List ℕ)) (account : List ℕ) → list_any holds_transit names ≡ false
+    → is_among names account ≡ true → is_reserved account ≡ true → ⊥
 among_apart [] account off h on = absurd cc
 among_apart (top ∷ names) account off h on =
     let n = neither (holds_transit top) (list_any holds_transit names) off in
     by_test (is_inside top account) refl h n.0 (λ k. among_apart names account n.1 k on)
   where
-    by_test : (t : Bool) → is_inside top account ≡ t → (t || is_among names account) ≡ true → holds_transit top ≡ false → (is_among names account ≡ true → ⊥) → ⊥
-    by_test true e k off later = let held = transit_above top account ((is_inside_decides top account).0 e) ((is_inside_decides transit account).0 on) in true≢false (sym held ∙ off)
+    by_test : (t : Bool) → is_inside top account ≡ t → (t || is_among names account) ≡ true → holds_transit top ≡ false
+        → (is_among names account ≡ true → ⊥) → ⊥
+    by_test true e k off later = let held =
+        transit_above top account ((is_inside_decides top account).0 e) ((is_inside_decides transit account).0 on) in
+        true≢false (sym held ∙ off)
     by_test false e k off later = later k
 
 -- a revenue or expense account is not on transit
@@ -141,11 +156,13 @@ not_transit : (a : List ℕ) → is_revenue_or_expense a ≡ true → IsInside t
 not_transit a h (inl e) = let k : false ≡ true = ap is_revenue_or_expense (sym e) ∙ h in cc
 not_transit a h (inr p) = let k : false ≡ true = ap is_revenue_or_expense (sym p.1) ∙ h in cc
 
-chosen_apart : (o : Option (List (List ℕ))) (account : List ℕ) → list_any holds_transit (listed o) ≡ false → is_selected o account ≡ true → is_reserved account ≡ true → ⊥
+chosen_apart : (o : Option (List (List ℕ))) (account : List ℕ) → list_any holds_transit (listed o) ≡ false
+    → is_selected o account ≡ true → is_reserved account ≡ true → ⊥
 chosen_apart None account off h on = not_transit account h ((is_inside_decides transit account).0 on)
 chosen_apart (Some names) account off h on = among_apart names account off h on
 
-pub selected_off : (c : Choice) (account : List ℕ) → IsChoice c → is_selected c.accounts account ≡ true → is_reserved account ≡ false
+pub selected_off : (c : Choice) (account : List ℕ) → IsChoice c → is_selected c.accounts account ≡ true
+    → is_reserved account ≡ false
 selected_off c account h is = by_test (is_reserved account) refl
   where
     by_test : (t : Bool) → is_reserved account ≡ t → t ≡ false
@@ -165,7 +182,8 @@ solid_last [] some e = absurd (omega arith)
 solid_last (b ∷ []) some e = not-true _ e
 solid_last (b ∷ (next ∷ rest)) some e =
     let at : suc (length (next ∷ rest) - 1) ≡ length (b ∷ (next ∷ rest)) - 1 = omega arith in
-    subst (λ (n : ℕ). is_blank (slice_index (b ∷ (next ∷ rest)) n) ≡ false) at (solid_last (next ∷ rest) (omega arith) e)
+    subst (λ (n : ℕ). is_blank (slice_index (b ∷ (next ∷ rest)) n) ≡ false) at
+    (solid_last (next ∷ rest) (omega arith) e)
 
 solid_joined : (xs : List ℕ) (y : ℕ) (ys : List ℕ) → ends_solid (y ∷ ys) ≡ true → ends_solid (xs ++ y ∷ ys) ≡ true
 solid_joined [] y ys e = e
@@ -178,8 +196,11 @@ solid_byte b h e = grind (arith, common_steps)
 -- a well-formed name has none
 solid_name : (name : List ℕ) → list_all is_name_byte name ≡ true → has_gap name ≡ false → ends_solid name ≡ true
 solid_name [] h g = refl
-solid_name (b ∷ []) h g = not_from_false _ (solid_byte b (and_parts (is_name_byte b) true h).0 (neither (b == 32) false g).0)
-solid_name (b ∷ (next ∷ rest)) h g = solid_name (next ∷ rest) (and_parts (is_name_byte b) (list_all is_name_byte (next ∷ rest)) h).1 (neither (is_gap b (next ∷ rest)) (has_gap (next ∷ rest)) g).1
+solid_name (b ∷ []) h g =
+    not_from_false _ (solid_byte b (and_parts (is_name_byte b) true h).0 (neither (b == 32) false g).0)
+solid_name (b ∷ (next ∷ rest)) h g =
+    solid_name (next ∷ rest) (and_parts (is_name_byte b) (list_all is_name_byte (next ∷ rest)) h).1
+    (neither (is_gap b (next ∷ rest)) (has_gap (next ∷ rest)) g).1
 
 no_gaps : (name : List ℕ) → is_account name ≡ true → has_gap name ≡ false
 unfolding is_account
@@ -216,7 +237,8 @@ semicolon_text xs h = record {
   solid = behind 59 xs refl h.solid;
 }
 
-more_text : (name : List ℕ) (names : List (List ℕ)) → IsText name → list_all is_account_text names ≡ true → IsText (name ++ flat_map (λ (next : List ℕ). 59 ∷ next) names)
+more_text : (name : List ℕ) (names : List (List ℕ)) → IsText name → list_all is_account_text names ≡ true
+    → IsText (name ++ flat_map (λ (next : List ℕ). 59 ∷ next) names)
 more_text name [] h k = subst IsText (sym (append-nil name)) h
 more_text name (next ∷ names) h k =
     let p = and_parts (is_account_text next) (list_all is_account_text names) k in
@@ -232,7 +254,8 @@ list_is_text (name ∷ names) h =
 small : (n : ℕ) → n ≤ 900 → nat_le n 900 ≡ true
 small n h = grind (arith, nat_tests)
 
-accounts_note : (names : List (List ℕ)) → list_all is_account_text names ≡ true → length (list_text names) ≤ 880 → is_note (codes "accounts:" ++ list_text names) ≡ true
+accounts_note : (names : List (List ℕ)) → list_all is_account_text names ≡ true → length (list_text names) ≤ 880
+    → is_note (codes "accounts:" ++ list_text names) ≡ true
 unfolding mark_of
 accounts_note names h few =
     let t = list_is_text names h in
@@ -240,7 +263,8 @@ accounts_note names h few =
     let last : ends_solid text ≡ true = colon_first (list_text names) t.solid in
     let trimmed : is_trimmed text ≡ true = and_from _ _ refl (not_from_false _ (solid_last text (omega arith) last)) in
     let short : nat_le (length text) 900 ≡ true = small (length text) (omega (arith, few)) in
-    and_from _ _ (and_from _ _ (and_from _ _ (and_from _ _ trimmed t.clean) short) (utf8_joined (codes "accounts:") (list_text names) (utf8_low (codes "accounts:") refl) t.utf8)) refl
+    and_from _ _ (and_from _ _ (and_from _ _ (and_from _ _ trimmed t.clean) short)
+    (utf8_joined (codes "accounts:") (list_text names) (utf8_low (codes "accounts:") refl) t.utf8)) refl
   where
     colon_first : (xs : List ℕ) → ends_solid xs ≡ true → ends_solid (codes "accounts:" ++ xs) ≡ true
     colon_first [] e = refl
@@ -255,24 +279,29 @@ into_note account h =
     let last : ends_solid text ≡ true = colon_first account t.solid in
     let trimmed : is_trimmed text ≡ true = and_from _ _ refl (not_from_false _ (solid_last text (omega arith) last)) in
     let short : nat_le (length text) 900 ≡ true = small (length text) (omega (arith, w.short)) in
-    and_from _ _ (and_from _ _ (and_from _ _ (and_from _ _ trimmed t.clean) short) (utf8_joined (codes "into:") account (utf8_low (codes "into:") refl) t.utf8)) refl
+    and_from _ _ (and_from _ _ (and_from _ _ (and_from _ _ trimmed t.clean) short)
+    (utf8_joined (codes "into:") account (utf8_low (codes "into:") refl) t.utf8)) refl
   where
     colon_first : (xs : List ℕ) → ends_solid xs ≡ true → ends_solid (codes "into:" ++ xs) ≡ true
     colon_first [] e = refl
     colon_first (x ∷ xs) e = e
 
-comments_in : (accounts : Option (List (List ℕ))) (into : Option (List ℕ)) → list_all is_account_text (listed accounts) ≡ true → length (list_text (listed accounts)) ≤ 880 → is_account_text (target_in into) ≡ true
+comments_in : (accounts : Option (List (List ℕ))) (into : Option (List ℕ))
+    → list_all is_account_text (listed accounts) ≡ true → length (list_text (listed accounts)) ≤ 880
+    → is_account_text (target_in into) ≡ true
     → list_all is_note (accounts_comment accounts ++ into_comment into) ≡ true
 comments_in None None h few t = refl
 comments_in None (Some account) h few t = and_from _ _ (into_note account t) refl
 comments_in (Some names) None h few t = and_from _ _ (accounts_note names h few) refl
-comments_in (Some names) (Some account) h few t = and_from _ _ (accounts_note names h few) (and_from _ _ (into_note account t) refl)
+comments_in (Some names) (Some account) h few t =
+    and_from _ _ (accounts_note names h few) (and_from _ _ (into_note account t) refl)
 
 pub comments_print : (c : Choice) → IsChoice c → list_all is_note (choice_comments c) ≡ true
 comments_print c h = comments_in c.accounts c.into h.formed h.short h.target
 
 -- there are at most two
-few_comments : (accounts : Option (List (List ℕ))) (into : Option (List ℕ)) → length (accounts_comment accounts ++ into_comment into) ≤ 2
+few_comments : (accounts : Option (List (List ℕ))) (into : Option (List ℕ))
+    → length (accounts_comment accounts ++ into_comment into) ≤ 2
 few_comments None None = omega arith
 few_comments None (Some account) = omega arith
 few_comments (Some names) None = omega arith
@@ -290,10 +319,12 @@ sizes (name ∷ names) = (length name + 1) + sizes names
 
 more_size : (names : List (List ℕ)) → length (flat_map (λ (next : List ℕ). 59 ∷ next) names) ≡ sizes names
 more_size [] = refl
-more_size (name ∷ names) = omega (arith, length-append (59 ∷ name) (flat_map (λ (next : List ℕ). 59 ∷ next) names), more_size names)
+more_size (name ∷ names) =
+    omega (arith, length-append (59 ∷ name) (flat_map (λ (next : List ℕ). 59 ∷ next) names), more_size names)
 
 list_size : (name : List ℕ) (names : List (List ℕ)) → length (list_text (name ∷ names)) + 1 ≡ sizes (name ∷ names)
-list_size name names = omega (arith, length-append name (flat_map (λ (next : List ℕ). 59 ∷ next) names), more_size names)
+list_size name names =
+    omega (arith, length-append name (flat_map (λ (next : List ℕ). 59 ∷ next) names), more_size names)
 
 more : (n m : ℕ) → m < n → true ≡ nat_lt m n
 more n m h = grind (arith, nat_tests)
@@ -309,10 +340,13 @@ pub is_short : (names : List (List ℕ)) → sizes names ≤ 881 → false ≡ n
 is_short [] h = refl
 is_short (name ∷ names) h = no_more (length (list_text (name ∷ names))) 880 (omega (arith, h, list_size name names))
 
-drop_text : (names : List (List ℕ)) (i : ℕ) (a : List ℕ) → i < length names → a ≡ get_or names i a → drop i names ≡ a ∷ drop (i + 1) names
-drop_text names i a h e = drop-cons names i a h ∙ ap (λ (x : List ℕ). x ∷ drop (suc i) names) (sym e) ∙ ap (λ (j : ℕ). a ∷ drop j names) (sym (add-one i))
+drop_text : (names : List (List ℕ)) (i : ℕ) (a : List ℕ) → i < length names → a ≡ get_or names i a
+    → drop i names ≡ a ∷ drop (i + 1) names
+drop_text names i a h e = drop-cons names i a h ∙ ap (λ (x : List ℕ). x ∷ drop (suc i) names) (sym e) ∙ ap
+    (λ (j : ℕ). a ∷ drop j names) (sym (add-one i))
 
-pub size_next : (names : List (List ℕ)) (i : ℕ) (a : List ℕ) → i < length names → a ≡ get_or names i a → sizes (drop i names) ≡ (length a + 1) + sizes (drop (i + 1) names)
+pub size_next : (names : List (List ℕ)) (i : ℕ) (a : List ℕ) → i < length names → a ≡ get_or names i a
+    → sizes (drop i names) ≡ (length a + 1) + sizes (drop (i + 1) names)
 size_next names i a h e = ap sizes (drop_text names i a h e)
 
 drop_end : (names : List (List ℕ)) (i : ℕ) → length names ≤ i → drop i names ≡ []
@@ -329,7 +363,8 @@ size_end names i h = ap sizes (drop_end names i h)
 abbrev pub behind_names : List (List ℕ) → List ℕ
 behind_names names = flat_map (λ (next : List ℕ). 59 ∷ next) names
 
-pub next_name : (old new all : List ℕ) (names : List (List ℕ)) (i : ℕ) (a : List ℕ) → i < length names → a ≡ get_or names i a → old ++ behind_names (drop i names) ≡ all → new ≡ (old ++ 59 ∷ []) ++ a
+pub next_name : (old new all : List ℕ) (names : List (List ℕ)) (i : ℕ) (a : List ℕ) → i < length names
+    → a ≡ get_or names i a → old ++ behind_names (drop i names) ≡ all → new ≡ (old ++ 59 ∷ []) ++ a
     → new ++ behind_names (drop (i + 1) names) ≡ all
 next_name old new all names i a h item e pushed =
     ap (λ (xs : List ℕ). xs ++ behind_names (drop (i + 1) names)) pushed
@@ -337,16 +372,23 @@ next_name old new all names i a h item e pushed =
     ∙ (append_assoc old (59 ∷ []) (a ++ behind_names (drop (i + 1) names))
     ∙ (sym (ap (λ (xs : List (List ℕ)). old ++ behind_names xs) (drop_text names i a h item)) ∙ e)))
 
-pub last_name : (old all : List ℕ) (names : List (List ℕ)) (i : ℕ) → length names ≤ i → old ++ behind_names (drop i names) ≡ all → old ≡ all
-last_name old all names i h e = sym (append-nil old) ∙ (sym (ap (λ (xs : List (List ℕ)). old ++ behind_names xs) (drop_end names i h)) ∙ e)
+pub last_name : (old all : List ℕ) (names : List (List ℕ)) (i : ℕ) → length names ≤ i
+    → old ++ behind_names (drop i names) ≡ all → old ≡ all
+last_name old all names i h e =
+    sym (append-nil old) ∙ (sym (ap (λ (xs : List (List ℕ)). old ++ behind_names xs) (drop_end names i h)) ∙ e)
 
 -- ---- tests of texts
 
-pub tested_inside : (top text account : List ℕ) (r : Bool) → text ≡ top → Decides r (IsInside text account) → r ≡ is_inside top account
-tested_inside top text account r e h = one_answer r (is_inside top account) (subst (λ (t : List ℕ). Decides r (IsInside t account)) e h) (is_inside_decides top account)
+pub tested_inside : (top text account : List ℕ) (r : Bool) → text ≡ top → Decides r (IsInside text account)
+    → r ≡ is_inside top account
+tested_inside top text account r e h =
+    one_answer r (is_inside top account) (subst (λ (t : List ℕ). Decides r (IsInside t account)) e h)
+    (is_inside_decides top account)
 
 pub tested_texts : (xs ys zs : List (List ℕ)) (r : Bool) → Decides r (xs ≡ ys) → ys ≡ zs → r ≡ pointwise bytes_eq xs zs
-tested_texts xs ys zs r h e = one_answer r (pointwise bytes_eq xs zs) (subst (λ (z : List (List ℕ)). Decides r (xs ≡ z)) e h) (slice_eq-Decides bytes_eq-Decides xs zs (pointwise bytes_eq xs zs) refl)
+tested_texts xs ys zs r h e = one_answer r (pointwise bytes_eq xs zs)
+    (subst (λ (z : List (List ℕ)). Decides r (xs ≡ z)) e h)
+    (slice_eq-Decides bytes_eq-Decides xs zs (pointwise bytes_eq xs zs) refl)
 
 -- ---- without a choice all is as it was
 

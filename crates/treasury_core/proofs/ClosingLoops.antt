@@ -1,5 +1,7 @@
 -- one more commodity or account of a closing
-use Rattle.std.proofs.Common.{◌≡◌, ◌≤◌, ◌<◌, ◌+◌, ◌-◌, ℕ, zero, suc, true, false, List, [], ◌∷◌, ◌++◌, length, drop, get_or, refl, ap, ◌∙◌, sym, arith, add-one, append_assoc, append-nil, drop-cons, ℤ, ◌+ℤ◌, Option, Ok, Err}
+use Rattle.std.proofs.Common.{◌≡◌, ◌≤◌, ◌<◌, ◌+◌, ◌-◌, ℕ, zero, suc, true, false, List, [], ◌∷◌, ◌++◌, length, drop}
+use Rattle.std.proofs.Common.{get_or, refl, ap, ◌∙◌, sym, arith, add-one, append_assoc, append-nil, drop-cons, ℤ, ◌+ℤ◌}
+use Rattle.std.proofs.Common.{Option, Ok, Err}
 use Rattle.std.specs.Prelude.{filter, cond, Bool, Result, OnOk, ⊤}
 use Rattle.std.specs.List.{flat_map}
 use Rattle.money_core.specs.declared.unit.Unit.{Unit as Commodity}
@@ -14,7 +16,9 @@ use Rattle.journal_balance.proofs.SumLemmas.{commodities_next, commodities_done}
 use Rattle.journal_balance.proofs.ValueLemmas.{value-append}
 use Rattle.treasury_core.specs.Closing.{posting_of}
 
-pub next_unit : (F : Commodity → List Posting) (old new all : List Posting) (n m : ℕ) → n < m → old ++ flat_map F (commodities n (m - n)) ≡ all → new ≡ old ++ F (record { 0 = n }) → new ++ flat_map F (commodities (n + 1) (m - (n + 1))) ≡ all
+pub next_unit : (F : Commodity → List Posting) (old new all : List Posting) (n m : ℕ) → n < m
+    → old ++ flat_map F (commodities n (m - n)) ≡ all → new ≡ old ++ F (record { 0 = n })
+    → new ++ flat_map F (commodities (n + 1) (m - (n + 1))) ≡ all
 next_unit F old new all n m h e pushed =
     let v : Commodity = record { 0 = n } in
     let rest = flat_map F (commodities (n + 1) (m - (n + 1))) in
@@ -23,14 +27,20 @@ next_unit F old new all n m h e pushed =
     ∙ sym (ap (λ (us : List Commodity). old ++ flat_map F us) (commodities_next n m h))
     ∙ e
 
-pub last_unit : (F : Commodity → List Posting) (old all : List Posting) (n m : ℕ) → m ≤ n → old ++ flat_map F (commodities n (m - n)) ≡ all → old ≡ all
-last_unit F old all n m h e = sym (append-nil old) ∙ sym (ap (λ (us : List Commodity). old ++ flat_map F us) (commodities_done n m h)) ∙ e
+pub last_unit : (F : Commodity → List Posting) (old all : List Posting) (n m : ℕ) → m ≤ n
+    → old ++ flat_map F (commodities n (m - n)) ≡ all → old ≡ all
+last_unit F old all n m h e =
+    sym (append-nil old) ∙ sym (ap (λ (us : List Commodity). old ++ flat_map F us) (commodities_done n m h)) ∙ e
 
-drop_name : (names : List (List ℕ)) (i : ℕ) (a : List ℕ) → i < length names → a ≡ get_or names i a → drop i names ≡ a ∷ drop (i + 1) names
-drop_name names i a h e = drop-cons names i a h ∙ ap (λ (x : List ℕ). x ∷ drop (suc i) names) (sym e) ∙ ap (λ (j : ℕ). a ∷ drop j names) (sym (add-one i))
+drop_name : (names : List (List ℕ)) (i : ℕ) (a : List ℕ) → i < length names → a ≡ get_or names i a
+    → drop i names ≡ a ∷ drop (i + 1) names
+drop_name names i a h e = drop-cons names i a h ∙ ap (λ (x : List ℕ). x ∷ drop (suc i) names) (sym e) ∙ ap
+    (λ (j : ℕ). a ∷ drop j names) (sym (add-one i))
 
-pub next_account : (F : List ℕ → List Posting) (p : List ℕ → Bool) (old new all : List Posting) (names : List (List ℕ)) (i : ℕ) (a : List ℕ) → i < length names → a ≡ get_or names i a → p a ≡ true
-    → old ++ flat_map F (filter p (drop i names)) ≡ all → new ≡ old ++ F a → new ++ flat_map F (filter p (drop (i + 1) names)) ≡ all
+pub next_account : (F : List ℕ → List Posting) (p : List ℕ → Bool) (old new all : List Posting) (names : List (List ℕ))
+    (i : ℕ) (a : List ℕ) → i < length names → a ≡ get_or names i a → p a ≡ true
+    → old ++ flat_map F (filter p (drop i names)) ≡ all → new ≡ old ++ F a
+    → new ++ flat_map F (filter p (drop (i + 1) names)) ≡ all
 next_account F p old new all names i a h item passes e pushed =
     let more = drop (i + 1) names in
     ap (λ (xs : List Posting). xs ++ flat_map F (filter p more)) pushed
@@ -39,7 +49,8 @@ next_account F p old new all names i a h item passes e pushed =
     ∙ sym (ap (λ (xs : List (List ℕ)). old ++ flat_map F (filter p xs)) (drop_name names i a h item))
     ∙ e
 
-pub other_account : (F : List ℕ → List Posting) (p : List ℕ → Bool) (old all : List Posting) (names : List (List ℕ)) (i : ℕ) (a : List ℕ) → i < length names → a ≡ get_or names i a → p a ≡ false
+pub other_account : (F : List ℕ → List Posting) (p : List ℕ → Bool) (old all : List Posting) (names : List (List ℕ))
+    (i : ℕ) (a : List ℕ) → i < length names → a ≡ get_or names i a → p a ≡ false
     → old ++ flat_map F (filter p (drop i names)) ≡ all → old ++ flat_map F (filter p (drop (i + 1) names)) ≡ all
 other_account F p old all names i a h item fails e =
     let more = drop (i + 1) names in
@@ -53,25 +64,36 @@ drop_past [] (suc i) h = refl
 drop_past (x ∷ xs) zero h = absurd (omega (arith, h))
 drop_past (x ∷ xs) (suc i) h = let k : length xs ≤ i = omega (arith, h) in drop_past xs i k
 
-pub last_account : (F : List ℕ → List Posting) (p : List ℕ → Bool) (old all : List Posting) (names : List (List ℕ)) (i : ℕ) → length names ≤ i → old ++ flat_map F (filter p (drop i names)) ≡ all → old ≡ all
-last_account F p old all names i h e = sym (append-nil old) ∙ sym (ap (λ (xs : List (List ℕ)). old ++ flat_map F (filter p xs)) (drop_past names i h)) ∙ e
+pub last_account : (F : List ℕ → List Posting) (p : List ℕ → Bool) (old all : List Posting) (names : List (List ℕ))
+    (i : ℕ) → length names ≤ i → old ++ flat_map F (filter p (drop i names)) ≡ all → old ≡ all
+last_account F p old all names i h e =
+    sym (append-nil old) ∙ sym (ap (λ (xs : List (List ℕ)). old ++ flat_map F (filter p xs)) (drop_past names i h)) ∙ e
 
 -- one more posting in a sum
-drop_posting : (ps : List Posting) (i : ℕ) (p : Posting) → i < length ps → p ≡ get_or ps i p → drop i ps ≡ p ∷ drop (i + 1) ps
-drop_posting ps i p h e = drop-cons ps i p h ∙ ap (λ (x : Posting). x ∷ drop (suc i) ps) (sym e) ∙ ap (λ (j : ℕ). p ∷ drop j ps) (sym (add-one i))
+drop_posting : (ps : List Posting) (i : ℕ) (p : Posting) → i < length ps → p ≡ get_or ps i p
+    → drop i ps ≡ p ∷ drop (i + 1) ps
+drop_posting ps i p h e = drop-cons ps i p h ∙ ap (λ (x : Posting). x ∷ drop (suc i) ps) (sym e) ∙ ap
+    (λ (j : ℕ). p ∷ drop j ps) (sym (add-one i))
 
 pub value_next : (unit : Commodity) (ps : List Posting) (i : ℕ) (p : Posting) → i < length ps → p ≡ get_or ps i p →
-    value unit (written_legs (drop i ps)) ≡ value unit (written_leg p.account p.amount) +ℤ value unit (written_legs (drop (i + 1) ps))
+    value unit (written_legs (drop i ps))
+    ≡ value unit (written_leg p.account p.amount) +ℤ value unit (written_legs (drop (i + 1) ps))
 value_next unit ps i p h e =
-    ap (λ (xs : List Posting). value unit (written_legs xs)) (drop_posting ps i p h e) ∙ value-append unit (written_leg p.account p.amount) (written_legs (drop (i + 1) ps))
+    ap (λ (xs : List Posting). value unit (written_legs xs)) (drop_posting ps i p h e) ∙ value-append unit
+    (written_leg p.account p.amount) (written_legs (drop (i + 1) ps))
 
 pub moved_next : (unit : Commodity) (ps : List Posting) (i : ℕ) (p : Posting) → i < length ps → p ≡ get_or ps i p →
-    moved unit (written_legs (drop i ps)) ≡ moved unit (written_leg p.account p.amount) + moved unit (written_legs (drop (i + 1) ps))
+    moved unit (written_legs (drop i ps))
+    ≡ moved unit (written_leg p.account p.amount) + moved unit (written_legs (drop (i + 1) ps))
 moved_next unit ps i p h e =
-    ap (λ (xs : List Posting). moved unit (written_legs xs)) (drop_posting ps i p h e) ∙ moved-append unit (written_leg p.account p.amount) (written_legs (drop (i + 1) ps))
+    ap (λ (xs : List Posting). moved unit (written_legs xs)) (drop_posting ps i p h e) ∙ moved-append unit
+    (written_leg p.account p.amount) (written_legs (drop (i + 1) ps))
 
 -- what is posted, of equal quantities and assertions
-pub posted_as : (r : Result ⊤ Cause) (new old : List Posting) (account : List ℕ) (unit : Commodity) (q z : ℤ) (k j : Option Claim) → OnOk r (new ≡ old ++ posting_of account unit q k) → q ≡ z → k ≡ j
+pub posted_as : (r : Result ⊤ Cause) (new old : List Posting) (account : List ℕ) (unit : Commodity) (q z : ℤ)
+    (k j : Option Claim) → OnOk r (new ≡ old ++ posting_of account unit q k) → q ≡ z → k ≡ j
     → OnOk r (new ≡ old ++ posting_of account unit z j)
-posted_as (Ok x) new old account unit q z k j h e f = h ∙ (ap (λ (y : ℤ). old ++ posting_of account unit y k) e ∙ ap (λ (c : Option Claim). old ++ posting_of account unit z c) f)
+posted_as (Ok x) new old account unit q z k j h e f =
+    h ∙ (ap (λ (y : ℤ). old ++ posting_of account unit y k) e ∙ ap
+    (λ (c : Option Claim). old ++ posting_of account unit z c) f)
 posted_as (Err x) new old account unit q z k j h e f = tt

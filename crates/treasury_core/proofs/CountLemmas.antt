@@ -1,5 +1,6 @@
 -- the texts of a file are counted one by one
-use Rattle.std.proofs.Common.{◌≡◌, ◌<◌, ◌+◌, ◌^◌, ℕ, Bool, true, false, ◌&&◌, cond, List, [], ◌∷◌, ◌++◌, length, refl, ap, ◌∙◌, sym, arith, Option, Some, None}
+use Rattle.std.proofs.Common.{◌≡◌, ◌<◌, ◌+◌, ◌^◌, ℕ, Bool, true, false, ◌&&◌, cond, List, [], ◌∷◌, ◌++◌, length, refl}
+use Rattle.std.proofs.Common.{ap, ◌∙◌, sym, arith, Option, Some, None}
 use Rattle.std.specs.Prelude.{if◌then◌else◌, is_some, not}
 use Rattle.std.specs.Global.{Vec}
 use Rattle.std.specs.HashMap.{HashMap}
@@ -30,29 +31,40 @@ marked_miss m None t e = absurd cc
 marked_miss m (Some k) t e = refl
 
 -- an unmarked transaction is counted
-one_more : (styles : List Style) (text other : List ℕ) (before : List Txn) (n m : ℕ) (t : Bool) → bytes_eq text other ≡ t → n ≡ alike styles text before → m ≡ alike styles other before
+one_more : (styles : List Style) (text other : List ℕ) (before : List Txn) (n m : ℕ) (t : Bool)
+    → bytes_eq text other ≡ t → n ≡ alike styles text before → m ≡ alike styles other before
     → (if t then n + 1 else m) ≡ alike styles other before + cond t 1 0
-one_more styles text other before n m true e h k = ap (λ (x : ℕ). x + 1) (h ∙ ap (λ (x : List ℕ). alike styles x before) (same_bytes text other e))
+one_more styles text other before n m true e h k =
+    ap (λ (x : ℕ). x + 1) (h ∙ ap (λ (x : List ℕ). alike styles x before) (same_bytes text other e))
 one_more styles text other before n m false e h k = omega (arith, k)
 
-pub counted_next : (styles : List Style) (t : Txn) (before : List Txn) (old new : Counts) (text : Vec ℕ) → t.mark ≡ None → text.items ≡ body_text styles t → AreCounted styles old before
-    → ((other : Vec ℕ) → count_of new other ≡ counted_more text (count_of old text) other (count_of old other)) → AreCounted styles new (before ++ t ∷ [])
+pub counted_next : (styles : List Style) (t : Txn) (before : List Txn) (old new : Counts) (text : Vec ℕ) → t.mark ≡ None
+    → text.items ≡ body_text styles t → AreCounted styles old before
+    → ((other : Vec ℕ) → count_of new other ≡ counted_more text (count_of old text) other (count_of old other))
+    → AreCounted styles new (before ++ t ∷ [])
 counted_next styles t before old new text mark same h next = λ other.
     next other
-    ∙ one_more styles text.items other.items before (count_of old text) (count_of old other) (bytes_eq text.items other.items) refl (h text) (h other)
-    ∙ ap (λ (b : Bool). alike styles other.items before + cond b 1 0) (ap (λ (x : List ℕ). bytes_eq x other.items) same ∙ sym (unmarked_hit t.mark (bytes_eq (body_text styles t) other.items) mark))
+    ∙ one_more styles text.items other.items before (count_of old text) (count_of old other)
+    (bytes_eq text.items other.items) refl (h text) (h other)
+    ∙ ap (λ (b : Bool). alike styles other.items before + cond b 1 0)
+    (ap (λ (x : List ℕ). bytes_eq x other.items) same ∙ sym
+    (unmarked_hit t.mark (bytes_eq (body_text styles t) other.items) mark))
     ∙ sym (count_push (λ (x : Txn). not (is_some x.mark) && bytes_eq (body_text styles x) other.items) before t)
 
 -- a marked one is not
-pub counted_same : (styles : List Style) (t : Txn) (before : List Txn) (counts : Counts) (mark : List ℕ) → t.mark ≡ Some mark → AreCounted styles counts before → AreCounted styles counts (before ++ t ∷ [])
+pub counted_same : (styles : List Style) (t : Txn) (before : List Txn) (counts : Counts) (mark : List ℕ)
+    → t.mark ≡ Some mark → AreCounted styles counts before → AreCounted styles counts (before ++ t ∷ [])
 counted_same styles t before counts mark is h = λ other.
     h other
     ∙ omega arith
-    ∙ ap (λ (b : Bool). alike styles other.items before + cond b 1 0) (sym (marked_miss mark t.mark (bytes_eq (body_text styles t) other.items) is))
+    ∙ ap (λ (b : Bool). alike styles other.items before + cond b 1 0)
+    (sym (marked_miss mark t.mark (bytes_eq (body_text styles t) other.items) is))
     ∙ sym (count_push (λ (x : Txn). not (is_some x.mark) && bytes_eq (body_text styles x) other.items) before t)
 
 -- there is room for one more
-pub counts_small : (styles : List Style) (before : List Txn) (counts : Counts) → AreCounted styles counts before → length before + 1 < 2 ^ 64 → (text : Vec ℕ) → count_of counts text + 1 < 2 ^ 64
+pub counts_small : (styles : List Style) (before : List Txn) (counts : Counts) → AreCounted styles counts before
+    → length before + 1 < 2 ^ 64 → (text : Vec ℕ) → count_of counts text + 1 < 2 ^ 64
 counts_small styles before counts h small text =
-    let few = count_by-le-length (λ (x : Txn). not (is_some x.mark) && bytes_eq (body_text styles x) text.items) before in
+    let few =
+    count_by-le-length (λ (x : Txn). not (is_some x.mark) && bytes_eq (body_text styles x) text.items) before in
     omega (arith, few, small, h text)

@@ -12,13 +12,16 @@ use Rattle.treasury_core.proofs.BytesLemmas.{self_bytes}
 use Rattle.treasury_core.proofs.HistoryLemmas.{records-entered}
 use Rattle.treasury_core.proofs.ReplyLemmas.{accepted}
 
-done_records : (f : Federation) (name : List ℕ) (file : List Located) (a : Answer) → reply f (Enter name file) ≡ Ok a → records_of (done f (Enter name file)) name ≡ records_of f name ++ new_records f name file
+done_records : (f : Federation) (name : List ℕ) (file : List Located) (a : Answer) → reply f (Enter name file) ≡ Ok a
+    → records_of (done f (Enter name file)) name ≡ records_of f name ++ new_records f name file
 unfolding done
 done_records f name file a h =
     records-entered (new_records f name file) f.branches name name (accepted f name file a h).there
     ∙ ap (λ (t : Bool). records_of f name ++ (if t then new_records f name file else [])) (self_bytes name)
 
-pub entered_records : (f : Federation) (name : List ℕ) (file : List Located) (new repeated : ℕ) → reply f (Enter name file) ≡ Ok (Entered new repeated)
+pub entered_records : (f : Federation) (name : List ℕ) (file : List Located) (new repeated : ℕ)
+    → reply f (Enter name file) ≡ Ok (Entered new repeated)
     → records_of (step f (Enter name file)).next name ≡ records_of f name ++ new_records f name file
 entered_records f name file new repeated h =
-    ap (λ (r : Result Answer Refusal). records_of (after f (Enter name file) r) name) h ∙ done_records f name file (Entered new repeated) h
+    ap (λ (r : Result Answer Refusal). records_of (after f (Enter name file) r) name) h ∙ done_records f name file
+    (Entered new repeated) h

@@ -1,5 +1,7 @@
 -- the records of a file: each is good, and the new ones are new
-use Rattle.std.proofs.Common.{◌≡◌, ◌≤◌, ◌<◌, ◌+◌, ◌^◌, ℕ, suc, Bool, true, false, ◌&&◌, List, [], ◌∷◌, ◌++◌, length, refl, ◌∙◌, sym, subst, arith, append_assoc, append-nil, length-append, map, Option, Some, None, Ok, Err}
+use Rattle.std.proofs.Common.{◌≡◌, ◌≤◌, ◌<◌, ◌+◌, ◌^◌, ℕ, suc, Bool, true, false, ◌&&◌, List, [], ◌∷◌, ◌++◌, length}
+use Rattle.std.proofs.Common.{refl, ◌∙◌, sym, subst, arith, append_assoc, append-nil, length-append, map, Option, Some}
+use Rattle.std.proofs.Common.{None, Ok, Err}
 use Rattle.std.specs.Prelude.{if◌then◌else◌, Result, is_some, not}
 use Rattle.std.specs.Option.{option_or}
 use Rattle.std.specs.List.{list_any, AllByRecursion}
@@ -26,48 +28,68 @@ use Rattle.treasury_core.proofs.HeldLemmas.{own_push, not_held, fewer_held, repe
 use Rattle.treasury_core.proofs.ChangeLemmas.{all-append, all_weaker}
 
 -- the mark plays no part in what a transaction does
-pub legs_of-marked : (styles : List Style) (t : Txn) (mark : Option (List ℕ)) → legs_of styles (marked t mark) ≡ legs_of styles t
+pub legs_of-marked : (styles : List Style) (t : Txn) (mark : Option (List ℕ))
+    → legs_of styles (marked t mark) ≡ legs_of styles t
 unfolding legs_of balancing_fault
 legs_of-marked styles t mark = refl
 
-recorded_good : (styles : List Style) (t : Txn) (n : ℕ) (r : Result Entry Cause) → n < 2 ^ 64 → IsPrintable styles t → legs_of styles t ≡ r
+recorded_good : (styles : List Style) (t : Txn) (n : ℕ) (r : Result Entry Cause) → n < 2 ^ 64 → IsPrintable styles t
+    → legs_of styles t ≡ r
     → AllByRecursion (IsGoodRecord styles) (recorded t (mark_of styles t n t.mark) r)
-recorded_good styles t n (Ok e) small printable h =
-    (record { marked = refl; printable = printable_marked styles t n small printable; legs = legs_of-marked styles t (Some (mark_of styles t n t.mark)) ∙ h }, tt)
+recorded_good styles t n (Ok e) small printable h = (
+  record {
+    marked = refl;
+    printable = printable_marked styles t n small printable;
+    legs = legs_of-marked styles t (Some (mark_of styles t n t.mark)) ∙ h;
+  },
+  tt,
+)
 recorded_good styles t n (Err cause) small printable h = tt
 
 pub number_small : (styles : List Style) (before : List Txn) (t : Txn) → number_in styles before t ≤ length before + 1
 number_small styles before t =
-    let few = count_by-le-length (λ (y : Txn). not (is_some y.mark) && bytes_eq (body_text styles y) (body_text styles t)) before in
+    let few = count_by-le-length (λ (y : Txn).
+    not (is_some y.mark) && bytes_eq (body_text styles y) (body_text styles t)) before in
     omega (arith, few)
 
-pub records_good : (styles : List Style) (before : List Txn) (file : List Located) → length before + length file < 2 ^ 64 → AllByRecursion (λ (x : Located). IsPrintable styles x.txn) file
+pub records_good : (styles : List Style) (before : List Txn) (file : List Located)
+    → length before + length file < 2 ^ 64 → AllByRecursion (λ (x : Located). IsPrintable styles x.txn) file
     → AllByRecursion (IsGoodRecord styles) (records_from styles before file)
 records_good styles before [] small printable = tt
 records_good styles before (x ∷ xs) small printable =
     let bound : number_in styles before x.txn < 2 ^ 64 = omega (arith, number_small styles before x.txn, small) in
-    let more : length (before ++ x.txn ∷ []) + length xs < 2 ^ 64 = omega (arith, small, length-append before (x.txn ∷ [])) in
-    all-append (IsGoodRecord styles) (recorded x.txn (mark_of styles x.txn (number_in styles before x.txn) x.txn.mark) (legs_of styles x.txn)) (records_from styles (before ++ x.txn ∷ []) xs)
+    let more : length (before ++ x.txn ∷ []) + length xs < 2 ^ 64 =
+    omega (arith, small, length-append before (x.txn ∷ [])) in
+    all-append (IsGoodRecord styles)
+    (recorded x.txn (mark_of styles x.txn (number_in styles before x.txn) x.txn.mark) (legs_of styles x.txn))
+    (records_from styles (before ++ x.txn ∷ []) xs)
     (recorded_good styles x.txn (number_in styles before x.txn) (legs_of styles x.txn) bound printable.0 refl)
     (records_good styles (before ++ x.txn ∷ []) xs more printable.1)
 
 -- what holds of all holds of the new ones
-new_at : (P : Record → Type 0) (r : Record) (xs ys : List Record) (t : Bool) → P r → AllByRecursion P xs → AllByRecursion P ys → AllByRecursion P (if t then xs else r ∷ ys)
+new_at : (P : Record → Type 0) (r : Record) (xs ys : List Record) (t : Bool) → P r → AllByRecursion P xs
+    → AllByRecursion P ys → AllByRecursion P (if t then xs else r ∷ ys)
 new_at P r xs ys true p h k = h
 new_at P r xs ys false p h k = (p, k)
 
-pub all-new : (P : Record → Type 0) (before rs : List Record) → AllByRecursion P rs → AllByRecursion P (new_in before rs)
+pub all-new : (P : Record → Type 0) (before rs : List Record) → AllByRecursion P rs
+    → AllByRecursion P (new_in before rs)
 all-new P before [] h = tt
-all-new P before (r ∷ rs) h = new_at P r (new_in before rs) (new_in (before ++ r ∷ []) rs) (is_held before r.mark) h.0 (all-new P before rs h.1) (all-new P (before ++ r ∷ []) rs h.1)
+all-new P before (r ∷ rs) h = new_at P r (new_in before rs) (new_in (before ++ r ∷ []) rs) (is_held before r.mark) h.0
+    (all-new P before rs h.1) (all-new P (before ++ r ∷ []) rs h.1)
 
 -- with the new ones no mark stands twice
-own_at : (r : Record) (before xs ys : List Record) (t : Bool) → is_held before r.mark ≡ t → HaveOwnMarks before → HaveOwnMarks (before ++ xs) → (HaveOwnMarks (before ++ r ∷ []) → HaveOwnMarks ((before ++ r ∷ []) ++ ys)) → HaveOwnMarks (before ++ (if t then xs else r ∷ ys))
+own_at : (r : Record) (before xs ys : List Record) (t : Bool) → is_held before r.mark ≡ t → HaveOwnMarks before
+    → HaveOwnMarks (before ++ xs) → (HaveOwnMarks (before ++ r ∷ []) → HaveOwnMarks ((before ++ r ∷ []) ++ ys))
+    → HaveOwnMarks (before ++ (if t then xs else r ∷ ys))
 own_at r before xs ys true e h i k = i
-own_at r before xs ys false e h i k = subst HaveOwnMarks (append_assoc before (r ∷ []) ys) (k (own_push before r h (not_held before r.mark e)))
+own_at r before xs ys false e h i k =
+    subst HaveOwnMarks (append_assoc before (r ∷ []) ys) (k (own_push before r h (not_held before r.mark e)))
 
 pub own-new : (before rs : List Record) → HaveOwnMarks before → HaveOwnMarks (before ++ new_in before rs)
 own-new before [] h = subst HaveOwnMarks (sym (append-nil before)) h
-own-new before (r ∷ rs) h = own_at r before (new_in before rs) (new_in (before ++ r ∷ []) rs) (is_held before r.mark) refl h (own-new before rs h) (own-new (before ++ r ∷ []) rs)
+own-new before (r ∷ rs) h = own_at r before (new_in before rs) (new_in (before ++ r ∷ []) rs) (is_held before r.mark)
+    refl h (own-new before rs h) (own-new (before ++ r ∷ []) rs)
 
 -- two refusals that do not come
 pub neither_refusal : (o p : Option Refusal) → option_or o p ≡ None → (o ≡ None) × (p ≡ None)
@@ -75,7 +97,8 @@ neither_refusal None p h = (refl, h)
 neither_refusal (Some e) p h = absurd cc
 
 -- a transaction that is not refused is new
-no_case : (a b c d : Bool) (w x y z : Refusal) → (if a then Some w else if b then Some x else if c then Some y else if d then Some z else None) ≡ None
+no_case : (a b c d : Bool) (w x y z : Refusal)
+    → (if a then Some w else if b then Some x else if c then Some y else if d then Some z else None) ≡ None
     → (a ≡ false) × ((b ≡ false) × ((c ≡ false) × (d ≡ false)))
 no_case true b c d w x y z h = absurd cc
 no_case false true c d w x y z h = absurd cc
@@ -83,22 +106,30 @@ no_case false false true d w x y z h = absurd cc
 no_case false false false true w x y z h = absurd cc
 no_case false false false false w x y z h = (refl, (refl, (refl, refl)))
 
-pub not_refused : (lock : Option Day) (before : List Record) (r : Record) → refusal_of lock before r ≡ None → IsNew lock before r
+pub not_refused : (lock : Option Day) (before : List Record) (r : Record) → refusal_of lock before r ≡ None
+    → IsNew lock before r
 not_refused lock before r h =
-    let parts = no_case (is_held before r.mark) (is_product_mark r.mark) (list_any is_transit r.entry.legs) (is_locked lock r.entry.day) _ _ _ _ h in
+    let parts = no_case (is_held before r.mark) (is_product_mark r.mark) (list_any is_transit r.entry.legs)
+    (is_locked lock r.entry.day) _ _ _ _ h in
     record { absent = parts.0; own = parts.1.0; clear = parts.1.1.0; unlocked = parts.1.1.1 }
 
-earlier_new : (lock : Option Day) (before : List Record) (x r : Record) → IsNew lock (before ++ x ∷ []) r → IsNew lock before r
-earlier_new lock before x r h = record { absent = fewer_held before (x ∷ []) r.mark h.absent; own = h.own; clear = h.clear; unlocked = h.unlocked }
+earlier_new : (lock : Option Day) (before : List Record) (x r : Record) → IsNew lock (before ++ x ∷ []) r
+    → IsNew lock before r
+earlier_new lock before x r h =
+    record { absent = fewer_held before (x ∷ []) r.mark h.absent; own = h.own; clear = h.clear; unlocked = h.unlocked }
 
-first_new : (lock : Option Day) (before xs ys : List Record) (r : Record) (u : Bool) → u ≡ false → IsNew lock before r → AllByRecursion (IsNew lock (before ++ r ∷ [])) ys
+first_new : (lock : Option Day) (before xs ys : List Record) (r : Record) (u : Bool) → u ≡ false → IsNew lock before r
+    → AllByRecursion (IsNew lock (before ++ r ∷ [])) ys
     → AllByRecursion (IsNew lock before) (if u then xs else r ∷ ys)
 first_new lock before xs ys r true e n h = absurd cc
-first_new lock before xs ys r false e n h = (n, all_weaker (IsNew lock (before ++ r ∷ [])) (IsNew lock before) ys (λ x k. earlier_new lock before r x k) h)
+first_new lock before xs ys r false e n h =
+    (n, all_weaker (IsNew lock (before ++ r ∷ [])) (IsNew lock before) ys (λ x k. earlier_new lock before r x k) h)
 
-fresh_at : (lock : Option Day) (before xs ys : List Record) (o p : Option Refusal) (r : Record) (t u : Bool) → is_held before r.mark ≡ u → (t ≡ true → u ≡ true)
+fresh_at : (lock : Option Day) (before xs ys : List Record) (o p : Option Refusal) (r : Record) (t u : Bool)
+    → is_held before r.mark ≡ u → (t ≡ true → u ≡ true)
     → (if t then o else option_or (refusal_of lock before r) p) ≡ None
-    → (o ≡ None → AllByRecursion (IsNew lock before) xs) → (p ≡ None → AllByRecursion (IsNew lock (before ++ r ∷ [])) ys)
+    → (o ≡ None → AllByRecursion (IsNew lock before) xs)
+    → (p ≡ None → AllByRecursion (IsNew lock (before ++ r ∷ [])) ys)
     → AllByRecursion (IsNew lock before) (if u then xs else r ∷ ys)
 fresh_at lock before xs ys o p r true true e k h i j = i h
 fresh_at lock before xs ys o p r true false e k h i j = absurd (let x : false ≡ true = k refl in cc)
@@ -107,31 +138,44 @@ fresh_at lock before xs ys o p r false u e k h i j =
     let new = not_refused lock before r parts.0 in
     first_new lock before xs ys r u (sym e ∙ new.absent) new (j parts.1)
 
-pub all_fresh : (styles : List Style) (lock : Option Day) (before rs : List Record) → refused_in styles lock before rs ≡ None → AllByRecursion (IsNew lock before) (new_in before rs)
+pub all_fresh : (styles : List Style) (lock : Option Day) (before rs : List Record)
+    → refused_in styles lock before rs ≡ None → AllByRecursion (IsNew lock before) (new_in before rs)
 all_fresh styles lock before [] h = tt
 all_fresh styles lock before (r ∷ rs) h =
-    fresh_at lock before (new_in before rs) (new_in (before ++ r ∷ []) rs) (refused_in styles lock before rs) (refused_in styles lock (before ++ r ∷ []) rs) r
-    (is_repeat styles before r) (is_held before r.mark) refl (repeat_held styles before r) h (all_fresh styles lock before rs) (all_fresh styles lock (before ++ r ∷ []) rs)
+    fresh_at lock before (new_in before rs) (new_in (before ++ r ∷ []) rs) (refused_in styles lock before rs)
+    (refused_in styles lock (before ++ r ∷ []) rs) r
+    (is_repeat styles before r) (is_held before r.mark) refl (repeat_held styles before r) h
+    (all_fresh styles lock before rs) (all_fresh styles lock (before ++ r ∷ []) rs)
 
 -- there are no more new ones than there are transactions
-fewer_at : (r : Record) (xs ys : List Record) (n : ℕ) (t : Bool) → length xs ≤ n → length ys ≤ n → length (if t then xs else r ∷ ys) ≤ suc n
+fewer_at : (r : Record) (xs ys : List Record) (n : ℕ) (t : Bool) → length xs ≤ n → length ys ≤ n
+    → length (if t then xs else r ∷ ys) ≤ suc n
 fewer_at r xs ys n true h k = omega (arith, h)
 fewer_at r xs ys n false h k = omega (arith, k)
 
 pub length-new : (before rs : List Record) → length (new_in before rs) ≤ length rs
 length-new before [] = omega arith
-length-new before (r ∷ rs) = fewer_at r (new_in before rs) (new_in (before ++ r ∷ []) rs) (length rs) (is_held before r.mark) (length-new before rs) (length-new (before ++ r ∷ []) rs)
+length-new before (r ∷ rs) = fewer_at r (new_in before rs) (new_in (before ++ r ∷ []) rs) (length rs)
+    (is_held before r.mark) (length-new before rs) (length-new (before ++ r ∷ []) rs)
 
 recorded_once : (t : Txn) (m : List ℕ) (r : Result Entry Cause) → length (recorded t m r) ≤ 1
 recorded_once t m (Ok e) = omega arith
 recorded_once t m (Err cause) = omega arith
 
-pub length-records : (styles : List Style) (before : List Txn) (file : List Located) → length (records_from styles before file) ≤ length file
+pub length-records : (styles : List Style) (before : List Txn) (file : List Located)
+    → length (records_from styles before file) ≤ length file
 length-records styles before [] = omega arith
 length-records styles before (x ∷ xs) =
-    let front = recorded x.txn (mark_of styles x.txn (number_in styles before x.txn) x.txn.mark) (legs_of styles x.txn) in
-    let one = recorded_once x.txn (mark_of styles x.txn (number_in styles before x.txn) x.txn.mark) (legs_of styles x.txn) in
-    omega (arith, one, length-records styles (before ++ x.txn ∷ []) xs, length-append front (records_from styles (before ++ x.txn ∷ []) xs))
+    let front =
+    recorded x.txn (mark_of styles x.txn (number_in styles before x.txn) x.txn.mark) (legs_of styles x.txn) in
+    let one =
+    recorded_once x.txn (mark_of styles x.txn (number_in styles before x.txn) x.txn.mark) (legs_of styles x.txn) in
+    omega (
+      arith,
+      one,
+      length-records styles (before ++ x.txn ∷ []) xs,
+      length-append front (records_from styles (before ++ x.txn ∷ []) xs),
+    )
 
 -- the transactions of a file
 abbrev pub txns_of : List Located → List Txn

@@ -20,7 +20,8 @@ use Rattle.treasury_core.proofs.ReplyLemmas.{replied, accepted_new, after_good, 
 use Rattle.treasury_core.proofs.OwnLemmas.{accepted_counts}
 use Rattle.treasury_core.proofs.EnteredLemmas.{entered_records}
 use Rattle.treasury_core.proofs.SoundLemmas.{good_balances, good_holds}
-use Rattle.treasury_core.proofs.AcceptedClosing.{closing_adds_one, closing_locked, closing_apart, closing_zero, closing_stays, closing_untouched, closing_elsewhere}
+use Rattle.treasury_core.proofs.AcceptedClosing.{closing_adds_one, closing_locked, closing_apart, closing_zero}
+use Rattle.treasury_core.proofs.AcceptedClosing.{closing_stays, closing_untouched, closing_elsewhere}
 
 -- ---- refusals and repeats
 
@@ -37,24 +38,37 @@ refusals_leave f (t ∷ ts) = (left f t.command t.reply, refusals_leave (after_t
 -- ---- accepted files
 
 module _ (f : Federation) (name : List ℕ) (file : List Located) (new repeated : ℕ) where
-  brings_step : reply f (cmd.Enter name file) ≡ Ok (Entered new repeated) → Brings f name file new repeated (step f (cmd.Enter name file)).next
+  brings_step : reply f (cmd.Enter name file) ≡ Ok (Entered new repeated)
+      → Brings f name file new repeated (step f (cmd.Enter name file)).next
   brings_step h =
       let counts = accepted_counts f name file new repeated h in
-      record { brought = entered_records f name file new repeated h; fresh = accepted_new f name file (Entered new repeated) h; counted = counts.0; rest = counts.1 }
+      record {
+        brought = entered_records f name file new repeated h;
+        fresh = accepted_new f name file (Entered new repeated) h;
+        counted = counts.0;
+        rest = counts.1;
+      }
 
-  brings_reply : Replies f (cmd.Enter name file) (Ok (Entered new repeated)) → Brings f name file new repeated (after f (cmd.Enter name file) (Ok (Entered new repeated)))
+  brings_reply : Replies f (cmd.Enter name file) (Ok (Entered new repeated))
+      → Brings f name file new repeated (after f (cmd.Enter name file) (Ok (Entered new repeated)))
   brings_reply h =
       let is = replied f (cmd.Enter name file) (Entered new repeated) h in
-      subst (λ (r : Result Answer Refusal). Brings f name file new repeated (after f (cmd.Enter name file) r)) is (brings_step is)
+      subst (λ (r : Result Answer Refusal). Brings f name file new repeated (after f (cmd.Enter name file) r)) is
+      (brings_step is)
 
-  brings_turn : (c : Command) (r : Result Answer Refusal) → c ≡ cmd.Enter name file → r ≡ Ok (Entered new repeated) → Replies f c r → Brings f name file new repeated (after f c r)
+  brings_turn : (c : Command) (r : Result Answer Refusal) → c ≡ cmd.Enter name file → r ≡ Ok (Entered new repeated)
+      → Replies f c r → Brings f name file new repeated (after f c r)
   brings_turn c r is_enter is_entered =
-      subst₂ (λ (c : Command) (r : Result Answer Refusal). Replies f c r → Brings f name file new repeated (after f c r)) (sym is_enter) (sym is_entered) brings_reply
+      subst₂ (λ (c : Command) (r : Result Answer Refusal). Replies f c r
+      → Brings f name file new repeated (after f c r)) (sym is_enter) (sym is_entered) brings_reply
 
 files_bring : (f : Federation) (turns : List Turn) → IsRun f turns → FilesBring f turns
 files_bring f [] run = tt
-files_bring f (t ∷ ts) run =
-    ((λ name file new repeated is_enter is_entered. brings_turn f name file new repeated t.command t.reply is_enter is_entered run.1), files_bring (after_turn f t) ts run.2)
+files_bring f (t ∷ ts) run = (
+  (λ name file new repeated is_enter is_entered.
+      brings_turn f name file new repeated t.command t.reply is_enter is_entered run.1),
+  files_bring (after_turn f t) ts run.2,
+)
 
 -- ---- accepted closings
 
@@ -75,11 +89,14 @@ module _ (f : Federation) (x : Close) (later : List Turn) (good : IsGoodState f)
       → Closes f x (after f (cmd.Close x) (Ok Done)) (state_after (after f (cmd.Close x) (Ok Done)) later)
   closes_reply h =
       let is = replied f (cmd.Close x) Done h in
-      subst (λ (r : Result Answer Refusal). IsRun (after f (cmd.Close x) r) later → Closes f x (after f (cmd.Close x) r) (state_after (after f (cmd.Close x) r) later)) is (closes_step is)
+      subst (λ (r : Result Answer Refusal). IsRun (after f (cmd.Close x) r) later
+      → Closes f x (after f (cmd.Close x) r) (state_after (after f (cmd.Close x) r) later)) is (closes_step is)
 
-  closes_turn : (c : Command) (r : Result Answer Refusal) → c ≡ cmd.Close x → r ≡ Ok Done → Replies f c r → IsRun (after f c r) later → Closes f x (after f c r) (state_after (after f c r) later)
+  closes_turn : (c : Command) (r : Result Answer Refusal) → c ≡ cmd.Close x → r ≡ Ok Done → Replies f c r
+      → IsRun (after f c r) later → Closes f x (after f c r) (state_after (after f c r) later)
   closes_turn c r is_close is_done =
-      subst₂ (λ (c : Command) (r : Result Answer Refusal). Replies f c r → IsRun (after f c r) later → Closes f x (after f c r) (state_after (after f c r) later))
+      subst₂ (λ (c : Command) (r : Result Answer Refusal). Replies f c r → IsRun (after f c r) later
+      → Closes f x (after f c r) (state_after (after f c r) later))
       (sym is_close) (sym is_done) closes_reply
 
 closings_close : (f : Federation) (turns : List Turn) → IsGoodState f → IsRun f turns → ClosingsClose f turns

@@ -1,5 +1,6 @@
 -- what becomes of a transaction, by the record that holds its mark
-use Rattle.std.proofs.Common.{◌≡◌, ℕ, Bool, true, false, ◌||◌, ◌&&◌, cond, List, [], ◌∷◌, ◌++◌, refl, ap, ◌∙◌, sym, subst, append_assoc, Option, Some, None, Ok, Err, ◌⊎◌, inl, inr}
+use Rattle.std.proofs.Common.{◌≡◌, ℕ, Bool, true, false, ◌||◌, ◌&&◌, cond, List, [], ◌∷◌, ◌++◌, refl, ap, ◌∙◌, sym}
+use Rattle.std.proofs.Common.{subst, append_assoc, Option, Some, None, Ok, Err, ◌⊎◌, inl, inr}
 use Rattle.std.specs.Prelude.{if◌then◌else◌, Result, IfSome}
 use Rattle.std.specs.Option.{unwrap_or}
 use Rattle.std.specs.List.{AllByRecursion}
@@ -19,7 +20,8 @@ use Rattle.treasury_core.proofs.HeldLemmas.{none_tail, own_push}
 use Rattle.treasury_core.proofs.ChangeLemmas.{all-append}
 
 -- what holds of all holds of the holder
-held_at : (P : Record → Type 0) (r : Record) (o : Option Record) (t : Bool) → P r → IfSome o P → IfSome (cond t (Some r) o) P
+held_at : (P : Record → Type 0) (r : Record) (o : Option Record) (t : Bool) → P r → IfSome o P
+    → IfSome (cond t (Some r) o) P
 held_at P r o true p h = p
 held_at P r o false p h = h
 
@@ -33,22 +35,26 @@ unheld_at t u e h = rw (e, h) refl
 
 pub unheld : (rs : List Record) (m : List ℕ) → held rs m ≡ None → is_held rs m ≡ false
 unheld [] m e = refl
-unheld (r ∷ rs) m e = let k = none_tail r (held rs m) (bytes_eq r.mark m) e in unheld_at (bytes_eq r.mark m) (is_held rs m) k.0 (unheld rs m k.1)
+unheld (r ∷ rs) m e = let k = none_tail r (held rs m) (bytes_eq r.mark m) e in unheld_at (bytes_eq r.mark m)
+    (is_held rs m) k.0 (unheld rs m k.1)
 
 fresh_at : (t s u : Bool) → t ≡ false → u ≡ false → ((t && s) || u) ≡ false
 fresh_at t s u e h = rw (e, h) refl
 
-pub unrepeated : (styles : List Style) (rs : List Record) (r : Record) → held rs r.mark ≡ None → is_repeat styles rs r ≡ false
+pub unrepeated : (styles : List Style) (rs : List Record) (r : Record) → held rs r.mark ≡ None
+    → is_repeat styles rs r ≡ false
 unrepeated styles [] r e = refl
 unrepeated styles (h ∷ hs) r e =
     let k = none_tail h (held hs r.mark) (bytes_eq h.mark r.mark) e in
-    fresh_at (bytes_eq h.mark r.mark) (bytes_eq (body_text styles h.txn) (body_text styles r.txn)) (is_repeat styles hs r) k.0 (unrepeated styles hs r k.1)
+    fresh_at (bytes_eq h.mark r.mark) (bytes_eq (body_text styles h.txn) (body_text styles r.txn))
+    (is_repeat styles hs r) k.0 (unrepeated styles hs r k.1)
 
 -- a holder: it is held, and repeated where the texts are equal
 some_is : (x y : Record) → ◌≡◌ {A = Option Record} (Some x) (Some y) → x ≡ y
 some_is x y e = ap (λ (o : Option Record). unwrap_or o x) e
 
-holding_at : (r x : Record) (o : Option Record) (t u : Bool) → cond t (Some r) o ≡ Some x → (o ≡ Some x → u ≡ true) → (t || u) ≡ true
+holding_at : (r x : Record) (o : Option Record) (t u : Bool) → cond t (Some r) o ≡ Some x → (o ≡ Some x → u ≡ true)
+    → (t || u) ≡ true
 holding_at r x o true u e h = refl
 holding_at r x o false u e h = h e
 
@@ -56,9 +62,11 @@ pub holding : (rs : List Record) (m : List ℕ) (x : Record) → held rs m ≡ S
 holding [] m x e = absurd cc
 holding (r ∷ rs) m x e = holding_at r x (held rs m) (bytes_eq r.mark m) (is_held rs m) e (holding rs m x)
 
-repeating_at : (styles : List Style) (h x r : Record) (hs : List Record) (t : Bool) → bytes_eq h.mark r.mark ≡ t → held hs h.mark ≡ None → cond t (Some h) (held hs r.mark) ≡ Some x
+repeating_at : (styles : List Style) (h x r : Record) (hs : List Record) (t : Bool) → bytes_eq h.mark r.mark ≡ t
+    → held hs h.mark ≡ None → cond t (Some h) (held hs r.mark) ≡ Some x
     → (held hs r.mark ≡ Some x → is_repeat styles hs r ≡ bytes_eq (body_text styles x.txn) (body_text styles r.txn))
-    → ((t && bytes_eq (body_text styles h.txn) (body_text styles r.txn)) || is_repeat styles hs r) ≡ bytes_eq (body_text styles x.txn) (body_text styles r.txn)
+    → ((t && bytes_eq (body_text styles h.txn) (body_text styles r.txn)) || is_repeat styles hs r)
+    ≡ bytes_eq (body_text styles x.txn) (body_text styles r.txn)
 repeating_at styles h x r hs true g n e k =
     let none : held hs r.mark ≡ None = ap (held hs) (sym (same_bytes h.mark r.mark g)) ∙ n in
     ap (λ (u : Bool). bytes_eq (body_text styles h.txn) (body_text styles r.txn) || u) (unrepeated styles hs r none)
@@ -66,9 +74,11 @@ repeating_at styles h x r hs true g n e k =
     ∙ ap (λ (y : Record). bytes_eq (body_text styles y.txn) (body_text styles r.txn)) (some_is h x e)
 repeating_at styles h x r hs false g n e k = k e
 
-pub repeating : (styles : List Style) (rs : List Record) (r x : Record) → HaveOwnMarks rs → held rs r.mark ≡ Some x → is_repeat styles rs r ≡ bytes_eq (body_text styles x.txn) (body_text styles r.txn)
+pub repeating : (styles : List Style) (rs : List Record) (r x : Record) → HaveOwnMarks rs → held rs r.mark ≡ Some x
+    → is_repeat styles rs r ≡ bytes_eq (body_text styles x.txn) (body_text styles r.txn)
 repeating styles [] r x own e = absurd cc
-repeating styles (h ∷ hs) r x own e = repeating_at styles h x r hs (bytes_eq h.mark r.mark) refl own.0 e (repeating styles hs r x own.1)
+repeating styles (h ∷ hs) r x own e =
+    repeating_at styles h x r hs (bytes_eq h.mark r.mark) refl own.0 e (repeating styles hs r x own.1)
 
 -- a transaction that is new
 free : (o : Option Refusal) → new_unless o ≡ Ok true → o ≡ None
@@ -81,7 +91,8 @@ not_free (Some refusal) e = cc
 
 held_back : (o : Option Refusal) (refusal : Refusal) → new_unless o ≡ Err refusal → o ≡ Some refusal
 held_back None refusal e = absurd cc
-held_back (Some other) refusal e = ap (λ (x : Result Bool Refusal). elim x as (λ v. Option Refusal) [ Ok b ↦ None | Err y ↦ Some y ]) e
+held_back (Some other) refusal e =
+    ap (λ (x : Result Bool Refusal). elim x as (λ v. Option Refusal) [ Ok b ↦ None | Err y ↦ Some y ]) e
 
 by_text : (t : Bool) → (if t then Ok false else Err (Plain MarkClash)) ≡ Ok true → ⊥
 by_text true e = cc
@@ -91,17 +102,21 @@ same_text : (t : Bool) → (if t then Ok false else Err (Plain MarkClash)) ≡ O
 same_text true e = refl
 same_text false e = absurd (let k : Err (Plain MarkClash) ≡ Ok false = e in cc)
 
-other_text : (t : Bool) (refusal : Refusal) → (if t then Ok false else Err (Plain MarkClash)) ≡ Err refusal → (t ≡ false) × (Some (Plain MarkClash) ≡ Some refusal)
+other_text : (t : Bool) (refusal : Refusal) → (if t then Ok false else Err (Plain MarkClash)) ≡ Err refusal
+    → (t ≡ false) × (Some (Plain MarkClash) ≡ Some refusal)
 other_text true refusal e = absurd cc
-other_text false refusal e = (refl, ap (λ (x : Result Bool Refusal). elim x as (λ v. Option Refusal) [ Ok b ↦ None | Err y ↦ Some y ]) e)
+other_text false refusal e =
+    (refl, ap (λ (x : Result Bool Refusal). elim x as (λ v. Option Refusal) [ Ok b ↦ None | Err y ↦ Some y ]) e)
 
 -- what comes next, where it is new
-pub record IsTaken (styles : List Style) (lock : Option Day) (rs : List Record) (r : Record) (rest : List Record) : Type 0 where
+pub record IsTaken (styles : List Style) (lock : Option Day) (rs : List Record) (r : Record)
+    (rest : List Record) : Type 0 where
   pub absent : held rs r.mark ≡ None
   pub refused : refused_in styles lock rs (r ∷ rest) ≡ refused_in styles lock (rs ++ r ∷ []) rest
   pub new : new_in rs (r ∷ rest) ≡ r ∷ new_in (rs ++ r ∷ []) rest
 
-taken_by : (styles : List Style) (lock : Option Day) (rs rest : List Record) (r : Record) (o : Option Record) → held rs r.mark ≡ o → judged styles lock r o ≡ Ok true → IsTaken styles lock rs r rest
+taken_by : (styles : List Style) (lock : Option Day) (rs rest : List Record) (r : Record) (o : Option Record)
+    → held rs r.mark ≡ o → judged styles lock r o ≡ Ok true → IsTaken styles lock rs r rest
 taken_by styles lock rs rest r None h e =
     let fresh = free (barred lock r) e in
     record {
@@ -109,63 +124,87 @@ taken_by styles lock rs rest r None h e =
       refused = rw (unrepeated styles rs r h, unheld rs r.mark h, fresh) refl;
       new = rw (unheld rs r.mark h) refl;
     }
-taken_by styles lock rs rest r (Some x) h e = absurd (by_text (bytes_eq (body_text styles x.txn) (body_text styles r.txn)) e)
+taken_by styles lock rs rest r (Some x) h e =
+    absurd (by_text (bytes_eq (body_text styles x.txn) (body_text styles r.txn)) e)
 
-pub taken : (styles : List Style) (lock : Option Day) (rs rest : List Record) (r : Record) → judged styles lock r (held rs r.mark) ≡ Ok true → IsTaken styles lock rs r rest
+pub taken : (styles : List Style) (lock : Option Day) (rs rest : List Record) (r : Record)
+    → judged styles lock r (held rs r.mark) ≡ Ok true → IsTaken styles lock rs r rest
 taken styles lock rs rest r e = taken_by styles lock rs rest r (held rs r.mark) refl e
 
 -- where it is a repeat
-pub record IsPassed (styles : List Style) (lock : Option Day) (rs : List Record) (r : Record) (rest : List Record) : Type 0 where
+pub record IsPassed (styles : List Style) (lock : Option Day) (rs : List Record) (r : Record)
+    (rest : List Record) : Type 0 where
   pub refused : refused_in styles lock rs (r ∷ rest) ≡ refused_in styles lock rs rest
   pub new : new_in rs (r ∷ rest) ≡ new_in rs rest
 
-passed_by : (styles : List Style) (lock : Option Day) (rs rest : List Record) (r : Record) (o : Option Record) → HaveOwnMarks rs → held rs r.mark ≡ o → judged styles lock r o ≡ Ok false → IsPassed styles lock rs r rest
+passed_by : (styles : List Style) (lock : Option Day) (rs rest : List Record) (r : Record) (o : Option Record)
+    → HaveOwnMarks rs → held rs r.mark ≡ o → judged styles lock r o ≡ Ok false → IsPassed styles lock rs r rest
 passed_by styles lock rs rest r None own h e = absurd (not_free (barred lock r) e)
 passed_by styles lock rs rest r (Some x) own h e =
-    let same = repeating styles rs r x own h ∙ same_text (bytes_eq (body_text styles x.txn) (body_text styles r.txn)) e in
+    let same =
+    repeating styles rs r x own h ∙ same_text (bytes_eq (body_text styles x.txn) (body_text styles r.txn)) e in
     record { refused = rw same refl; new = rw (holding rs r.mark x h) refl }
 
-pub passed : (styles : List Style) (lock : Option Day) (rs rest : List Record) (r : Record) → HaveOwnMarks rs → judged styles lock r (held rs r.mark) ≡ Ok false → IsPassed styles lock rs r rest
+pub passed : (styles : List Style) (lock : Option Day) (rs rest : List Record) (r : Record) → HaveOwnMarks rs
+    → judged styles lock r (held rs r.mark) ≡ Ok false → IsPassed styles lock rs r rest
 passed styles lock rs rest r own e = passed_by styles lock rs rest r (held rs r.mark) own refl e
 
 -- where it is refused
-stopped_by : (styles : List Style) (lock : Option Day) (rs rest : List Record) (r : Record) (refusal : Refusal) (o : Option Record) → HaveOwnMarks rs → held rs r.mark ≡ o → judged styles lock r o ≡ Err refusal
+stopped_by : (styles : List Style) (lock : Option Day) (rs rest : List Record) (r : Record) (refusal : Refusal)
+    (o : Option Record) → HaveOwnMarks rs → held rs r.mark ≡ o → judged styles lock r o ≡ Err refusal
     → refused_in styles lock rs (r ∷ rest) ≡ Some refusal
-stopped_by styles lock rs rest r refusal None own h e = rw (unrepeated styles rs r h, unheld rs r.mark h, held_back (barred lock r) refusal e) refl
+stopped_by styles lock rs rest r refusal None own h e =
+    rw (unrepeated styles rs r h, unheld rs r.mark h, held_back (barred lock r) refusal e) refl
 stopped_by styles lock rs rest r refusal (Some x) own h e =
     let other = other_text (bytes_eq (body_text styles x.txn) (body_text styles r.txn)) refusal e in
     rw (repeating styles rs r x own h ∙ other.0, holding rs r.mark x h) other.1
 
-pub stopped : (styles : List Style) (lock : Option Day) (rs rest : List Record) (r : Record) (refusal : Refusal) → HaveOwnMarks rs → judged styles lock r (held rs r.mark) ≡ Err refusal
+pub stopped : (styles : List Style) (lock : Option Day) (rs rest : List Record) (r : Record) (refusal : Refusal)
+    → HaveOwnMarks rs → judged styles lock r (held rs r.mark) ≡ Err refusal
     → refused_in styles lock rs (r ∷ rest) ≡ Some refusal
 stopped styles lock rs rest r refusal own e = stopped_by styles lock rs rest r refusal (held rs r.mark) own refl e
 
 -- the next one is new: what is kept of the rest
-pub next_refused : (styles : List Style) (lock : Option Day) (base new more rest items : List Record) (r : Record) (all : Option Refusal) → more ≡ new ++ r ∷ [] → items ≡ r ∷ rest
-    → IsTaken styles lock (base ++ new) r rest → refused_in styles lock (base ++ new) items ≡ all → refused_in styles lock (base ++ more) rest ≡ all
+pub next_refused : (styles : List Style) (lock : Option Day) (base new more rest items : List Record) (r : Record)
+    (all : Option Refusal) → more ≡ new ++ r ∷ [] → items ≡ r ∷ rest
+    → IsTaken styles lock (base ++ new) r rest → refused_in styles lock (base ++ new) items ≡ all
+    → refused_in styles lock (base ++ more) rest ≡ all
 next_refused styles lock base new more rest items r all pushed split t h =
-    ap (λ (xs : List Record). refused_in styles lock xs rest) (ap (λ (xs : List Record). base ++ xs) pushed ∙ sym (append_assoc base new (r ∷ [])))
+    ap (λ (xs : List Record). refused_in styles lock xs rest)
+    (ap (λ (xs : List Record). base ++ xs) pushed ∙ sym (append_assoc base new (r ∷ [])))
     ∙ sym t.refused ∙ ap (refused_in styles lock (base ++ new)) (sym split) ∙ h
 
-pub next_new : (styles : List Style) (lock : Option Day) (base new more rest items : List Record) (r : Record) (all : List Record) → more ≡ new ++ r ∷ [] → items ≡ r ∷ rest
-    → IsTaken styles lock (base ++ new) r rest → new ++ new_in (base ++ new) items ≡ all → more ++ new_in (base ++ more) rest ≡ all
+pub next_new : (styles : List Style) (lock : Option Day) (base new more rest items : List Record) (r : Record)
+    (all : List Record) → more ≡ new ++ r ∷ [] → items ≡ r ∷ rest
+    → IsTaken styles lock (base ++ new) r rest → new ++ new_in (base ++ new) items ≡ all
+    → more ++ new_in (base ++ more) rest ≡ all
 next_new styles lock base new more rest items r all pushed split t h =
     let later = new_in ((base ++ new) ++ r ∷ []) rest in
-    ap (λ (xs : List Record). more ++ new_in xs rest) (ap (λ (xs : List Record). base ++ xs) pushed ∙ sym (append_assoc base new (r ∷ [])))
+    ap (λ (xs : List Record). more ++ new_in xs rest)
+    (ap (λ (xs : List Record). base ++ xs) pushed ∙ sym (append_assoc base new (r ∷ [])))
     ∙ ap (λ (xs : List Record). xs ++ later) pushed ∙ append_assoc new (r ∷ []) later
     ∙ ap (λ (xs : List Record). new ++ xs) (sym t.new ∙ ap (new_in (base ++ new)) (sym split)) ∙ h
 
-pub next_own : (base new more : List Record) (r : Record) → more ≡ new ++ r ∷ [] → HaveOwnMarks (base ++ new) → held (base ++ new) r.mark ≡ None → HaveOwnMarks (base ++ more)
+pub next_own : (base new more : List Record) (r : Record) → more ≡ new ++ r ∷ [] → HaveOwnMarks (base ++ new)
+    → held (base ++ new) r.mark ≡ None → HaveOwnMarks (base ++ more)
 next_own base new more r pushed own absent =
-    subst HaveOwnMarks (append_assoc base new (r ∷ []) ∙ ap (λ (xs : List Record). base ++ xs) (sym pushed)) (own_push (base ++ new) r own absent)
+    subst HaveOwnMarks (append_assoc base new (r ∷ []) ∙ ap (λ (xs : List Record). base ++ xs) (sym pushed))
+    (own_push (base ++ new) r own absent)
 
-pub next_held : (P : Record → Type 0) (base new more : List Record) (r : Record) → more ≡ new ++ r ∷ [] → AllByRecursion P (base ++ new) → P r → AllByRecursion P (base ++ more)
+pub next_held : (P : Record → Type 0) (base new more : List Record) (r : Record) → more ≡ new ++ r ∷ []
+    → AllByRecursion P (base ++ new) → P r → AllByRecursion P (base ++ more)
 next_held P base new more r pushed h p =
-    subst (AllByRecursion P) (append_assoc base new (r ∷ []) ∙ ap (λ (xs : List Record). base ++ xs) (sym pushed)) (all-append P (base ++ new) (r ∷ []) h (p, tt))
+    subst (AllByRecursion P) (append_assoc base new (r ∷ []) ∙ ap (λ (xs : List Record). base ++ xs) (sym pushed))
+    (all-append P (base ++ new) (r ∷ []) h (p, tt))
 
 -- the first refusal is the one of the next
-pub by_cause : (styles : List Style) (base new : List Record) (r : Record) (rest items : List Record) (lock : Option Day) (refusal : Refusal) (all : Option Refusal) {o : Option Record} → o ≡ held (base ++ new) r.mark → items ≡ r ∷ rest
-    → HaveOwnMarks (base ++ new) → refused_in styles lock (base ++ new) items ≡ all → (refusal ≡ Plain OutOfMemory) ⊎ (judged styles lock r o ≡ Err refusal) → (refusal ≡ Plain OutOfMemory) ⊎ (all ≡ Some refusal)
+pub by_cause : (styles : List Style) (base new : List Record) (r : Record) (rest items : List Record)
+    (lock : Option Day) (refusal : Refusal) (all : Option Refusal) {o : Option Record} → o ≡ held (base ++ new) r.mark
+    → items ≡ r ∷ rest
+    → HaveOwnMarks (base ++ new) → refused_in styles lock (base ++ new) items ≡ all
+    → (refusal ≡ Plain OutOfMemory) ⊎ (judged styles lock r o ≡ Err refusal)
+    → (refusal ≡ Plain OutOfMemory) ⊎ (all ≡ Some refusal)
 by_cause styles base new r rest items lock refusal all found split own h (inl e) = inl e
 by_cause styles base new r rest items lock refusal all found split own h (inr e) =
-    inr (sym h ∙ (ap (refused_in styles lock (base ++ new)) split ∙ stopped styles lock (base ++ new) rest r refusal own (ap (judged styles lock r) (sym found) ∙ e)))
+    inr (sym h ∙ (ap (refused_in styles lock (base ++ new)) split ∙ stopped styles lock (base ++ new) rest r refusal own
+    (ap (judged styles lock r) (sym found) ∙ e)))

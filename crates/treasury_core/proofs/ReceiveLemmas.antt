@@ -1,5 +1,6 @@
 -- a transfer with one receipt more is good again, and asks for one record more
-use Rattle.std.proofs.Common.{◌≡◌, ◌∙◌, ℕ, Bool, true, false, ◌||◌, cond, List, [], ◌∷◌, ◌++◌, map, ℤ, pos, ◌+ℤ◌, ◌-ℤ◌, ◌≤ℤ◌, refl, sym, ap, subst, arith, append_assoc, append-nil, Option, Some, None}
+use Rattle.std.proofs.Common.{◌≡◌, ◌∙◌, ℕ, Bool, true, false, ◌||◌, cond, List, [], ◌∷◌, ◌++◌, map, ℤ, pos, ◌+ℤ◌, ◌-ℤ◌}
+use Rattle.std.proofs.Common.{◌≤ℤ◌, refl, sym, ap, subst, arith, append_assoc, append-nil, Option, Some, None}
 use Rattle.std.specs.Prelude.{if◌then◌else◌, int_le, find, ⊤}
 use Rattle.std.specs.Ordering.{is_lt}
 use Rattle.std.specs.Option.{option_or}
@@ -14,7 +15,8 @@ use Rattle.treasury_core.specs.declared.transfer.Receipt.{Receipt}
 use Rattle.treasury_core.specs.declared.transfer.Transfer.{Transfer}
 use Rattle.treasury_core.specs.Federation.{Branch}
 use Rattle.treasury_core.specs.Mark.{has_mark, held}
-use Rattle.treasury_core.specs.Transfer.{all_key, is_all, is_key, sum_of, rest_part, of_rest, receipts_of, left_of, in_mark, receipt_record}
+use Rattle.treasury_core.specs.Transfer.{all_key, is_all, is_key, sum_of, rest_part, of_rest, receipts_of, left_of}
+use Rattle.treasury_core.specs.Transfer.{in_mark, receipt_record}
 use Rattle.treasury_core.specs.Joined.{put_part, parts_with, rest_with, with_receipt}
 use Rattle.treasury_core.specs.Good.{AreKeyed, IsGoodPart, HasGoodParts, IsGoodRest, IsGoodTransfer}
 use Rattle.treasury_core.specs.Fair.{HasNoColon}
@@ -25,7 +27,8 @@ use Rattle.treasury_core.proofs.PartLemmas.{le_to, none_yet, left_none, all_put,
 use Rattle.treasury_core.proofs.PassLemmas.{Asks}
 use Rattle.treasury_core.proofs.GetsLemmas.{IsFresh}
 
--- a receipt that may come: under a key that has none yet, a good one, of at most what is left, and of all that is left where it is under `all`
+-- a receipt that may come: under a key that has none yet, a good one, of at most what is left, and of all that is left
+-- where it is under `all`
 pub record IsReceipt (t : Transfer) (p : Part) : Type 0 where
   pub key : is_all p.key ≡ false → is_key p.key ≡ true
   pub whole : is_all p.key ≡ true → p.qty ≡ left_of t
@@ -41,7 +44,8 @@ now_parts : (t : Transfer) → t.receipt ≡ None → receipts_of t ≡ t.parts
 now_parts t none = ap (λ (o : Option Receipt). t.parts ++ of_rest t o) none ∙ append-nil t.parts
 
 fresh_parts : (t : Transfer) (p : Part) → IsReceipt t p → list_any (λ (x : Part). bytes_eq x.key p.key) t.parts ≡ false
-fresh_parts t p h = ap (λ (ps : List Part). list_any (λ (x : Part). bytes_eq x.key p.key) ps) (sym (now_parts t (no_rest t p h))) ∙ h.fresh
+fresh_parts t p h = ap (λ (ps : List Part). list_any (λ (x : Part). bytes_eq x.key p.key) ps)
+    (sym (now_parts t (no_rest t p h))) ∙ h.fresh
 
 -- ---- good again
 
@@ -49,12 +53,15 @@ fresh_parts t p h = ap (λ (ps : List Part). list_any (λ (x : Part). bytes_eq x
 abbrev with_at : Bool → Part → Transfer → Transfer
 with_at b p t = record t { parts = parts_with b p t.parts; receipt = rest_with b p t.receipt }
 
-part_is_rest : (t : Transfer) (p : Part) → is_all p.key ≡ true → p.qty ≡ t.qty -ℤ sum_of t.parts → p ≡ rest_part t (record { day = p.day; payee = p.payee })
+part_is_rest : (t : Transfer) (p : Part) → is_all p.key ≡ true → p.qty ≡ t.qty -ℤ sum_of t.parts
+    → p ≡ rest_part t (record { day = p.day; payee = p.payee })
 part_is_rest t p all e =
-    ap (λ (k : List ℕ). let x : Part = record { key = k; qty = p.qty; day = p.day; payee = p.payee } in x) (same_bytes p.key all_key all)
+    ap (λ (k : List ℕ). let x : Part = record { key = k; qty = p.qty; day = p.day; payee = p.payee } in x)
+    (same_bytes p.key all_key all)
     ∙ ap (λ (q : ℤ). let x : Part = record { key = all_key; qty = q; day = p.day; payee = p.payee } in x) e
 
-good_at : (bs : List Branch) (t : Transfer) (p : Part) (b : Bool) → is_all p.key ≡ b → IsGoodTransfer bs t → IsReceipt t p → IsGoodTransfer bs (with_at b p t)
+good_at : (bs : List Branch) (t : Transfer) (p : Part) (b : Bool) → is_all p.key ≡ b → IsGoodTransfer bs t
+    → IsReceipt t p → IsGoodTransfer bs (with_at b p t)
 good_at bs t p true e good h =
     let none = no_rest t p h in
     let rest : p.qty ≡ t.qty -ℤ sum_of t.parts = h.whole e ∙ left_none t none in
@@ -65,7 +72,12 @@ good_at bs t p true e good h =
       apart = good.apart;
       positive = good.positive;
       payer = good.payer;
-      parts = record { keys = good.parts.keys; keyed = good.parts.keyed; each = good.parts.each; within = good.parts.within };
+      parts = record {
+        keys = good.parts.keys;
+        keyed = good.parts.keyed;
+        each = good.parts.each;
+        within = good.parts.within;
+      };
       rest = subst (IsGoodPart t.day) (part_is_rest t p e rest) h.part;
     }
 good_at bs t p false e good h =
@@ -89,67 +101,96 @@ good_at bs t p false e good h =
       rest = subst (λ (o : Option Receipt). IsGoodRest (with_at false p t) o) (sym none) tt;
     }
 
-pub good_with : (bs : List Branch) (t : Transfer) (p : Part) → IsGoodTransfer bs t → IsReceipt t p → IsGoodTransfer bs (with_receipt p t)
+pub good_with : (bs : List Branch) (t : Transfer) (p : Part) → IsGoodTransfer bs t → IsReceipt t p
+    → IsGoodTransfer bs (with_receipt p t)
 good_with bs t p good h = good_at bs t p (is_all p.key) refl good h
 
 -- ---- one record more
 
 -- a look-up among records and one more in their midst, whose mark none before it has
-put_in : (r : Record) (front back : List Record) (m : List ℕ) → held front r.mark ≡ None → held (front ++ (r ∷ back)) m ≡ cond (bytes_eq r.mark m) (Some r) (held (front ++ back) m)
+put_in : (r : Record) (front back : List Record) (m : List ℕ) → held front r.mark ≡ None
+    → held (front ++ (r ∷ back)) m ≡ cond (bytes_eq r.mark m) (Some r) (held (front ++ back) m)
 put_in r front back m none = by_test (bytes_eq r.mark m) refl
   where
-    by_test : (b : Bool) → bytes_eq r.mark m ≡ b → held (front ++ (r ∷ back)) m ≡ cond b (Some r) (held (front ++ back) m)
+    by_test : (b : Bool) → bytes_eq r.mark m ≡ b
+        → held (front ++ (r ∷ back)) m ≡ cond b (Some r) (held (front ++ back) m)
     by_test true e =
         find-append (has_mark m) front (r ∷ back)
-        ∙ (ap (λ (o : Option Record). option_or o (held (r ∷ back) m)) (ap (held front) (sym (same_bytes r.mark m e)) ∙ none)
+        ∙ (ap (λ (o : Option Record). option_or o (held (r ∷ back) m))
+        (ap (held front) (sym (same_bytes r.mark m e)) ∙ none)
         ∙ ap (λ (b : Bool). cond b (Some r) (held back m)) e)
     by_test false e =
         find-append (has_mark m) front (r ∷ back)
-        ∙ (ap (λ (b : Bool). option_or (held front m) (cond b (Some r) (held back m))) e ∙ sym (find-append (has_mark m) front back))
+        ∙ (ap (λ (b : Bool). option_or (held front m) (cond b (Some r) (held back m))) e ∙ sym
+        (find-append (has_mark m) front back))
 
 -- the parts with one more, in byte order of their keys
-put_at : (t : Transfer) (p x : Part) (xs : List Part) (back : List Record) (m : List ℕ) (c : Bool) → HasNoColon t.id → bytes_eq x.key p.key ≡ false
-    → held (map (receipt_record t) (put_part p xs) ++ back) m ≡ cond (bytes_eq (in_mark t.id p.key) m) (Some (receipt_record t p)) (held (map (receipt_record t) xs ++ back) m)
-    → held (map (receipt_record t) (if c then x ∷ put_part p xs else p ∷ x ∷ xs) ++ back) m ≡ cond (bytes_eq (in_mark t.id p.key) m) (Some (receipt_record t p)) (held (map (receipt_record t) (x ∷ xs) ++ back) m)
+put_at : (t : Transfer) (p x : Part) (xs : List Part) (back : List Record) (m : List ℕ) (c : Bool) → HasNoColon t.id
+    → bytes_eq x.key p.key ≡ false
+    → held (map (receipt_record t) (put_part p xs) ++ back) m
+    ≡ cond (bytes_eq (in_mark t.id p.key) m) (Some (receipt_record t p)) (held (map (receipt_record t) xs ++ back) m)
+    → held (map (receipt_record t) (if c then x ∷ put_part p xs else p ∷ x ∷ xs) ++ back) m
+    ≡ cond (bytes_eq (in_mark t.id p.key) m) (Some (receipt_record t p))
+    (held (map (receipt_record t) (x ∷ xs) ++ back) m)
 put_at t p x xs back m false h e k = refl
 put_at t p x xs back m true h e k = by_test (bytes_eq (in_mark t.id p.key) m) refl k
   where
-    by_test : (b : Bool) → bytes_eq (in_mark t.id p.key) m ≡ b → held (map (receipt_record t) (put_part p xs) ++ back) m ≡ cond b (Some (receipt_record t p)) (held (map (receipt_record t) xs ++ back) m)
-        → cond (bytes_eq (in_mark t.id x.key) m) (Some (receipt_record t x)) (held (map (receipt_record t) (put_part p xs) ++ back) m)
-        ≡ cond b (Some (receipt_record t p)) (cond (bytes_eq (in_mark t.id x.key) m) (Some (receipt_record t x)) (held (map (receipt_record t) xs ++ back) m))
+    by_test : (b : Bool) → bytes_eq (in_mark t.id p.key) m ≡ b
+        → held (map (receipt_record t) (put_part p xs) ++ back) m
+        ≡ cond b (Some (receipt_record t p)) (held (map (receipt_record t) xs ++ back) m)
+        → cond (bytes_eq (in_mark t.id x.key) m) (Some (receipt_record t x))
+        (held (map (receipt_record t) (put_part p xs) ++ back) m)
+        ≡ cond b (Some (receipt_record t p))
+        (cond (bytes_eq (in_mark t.id x.key) m) (Some (receipt_record t x))
+        (held (map (receipt_record t) xs ++ back) m))
     by_test true g k =
         let apart : bytes_eq (in_mark t.id x.key) m ≡ false =
-        ap (bytes_eq (in_mark t.id x.key)) (sym (same_bytes (in_mark t.id p.key) m g)) ∙ (mark_eq t.id t.id x.key p.key h h ∙ and_never (bytes_eq t.id t.id) (bytes_eq x.key p.key) e) in
-        ap (λ (b : Bool). cond b (Some (receipt_record t x)) (held (map (receipt_record t) (put_part p xs) ++ back) m)) apart ∙ k
-    by_test false g k = ap (λ (o : Option Record). cond (bytes_eq (in_mark t.id x.key) m) (Some (receipt_record t x)) o) k
+        ap (bytes_eq (in_mark t.id x.key)) (sym (same_bytes (in_mark t.id p.key) m g)) ∙
+        (mark_eq t.id t.id x.key p.key h h ∙ and_never (bytes_eq t.id t.id) (bytes_eq x.key p.key) e) in
+        ap (λ (b : Bool). cond b (Some (receipt_record t x)) (held (map (receipt_record t) (put_part p xs) ++ back) m))
+        apart ∙ k
+    by_test false g k =
+        ap (λ (o : Option Record). cond (bytes_eq (in_mark t.id x.key) m) (Some (receipt_record t x)) o) k
 
-put_asks : (t : Transfer) (p : Part) (ps : List Part) (back : List Record) (m : List ℕ) → HasNoColon t.id → list_any (λ (x : Part). bytes_eq x.key p.key) ps ≡ false
-    → held (map (receipt_record t) (put_part p ps) ++ back) m ≡ cond (bytes_eq (in_mark t.id p.key) m) (Some (receipt_record t p)) (held (map (receipt_record t) ps ++ back) m)
+put_asks : (t : Transfer) (p : Part) (ps : List Part) (back : List Record) (m : List ℕ) → HasNoColon t.id
+    → list_any (λ (x : Part). bytes_eq x.key p.key) ps ≡ false
+    → held (map (receipt_record t) (put_part p ps) ++ back) m
+    ≡ cond (bytes_eq (in_mark t.id p.key) m) (Some (receipt_record t p)) (held (map (receipt_record t) ps ++ back) m)
 put_asks t p [] back m h e = refl
 put_asks t p (x ∷ xs) back m h e =
     let n = neither (bytes_eq x.key p.key) (list_any (λ (x : Part). bytes_eq x.key p.key) xs) e in
     put_at t p x xs back m (is_lt (name_cmp x.key p.key)) h n.0 (put_asks t p xs back m h n.1)
 
-map_last : (t : Transfer) (ps : List Part) (p : Part) (back : List Record) → map (receipt_record t) (ps ++ p ∷ []) ++ back ≡ map (receipt_record t) ps ++ (receipt_record t p ∷ back)
+map_last : (t : Transfer) (ps : List Part) (p : Part) (back : List Record)
+    → map (receipt_record t) (ps ++ p ∷ []) ++ back ≡ map (receipt_record t) ps ++ (receipt_record t p ∷ back)
 map_last t [] p back = refl
 map_last t (x ∷ xs) p back = ap (λ (rs : List Record). receipt_record t x ∷ rs) (map_last t xs p back)
 
-asks_at : (t : Transfer) (p : Part) (b : Bool) → is_all p.key ≡ b → HasNoColon t.id → IsReceipt t p → (back : List Record) (m : List ℕ) →
-    held (map (receipt_record t) (receipts_of (with_at b p t)) ++ back) m ≡ cond (bytes_eq (in_mark t.id p.key) m) (Some (receipt_record t p)) (held (map (receipt_record t) (receipts_of t) ++ back) m)
+asks_at : (t : Transfer) (p : Part) (b : Bool) → is_all p.key ≡ b → HasNoColon t.id → IsReceipt t p
+    → (back : List Record) (m : List ℕ) →
+    held (map (receipt_record t) (receipts_of (with_at b p t)) ++ back) m
+    ≡ cond (bytes_eq (in_mark t.id p.key) m) (Some (receipt_record t p))
+    (held (map (receipt_record t) (receipts_of t) ++ back) m)
 asks_at t p true e plain h back m =
     let none = no_rest t p h in
-    let rest : p ≡ rest_part t (record { day = p.day; payee = p.payee }) = part_is_rest t p e (h.whole e ∙ left_none t none) in
-    let fresh : held (map (receipt_record t) t.parts) (in_mark t.id p.key) ≡ None = none_of_key t p.key t.parts plain (fresh_parts t p h) in
+    let rest : p ≡ rest_part t (record { day = p.day; payee = p.payee }) =
+    part_is_rest t p e (h.whole e ∙ left_none t none) in
+    let fresh : held (map (receipt_record t) t.parts) (in_mark t.id p.key) ≡ None =
+    none_of_key t p.key t.parts plain (fresh_parts t p h) in
     ap (λ (x : Part). held (map (receipt_record t) (t.parts ++ x ∷ []) ++ back) m) (sym rest)
     ∙ (ap (λ (rs : List Record). held rs m) (map_last t t.parts p back)
     ∙ (put_in (receipt_record t p) (map (receipt_record t) t.parts) back m fresh
-    ∙ ap (λ (ps : List Part). cond (bytes_eq (in_mark t.id p.key) m) (Some (receipt_record t p)) (held (map (receipt_record t) ps ++ back) m)) (sym (now_parts t none))))
+    ∙ ap (λ (ps : List Part). cond (bytes_eq (in_mark t.id p.key) m) (Some (receipt_record t p))
+    (held (map (receipt_record t) ps ++ back) m)) (sym (now_parts t none))))
 asks_at t p false e plain h back m =
     let none = no_rest t p h in
-    let more : receipts_of (with_at false p t) ≡ put_part p t.parts = ap (λ (o : Option Receipt). put_part p t.parts ++ of_rest (with_at false p t) o) none ∙ append-nil (put_part p t.parts) in
+    let more : receipts_of (with_at false p t) ≡ put_part p t.parts =
+    ap (λ (o : Option Receipt). put_part p t.parts ++ of_rest (with_at false p t) o) none ∙ append-nil
+    (put_part p t.parts) in
     ap (λ (ps : List Part). held (map (receipt_record t) ps ++ back) m) more
     ∙ (put_asks t p t.parts back m plain (fresh_parts t p h)
-    ∙ ap (λ (ps : List Part). cond (bytes_eq (in_mark t.id p.key) m) (Some (receipt_record t p)) (held (map (receipt_record t) ps ++ back) m)) (sym (now_parts t none)))
+    ∙ ap (λ (ps : List Part). cond (bytes_eq (in_mark t.id p.key) m) (Some (receipt_record t p))
+    (held (map (receipt_record t) ps ++ back) m)) (sym (now_parts t none)))
 
 pub asks_more : (t : Transfer) (p : Part) → HasNoColon t.id → IsReceipt t p → Asks p t
 asks_more t p plain h = asks_at t p (is_all p.key) refl plain h

@@ -1,5 +1,7 @@
 -- what an accepted command was, and that it leaves a good state good
-use Rattle.std.proofs.Common.{◌≡◌, ◌≤◌, ℕ, Bool, true, false, ◌||◌, cond, List, [], ◌∷◌, ◌++◌, length, ℤ, pos, ◌<ℤ◌, refl, ap, ◌∙◌, sym, subst, arith, inl, inr, Option, Some, None, Ok, Err, nat_le, nat_lt, ◌≤ℤ◌}
+use Rattle.std.proofs.Common.{◌≡◌, ◌≤◌, ℕ, Bool, true, false, ◌||◌, cond, List, [], ◌∷◌, ◌++◌, length, ℤ, pos, ◌<ℤ◌}
+use Rattle.std.proofs.Common.{refl, ap, ◌∙◌, sym, subst, arith, inl, inr, Option, Some, None, Ok, Err, nat_le, nat_lt}
+use Rattle.std.proofs.Common.{◌≤ℤ◌}
 use Rattle.std.specs.Prelude.{if◌then◌else◌, Result, not, ⊤, find, is_some, int_le, int_lt, unsigned_abs, nat_eq}
 use Rattle.std.specs.Cmp.Lexicographic.{pointwise}
 use Rattle.std.specs.List.{list_any, AllByRecursion}
@@ -39,13 +41,19 @@ use Rattle.treasury_core.specs.declared.command.Receive.{Receive}
 use Rattle.treasury_core.specs.declared.command.Close.{Close}
 use Rattle.treasury_core.specs.declared.command.Command.{Command}
 use Rattle.treasury_core.specs.declared.command.Command.TheVariants as cmd
-use Rattle.treasury_core.specs.Federation.{Branch, Federation, is_branch_name, has_branch, records_in, records_of, lock_of, entries, book_of}
+use Rattle.treasury_core.specs.Federation.{Branch, Federation, is_branch_name, has_branch, records_in, records_of}
+use Rattle.treasury_core.specs.Federation.{lock_of, entries, book_of}
 use Rattle.treasury_core.specs.Mark.{held, is_held, HaveOwnMarks}
-use Rattle.treasury_core.specs.Transfer.{is_id, is_account_text, is_reserved, has_id, dispatch_record, receipt_record, all_key, is_all, is_key, receipts_of, left_of, posting, transit_account}
+use Rattle.treasury_core.specs.Transfer.{is_id, is_account_text, is_reserved, has_id, dispatch_record, receipt_record}
+use Rattle.treasury_core.specs.Transfer.{all_key, is_all, is_key, receipts_of, left_of, posting, transit_account}
 use Rattle.treasury_core.specs.Choice.{choice_comments, choice_refusal}
 use Rattle.treasury_core.specs.Closing.{close_mark, closing_record, closing_answer, closing_in}
 use Rattle.treasury_core.specs.Joined.{with_entered, with_locked, with_received}
-use Rattle.treasury_core.specs.Step.{unless, reply, done, after, new_records, records_in_file, unbalanced, refused_in, is_lock, goes_back, is_locked, commodity_reply, transfer_at, transfer_of, is_dispatched_so, receipt_of, is_received_so, receipt_reply, entering_refusal, close_refusal, closed_reply, closing_records, key_of, qty_of, has_key, is_too_much, has_bad_key, has_nothing_left, receipt_refusal, held_reply, with_receipt_of}
+use Rattle.treasury_core.specs.Step.{unless, reply, done, after, new_records, records_in_file, unbalanced, refused_in}
+use Rattle.treasury_core.specs.Step.{is_lock, goes_back, is_locked, commodity_reply, transfer_at, transfer_of}
+use Rattle.treasury_core.specs.Step.{is_dispatched_so, receipt_of, is_received_so, receipt_reply, entering_refusal}
+use Rattle.treasury_core.specs.Step.{close_refusal, closed_reply, closing_records, key_of, qty_of, has_key, is_too_much}
+use Rattle.treasury_core.specs.Step.{has_bad_key, has_nothing_left, receipt_refusal, held_reply, with_receipt_of}
 use Rattle.treasury_core.specs.Good.{Fits, IsGoodBranch, IsGoodRecord, IsGoodTransfer, IsGoodState}
 use Rattle.treasury_core.specs.History.{Turn, Replies, after_turn, IsRun, state_after, IsNew}
 use Rattle.treasury_core.proofs.FileLemmas.{records_good, all-new, own-new, all_fresh, neither_refusal}
@@ -54,7 +62,8 @@ use Rattle.treasury_core.proofs.MarkLemmas.{not_all}
 use Rattle.treasury_core.proofs.PartLemmas.{le_from, left_high, small_from}
 use Rattle.treasury_core.proofs.ReceiveLemmas.{IsReceipt}
 use Rattle.treasury_core.proofs.FairLemmas.{known, names_of}
-use Rattle.treasury_core.proofs.KeepLemmas.{good_branch, good_style, own_entries, good_entered, good_locked, good_closed}
+use Rattle.treasury_core.proofs.KeepLemmas.{good_branch, good_style, own_entries, good_entered, good_locked}
+use Rattle.treasury_core.proofs.KeepLemmas.{good_closed}
 use Rattle.treasury_core.proofs.HeldLemmas.{own_push}
 use Rattle.treasury_core.proofs.ClosingReply.{not_more}
 use Rattle.treasury_core.proofs.ClosingRecord.{closing_record_good, closing_record_own}
@@ -68,15 +77,18 @@ IsDone (Entered new repeated) = ⊤
 IsDone Repeated = ⊥
 
 -- a case that does not apply
-passes : (t : Bool) (e : Refusal) (x : Result Answer Refusal) (a : Answer) → (if t then Err e else x) ≡ Ok a → (t ≡ false) × (x ≡ Ok a)
+passes : (t : Bool) (e : Refusal) (x : Result Answer Refusal) (a : Answer) → (if t then Err e else x) ≡ Ok a
+    → (t ≡ false) × (x ≡ Ok a)
 passes true e x a h = absurd cc
 passes false e x a h = (refl, h)
 
-pub holds : (t : Bool) (e : Refusal) (x : Result Answer Refusal) (a : Answer) → (if not t then Err e else x) ≡ Ok a → (t ≡ true) × (x ≡ Ok a)
+pub holds : (t : Bool) (e : Refusal) (x : Result Answer Refusal) (a : Answer) → (if not t then Err e else x) ≡ Ok a
+    → (t ≡ true) × (x ≡ Ok a)
 holds true e x a h = (refl, h)
 holds false e x a h = absurd cc
 
-not_repeated : (t : Bool) (x : Result Answer Refusal) (a : Answer) → IsDone a → (if t then Ok Repeated else x) ≡ Ok a → (t ≡ false) × (x ≡ Ok a)
+not_repeated : (t : Bool) (x : Result Answer Refusal) (a : Answer) → IsDone a → (if t then Ok Repeated else x) ≡ Ok a
+    → (t ≡ false) × (x ≡ Ok a)
 not_repeated true x Done d h = absurd cc
 not_repeated true x (Entered new repeated) d h = absurd cc
 not_repeated true x Repeated d h = absurd d
@@ -87,7 +99,8 @@ no_refusal b a None h = refl
 no_refusal b a (Some e) h = absurd cc
 
 -- a new branch, a new commodity, a lock
-done_branch : (f : Federation) (name : List ℕ) (a : Answer) → IsDone a → IsGoodState f → reply f (cmd.Branch name) ≡ Ok a → IsGoodState (done f (cmd.Branch name))
+done_branch : (f : Federation) (name : List ℕ) (a : Answer) → IsDone a → IsGoodState f
+    → reply f (cmd.Branch name) ≡ Ok a → IsGoodState (done f (cmd.Branch name))
 unfolding reply done
 done_branch f name a d good h =
     let one = holds (is_branch_name name) _ _ a h in
@@ -95,7 +108,9 @@ done_branch f name a d good h =
     let three = passes (nat_le 32 (length f.branches)) _ _ a two.1 in
     good_branch f name good one.0 two.0 (leb-false 32 (length f.branches) three.0)
 
-declared_new : (f : Federation) (style : Style) (a : Answer) (r : Result Declared Cause) → IsDone a → declared f.styles style ≡ r → commodity_reply r ≡ Ok a → IsGoodState f → is_style style ≡ true → IsGoodState (done f (cmd.Commodity style))
+declared_new : (f : Federation) (style : Style) (a : Answer) (r : Result Declared Cause) → IsDone a
+    → declared f.styles style ≡ r → commodity_reply r ≡ Ok a → IsGoodState f → is_style style ≡ true
+    → IsGoodState (done f (cmd.Commodity style))
 unfolding done
 declared_new f style a (Ok (New unit)) d e h good is = good_style f style unit good is e
 declared_new f style Done (Ok (Same unit)) d e h good is = absurd cc
@@ -103,19 +118,22 @@ declared_new f style (Entered new repeated) (Ok (Same unit)) d e h good is = abs
 declared_new f style Repeated (Ok (Same unit)) d e h good is = absurd d
 declared_new f style a (Err cause) d e h good is = absurd cc
 
-done_commodity : (f : Federation) (style : Style) (a : Answer) → IsDone a → IsGoodState f → is_style style ≡ true → reply f (cmd.Commodity style) ≡ Ok a → IsGoodState (done f (cmd.Commodity style))
+done_commodity : (f : Federation) (style : Style) (a : Answer) → IsDone a → IsGoodState f → is_style style ≡ true
+    → reply f (cmd.Commodity style) ≡ Ok a → IsGoodState (done f (cmd.Commodity style))
 unfolding reply
 done_commodity f style a d good is h = declared_new f style a (declared f.styles style) d refl h good is
 
 -- a lock day that is accepted is not before the held one
-pub lock_forward : (f : Federation) (name : List ℕ) (day : Day) (a : Answer) → IsDone a → reply f (cmd.Lock name day) ≡ Ok a → goes_back (lock_of f name) day ≡ false
+pub lock_forward : (f : Federation) (name : List ℕ) (day : Day) (a : Answer) → IsDone a
+    → reply f (cmd.Lock name day) ≡ Ok a → goes_back (lock_of f name) day ≡ false
 unfolding reply
 lock_forward f name day a d h =
     let there = holds (has_branch f name) _ _ a h in
     let other = not_repeated (is_lock (lock_of f name) day) _ a d there.1 in
     (passes (goes_back (lock_of f name) day) _ _ a other.1).0
 
-done_lock : (f : Federation) (name : List ℕ) (day : Day) (a : Answer) → IsDone a → IsGoodState f → reply f (cmd.Lock name day) ≡ Ok a → IsGoodState (done f (cmd.Lock name day))
+done_lock : (f : Federation) (name : List ℕ) (day : Day) (a : Answer) → IsDone a → IsGoodState f
+    → reply f (cmd.Lock name day) ≡ Ok a → IsGoodState (done f (cmd.Lock name day))
 unfolding done
 done_lock f name day a is good h = good_locked f name day good (lock_forward f name day a is h)
 
@@ -127,7 +145,8 @@ own_marks_of f name good = own_in f.branches good.branches
     own_in [] h = tt
     own_in (b ∷ bs) h = own_at (bytes_eq b.name name) h.0.marks (own_in bs h.1)
       where
-        own_at : (t : Bool) → HaveOwnMarks b.records → HaveOwnMarks (records_in bs name) → HaveOwnMarks (if t then b.records else records_in bs name)
+        own_at : (t : Bool) → HaveOwnMarks b.records → HaveOwnMarks (records_in bs name)
+            → HaveOwnMarks (if t then b.records else records_in bs name)
         own_at true h k = h
         own_at false h k = k
 
@@ -138,23 +157,31 @@ pub record IsAccepted (f : Federation) (name : List ℕ) (file : List Located) :
   pub taken : refused_in f.styles (lock_of f name) (records_of f name) (records_in_file f.styles file) ≡ None
   pub passes : verdict (book_of f name ++ entries (new_records f name file)) ≡ None
 
-pub accepted : (f : Federation) (name : List ℕ) (file : List Located) (a : Answer) → reply f (cmd.Enter name file) ≡ Ok a → IsAccepted f name file
+pub accepted : (f : Federation) (name : List ℕ) (file : List Located) (a : Answer)
+    → reply f (cmd.Enter name file) ≡ Ok a → IsAccepted f name file
 unfolding reply
 accepted f name file a h =
     let there = holds (has_branch f name) _ _ a h in
     let none = no_refusal _ a _ there.1 in
     let first = neither_refusal (unbalanced f.styles file) _ none in
-    let second = neither_refusal (refused_in f.styles (lock_of f name) (records_of f name) (records_in_file f.styles file)) _ first.1 in
+    let second = neither_refusal (refused_in f.styles (lock_of f name) (records_of f name)
+    (records_in_file f.styles file)) _ first.1 in
     record { there = there.0; balanced = first.0; taken = second.0; passes = second.1 }
 
-pub accepted_new : (f : Federation) (name : List ℕ) (file : List Located) (a : Answer) → reply f (cmd.Enter name file) ≡ Ok a
+pub accepted_new : (f : Federation) (name : List ℕ) (file : List Located) (a : Answer)
+    → reply f (cmd.Enter name file) ≡ Ok a
     → AllByRecursion (IsNew (lock_of f name) (records_of f name)) (new_records f name file)
-accepted_new f name file a h = all_fresh f.styles (lock_of f name) (records_of f name) (records_in_file f.styles file) (accepted f name file a h).taken
+accepted_new f name file a h = all_fresh f.styles (lock_of f name) (records_of f name) (records_in_file f.styles file)
+    (accepted f name file a h).taken
 
-pub new_good : (f : Federation) (name : List ℕ) (file : List Located) → Fits f.styles (cmd.Enter name file) → AllByRecursion (IsGoodRecord f.styles) (new_records f name file)
-new_good f name file fits = all-new (IsGoodRecord f.styles) (records_of f name) (records_in_file f.styles file) (records_good f.styles [] file (omega (arith, fits.few)) fits.printable)
+pub new_good : (f : Federation) (name : List ℕ) (file : List Located) → Fits f.styles (cmd.Enter name file)
+    → AllByRecursion (IsGoodRecord f.styles) (new_records f name file)
+new_good f name file fits = all-new (IsGoodRecord f.styles) (records_of f name) (records_in_file f.styles file)
+    (records_good f.styles [] file (omega (arith, fits.few)) fits.printable)
 
-done_enter : (f : Federation) (name : List ℕ) (file : List Located) (a : Answer) → IsGoodState f → Fits f.styles (cmd.Enter name file) → reply f (cmd.Enter name file) ≡ Ok a → IsGoodState (done f (cmd.Enter name file))
+done_enter : (f : Federation) (name : List ℕ) (file : List Located) (a : Answer) → IsGoodState f
+    → Fits f.styles (cmd.Enter name file) → reply f (cmd.Enter name file) ≡ Ok a
+    → IsGoodState (done f (cmd.Enter name file))
 unfolding done
 done_enter f name file a good fits h =
     good_entered f name (new_records f name file) good
@@ -168,7 +195,8 @@ misses : (t : Bool) (e : Refusal) (o : Option Refusal) → (if t then Some e els
 misses true e o h = absurd cc
 misses false e o h = (refl, h)
 
-keeps_to : (t : Bool) (e : Refusal) (o : Option Refusal) → (if not t then Some e else o) ≡ None → (t ≡ true) × (o ≡ None)
+keeps_to : (t : Bool) (e : Refusal) (o : Option Refusal) → (if not t then Some e else o) ≡ None
+    → (t ≡ true) × (o ≡ None)
 keeps_to true e o h = (refl, h)
 keeps_to false e o h = absurd cc
 
@@ -216,7 +244,8 @@ sent f d a is h =
       passes = unlocked.1;
     }
 
-none_found_at : {X : Type 0} (t u : Bool) (x : X) (o : Option X) → cond t (Some x) o ≡ None → (o ≡ None → u ≡ false) → (t || u) ≡ false
+none_found_at : {X : Type 0} (t u : Bool) (x : X) (o : Option X) → cond t (Some x) o ≡ None → (o ≡ None → u ≡ false)
+    → (t || u) ≡ false
 none_found_at true u x o h k = absurd cc
 none_found_at false u x o h k = k h
 
@@ -232,14 +261,17 @@ positive_from : (q : ℤ) → int_le q (pos 0) ≡ false → int_le (pos 1) q �
 positive_from q h = let k : pos 0 <ℤ q = grind (arith, ints) in grind (arith, ints)
 
 amount_is : (styles : List Style) (unit : Commodity) (q : ℤ) → IsDeclared styles unit q → is_amount styles unit q ≡ true
-amount_is styles unit q h = and_from (nat_lt unit.0 (length styles)) (nat_le (unsigned_abs q) limit) (let k = h.known in grind (arith, nat_tests)) (let k = h.size in grind (arith, nat_tests))
+amount_is styles unit q h = and_from (nat_lt unit.0 (length styles)) (nat_le (unsigned_abs q) limit)
+    (let k = h.known in grind (arith, nat_tests)) (let k = h.size in grind (arith, nat_tests))
 
 -- the name of a branch that is there is well formed
 name_known : (f : Federation) (name : List ℕ) → IsGoodState f → has_branch f name ≡ true → is_branch_name name ≡ true
-name_known f name good h = known (λ (n : List ℕ). is_branch_name n ≡ true) f.branches name (names_of (λ (n : List ℕ). is_branch_name n ≡ true) f.branches (λ b k. k.named) good.branches) h
+name_known f name good h = known (λ (n : List ℕ). is_branch_name n ≡ true) f.branches name
+    (names_of (λ (n : List ℕ). is_branch_name n ≡ true) f.branches (λ b k. k.named) good.branches) h
 
 -- the record of a dispatch can be printed, and has its entry
-pub dispatch_record_good : (f : Federation) (d : Dispatch) → IsGoodState f → Fits f.styles (cmd.Dispatch d) → has_branch f d.source ≡ true → has_branch f d.target ≡ true → is_id d.id ≡ true
+pub dispatch_record_good : (f : Federation) (d : Dispatch) → IsGoodState f → Fits f.styles (cmd.Dispatch d)
+    → has_branch f d.source ≡ true → has_branch f d.target ≡ true → is_id d.id ≡ true
     → is_account_text d.account ≡ true → IsGoodRecord f.styles (dispatch_record (transfer_of d))
 dispatch_record_good f d good fits source target id written =
     let account = and_parts (is_account d.account) (is_utf8 d.account) written in
@@ -254,13 +286,25 @@ dispatch_record_good f d good fits source target id written =
     } in
     dispatch_good f.styles (transfer_of d) good.styles writable
 
-done_dispatch : (f : Federation) (d : Dispatch) (a : Answer) → IsDone a → IsGoodState f → Fits f.styles (cmd.Dispatch d) → reply f (cmd.Dispatch d) ≡ Ok a → IsGoodState (done f (cmd.Dispatch d))
+done_dispatch : (f : Federation) (d : Dispatch) (a : Answer) → IsDone a → IsGoodState f → Fits f.styles (cmd.Dispatch d)
+    → reply f (cmd.Dispatch d) ≡ Ok a → IsGoodState (done f (cmd.Dispatch d))
 unfolding done
 done_dispatch f d a is good fits h =
     let s = sent f d a is h in
     let positive = positive_from d.qty s.positive in
-    let fair : IsGoodTransfer f.branches (transfer_of d) = record { id = s.id; source = s.source; target = s.target; apart = s.apart; positive = positive; payer = s.clear; parts = record { keys = tt; keyed = tt; each = tt; within = no_parts d.qty positive }; rest = tt } in
-    good_dispatched f (transfer_of d) good refl fair (none_found (has_id d.id) f.transfers s.free) (dispatch_record_good f d good fits s.source s.target s.id s.account) s.passes
+    let fair : IsGoodTransfer f.branches (transfer_of d) =
+    record {
+      id = s.id;
+      source = s.source;
+      target = s.target;
+      apart = s.apart;
+      positive = positive;
+      payer = s.clear;
+      parts = record { keys = tt; keyed = tt; each = tt; within = no_parts d.qty positive };
+      rest = tt;
+    } in
+    good_dispatched f (transfer_of d) good refl fair (none_found (has_id d.id) f.transfers s.free)
+    (dispatch_record_good f d good fits s.source s.target s.id s.account) s.passes
 
 -- a receipt that was accepted
 pub record IsTaken (f : Federation) (r : Receive) : Type 0 where
@@ -284,7 +328,8 @@ key_at : (o : Option AskedPart) → has_bad_key o ≡ false → is_all (key_of o
 key_at None h e = absurd (let k : true ≡ false = e in cc)
 key_at (Some a) h e = not_false (is_key a.key) h
 
-whole_at : (t : Transfer) (o : Option AskedPart) → has_bad_key o ≡ false → is_all (key_of o) ≡ true → qty_of t o ≡ left_of t
+whole_at : (t : Transfer) (o : Option AskedPart) → has_bad_key o ≡ false → is_all (key_of o) ≡ true
+    → qty_of t o ≡ left_of t
 whole_at t None h e = refl
 whole_at t (Some a) h e = absurd (let k : true ≡ false = sym e ∙ not_all a.key (not_false (is_key a.key) h) in cc)
 
@@ -293,16 +338,20 @@ at_most y z h = grind (arith, ints)
 
 within_at : (t : Transfer) (o : Option AskedPart) → is_too_much t o ≡ false → qty_of t o ≤ℤ left_of t
 within_at t None h = omega (arith, ints)
-within_at t (Some a) h = at_most (left_of t) a.qty (neither (not (nat_eq a.unit.0 t.unit.0)) (int_lt (left_of t) a.qty) h).1
+within_at t (Some a) h =
+    at_most (left_of t) a.qty (neither (not (nat_eq a.unit.0 t.unit.0)) (int_lt (left_of t) a.qty) h).1
 
 -- what is asked for may come, where no case of its refusal applies
-pub may_receive : (t : Transfer) (r : Receive) → has_bad_key r.part ≡ false → find (has_key (key_of r.part)) (receipts_of t) ≡ None → is_reserved r.account ≡ false → int_le (qty_of t r.part) (pos 0) ≡ false
+pub may_receive : (t : Transfer) (r : Receive) → has_bad_key r.part ≡ false
+    → find (has_key (key_of r.part)) (receipts_of t) ≡ None → is_reserved r.account ≡ false
+    → int_le (qty_of t r.part) (pos 0) ≡ false
     → is_too_much t r.part ≡ false → int_lt r.day.0 t.day.0 ≡ false → IsReceipt t (receipt_of t r)
 may_receive t r bad none clear some enough late = record {
   key = key_at r.part bad;
   whole = whole_at t r.part bad;
   fresh = none_found (has_key (key_of r.part)) (receipts_of t) none;
-  part = record { positive = positive_from (qty_of t r.part) some; later = late_from t.day.0 r.day.0 late; payee = clear };
+  part =
+      record { positive = positive_from (qty_of t r.part) some; later = late_from t.day.0 r.day.0 late; payee = clear };
   within = within_at t r.part enough;
 }
 
@@ -310,13 +359,15 @@ may_receive t r bad none clear some enough late = record {
 abbrev IsOpen : Federation → Transfer → Receive → Option Part → Type 0
 IsOpen f t r o = (o ≡ None) × (receipt_refusal (lock_of f r.branch) (records_of f r.branch) t r ≡ None)
 
-open_at : (f : Federation) (t : Transfer) (r : Receive) (a : Answer) (o : Option Part) → IsDone a → held_reply f t r o ≡ Ok a → IsOpen f t r o
+open_at : (f : Federation) (t : Transfer) (r : Receive) (a : Answer) (o : Option Part) → IsDone a
+    → held_reply f t r o ≡ Ok a → IsOpen f t r o
 open_at f t r a (Some p) is h = absurd (let k = (not_repeated (is_received_so t r p) _ a is h).1 in cc)
 open_at f t r a None is h =
     let some = passes (has_nothing_left t r.part) _ _ a h in
     (refl, no_refusal Done a _ some.1)
 
-taken_at : (f : Federation) (r : Receive) (a : Answer) (o : Option Transfer) → IsDone a → has_bad_key r.part ≡ false → transfer_at f r.id ≡ o → receipt_reply f r o ≡ Ok a → IsTaken f r
+taken_at : (f : Federation) (r : Receive) (a : Answer) (o : Option Transfer) → IsDone a → has_bad_key r.part ≡ false
+    → transfer_at f r.id ≡ o → receipt_reply f r o ≡ Ok a → IsTaken f r
 taken_at f r a None is bad e h = absurd cc
 taken_at f r a (Some t) is bad e h =
     let target = holds (bytes_eq t.target r.branch) _ _ a h in
@@ -345,23 +396,28 @@ taken f r a is h =
     let bad = passes (has_bad_key r.part) _ _ a id.1 in
     taken_at f r a (transfer_at f r.id) is bad.0 refl bad.1
 
-pub found_transfer : (P : Transfer → Type 0) (id : List ℕ) (ts : List Transfer) (t : Transfer) → find (has_id id) ts ≡ Some t → AllByRecursion P ts → P t × (t.id ≡ id)
+pub found_transfer : (P : Transfer → Type 0) (id : List ℕ) (ts : List Transfer) (t : Transfer)
+    → find (has_id id) ts ≡ Some t → AllByRecursion P ts → P t × (t.id ≡ id)
 found_transfer P id [] t e h = absurd cc
 found_transfer P id (x ∷ xs) t e h = found_at (bytes_eq x.id id) refl e (found_transfer P id xs t) h
   where
-    found_at : (c : Bool) → bytes_eq x.id id ≡ c → cond c (Some x) (find (has_id id) xs) ≡ Some t → (find (has_id id) xs ≡ Some t → AllByRecursion P xs → P t × (t.id ≡ id)) → AllByRecursion P (x ∷ xs) → P t × (t.id ≡ id)
+    found_at : (c : Bool) → bytes_eq x.id id ≡ c → cond c (Some x) (find (has_id id) xs) ≡ Some t
+        → (find (has_id id) xs ≡ Some t → AllByRecursion P xs → P t × (t.id ≡ id)) → AllByRecursion P (x ∷ xs)
+        → P t × (t.id ≡ id)
     found_at true g e k h = subst (λ y. P y × (y.id ≡ id)) (let s : x ≡ t = cc in s) (h.0, same_bytes x.id id g)
     found_at false g e k h = k e h.1
 
 -- the quantity of a transfer is within the limit
-pub amount_small : (f : Federation) (t : Transfer) → IsGoodRecord f.styles (dispatch_record t) → unsigned_abs t.qty ≤ limit
+pub amount_small : (f : Federation) (t : Transfer) → IsGoodRecord f.styles (dispatch_record t)
+    → unsigned_abs t.qty ≤ limit
 amount_small f t written =
     let account = transit_account t.source t.target in
     let first = (and_parts (is_posting f.styles (posting (leg account t.unit t.qty))) _ written.printable.postings).0 in
     leb-true (unsigned_abs t.qty) limit (and_parts _ _ (amount_of f.styles account t.unit t.qty first)).1
 
 -- and so is what is received of it
-receipt_small : (f : Federation) (t : Transfer) (p : Part) → IsGoodTransfer f.branches t → IsGoodRecord f.styles (dispatch_record t) → IsReceipt t p → unsigned_abs p.qty ≤ limit
+receipt_small : (f : Federation) (t : Transfer) (p : Part) → IsGoodTransfer f.branches t
+    → IsGoodRecord f.styles (dispatch_record t) → IsReceipt t p → unsigned_abs p.qty ≤ limit
 receipt_small f t p fair written may =
     let low = le_from (pos 1) p.qty may.part.positive in
     let amount = le_from (pos 1) t.qty fair.positive in
@@ -370,35 +426,45 @@ receipt_small f t p fair written may =
     small_from p.qty t.qty (omega (arith, ints)) (omega (arith, ints)) (amount_small f t written)
 
 -- the record of a receipt can be printed, and has its entry
-pub receipt_record_good : (f : Federation) (r : Receive) (t : Transfer) → IsGoodState f → Fits f.styles (cmd.Receive r) → transfer_at f r.id ≡ Some t → IsReceipt t (receipt_of t r) → is_account_text r.account ≡ true
+pub receipt_record_good : (f : Federation) (r : Receive) (t : Transfer) → IsGoodState f → Fits f.styles (cmd.Receive r)
+    → transfer_at f r.id ≡ Some t → IsReceipt t (receipt_of t r) → is_account_text r.account ≡ true
     → IsGoodRecord f.styles (receipt_record t (receipt_of t r))
 receipt_record_good f r t good fits found may written =
     let fair = found_transfer (IsGoodTransfer f.branches) r.id f.transfers t found good.transfers in
-    let here : find (has_id t.id) f.transfers ≡ Some t = ap (λ (m : List ℕ). find (has_id m) f.transfers) fair.1 ∙ found in
+    let here : find (has_id t.id) f.transfers ≡ Some t =
+    ap (λ (m : List ℕ). find (has_id m) f.transfers) fair.1 ∙ found in
     let account = and_parts (is_account r.account) (is_utf8 r.account) written in
     let sent = dispatch_written f t good here fair.0 in
-    receipt_good f.styles t (receipt_of t r) good.styles fair.0.id (name_known f t.source good fair.0.source) (name_known f t.target good fair.0.target) sent may.key
+    receipt_good f.styles t (receipt_of t r) good.styles fair.0.id (name_known f t.source good fair.0.source)
+    (name_known f t.target good fair.0.target) sent may.key
     (receipt_small f t (receipt_of t r) fair.0 sent may) fits.day account.0 account.1
 
-received_good : (f : Federation) (r : Receive) (a : Answer) → IsGoodState f → Fits f.styles (cmd.Receive r) → (got : IsTaken f r)
-    → IsGoodState (with_received (with_entered f r.branch (receipt_record got.transfer (receipt_of got.transfer r) ∷ [])) r.id (receipt_of got.transfer r))
+received_good : (f : Federation) (r : Receive) (a : Answer) → IsGoodState f → Fits f.styles (cmd.Receive r)
+    → (got : IsTaken f r)
+    → IsGoodState (with_received (with_entered f r.branch
+    (receipt_record got.transfer (receipt_of got.transfer r) ∷ [])) r.id (receipt_of got.transfer r))
 received_good f r a good fits got =
     let t = got.transfer in
     let p = receipt_of t r in
     let fair = found_transfer (IsGoodTransfer f.branches) r.id f.transfers t got.found good.transfers in
-    let here : find (has_id t.id) f.transfers ≡ Some t = ap (λ (m : List ℕ). find (has_id m) f.transfers) fair.1 ∙ got.found in
+    let here : find (has_id t.id) f.transfers ≡ Some t =
+    ap (λ (m : List ℕ). find (has_id m) f.transfers) fair.1 ∙ got.found in
     let name = same_bytes t.target r.branch got.target in
     let written = receipt_record_good f r t good fits got.found got.may got.account in
-    let passes_ : verdict (book_of f t.target ++ (receipt_record t p).entry ∷ []) ≡ None = ap (λ (m : List ℕ). verdict (book_of f m ++ (receipt_record t p).entry ∷ [])) name ∙ got.passes in
+    let passes_ : verdict (book_of f t.target ++ (receipt_record t p).entry ∷ []) ≡ None =
+    ap (λ (m : List ℕ). verdict (book_of f m ++ (receipt_record t p).entry ∷ [])) name ∙ got.passes in
     let result = good_received f t p good here fair.0 got.may written passes_ in
-    let P : List ℕ → List ℕ → Type 0 = λ m n. IsGoodState (with_received (with_entered f m (receipt_record t p ∷ [])) n p) in
+    let P : List ℕ → List ℕ → Type 0 = λ m n.
+    IsGoodState (with_received (with_entered f m (receipt_record t p ∷ [])) n p) in
     subst (λ m. P m r.id) name (subst (λ n. P t.target n) fair.1 result)
 
-done_receive : (f : Federation) (r : Receive) (a : Answer) → IsDone a → IsGoodState f → Fits f.styles (cmd.Receive r) → reply f (cmd.Receive r) ≡ Ok a → IsGoodState (done f (cmd.Receive r))
+done_receive : (f : Federation) (r : Receive) (a : Answer) → IsDone a → IsGoodState f → Fits f.styles (cmd.Receive r)
+    → reply f (cmd.Receive r) ≡ Ok a → IsGoodState (done f (cmd.Receive r))
 unfolding done
 done_receive f r a is good fits h =
     let got = taken f r a is h in
-    subst (λ (o : Option Transfer). IsGoodState (with_receipt_of f r o)) (sym got.found) (received_good f r a good fits got)
+    subst (λ (o : Option Transfer). IsGoodState (with_receipt_of f r o)) (sym got.found)
+    (received_good f r a good fits got)
 
 -- a closing that was accepted
 pub record IsShut (f : Federation) (x : Close) : Type 0 where
@@ -411,16 +477,30 @@ pub record IsShut (f : Federation) (x : Close) : Type 0 where
   pub few : length txn.postings ≤ posting_limit
   pub passes : verdict (book_of f x.branch ++ entries (closing_record x.day txn ∷ [])) ≡ None
 
-limited : (held : List Record) (day : Day) (t : Txn) (b : Bool) → entering_refusal held day (if b then Err (Plain Limit) else Ok t) ≡ None → (b ≡ false) × (verdict (entries held ++ entries (closing_record day t ∷ [])) ≡ None)
+limited : (held : List Record) (day : Day) (t : Txn) (b : Bool)
+    → entering_refusal held day (if b then Err (Plain Limit) else Ok t) ≡ None
+    → (b ≡ false) × (verdict (entries held ++ entries (closing_record day t ∷ [])) ≡ None)
 limited held day t true h = absurd cc
 limited held day t false h = (refl, h)
 
-shut_at : (f : Federation) (x : Close) (o : Option Txn) → has_branch f x.branch ≡ true → held (records_of f x.branch) (close_mark x.day) ≡ None → choice_refusal x.choice ≡ None → is_locked (lock_of f x.branch) x.day ≡ false
-    → closing_in f x.branch x.day x.choice ≡ o → entering_refusal (records_of f x.branch) x.day (closing_answer o) ≡ None → IsShut f x
+shut_at : (f : Federation) (x : Close) (o : Option Txn) → has_branch f x.branch ≡ true
+    → held (records_of f x.branch) (close_mark x.day) ≡ None → choice_refusal x.choice ≡ None
+    → is_locked (lock_of f x.branch) x.day ≡ false
+    → closing_in f x.branch x.day x.choice ≡ o
+    → entering_refusal (records_of f x.branch) x.day (closing_answer o) ≡ None → IsShut f x
 shut_at f x None there fresh chosen unlocked e h = absurd cc
 shut_at f x (Some t) there fresh chosen unlocked e h =
     let parts = limited (records_of f x.branch) x.day t (nat_lt posting_limit (length t.postings)) h in
-    record { txn = t; there = there; fresh = fresh; chosen = chosen; unlocked = unlocked; closes = e; few = not_more (length t.postings) parts.0; passes = parts.1 }
+    record {
+      txn = t;
+      there = there;
+      fresh = fresh;
+      chosen = chosen;
+      unlocked = unlocked;
+      closes = e;
+      few = not_more (length t.postings) parts.0;
+      passes = parts.1;
+    }
 
 -- a day that was closed before is answered without anything done
 abbrev again : Bool → Result Answer Refusal
@@ -433,9 +513,11 @@ not_again true Repeated d h = d
 not_again false a d h = cc
 
 closed_fresh : (f : Federation) (x : Close) (o : Option Record) (a : Answer) → IsDone a → closed_reply f x o ≡ Ok a
-    → (o ≡ None) × (close_refusal (lock_of f x.branch) (records_of f x.branch) x (closing_in f x.branch x.day x.choice) ≡ None)
+    → (o ≡ None) × (close_refusal (lock_of f x.branch) (records_of f x.branch) x (closing_in f x.branch x.day x.choice)
+    ≡ None)
 closed_fresh f x None a is h = (refl, no_refusal Done a _ h)
-closed_fresh f x (Some r) a is h = absurd (not_again (pointwise bytes_eq r.txn.comments (choice_comments x.choice)) a is h)
+closed_fresh f x (Some r) a is h =
+    absurd (not_again (pointwise bytes_eq r.txn.comments (choice_comments x.choice)) a is h)
 
 pub shut : (f : Federation) (x : Close) (a : Answer) → IsDone a → reply f (cmd.Close x) ≡ Ok a → IsShut f x
 unfolding reply
@@ -451,18 +533,22 @@ pub unlocked_forward : (lock : Option Day) (day : Day) → is_locked lock day �
 unlocked_forward None day h = refl
 unlocked_forward (Some lock) day h = grind (arith, ints)
 
-done_close : (f : Federation) (x : Close) (a : Answer) → IsDone a → IsGoodState f → Fits f.styles (cmd.Close x) → reply f (cmd.Close x) ≡ Ok a → IsGoodState (done f (cmd.Close x))
+done_close : (f : Federation) (x : Close) (a : Answer) → IsDone a → IsGoodState f → Fits f.styles (cmd.Close x)
+    → reply f (cmd.Close x) ≡ Ok a → IsGoodState (done f (cmd.Close x))
 unfolding done
 done_close f x a is good fits h =
     let s = shut f x a is h in
     let r = closing_record x.day s.txn in
     let marks = own_push (records_of f x.branch) r (own_marks_of f x.branch good) s.fresh in
-    subst (λ (o : Option Txn). IsGoodState (with_locked (with_entered f x.branch (closing_records x.day o)) x.branch x.day)) (sym s.closes)
+    subst (λ (o : Option Txn). IsGoodState
+    (with_locked (with_entered f x.branch (closing_records x.day o)) x.branch x.day)) (sym s.closes)
     (good_closed f x.branch x.day (r ∷ []) good (unlocked_forward (lock_of f x.branch) x.day s.unlocked) marks
-    (closing_record_good f x.branch x.day x.choice s.txn good fits s.chosen s.closes s.few, tt) (closing_record_own f x.branch x.day x.choice s.txn s.chosen s.closes, tt) s.passes)
+    (closing_record_good f x.branch x.day x.choice s.txn good fits s.chosen s.closes s.few, tt)
+    (closing_record_own f x.branch x.day x.choice s.txn s.chosen s.closes, tt) s.passes)
 
 -- all commands
-done_good : (f : Federation) (c : Command) (a : Answer) → IsDone a → IsGoodState f → Fits f.styles c → reply f c ≡ Ok a → IsGoodState (done f c)
+done_good : (f : Federation) (c : Command) (a : Answer) → IsDone a → IsGoodState f → Fits f.styles c → reply f c ≡ Ok a
+    → IsGoodState (done f c)
 done_good f (cmd.Branch name) a is good fits h = done_branch f name a is good h
 done_good f (cmd.Commodity style) a is good fits h = done_commodity f style a is good fits h
 done_good f (cmd.Enter name file) a is good fits h = done_enter f name file a good fits h
@@ -478,9 +564,11 @@ pub replied : (f : Federation) (c : Command) (a : Answer) → Replies f c (Ok a)
 replied f c a (inl e) = sym e
 replied f c a (inr e) = absurd (let k : Ok a ≡ no_memory = e in cc)
 
-pub after_good : (f : Federation) (c : Command) (r : Result Answer Refusal) → IsGoodState f → Fits f.styles c → Replies f c r → IsGoodState (after f c r)
+pub after_good : (f : Federation) (c : Command) (r : Result Answer Refusal) → IsGoodState f → Fits f.styles c
+    → Replies f c r → IsGoodState (after f c r)
 after_good f c (Ok Done) good fits h = done_good f c Done tt good fits (replied f c Done h)
-after_good f c (Ok (Entered new repeated)) good fits h = done_good f c (Entered new repeated) tt good fits (replied f c (Entered new repeated) h)
+after_good f c (Ok (Entered new repeated)) good fits h =
+    done_good f c (Entered new repeated) tt good fits (replied f c (Entered new repeated) h)
 after_good f c (Ok Repeated) good fits h = good
 after_good f c (Err refusal) good fits h = good
 

@@ -1,5 +1,6 @@
 -- the records of a file, one transaction after another
-use Rattle.std.proofs.Common.{◌≡◌, ◌<◌, ◌+◌, ℕ, suc, List, [], ◌∷◌, ◌++◌, length, take, drop, get_or, ap, ◌∙◌, sym, subst, arith, append_assoc, drop-cons, Option, None}
+use Rattle.std.proofs.Common.{◌≡◌, ◌<◌, ◌+◌, ℕ, suc, List, [], ◌∷◌, ◌++◌, length, take, drop, get_or, ap, ◌∙◌, sym}
+use Rattle.std.proofs.Common.{subst, arith, append_assoc, drop-cons, Option, None}
 use Rattle.std.specs.Option.{option_or}
 use Rattle.std.proofs.lemmas.List.{take_more}
 use Rattle.std.proofs.lemmas.List.{map-append}
@@ -14,7 +15,8 @@ use Rattle.treasury_core.specs.Counted.{AreCounted}
 use Rattle.treasury_core.proofs.CountLemmas.{Counts}
 use Rattle.treasury_core.proofs.FileLemmas.{txns_of}
 
-front_more : (file : List Located) (i : ℕ) (x : Located) → i < length file → x ≡ get_or file i x → txns_of (take (i + 1) file) ≡ txns_of (take i file) ++ x.txn ∷ []
+front_more : (file : List Located) (i : ℕ) (x : Located) → i < length file → x ≡ get_or file i x
+    → txns_of (take (i + 1) file) ≡ txns_of (take i file) ++ x.txn ∷ []
 front_more file i x h e =
     ap txns_of (take_more file i x h) ∙ map-append (λ (y : Located). y.txn) (take i file) (get_or file i x ∷ [])
     ∙ ap (λ (y : Located). txns_of (take i file) ++ y.txn ∷ []) (sym e)
@@ -22,11 +24,15 @@ front_more file i x h e =
 same_next : (i : ℕ) → suc i ≡ i + 1
 same_next i = omega arith
 
-rest_less : (file : List Located) (i : ℕ) (x : Located) → i < length file → x ≡ get_or file i x → drop i file ≡ x ∷ drop (i + 1) file
-rest_less file i x h e = drop-cons file i x h ∙ ap (λ (y : Located). y ∷ drop (suc i) file) (sym e) ∙ ap (λ (j : ℕ). x ∷ drop j file) (same_next i)
+rest_less : (file : List Located) (i : ℕ) (x : Located) → i < length file → x ≡ get_or file i x
+    → drop i file ≡ x ∷ drop (i + 1) file
+rest_less file i x h e = drop-cons file i x h ∙ ap (λ (y : Located). y ∷ drop (suc i) file) (sym e) ∙ ap
+    (λ (j : ℕ). x ∷ drop j file) (same_next i)
 
-pub rows_next : (styles : List Style) (file : List Located) (i : ℕ) (x : Located) (rows new all : List Record) (row : Record) → i < length file → x ≡ get_or file i x → new ≡ rows ++ row ∷ []
-    → row ∷ [] ≡ recorded_in styles (txns_of (take i file)) x.txn → rows ++ records_from styles (txns_of (take i file)) (drop i file) ≡ all
+pub rows_next : (styles : List Style) (file : List Located) (i : ℕ) (x : Located) (rows new all : List Record)
+    (row : Record) → i < length file → x ≡ get_or file i x → new ≡ rows ++ row ∷ []
+    → row ∷ [] ≡ recorded_in styles (txns_of (take i file)) x.txn
+    → rows ++ records_from styles (txns_of (take i file)) (drop i file) ≡ all
     → new ++ records_from styles (txns_of (take (i + 1) file)) (drop (i + 1) file) ≡ all
 rows_next styles file i x rows new all row h e pushed same before =
     let rest = drop (i + 1) file in
@@ -38,12 +44,14 @@ rows_next styles file i x rows new all row h e pushed same before =
     ∙ ap (λ (xs : List Located). rows ++ records_from styles (txns_of (take i file)) xs) (sym (rest_less file i x h e))
     ∙ before
 
-pub balanced_next : (styles : List Style) (file : List Located) (i : ℕ) (x : Located) (all : Option Refusal) → i < length file → x ≡ get_or file i x → fault_on x.line (legs_of styles x.txn) ≡ None
+pub balanced_next : (styles : List Style) (file : List Located) (i : ℕ) (x : Located) (all : Option Refusal)
+    → i < length file → x ≡ get_or file i x → fault_on x.line (legs_of styles x.txn) ≡ None
     → unbalanced styles (drop i file) ≡ all → unbalanced styles (drop (i + 1) file) ≡ all
 balanced_next styles file i x all h e fine before =
     sym (ap (λ (o : Option Refusal). option_or o (unbalanced styles (drop (i + 1) file))) fine)
     ∙ sym (ap (unbalanced styles) (rest_less file i x h e)) ∙ before
 
-pub count_next : (styles : List Style) (file : List Located) (i : ℕ) (x : Located) (counts : Counts) → i < length file → x ≡ get_or file i x → AreCounted styles counts (txns_of (take i file) ++ x.txn ∷ [])
+pub count_next : (styles : List Style) (file : List Located) (i : ℕ) (x : Located) (counts : Counts) → i < length file
+    → x ≡ get_or file i x → AreCounted styles counts (txns_of (take i file) ++ x.txn ∷ [])
     → AreCounted styles counts (txns_of (take (i + 1) file))
 count_next styles file i x counts h e counted = subst (AreCounted styles counts) (sym (front_more file i x h e)) counted

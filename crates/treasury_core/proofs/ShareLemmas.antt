@@ -15,7 +15,8 @@ use Rattle.treasury_core.proofs.LookupLemmas.{total_of}
 abbrev pub share : List ℕ → Commodity → Day → Record → ℤ
 share a u d r = if int_le r.entry.day.0 d.0 then sum_in Own a u r.entry.legs else pos 0
 
-pub balance-shares : (a : List ℕ) (u : Commodity) (d : Day) (rs : List Record) → balance Own (entries rs) a u (Through d) ≡ total_of (share a u d) rs
+pub balance-shares : (a : List ℕ) (u : Commodity) (d : Day) (rs : List Record)
+    → balance Own (entries rs) a u (Through d) ≡ total_of (share a u d) rs
 balance-shares a u d [] = balance-nil Own a u (Through d)
 balance-shares a u d (r ∷ rs) =
     balance-append Own (r.entry ∷ []) (entries rs) a u d

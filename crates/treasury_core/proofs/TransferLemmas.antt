@@ -13,22 +13,42 @@ use Rattle.treasury_core.specs.Joined.{inserted, received, with_receipt}
 use Rattle.treasury_core.specs.Good.{IsGoodTransfer}
 
 -- a transfer is one of other branches with the same names
-pub other_branches : (bs cs : List Branch) (t : Transfer) → ((m : List ℕ) → list_any (has_name m) bs ≡ true → list_any (has_name m) cs ≡ true) → IsGoodTransfer bs t → IsGoodTransfer cs t
-other_branches bs cs t f h = record { id = h.id; source = f t.source h.source; target = f t.target h.target; apart = h.apart; positive = h.positive; payer = h.payer; parts = h.parts; rest = h.rest }
+pub other_branches : (bs cs : List Branch) (t : Transfer)
+    → ((m : List ℕ) → list_any (has_name m) bs ≡ true → list_any (has_name m) cs ≡ true) → IsGoodTransfer bs t
+    → IsGoodTransfer cs t
+other_branches bs cs t f h = record {
+  id = h.id;
+  source = f t.source h.source;
+  target = f t.target h.target;
+  apart = h.apart;
+  positive = h.positive;
+  payer = h.payer;
+  parts = h.parts;
+  rest = h.rest;
+}
 
 -- one more transfer, and one more receipt
-inserted_at : (P : Transfer → Type 0) (t x : Transfer) (xs ys : List Transfer) (c : Bool) → P t → P x → AllByRecursion P xs → AllByRecursion P ys → AllByRecursion P (if c then x ∷ ys else t ∷ x ∷ xs)
+inserted_at : (P : Transfer → Type 0) (t x : Transfer) (xs ys : List Transfer) (c : Bool) → P t → P x
+    → AllByRecursion P xs → AllByRecursion P ys → AllByRecursion P (if c then x ∷ ys else t ∷ x ∷ xs)
 inserted_at P t x xs ys true p q h i = (q, i)
 inserted_at P t x xs ys false p q h i = (p, (q, h))
 
-pub all-inserted : (P : Transfer → Type 0) (t : Transfer) (ts : List Transfer) → P t → AllByRecursion P ts → AllByRecursion P (inserted t ts)
+pub all-inserted : (P : Transfer → Type 0) (t : Transfer) (ts : List Transfer) → P t → AllByRecursion P ts
+    → AllByRecursion P (inserted t ts)
 all-inserted P t [] p h = (p, tt)
-all-inserted P t (x ∷ xs) p h = inserted_at P t x xs (inserted t xs) (is_lt (name_cmp x.id t.id)) p h.0 h.1 (all-inserted P t xs p h.1)
+all-inserted P t (x ∷ xs) p h =
+    inserted_at P t x xs (inserted t xs) (is_lt (name_cmp x.id t.id)) p h.0 h.1 (all-inserted P t xs p h.1)
 
-received_at : (P : Transfer → Type 0) (r : Part) (t x : Transfer) (xs ys : List Transfer) (c : Bool) → cond c (Some x) (find (has_id t.id) xs) ≡ Some t → P (with_receipt r t) → P x → AllByRecursion P xs → (find (has_id t.id) xs ≡ Some t → AllByRecursion P ys) → AllByRecursion P (if c then with_receipt r x ∷ xs else x ∷ ys)
+received_at : (P : Transfer → Type 0) (r : Part) (t x : Transfer) (xs ys : List Transfer) (c : Bool)
+    → cond c (Some x) (find (has_id t.id) xs) ≡ Some t → P (with_receipt r t) → P x → AllByRecursion P xs
+    → (find (has_id t.id) xs ≡ Some t → AllByRecursion P ys)
+    → AllByRecursion P (if c then with_receipt r x ∷ xs else x ∷ ys)
 received_at P r t x xs ys true e p q h i = (subst (λ y. P (with_receipt r y)) (let k : t ≡ x = cc in k) p, h)
 received_at P r t x xs ys false e p q h i = (q, i e)
 
-pub all-received : (P : Transfer → Type 0) (r : Part) (t : Transfer) (ts : List Transfer) → find (has_id t.id) ts ≡ Some t → P (with_receipt r t) → AllByRecursion P ts → AllByRecursion P (received t.id r ts)
+pub all-received : (P : Transfer → Type 0) (r : Part) (t : Transfer) (ts : List Transfer)
+    → find (has_id t.id) ts ≡ Some t → P (with_receipt r t) → AllByRecursion P ts
+    → AllByRecursion P (received t.id r ts)
 all-received P r t [] e p h = tt
-all-received P r t (x ∷ xs) e p h = received_at P r t x xs (received t.id r xs) (bytes_eq x.id t.id) e p h.0 h.1 (λ g. all-received P r t xs g p h.1)
+all-received P r t (x ∷ xs) e p h =
+    received_at P r t x xs (received t.id r xs) (bytes_eq x.id t.id) e p h.0 h.1 (λ g. all-received P r t xs g p h.1)

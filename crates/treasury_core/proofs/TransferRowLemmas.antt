@@ -1,5 +1,7 @@
 -- transfers, read from their rows
-use Rattle.std.proofs.Common.{◌≡◌, ◌<◌, ◌≤◌, ◌+◌, ◌^◌, ℕ, suc, ℤ, pos, Bool, true, false, ◌||◌, cond, List, [], ◌∷◌, ◌++◌, length, get_or, refl, ap, ◌∙◌, sym, subst, arith, map, inl, inr, ltb, Option, Some, None, Ok, Err, neg_ℤ, ◌≤ℤ◌, FitsSigned, w32}
+use Rattle.std.proofs.Common.{◌≡◌, ◌<◌, ◌≤◌, ◌+◌, ◌^◌, ℕ, suc, ℤ, pos, Bool, true, false, ◌||◌, cond, List, [], ◌∷◌}
+use Rattle.std.proofs.Common.{◌++◌, length, get_or, refl, ap, ◌∙◌, sym, subst, arith, map, inl, inr, ltb, Option, Some}
+use Rattle.std.proofs.Common.{None, Ok, Err, neg_ℤ, ◌≤ℤ◌, FitsSigned, w32}
 use Rattle.std.specs.Prelude.{if◌then◌else◌, find, Result, IfOk, IfSome}
 use Rattle.std.specs.Result.{IsOkUnless}
 use Rattle.std.specs.List.{list_any, slice_get, AllByRecursion}
@@ -22,7 +24,8 @@ use Rattle.treasury_core.specs.declared.transfer.Receipt.{Receipt}
 use Rattle.treasury_core.specs.declared.transfer.Transfer.{Transfer}
 use Rattle.treasury_core.specs.Federation.{Branch, Federation, has_name, name_place}
 use Rattle.treasury_core.specs.Mark.{held}
-use Rattle.treasury_core.specs.Transfer.{asked, out_records, in_records, of_rest, receipts_of, has_id, receipt_record, posting, transit_account}
+use Rattle.treasury_core.specs.Transfer.{asked, out_records, in_records, of_rest, receipts_of, has_id, receipt_record}
+use Rattle.treasury_core.specs.Transfer.{posting, transit_account}
 use Rattle.treasury_core.specs.Good.{IsGoodRecord, IsGoodTransfer, IsGoodState}
 use Rattle.treasury_core.specs.Drafted.{IsFault, IsReading, HasShortReceipt, HaveShortDays, IsNamed}
 use Rattle.treasury_core.specs.Rows.{IsShort}
@@ -44,25 +47,40 @@ unnumbered g n [] = refl
 unnumbered g n (x ∷ xs) = ap (λ ys. g x ∷ ys) (unnumbered g (n + 1) xs)
 
 -- the branch of a name stands at its place
-pub name_found : (bs : List Branch) (name : List ℕ) → list_any (has_name name) bs ≡ true → (b : Branch) × ((slice_get bs (name_place bs name) ≡ Some b) × (b.name ≡ name))
+pub name_found : (bs : List Branch) (name : List ℕ) → list_any (has_name name) bs ≡ true
+    → (b : Branch) × ((slice_get bs (name_place bs name) ≡ Some b) × (b.name ≡ name))
 name_found [] name e = absurd cc
 name_found (b ∷ bs) name e = by_test (bytes_eq b.name name) refl e (name_found bs name)
   where
     by_test : (t : Bool) → bytes_eq b.name name ≡ t → (t || list_any (has_name name) bs) ≡ true
-        → (list_any (has_name name) bs ≡ true → (x : Branch) × ((slice_get bs (name_place bs name) ≡ Some x) × (x.name ≡ name)))
-        → (x : Branch) × ((slice_get (b ∷ bs) (if bytes_eq b.name name then 0 else suc (name_place bs name)) ≡ Some x) × (x.name ≡ name))
-    by_test true g k later = (b, (ap (λ (t : Bool). slice_get (b ∷ bs) (if t then 0 else suc (name_place bs name))) g, same_bytes b.name name g))
-    by_test false g k later = let r = later k in (r.0, (ap (λ (t : Bool). slice_get (b ∷ bs) (if t then 0 else suc (name_place bs name))) g ∙ r.1.0, r.1.1))
+        → (list_any (has_name name) bs ≡ true
+        → (x : Branch) × ((slice_get bs (name_place bs name) ≡ Some x) × (x.name ≡ name)))
+        → (x : Branch) × ((slice_get (b ∷ bs) (if bytes_eq b.name name then 0 else suc (name_place bs name)) ≡ Some x)
+        × (x.name ≡ name))
+    by_test true g k later = (
+      b,
+      (
+        ap (λ (t : Bool). slice_get (b ∷ bs) (if t then 0 else suc (name_place bs name))) g,
+        same_bytes b.name name g,
+      ),
+    )
+    by_test false g k later = let r =
+        later k in (
+          r.0,
+          (ap (λ (t : Bool). slice_get (b ∷ bs) (if t then 0 else suc (name_place bs name))) g ∙ r.1.0, r.1.1),
+        )
 
 -- a name is read from its place
 abbrev pub IsNameAt : List Branch → ℕ → List ℕ → Type 0
 IsNameAt bs place name = (list_any (has_name name) bs ≡ true) × (name_place bs name ≡ place)
 
-pub name_reading : (bs : List Branch) (place : ℕ) (b : Branch) (nm : List ℕ) (r : Result (List ℕ) Cause) → true ≡ ltb place (length bs) → b ≡ get_or bs place b → nm ≡ b.name
+pub name_reading : (bs : List Branch) (place : ℕ) (b : Branch) (nm : List ℕ) (r : Result (List ℕ) Cause)
+    → true ≡ ltb place (length bs) → b ≡ get_or bs place b → nm ≡ b.name
     → IfOk r (λ y. y ≡ nm) → IsOkUnless r OutOfMemory → IsReading (IsNameAt bs place) r
 name_reading bs place b nm (Ok y) h is named copied m = λ name p.
     let x = name_found bs name p.0 in
-    let at : slice_get bs place ≡ Some b = slice_get_read bs (length bs) place b refl (ltb-true place (length bs) (sym h)) is in
+    let at : slice_get bs place ≡ Some b =
+    slice_get_read bs (length bs) place b refl (ltb-true place (length bs) (sym h)) is in
     let same : ◌≡◌ {A = Option Branch} (Some x.0) (Some b) = sym x.1.0 ∙ (ap (slice_get bs) p.1 ∙ at) in
     let one : x.0 ≡ b = cc in
     sym x.1.1 ∙ (ap (λ (z : Branch). z.name) one ∙ (sym named ∙ sym copied))
@@ -79,15 +97,22 @@ name_missing bs place h = inr (
 )
 
 -- each transfer is found by its ID
-found_more : (t : Transfer) (ts xs : List Transfer) → list_any (has_id t.id) xs ≡ false → AllByRecursion (λ (y : Transfer). find (has_id y.id) ts ≡ Some y) xs → AllByRecursion (λ (y : Transfer). find (has_id y.id) (t ∷ ts) ≡ Some y) xs
+found_more : (t : Transfer) (ts xs : List Transfer) → list_any (has_id t.id) xs ≡ false
+    → AllByRecursion (λ (y : Transfer). find (has_id y.id) ts ≡ Some y) xs
+    → AllByRecursion (λ (y : Transfer). find (has_id y.id) (t ∷ ts) ≡ Some y) xs
 found_more t ts [] n h = tt
 found_more t ts (y ∷ xs) n h =
-    let k = neither (bytes_eq y.id t.id) (list_any (has_id t.id) xs) n in
-    (ap (λ (b : Bool). cond b (Some t) (find (has_id y.id) ts)) (other_bytes y.id t.id k.0) ∙ h.0, found_more t ts xs k.1 h.1)
+    let k = neither (bytes_eq y.id t.id) (list_any (has_id t.id) xs) n in (
+      ap (λ (b : Bool). cond b (Some t) (find (has_id y.id) ts)) (other_bytes y.id t.id k.0) ∙ h.0,
+      found_more t ts xs k.1 h.1,
+    )
 
 all_found : (ts : List Transfer) → HaveOwnIds ts → AllByRecursion (λ (y : Transfer). find (has_id y.id) ts ≡ Some y) ts
 all_found [] h = tt
-all_found (t ∷ ts) h = (ap (λ (b : Bool). cond b (Some t) (find (has_id t.id) ts)) (self_bytes t.id), found_more t ts ts h.0 (all_found ts h.1))
+all_found (t ∷ ts) h = (
+  ap (λ (b : Bool). cond b (Some t) (find (has_id t.id) ts)) (self_bytes t.id),
+  found_more t ts ts h.0 (all_found ts h.1),
+)
 
 -- the records of receipts stand in their target's book
 all_front : {X : Type 0} (P : X → Type 0) (xs ys : List X) → AllByRecursion P (xs ++ ys) → AllByRecursion P xs
@@ -98,36 +123,53 @@ all_behind : {X : Type 0} (P : X → Type 0) (xs ys : List X) → AllByRecursion
 all_behind P [] ys h = h
 all_behind P (x ∷ xs) ys h = all_behind P xs ys h.1
 
-all_in : (P : Record → Type 0) (t : Transfer) (b : Bool) (ps : List Part) → b ≡ true → AllByRecursion P (in_records t b ps) → AllByRecursion P (map (receipt_record t) ps)
+all_in : (P : Record → Type 0) (t : Transfer) (b : Bool) (ps : List Part) → b ≡ true
+    → AllByRecursion P (in_records t b ps) → AllByRecursion P (map (receipt_record t) ps)
 all_in P t true ps e h = h
 all_in P t false ps e h = absurd cc
 
-receipts_at : (P : Record → Type 0) (t x : Transfer) (xs : List Transfer) (c : Bool) → cond c (Some x) (find (has_id t.id) xs) ≡ Some t → AllByRecursion P (asked (x ∷ xs) t.target)
-    → (find (has_id t.id) xs ≡ Some t → AllByRecursion P (asked xs t.target) → AllByRecursion P (map (receipt_record t) (receipts_of t))) → AllByRecursion P (map (receipt_record t) (receipts_of t))
+receipts_at : (P : Record → Type 0) (t x : Transfer) (xs : List Transfer) (c : Bool)
+    → cond c (Some x) (find (has_id t.id) xs) ≡ Some t → AllByRecursion P (asked (x ∷ xs) t.target)
+    → (find (has_id t.id) xs ≡ Some t → AllByRecursion P (asked xs t.target)
+    → AllByRecursion P (map (receipt_record t) (receipts_of t)))
+    → AllByRecursion P (map (receipt_record t) (receipts_of t))
 receipts_at P t x xs true e h k =
-    let Q : Transfer → Type 0 = λ y. AllByRecursion P (asked (y ∷ xs) t.target) → AllByRecursion P (map (receipt_record t) (receipts_of t)) in
+    let Q : Transfer → Type 0 = λ y. AllByRecursion P (asked (y ∷ xs) t.target)
+    → AllByRecursion P (map (receipt_record t) (receipts_of t)) in
     subst Q (sym (same_transfer x t e))
     (λ all. all_in P t (bytes_eq t.target t.target) (receipts_of t) (self_bytes t.target)
-    (all_front P (in_records t (bytes_eq t.target t.target) (receipts_of t)) (asked xs t.target) (all_behind P (out_records t (bytes_eq t.source t.target)) _ all))) h
+    (all_front P (in_records t (bytes_eq t.target t.target) (receipts_of t)) (asked xs t.target)
+    (all_behind P (out_records t (bytes_eq t.source t.target)) _ all))) h
 receipts_at P t x xs false e h k =
-    k e (all_behind P (in_records x (bytes_eq x.target t.target) (receipts_of x)) (asked xs t.target) (all_behind P (out_records x (bytes_eq x.source t.target)) _ h))
+    k e (all_behind P (in_records x (bytes_eq x.target t.target) (receipts_of x)) (asked xs t.target)
+    (all_behind P (out_records x (bytes_eq x.source t.target)) _ h))
 
-asked_receipts : (P : Record → Type 0) (t : Transfer) (ts : List Transfer) → find (has_id t.id) ts ≡ Some t → AllByRecursion P (asked ts t.target) → AllByRecursion P (map (receipt_record t) (receipts_of t))
+asked_receipts : (P : Record → Type 0) (t : Transfer) (ts : List Transfer) → find (has_id t.id) ts ≡ Some t
+    → AllByRecursion P (asked ts t.target) → AllByRecursion P (map (receipt_record t) (receipts_of t))
 asked_receipts P t [] e h = absurd cc
 asked_receipts P t (x ∷ xs) e h = receipts_at P t x xs (bytes_eq x.id t.id) e h (asked_receipts P t xs)
 
-all_mapped : (P : Record → Type 0) (g : Part → Record) (ps : List Part) → AllByRecursion P (map g ps) → AllByRecursion (λ (p : Part). P (g p)) ps
+all_mapped : (P : Record → Type 0) (g : Part → Record) (ps : List Part) → AllByRecursion P (map g ps)
+    → AllByRecursion (λ (p : Part). P (g p)) ps
 all_mapped P g [] h = tt
 all_mapped P g (p ∷ ps) h = (h.0, all_mapped P g ps h.1)
 
-receipts_written : (f : Federation) (t : Transfer) → IsGoodState f → find (has_id t.id) f.transfers ≡ Some t → IsGoodTransfer f.branches t → AllByRecursion (λ (p : Part). IsGoodRecord f.styles (receipt_record t p)) (receipts_of t)
+receipts_written : (f : Federation) (t : Transfer) → IsGoodState f → find (has_id t.id) f.transfers ≡ Some t
+    → IsGoodTransfer f.branches t
+    → AllByRecursion (λ (p : Part). IsGoodRecord f.styles (receipt_record t p)) (receipts_of t)
 receipts_written f t good here fair =
-    let b = found (IsWhole f.styles f.transfers) f.branches t.target (all_whole f.styles f.transfers f.branches good.branches good.carried) fair.target in
+    let b = found (IsWhole f.styles f.transfers) f.branches t.target
+    (all_whole f.styles f.transfers f.branches good.branches good.carried) fair.target in
     let P = IsGoodRecord f.styles in
-    let stand = stand_of f.transfers b.branch (good_marked f.branches f.transfers good.transfers) good.ids b.holds.carried in
+    let stand =
+    stand_of f.transfers b.branch (good_marked f.branches f.transfers good.transfers) good.ids b.holds.carried in
     let each : AllByRecursion P (asked f.transfers b.branch.name) =
-    all_weaker (λ (r : Record). held b.branch.records r.mark ≡ Some r) P (asked f.transfers b.branch.name) (λ r h. subst (λ (o : Option Record). IfSome o P) h (held_all P b.branch.records r.mark b.holds.good.records)) stand in
-    all_mapped P (receipt_record t) (receipts_of t) (asked_receipts P t f.transfers here (subst (λ (n : List ℕ). AllByRecursion P (asked f.transfers n)) b.named each))
+    all_weaker (λ (r : Record). held b.branch.records r.mark ≡ Some r) P (asked f.transfers b.branch.name)
+    (λ r h. subst (λ (o : Option Record). IfSome o P) h (held_all P b.branch.records r.mark b.holds.good.records))
+    stand in
+    all_mapped P (receipt_record t) (receipts_of t)
+    (asked_receipts P t f.transfers here
+    (subst (λ (n : List ℕ). AllByRecursion P (asked f.transfers n)) b.named each))
 
 -- the transfers of a good state can be kept
 short_bounds : (z : ℤ) → neg_ℤ (pos 719_162) ≤ℤ z → z ≤ℤ pos 2_932_896 → FitsSigned w32 z
@@ -140,25 +182,32 @@ short_receipt : (t : Transfer) (o : Option Receipt) → HaveShortDays (of_rest t
 short_receipt t None h = tt
 short_receipt t (Some r) h = h.0
 
-small_unit : (styles : List Style) (u : Commodity) (q : ℤ) → length styles ≤ 16 → is_amount styles u q ≡ true → u.0 < 2 ^ 16
+small_unit : (styles : List Style) (u : Commodity) (q : ℤ) → length styles ≤ 16 → is_amount styles u q ≡ true
+    → u.0 < 2 ^ 16
 small_unit styles u q few h = let lt = ltb-true u.0 (length styles) (and_parts _ _ h).0 in omega (arith, lt, few)
 
-named_one : (f : Federation) (t : Transfer) → IsGoodState f → find (has_id t.id) f.transfers ≡ Some t → IsGoodTransfer f.branches t → IsNamed f.branches t
+named_one : (f : Federation) (t : Transfer) → IsGoodState f → find (has_id t.id) f.transfers ≡ Some t
+    → IsGoodTransfer f.branches t → IsNamed f.branches t
 named_one f t good here fair =
     let written = dispatch_written f t good here fair in
     let account = transit_account t.source t.target in
     let first = (and_parts (is_posting f.styles (posting (leg account t.unit t.qty))) _ written.printable.postings).0 in
-    let short : HaveShortDays (receipts_of t) = all_weaker (λ (p : Part). IsGoodRecord f.styles (receipt_record t p)) (λ (p : Part). IsShort p.day) (receipts_of t) (λ p h. short_day p.day h.printable.header.number) (receipts_written f t good here fair) in
+    let short : HaveShortDays (receipts_of t) =
+    all_weaker (λ (p : Part). IsGoodRecord f.styles (receipt_record t p)) (λ (p : Part). IsShort p.day)
+    (receipts_of t) (λ p h. short_day p.day h.printable.header.number) (receipts_written f t good here fair) in
     record {
       source = fair.source;
       target = fair.target;
       unit = small_unit f.styles t.unit t.qty good.styles.few (amount_of f.styles account t.unit t.qty first);
       day = short_day t.day written.printable.header.number;
-      receipt = short_receipt t t.receipt (all_behind (λ (p : Part). IsShort p.day) t.parts (of_rest t t.receipt) short);
+      receipt =
+          short_receipt t t.receipt (all_behind (λ (p : Part). IsShort p.day) t.parts (of_rest t t.receipt) short);
       parts = all_front (λ (p : Part). IsShort p.day) t.parts (of_rest t t.receipt) short;
     }
 
-named_from : (f : Federation) (xs : List Transfer) → IsGoodState f → AllByRecursion (λ (y : Transfer). find (has_id y.id) f.transfers ≡ Some y) xs → AllByRecursion (IsGoodTransfer f.branches) xs → AllByRecursion (IsNamed f.branches) xs
+named_from : (f : Federation) (xs : List Transfer) → IsGoodState f
+    → AllByRecursion (λ (y : Transfer). find (has_id y.id) f.transfers ≡ Some y) xs
+    → AllByRecursion (IsGoodTransfer f.branches) xs → AllByRecursion (IsNamed f.branches) xs
 named_from f [] good h k = tt
 named_from f (t ∷ xs) good h k = (named_one f t good h.0 k.0, named_from f xs good h.1 k.1)
 

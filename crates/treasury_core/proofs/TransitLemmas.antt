@@ -11,5 +11,7 @@ reserved_test account b h = by_test b (is_inside transit account) refl h
     by_test : (b t : Bool) → is_inside transit account ≡ t → IsTrue b ↔ IsReserved account → b ≡ t
     by_test true true e h = refl
     by_test false false e h = refl
-    by_test true false e h = absurd (let k : is_inside transit account ≡ true = (is_inside_decides transit account).1 (h.0 refl) in let x : false ≡ true = sym e ∙ k in cc)
+    by_test true false e h = absurd
+        (let k : is_inside transit account ≡ true =
+        (is_inside_decides transit account).1 (h.0 refl) in let x : false ≡ true = sym e ∙ k in cc)
     by_test false true e h = absurd (let x : false ≡ true = h.1 ((is_inside_decides transit account).0 e) in cc)

@@ -34,15 +34,18 @@ day n = record { 0 = n }
 
 -- what came into one branch, in order, between what came into another
 pub among : (a b c d : Record) →
-    let xs = add.Record (codes "north") a ∷ add.Record (codes "south") b ∷ add.Locked (codes "north") (day (pos 1)) ∷ add.Record (codes "north") c ∷ add.Record (codes "north") d ∷ [] in
-    (records_among (codes "north") xs ≡ a ∷ c ∷ d ∷ []) × (records_among (codes "south") xs ≡ b ∷ []) × (records_among (codes "west") xs ≡ [])
+    let xs = add.Record (codes "north") a ∷ add.Record (codes "south") b ∷ add.Locked (codes "north") (day (pos 1))
+    ∷ add.Record (codes "north") c ∷ add.Record (codes "north") d ∷ [] in
+    (records_among (codes "north") xs ≡ a ∷ c ∷ d ∷ []) × (records_among (codes "south") xs ≡ b ∷ [])
+    × (records_among (codes "west") xs ≡ [])
 among a b c d = (refl, refl, refl)
 
 abbrev euros : Commodity
 euros = record { 0 = 0 }
 
 abbrev posting : List ℕ → ℤ → Option Claim → Posting
-posting account q claim = record { status = None; account = account; amount = Some (euros, q); price = None; claim = claim; comments = [] }
+posting account q claim =
+    record { status = None; account = account; amount = Some (euros, q); price = None; claim = claim; comments = [] }
 
 -- an amount to the bank, and one from income
 abbrev receipt : List ℕ → ℤ → ℤ → Option Claim → ℤ → Txn
@@ -85,34 +88,49 @@ stated = record {
 -- two branches, the first with these records and this lock
 abbrev federation : Option Day → List Record → Federation
 federation lock rs = record {
-  styles = record { symbol = codes "EUR"; left = false; spaced = true; mark = Point; decimals = 2; grouped = true } ∷ [];
-  branches = record { name = codes "north"; locked = lock; records = rs } ∷ record { name = codes "south"; locked = None; records = [] } ∷ [];
+  styles =
+      record { symbol = codes "EUR"; left = false; spaced = true; mark = Point; decimals = 2; grouped = true } ∷ [];
+  branches = record { name = codes "north"; locked = lock; records = rs }
+      ∷ record { name = codes "south"; locked = None; records = [] } ∷ [];
   transfers = [];
 }
 
 -- the records and the book of a name
-pub books : (records_of (federation None (stated ∷ [])) (codes "north") ≡ stated ∷ []) × (book_of (federation None (stated ∷ [])) (codes "north") ≡ stated.entry ∷ [])
-    × (book_of (federation None (stated ∷ [])) (codes "south") ≡ []) × (book_of (federation None (stated ∷ [])) (codes "nort") ≡ [])
+pub books : (records_of (federation None (stated ∷ [])) (codes "north") ≡ stated ∷ [])
+    × (book_of (federation None (stated ∷ [])) (codes "north") ≡ stated.entry ∷ [])
+    × (book_of (federation None (stated ∷ [])) (codes "south") ≡ [])
+    × (book_of (federation None (stated ∷ [])) (codes "nort") ≡ [])
 books = (refl, refl, refl, refl)
 
 -- the statement is accepted; behind it the receipt would break its assertion, before it it does not
-pub replies : (reply (federation None []) (into (codes "north") statement) ≡ Ok (Entered 1 0)) × (reply (federation None []) (into (codes "north") late_receipt) ≡ Ok (Entered 1 0))
+pub replies : (reply (federation None []) (into (codes "north") statement) ≡ Ok (Entered 1 0))
+    × (reply (federation None []) (into (codes "north") late_receipt) ≡ Ok (Entered 1 0))
     × (reply (federation None (stated ∷ [])) (into (codes "north") late_receipt)
-    ≡ Err (ClaimFailed (record { place = record { day = day (pos 31); entry = 1; leg = 1 }; unit = euros; asserted = pos 1000; found = pos 1100 })))
+    ≡ Err (ClaimFailed (record {
+      place = record { day = day (pos 31); entry = 1; leg = 1 };
+      unit = euros;
+      asserted = pos 1000;
+      found = pos 1100;
+    })))
 unfolding reply verdict failure fault stray balance balancing_fault legs_of
 replies = (refl, refl, refl)
 
--- a branch that is not there, before a transaction that does not sum to zero; that transaction, with the line of its header; a mark of the product,
--- also where the day is locked; a locked day
-pub refusals : (reply (federation None []) (into (codes "west") (receipt (codes "w") (pos 1) (pos 100) None (pos 100))) ≡ Err (Plain UnknownBranch))
-    × (reply (federation None []) (into (codes "south") (receipt (codes "w") (pos 1) (pos 100) None (pos 100))) ≡ Err (Text (record { line = 3; cause = Unbalanced })))
-    × (reply (federation (Some (day (pos 20))) []) (into (codes "north") (receipt (codes "in:x") (pos 1) (pos 100) None (neg_ℤ (pos 100)))) ≡ Err (Plain ReservedMark))
+-- a branch that is not there, before a transaction that does not sum to zero; that transaction, with the line of its
+-- header; a mark of the product, also where the day is locked; a locked day
+pub refusals : (reply (federation None []) (into (codes "west") (receipt (codes "w") (pos 1) (pos 100) None (pos 100)))
+    ≡ Err (Plain UnknownBranch))
+    × (reply (federation None []) (into (codes "south") (receipt (codes "w") (pos 1) (pos 100) None (pos 100)))
+    ≡ Err (Text (record { line = 3; cause = Unbalanced })))
+    × (reply (federation (Some (day (pos 20))) [])
+    (into (codes "north") (receipt (codes "in:x") (pos 1) (pos 100) None (neg_ℤ (pos 100))))
+    ≡ Err (Plain ReservedMark))
     × (reply (federation (Some (day (pos 20))) []) (into (codes "north") late_receipt) ≡ Err (Plain Locked))
 unfolding reply balancing_fault legs_of
 refusals = (refl, refl, refl, refl)
 
 -- a branch that is there, a lock, the same again, one before it
-pub repeats : (reply (federation None []) (NewBranch (codes "south")) ≡ Ok Repeated) × (reply (federation None []) (Lock (codes "north") (day (pos 20))) ≡ Ok Done)
+pub repeats : (reply (federation None []) (NewBranch (codes "south")) ≡ Ok Repeated)
+    × (reply (federation None []) (Lock (codes "north") (day (pos 20))) ≡ Ok Done)
     × (reply (federation (Some (day (pos 20))) []) (Lock (codes "north") (day (pos 20))) ≡ Ok Repeated)
     × (reply (federation (Some (day (pos 20))) []) (Lock (codes "north") (day (pos 19))) ≡ Err (Plain LockBack))
 unfolding reply
@@ -145,11 +163,16 @@ month =
     ∷ record { command = Close north_closed; reply = Ok Done }
     ∷ record { command = NewBranch (codes "south"); reply = Ok Repeated } ∷ []
 
--- What the headline says of them: at the end income is at zero. The closing left the bank as it was, and the last turn everything.
+-- What the headline says of them: at the end income is at zero. The closing left the bank as it was, and the last turn
+-- everything.
 pub headline : (f : Federation) → KeepsBooks f month →
     let entered = state_after f (record { command = into (codes "north") statement; reply = Ok (Entered 1 0) } ∷ []) in
     let closed = after_turn entered (record { command = Close north_closed; reply = Ok Done }) in
-    (in_north (state_after f month) (codes "income") ≡ pos 0) × (in_north closed (codes "bank") ≡ in_north entered (codes "bank")) × (state_after f month ≡ closed)
+    (in_north (state_after f month) (codes "income") ≡ pos 0)
+    × (in_north closed (codes "bank") ≡ in_north entered (codes "bank")) × (state_after f month ≡ closed)
 headline f kept =
-    let closing = kept.closings.1.0 north_closed refl refl in
-    (closing.stays (codes "income") euros refl, closing.untouched (codes "bank") euros (day (pos 31)) refl refl, kept.refusals.1.1.0 tt)
+    let closing = kept.closings.1.0 north_closed refl refl in (
+      closing.stays (codes "income") euros refl,
+      closing.untouched (codes "bank") euros (day (pos 31)) refl refl,
+      kept.refusals.1.1.0 tt,
+    )

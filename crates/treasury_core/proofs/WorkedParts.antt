@@ -30,10 +30,26 @@ abbrev usd : Commodity
 usd = record { 0 = 1 }
 
 abbrev t9 : Transfer
-t9 = record { id = codes "t9"; source = codes "north"; target = codes "south"; unit = eur; qty = pos 5000; day = day 19783; payer = codes "assets:bank"; parts = []; receipt = None }
+t9 = record {
+  id = codes "t9";
+  source = codes "north";
+  target = codes "south";
+  unit = eur;
+  qty = pos 5000;
+  day = day 19783;
+  payer = codes "assets:bank";
+  parts = [];
+  receipt = None;
+}
 
 abbrev asks : List ℕ → Commodity → ℕ → ℕ → Received
-asks key unit qty on = record { id = codes "t9"; branch = codes "south"; day = day on; account = codes "assets:bank"; part = Some (record { key = key; unit = unit; qty = pos qty }) }
+asks key unit qty on = record {
+  id = codes "t9";
+  branch = codes "south";
+  day = day on;
+  account = codes "assets:bank";
+  part = Some (record { key = key; unit = unit; qty = pos qty });
+}
 
 abbrev rest : ℕ → Received
 rest on = record { id = codes "t9"; branch = codes "south"; day = day on; account = codes "assets:bank"; part = None }
@@ -52,7 +68,8 @@ two = with_receipt (receipt_of one (rest 19787)) one
 abbrev sent : Transfer → Federation
 sent t = record {
   styles = [];
-  branches = record { name = codes "north"; locked = None; records = [] } ∷ record { name = codes "south"; locked = None; records = [] } ∷ [];
+  branches = record { name = codes "north"; locked = None; records = [] }
+      ∷ record { name = codes "south"; locked = None; records = [] } ∷ [];
   transfers = t ∷ [];
 }
 
@@ -64,22 +81,28 @@ pub repeated : (reply (sent one) (Receive a20) ≡ Ok Repeated) × (reply (sent 
 unfolding reply
 repeated = (refl, refl)
 
--- the key is held with another amount, and the rest with another day; a part is too much, or in another commodity; a key `all`; a part of nothing; a part
--- before the dispatch; and once all is received, a further part is too much
-pub refused : (reply (sent one) (Receive (asks (codes "a") eur 2100 19785)) ≡ Err (Plain AlreadyReceived)) × (reply (sent two) (Receive (rest 19788)) ≡ Err (Plain AlreadyReceived))
-    × (reply (sent one) (Receive (asks (codes "b") eur 3100 19786)) ≡ Err (Plain TooMuch)) × (reply (sent one) (Receive (asks (codes "b") usd 100 19786)) ≡ Err (Plain TooMuch))
-    × (reply (sent one) (Receive (asks (codes "all") eur 100 19786)) ≡ Err (Plain BadId)) × (reply (sent one) (Receive (asks (codes "b") eur 0 19786)) ≡ Err (Plain BadAmount))
-    × (reply (sent one) (Receive (asks (codes "b") eur 100 19782)) ≡ Err (Plain TooEarly)) × (reply (sent two) (Receive (asks (codes "b") eur 100 19788)) ≡ Err (Plain TooMuch))
+-- the key is held with another amount, and the rest with another day; a part is too much, or in another commodity; a
+-- key `all`; a part of nothing; a part before the dispatch; and once all is received, a further part is too much
+pub refused : (reply (sent one) (Receive (asks (codes "a") eur 2100 19785)) ≡ Err (Plain AlreadyReceived))
+    × (reply (sent two) (Receive (rest 19788)) ≡ Err (Plain AlreadyReceived))
+    × (reply (sent one) (Receive (asks (codes "b") eur 3100 19786)) ≡ Err (Plain TooMuch))
+    × (reply (sent one) (Receive (asks (codes "b") usd 100 19786)) ≡ Err (Plain TooMuch))
+    × (reply (sent one) (Receive (asks (codes "all") eur 100 19786)) ≡ Err (Plain BadId))
+    × (reply (sent one) (Receive (asks (codes "b") eur 0 19786)) ≡ Err (Plain BadAmount))
+    × (reply (sent one) (Receive (asks (codes "b") eur 100 19782)) ≡ Err (Plain TooEarly))
+    × (reply (sent two) (Receive (asks (codes "b") eur 100 19788)) ≡ Err (Plain TooMuch))
 unfolding reply is_account is_utf8 chars encode
 refused = (refl, refl, refl, refl, refl, refl, refl, refl)
 
 -- what is open on 2, 4 and 5 March, and what is left
-pub open_then : (open_of two (day 19784) ≡ pos 5000) × (open_of two (day 19786) ≡ pos 3000) × (open_of two (day 19787) ≡ pos 0)
+pub open_then : (open_of two (day 19784) ≡ pos 5000) × (open_of two (day 19786) ≡ pos 3000)
+    × (open_of two (day 19787) ≡ pos 0)
 open_then = (refl, refl, refl)
 
 pub left : (left_of t9 ≡ pos 5000) × (left_of one ≡ pos 3000) × (left_of two ≡ pos 0)
 left = (refl, refl, refl)
 
 pub marks : (in_mark (codes "t9") (codes "a") ≡ codes "in:t9:a") × (in_mark (codes "t9") (codes "all") ≡ codes "in:t9")
-    × (in_text t9 (codes "a") ≡ codes "transfer t9 from north part a") × (in_text t9 (codes "all") ≡ codes "transfer t9 from north")
+    × (in_text t9 (codes "a") ≡ codes "transfer t9 from north part a")
+    × (in_text t9 (codes "all") ≡ codes "transfer t9 from north")
 marks = (refl, refl, refl, refl)

@@ -1,5 +1,8 @@
--- States worked out by hand: for each part of a good state one that has it and one that breaks it, and the rows of a state with a row of each kind.
-use Rattle.std.proofs.Common.{◌≡◌, ◌≤◌, ◌+◌, refl, ap, subst, ℕ, zero, suc, Bool, List, [], ◌∷◌, length, length-append, ℤ, pos, neg_ℤ, ◌+ℤ◌, Option, Some, None, Result, Ok, Err, true, false, true≢false, nat_eq, arith}
+-- States worked out by hand: for each part of a good state one that has it and one that breaks it, and the rows of a
+-- state with a row of each kind.
+use Rattle.std.proofs.Common.{◌≡◌, ◌≤◌, ◌+◌, refl, ap, subst, ℕ, zero, suc, Bool, List, [], ◌∷◌, length, length-append}
+use Rattle.std.proofs.Common.{ℤ, pos, neg_ℤ, ◌+ℤ◌, Option, Some, None, Result, Ok, Err, true, false, true≢false, nat_eq}
+use Rattle.std.proofs.Common.{arith}
 use Rattle.std.specs.Prelude.{codes, slice_get, if◌then◌else◌, unsigned_abs}
 use Rattle.money_core.specs.declared.cause.Cause.{Cause}
 use Rattle.std.specs.Str.{is_utf8, chars, bytes_eq}
@@ -40,7 +43,8 @@ use Rattle.treasury_core.specs.Federation.{Branch, Federation}
 use Rattle.treasury_core.specs.Mark.{HaveOwnMarks}
 use Rattle.treasury_core.specs.Transfer.{rest_part, dispatch_record, receipt_record}
 use Rattle.treasury_core.specs.Closing.{close_mark}
-use Rattle.treasury_core.specs.Good.{IsGoodRecord, IsOffTransit, IsWithinLock, IsGoodBranch, HaveOwnNames, AreAscending, HasGoodParts, IsGoodRest, IsGoodTransfer, IsCarried, IsGoodState}
+use Rattle.treasury_core.specs.Good.{IsGoodRecord, IsOffTransit, IsWithinLock, IsGoodBranch, HaveOwnNames, AreAscending}
+use Rattle.treasury_core.specs.Good.{HasGoodParts, IsGoodRest, IsGoodTransfer, IsCarried, IsGoodState}
 use Rattle.treasury_core.specs.Rows.{part_rows, rows}
 use Rattle.treasury_core.proofs.ProductLemmas.{dispatch_good, receipt_good, pair_fit, line_small}
 
@@ -126,7 +130,8 @@ twice_declared are = true≢false (ap is_first (are.found 1 euro refl))
 
 -- an amount, with an assertion or none
 abbrev plain : List ℕ → ℤ → Option Claim → Posting
-plain account q claim = record { status = None; account = account; amount = Some (euros, q); price = None; claim = claim; comments = [] }
+plain account q claim =
+    record { status = None; account = account; amount = Some (euros, q); price = None; claim = claim; comments = [] }
 
 -- `==* ` so many euros
 abbrev alone : ℤ → Claim
@@ -176,7 +181,9 @@ good_sent = dispatch_good styles received good_styles (record {
 good_got : IsGoodRecord styles got
 unfolding is_account
 good_got =
-    receipt_good styles received (rest_part received receipt) good_styles refl refl refl good_sent (λ other. let no : true ≡ false = other in absurd cc) (omega arith) (day_number_from (day (pos 22)) (omega (arith, ints)) (omega (arith, ints))) refl
+    receipt_good styles received (rest_part received receipt) good_styles refl refl refl good_sent
+    (λ other. let no : true ≡ false = other in absurd cc) (omega arith)
+    (day_number_from (day (pos 22)) (omega (arith, ints)) (omega (arith, ints))) refl
     (utf8_low (codes "assets:cash") refl)
 
 is_into_cash : is_posting styles (into_cash (pos 1500)) ≡ true
@@ -206,7 +213,11 @@ unfolding legs_of balancing_fault
 good_stated = record {
   marked = refl;
   printable = record {
-    header = record { number = day_number_from (day (pos 31)) (omega (arith, ints)) (omega (arith, ints)); code_ok = refl; description_ok = refl };
+    header = record {
+      number = day_number_from (day (pos 31)) (omega (arith, ints)) (omega (arith, ints));
+      code_ok = refl;
+      description_ok = refl;
+    };
     code = refl;
     description = utf8_low (codes "hall") refl;
     mark = refl;
@@ -228,7 +239,10 @@ marked_otherwise good = true≢false (ap (is_mark_of (codes "s")) good.marked)
 
 -- an assertion in a commodity that is not declared
 abbrev undeclared : Txn
-undeclared = record (income (pos 0)) { postings = plain (codes "income") (pos 0) (Some (record { kind = SoleIn; unit = record { 0 = 1 }; qty = pos 0 })) ∷ [] }
+undeclared = record (income (pos 0)) {
+  postings = plain (codes "income") (pos 0) (Some (record { kind = SoleIn; unit = record { 0 = 1 }; qty = pos 0 }))
+      ∷ [];
+}
 
 pub unprintable : IsPrintable styles undeclared → ⊥
 unfolding is_account is_utf8 chars encode
@@ -239,7 +253,10 @@ abbrev legs_in : Result Entry Cause → ℕ
 legs_in (Ok e) = length e.legs
 legs_in (Err cause) = 0
 
-pub other_legs : IsGoodRecord styles (record (stated (pos 1500)) { entry = record { day = day (pos 31); legs = leg (codes "income") euros (neg_ℤ (pos 500)) ∷ []; claims = [] } }) → ⊥
+pub other_legs : IsGoodRecord styles
+    (record (stated (pos 1500))
+    { entry = record { day = day (pos 31); legs = leg (codes "income") euros (neg_ℤ (pos 500)) ∷ []; claims = [] } })
+    → ⊥
 unfolding legs_of balancing_fault
 other_legs good = let no : 2 ≡ 1 = ap legs_in good.legs in absurd (omega (arith, no))
 
@@ -253,14 +270,17 @@ balances_at : (t : Bool) → ((if t then pos 500 else pos 0) +ℤ ((if t then ne
 balances_at true = refl
 balances_at false = refl
 
-moves_at : (t : Bool) → ((if t then 1000 else 0) + ((if t then 1000 else 0) + ((if t then 500 else 0) + ((if t then 500 else 0) + 0)))) ≤ most_turnover
+moves_at : (t : Bool) → ((if t then 1000 else 0)
+    + ((if t then 1000 else 0) + ((if t then 500 else 0) + ((if t then 500 else 0) + 0)))) ≤ most_turnover
 moves_at true = omega arith
 moves_at false = omega arith
 
 turned : (n m : ℕ) → nat_eq n m ≡ false → nat_eq m n ≡ false
 turned n m other = grind (arith, nat_tests)
 
-others : (n : ℕ) → nat_eq n 0 ≡ false → balance Inside (book (pos 1500)) (codes "assets:cash") (record { 0 = n }) (At (record { day = day (pos 31); entry = 2; leg = 1 })) ≡ pos 0
+others : (n : ℕ) → nat_eq n 0 ≡ false
+    → balance Inside (book (pos 1500)) (codes "assets:cash") (record { 0 = n })
+    (At (record { day = day (pos 31); entry = 2; leg = 1 })) ≡ pos 0
 unfolding balance
 others n e = rw (turned n 0 e)
 
@@ -269,7 +289,14 @@ unfolding balance
 good_book = record {
   fit = (
     pair_fit (day (pos 22)) (codes "assets:cash") (codes "assets:transit:north:south") euros (pos 1000),
-    (record { balanced = λ unit. balances_at (nat_eq 0 unit.0); on_legs = ((omega arith, omega arith), tt); apart = (tt, tt) }, tt),
+    (
+      record {
+        balanced = λ unit. balances_at (nat_eq 0 unit.0);
+        on_legs = ((omega arith, omega arith), tt);
+        apart = (tt, tt);
+      },
+      tt,
+    ),
   );
   hold = (record { same = refl; alone = λ is v. others v.0 }, tt);
   within = record { few = omega arith; small = λ unit. moves_at (nat_eq 0 unit.0) };
@@ -281,7 +308,8 @@ unfolding balance
 broken_assertion good = absurd (omega (arith, ap unsigned_abs good.hold.0.same))
 
 -- an entry that does not sum to zero
-pub unbalanced : IsGoodBook (record { day = day (pos 1); legs = leg (codes "income") euros (pos 1) ∷ []; claims = [] } ∷ []) → ⊥
+pub unbalanced : IsGoodBook (record { day = day (pos 1); legs = leg (codes "income") euros (pos 1) ∷ []; claims = [] }
+    ∷ []) → ⊥
 unbalanced good = absurd (omega (arith, ap unsigned_abs (good.fit.0.balanced euros)))
 
 -- ---- branches
@@ -324,14 +352,19 @@ twice_marked own = let no : Some sent ≡ None = own.0 in absurd cc
 
 -- money on its way that no transfer has sent
 abbrev stray : Record
-stray = record (stated (pos 0)) { entry = record { day = day (pos 31); legs = leg (codes "assets:transit:x") euros (pos 0) ∷ []; claims = [] } }
+stray = record (stated (pos 0))
+    { entry = record { day = day (pos 31); legs = leg (codes "assets:transit:x") euros (pos 0) ∷ []; claims = [] } }
 
 pub on_transit : IsOffTransit stray → ⊥
 on_transit off = let no : true ≡ false = off refl in absurd cc
 
 -- a closing of the 31st, in a branch that is locked through that day, and in one that is not
 abbrev closed : List ℕ → Record
-closed mark = record { mark = mark; txn = record (income (pos 0)) { mark = Some mark }; entry = record { day = day (pos 31); legs = []; claims = [] } }
+closed mark = record {
+  mark = mark;
+  txn = record (income (pos 0)) { mark = Some mark };
+  entry = record { day = day (pos 31); legs = []; claims = [] };
+}
 
 pub within_lock : IsWithinLock (Some (day (pos 31))) (closed (close_mark (day (pos 31))))
 within_lock is = record { own_day = refl; locked = refl }
@@ -346,16 +379,31 @@ before_lock within = let no : false ≡ true = (within refl).locked in absurd cc
 pub without_day : IsWithinLock (Some (day (pos 31))) (closed (codes "close:")) → ⊥
 without_day within =
     let same : length (codes "close:") ≡ length (close_mark (day (pos 31))) = ap length (within refl).own_day in
-    absurd (omega (arith, same, length-append (codes "close:") (printed_date (day (pos 31))), (dates_print (day (pos 31)) (day_number_from (day (pos 31)) (omega (arith, ints)) (omega (arith, ints)))).ten))
+    absurd (omega (
+      arith,
+      same,
+      length-append (codes "close:") (printed_date (day (pos 31))),
+      (dates_print (day (pos 31)) (day_number_from (day (pos 31)) (omega (arith, ints)) (omega (arith, ints)))).ten,
+    ))
 
 -- ---- states
 
 -- north has dispatched what south has received
 abbrev both : Federation
-both = state (branch (codes "north") (Some (day (pos 20))) (sent ∷ []) ∷ branch (codes "south") None (got ∷ stated (pos 1500) ∷ []) ∷ []) (received ∷ [])
+both = state (branch (codes "north") (Some (day (pos 20))) (sent ∷ [])
+    ∷ branch (codes "south") None (got ∷ stated (pos 1500) ∷ []) ∷ []) (received ∷ [])
 
 good_transfer : IsGoodTransfer both.branches received
-good_transfer = record { id = refl; source = refl; target = refl; apart = refl; positive = refl; payer = refl; parts = record { keys = tt; keyed = tt; each = tt; within = refl }; rest = record { positive = refl; later = refl; payee = refl } }
+good_transfer = record {
+  id = refl;
+  source = refl;
+  target = refl;
+  apart = refl;
+  positive = refl;
+  payer = refl;
+  parts = record { keys = tt; keyed = tt; each = tt; within = refl };
+  rest = record { positive = refl; later = refl; payee = refl };
+}
 
 pub good : IsGoodState both
 good = record {
@@ -373,7 +421,8 @@ pub too_many : (branches : List Branch) → length branches ≡ 33 → IsGoodSta
 too_many branches count good = absurd (omega (arith, count, good.few))
 
 -- two branches with one name
-pub twice_named : HaveOwnNames (branch (codes "north") None [] ∷ branch (codes "north") (Some (day (pos 1))) [] ∷ []) → ⊥
+pub twice_named : HaveOwnNames (branch (codes "north") None [] ∷ branch (codes "north") (Some (day (pos 1))) [] ∷ [])
+    → ⊥
 twice_named own = let no : true ≡ false = own.0 in absurd cc
 
 -- IDs in byte order, the other way round, and twice
@@ -389,7 +438,8 @@ descending are = absurd (let no = are.0.0 in cc)
 pub twice_sent : AreAscending (received ∷ received ∷ []) → ⊥
 twice_sent are = absurd (let no = are.0.0 in cc)
 
--- transfers with an ID of two words, from and to a branch that is not there, to their own source, of nothing, from what is on its way
+-- transfers with an ID of two words, from and to a branch that is not there, to their own source, of nothing, from what
+-- is on its way
 pub no_id : IsGoodTransfer both.branches (record received { id = codes "T 1" }) → ⊥
 no_id good = let no : false ≡ true = good.id in absurd cc
 
@@ -408,7 +458,8 @@ of_nothing good = let no : false ≡ true = good.positive in absurd cc
 pub from_transit : IsGoodTransfer both.branches (record received { payer = codes "assets:transit" }) → ⊥
 from_transit good = let no : true ≡ false = good.payer in absurd cc
 
--- the rest received on the day of its dispatch, on the day before, into what is on its way, where the parts leave nothing, and not at all
+-- the rest received on the day of its dispatch, on the day before, into what is on its way, where the parts leave
+-- nothing, and not at all
 pub same_day : IsGoodRest received (Some (record receipt { day = day (pos 20) }))
 same_day = record { positive = refl; later = refl; payee = refl }
 
@@ -431,25 +482,33 @@ parted ps = record (transfer None) { parts = ps }
 pub of_no_rest : IsGoodRest (parted (part (codes "a") (pos 1000) (pos 21) ∷ [])) (Some receipt) → ⊥
 of_no_rest good = let no : false ≡ true = good.positive in absurd cc
 
--- two that make up the amount; under the key `all`, one key twice, in another order, of more than the amount, of nothing, before the dispatch
-pub good_parts : HasGoodParts (parted (part (codes "a") (pos 400) (pos 21) ∷ part (codes "a.1") (pos 600) (pos 20) ∷ []))
+-- two that make up the amount; under the key `all`, one key twice, in another order, of more than the amount, of
+-- nothing, before the dispatch
+pub good_parts : HasGoodParts (parted
+    (part (codes "a") (pos 400) (pos 21) ∷ part (codes "a.1") (pos 600) (pos 20) ∷ []))
 good_parts = record {
   keys = (refl, (refl, tt));
   keyed = ((refl, tt), (tt, tt));
-  each = (record { positive = refl; later = refl; payee = refl }, (record { positive = refl; later = refl; payee = refl }, tt));
+  each = (
+    record { positive = refl; later = refl; payee = refl },
+    (record { positive = refl; later = refl; payee = refl }, tt),
+  );
   within = refl;
 }
 
 pub under_all : HasGoodParts (parted (part (codes "all") (pos 400) (pos 21) ∷ [])) → ⊥
 under_all good = let no : false ≡ true = good.keys.0 in absurd cc
 
-pub key_twice : HasGoodParts (parted (part (codes "a") (pos 400) (pos 21) ∷ part (codes "a") (pos 600) (pos 21) ∷ [])) → ⊥
+pub key_twice : HasGoodParts (parted (part (codes "a") (pos 400) (pos 21) ∷ part (codes "a") (pos 600) (pos 21) ∷ []))
+    → ⊥
 key_twice good = absurd (let no = good.keyed.0.0 in cc)
 
-pub keys_descend : HasGoodParts (parted (part (codes "b") (pos 400) (pos 21) ∷ part (codes "a") (pos 600) (pos 21) ∷ [])) → ⊥
+pub keys_descend : HasGoodParts
+    (parted (part (codes "b") (pos 400) (pos 21) ∷ part (codes "a") (pos 600) (pos 21) ∷ [])) → ⊥
 keys_descend good = absurd (let no = good.keyed.0.0 in cc)
 
-pub over_the_amount : HasGoodParts (parted (part (codes "a") (pos 400) (pos 21) ∷ part (codes "b") (pos 601) (pos 21) ∷ [])) → ⊥
+pub over_the_amount : HasGoodParts
+    (parted (part (codes "a") (pos 400) (pos 21) ∷ part (codes "b") (pos 601) (pos 21) ∷ [])) → ⊥
 over_the_amount good = let no : false ≡ true = good.within in absurd cc
 
 pub part_of_nothing : HasGoodParts (parted (part (codes "a") (pos 0) (pos 21) ∷ [])) → ⊥
@@ -472,19 +531,69 @@ not_received carried = let no : Some got ≡ None = carried (codes "in:T-1") in 
 
 abbrev worked_rows : Parts
 worked_rows = record {
-  units = record { nr = pos 0; symbol = codes "EUR"; decimals = pos 2; mark = codes "."; grouped = pos 1; leftside = pos 0; spaced = pos 1 } ∷ [];
-  branches = record { nr = pos 0; name = codes "north"; locked = Some (pos 20) } ∷ record { nr = pos 1; name = codes "south"; locked = None } ∷ [];
+  units = record {
+    nr = pos 0;
+    symbol = codes "EUR";
+    decimals = pos 2;
+    mark = codes ".";
+    grouped = pos 1;
+    leftside = pos 0;
+    spaced = pos 1;
+  } ∷ [];
+  branches = record { nr = pos 0; name = codes "north"; locked = Some (pos 20) }
+      ∷ record { nr = pos 1; name = codes "south"; locked = None } ∷ [];
   entries =
       record { branch = pos 0; nr = pos 1; day = pos 20; mark = codes "out:T-1"; body = body_text styles sent.txn }
       ∷ record { branch = pos 1; nr = pos 1; day = pos 22; mark = codes "in:T-1"; body = body_text styles got.txn }
-      ∷ record { branch = pos 1; nr = pos 2; day = pos 31; mark = codes "s"; body = body_text styles (income (pos 1500)) } ∷ [];
+      ∷ record {
+        branch = pos 1;
+        nr = pos 2;
+        day = pos 31;
+        mark = codes "s";
+        body = body_text styles (income (pos 1500));
+      } ∷ [];
   legs =
-      record { branch = pos 0; entry = pos 1; nr = pos 1; account = codes "assets:transit:north:south"; unit = pos 0; qty = pos 1000 }
-      ∷ record { branch = pos 0; entry = pos 1; nr = pos 2; account = codes "assets:bank"; unit = pos 0; qty = neg_ℤ (pos 1000) }
-      ∷ record { branch = pos 1; entry = pos 1; nr = pos 1; account = codes "assets:cash"; unit = pos 0; qty = pos 1000 }
-      ∷ record { branch = pos 1; entry = pos 1; nr = pos 2; account = codes "assets:transit:north:south"; unit = pos 0; qty = neg_ℤ (pos 1000) }
+      record {
+        branch = pos 0;
+        entry = pos 1;
+        nr = pos 1;
+        account = codes "assets:transit:north:south";
+        unit = pos 0;
+        qty = pos 1000;
+      }
+      ∷ record {
+        branch = pos 0;
+        entry = pos 1;
+        nr = pos 2;
+        account = codes "assets:bank";
+        unit = pos 0;
+        qty = neg_ℤ (pos 1000);
+      }
+      ∷ record {
+        branch = pos 1;
+        entry = pos 1;
+        nr = pos 1;
+        account = codes "assets:cash";
+        unit = pos 0;
+        qty = pos 1000;
+      }
+      ∷ record {
+        branch = pos 1;
+        entry = pos 1;
+        nr = pos 2;
+        account = codes "assets:transit:north:south";
+        unit = pos 0;
+        qty = neg_ℤ (pos 1000);
+      }
       ∷ record { branch = pos 1; entry = pos 2; nr = pos 1; account = codes "assets:cash"; unit = pos 0; qty = pos 500 }
-      ∷ record { branch = pos 1; entry = pos 2; nr = pos 2; account = codes "income"; unit = pos 0; qty = neg_ℤ (pos 500) } ∷ [];
+      ∷ record {
+        branch = pos 1;
+        entry = pos 2;
+        nr = pos 2;
+        account = codes "income";
+        unit = pos 0;
+        qty = neg_ℤ (pos 500);
+      } ∷ [];
   claims = record { branch = pos 1; entry = pos 2; leg = pos 1; kind = pos 4; unit = pos 0; qty = pos 1500 } ∷ [];
   transfers = record {
     id = codes "T-1";
@@ -504,7 +613,9 @@ pub rows_of_both : rows both ≡ worked_rows
 rows_of_both = refl
 
 -- a row for each receipt of a part
-pub rows_of_parts : part_rows (parted (part (codes "a") (pos 400) (pos 21) ∷ part (codes "b") (pos 600) (pos 22) ∷ []) ∷ received ∷ [])
+pub rows_of_parts : part_rows (parted (part (codes "a") (pos 400) (pos 21) ∷ part (codes "b") (pos 600) (pos 22) ∷ [])
+    ∷ received ∷ [])
     ≡ record { transfer = codes "T-1"; part = codes "a"; qty = pos 400; received = pos 21; payee = codes "assets:cash" }
-    ∷ record { transfer = codes "T-1"; part = codes "b"; qty = pos 600; received = pos 22; payee = codes "assets:cash" } ∷ []
+    ∷ record { transfer = codes "T-1"; part = codes "b"; qty = pos 600; received = pos 22; payee = codes "assets:cash" }
+    ∷ []
 rows_of_parts = refl

@@ -1,6 +1,7 @@
--- What a closing may choose: which accounts it closes, and into which one (hledger manual, "close", "close --retain"; a written list, what is refused of
--- it, and the comments that tell it are own rules; docs/RULES.md, "Closing").
-use Rattle.std.specs.Prelude.{ℕ, ◌==◌, nat_lt, Bool, ◌||◌, not, if◌then◌else◌, List, [], ◌∷◌, ◌++◌, codes, length, Option, Some, None}
+-- What a closing may choose: which accounts it closes, and into which one (hledger manual, "close", "close --retain"; a
+-- written list, what is refused of it, and the comments that tell it are own rules; docs/RULES.md, "Closing").
+use Rattle.std.specs.Prelude.{ℕ, ◌==◌, nat_lt, Bool, ◌||◌, not, if◌then◌else◌, List, [], ◌∷◌, ◌++◌, codes, length}
+use Rattle.std.specs.Prelude.{Option, Some, None}
 use Rattle.std.specs.List.{list_all, list_any, flat_map, before_first}
 use Rattle.std.specs.Str.{bytes_eq, str_to_ascii_lowercase}
 use Rattle.money_core.specs.declared.cause.Cause.TheVariants.{ReservedAccount, Limit, BadAccount}
@@ -18,11 +19,13 @@ first_part account = before_first (λ b. b == colon) account
 
 -- the names of revenues and expenses (hledger manual, "Account types")
 abbrev pub retained_names : List (List ℕ)
-retained_names = codes "income" ∷ codes "incomes" ∷ codes "revenue" ∷ codes "revenues" ∷ codes "expense" ∷ codes "expenses" ∷ []
+retained_names =
+    codes "income" ∷ codes "incomes" ∷ codes "revenue" ∷ codes "revenues" ∷ codes "expense" ∷ codes "expenses" ∷ []
 
 -- a revenue or expense account: its first part is one of these names, in small or capital ASCII letters
 abbrev pub is_revenue_or_expense : List ℕ → Bool
-is_revenue_or_expense account = list_any (λ name. bytes_eq (str_to_ascii_lowercase (first_part account)) name) retained_names
+is_revenue_or_expense account =
+    list_any (λ name. bytes_eq (str_to_ascii_lowercase (first_part account)) name) retained_names
 
 -- the account that gets what they held
 abbrev pub retained_earnings : List ℕ
@@ -79,8 +82,8 @@ list_limit = 880
 abbrev pub holds_transit : List ℕ → Bool
 holds_transit account = bytes_eq account (codes "assets") || is_reserved account
 
--- why a choice is refused, if it is: a listed account or the target is not well formed; one of them has transit accounts, where the target may be
--- `assets`; the target would be closed itself; the list is too long
+-- why a choice is refused, if it is: a listed account or the target is not well formed; one of them has transit
+-- accounts, where the target may be `assets`; the target would be closed itself; the list is too long
 abbrev pub choice_refusal : Choice → Option Refusal
 choice_refusal c =
     if not (list_all is_account_text (listed c.accounts)) then Some (Plain BadAccount)

@@ -8,8 +8,10 @@ use Rattle.treasury_core.specs.Federation.{Federation, book_of}
 use Rattle.treasury_core.specs.Good.{IsGoodState}
 use Rattle.treasury_core.specs.Closing.{closing}
 
--- the transaction is the closing of a branch of a good state at a day, of the accounts that are selected, into one that is not, whatever its comments
-pub record IsClosing (select : List ℕ → Bool) (into : List ℕ) (f : Federation) (name : List ℕ) (day : Day) (t : Txn) : Type 0 where
+-- the transaction is the closing of a branch of a good state at a day, of the accounts that are selected, into one that
+-- is not, whatever its comments
+pub record IsClosing (select : List ℕ → Bool) (into : List ℕ) (f : Federation) (name : List ℕ) (day : Day)
+    (t : Txn) : Type 0 where
   pub good : IsGoodState f
   pub apart : select into ≡ false
   pub comments : List (List ℕ)

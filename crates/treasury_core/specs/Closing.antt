@@ -1,6 +1,7 @@
--- Closing a period: the balances of some accounts through a day are moved to one account (hledger manual, "close", "close --retain"; header, mark,
--- order and the assertions of zero are own rules).
-use Rattle.std.specs.Prelude.{ℕ, nat_lt, Bool, not, if◌then◌else◌, List, [], ◌∷◌, ◌++◌, codes, length, filter, ℤ, pos, ◌+ℤ◌, ◌-ℤ◌, Option, Some, None, Result, Ok, Err}
+-- Closing a period: the balances of some accounts through a day are moved to one account (hledger manual, "close",
+-- "close --retain"; header, mark, order and the assertions of zero are own rules).
+use Rattle.std.specs.Prelude.{ℕ, nat_lt, Bool, not, if◌then◌else◌, List, [], ◌∷◌, ◌++◌, codes, length, filter, ℤ, pos}
+use Rattle.std.specs.Prelude.{◌+ℤ◌, ◌-ℤ◌, Option, Some, None, Result, Ok, Err}
 use Rattle.std.specs.Ordering.{int_eq}
 use Rattle.std.specs.List.{flat_map}
 use Rattle.money_core.specs.declared.style.Style.{Style}
@@ -47,11 +48,20 @@ zero_claim unit = record { kind = Exact; unit = unit; qty = pos 0 }
 abbrev pub posting_of : List ℕ → Commodity → ℤ → Option Claim → List Posting
 posting_of account unit q claim =
     if int_eq q (pos 0) then []
-    else record { status = None; account = account; amount = Some (unit, q); price = None; claim = claim; comments = [] } ∷ []
+    else record {
+      status = None;
+      account = account;
+      amount = Some (unit, q);
+      price = None;
+      claim = claim;
+      comments = [];
+    } ∷ []
 
 -- a closed account: a posting of minus each balance, which asserts that nothing is left
 abbrev pub closed_account : List Entry → Day → List Commodity → List ℕ → List Posting
-closed_account b day units account = flat_map (λ (unit : Commodity). posting_of account unit (pos 0 -ℤ through b day account unit) (Some (zero_claim unit))) units
+closed_account b day units account =
+    flat_map (λ (unit : Commodity).
+    posting_of account unit (pos 0 -ℤ through b day account unit) (Some (zero_claim unit))) units
 
 -- what accounts hold in a commodity, together
 abbrev pub held_in : List Entry → Day → Commodity → List (List ℕ) → ℤ
@@ -60,11 +70,13 @@ held_in b day unit (account ∷ accounts) = through b day account unit +ℤ held
 
 -- the account that gets it: a posting of each sum
 abbrev pub gaining_account : List Entry → Day → List ℕ → List (List ℕ) → List Commodity → List Posting
-gaining_account b day into accounts units = flat_map (λ (unit : Commodity). posting_of into unit (held_in b day unit accounts) None) units
+gaining_account b day into accounts units =
+    flat_map (λ (unit : Commodity). posting_of into unit (held_in b day unit accounts) None) units
 
 -- the postings of a closing of these accounts into that one: account by account, each in declared order
 abbrev pub closing_postings : List Entry → Day → List ℕ → List (List ℕ) → List Commodity → List Posting
-closing_postings b day into accounts units = flat_map (closed_account b day units) accounts ++ gaining_account b day into accounts units
+closing_postings b day into accounts units =
+    flat_map (closed_account b day units) accounts ++ gaining_account b day into accounts units
 
 -- ---- the transaction
 
@@ -74,7 +86,15 @@ close_mark day = codes "close:" ++ printed_date day
 
 -- a closing with these comments and postings: no status or code
 abbrev pub closing_txn : Day → List (List ℕ) → List Posting → Txn
-closing_txn day comments ps = record { day = day; status = None; code = None; description = codes "close"; comments = comments; mark = Some (close_mark day); postings = ps }
+closing_txn day comments ps = record {
+  day = day;
+  status = None;
+  code = None;
+  description = codes "close";
+  comments = comments;
+  mark = Some (close_mark day);
+  postings = ps;
+}
 
 -- none where nothing is posted
 abbrev pub closing_of : Day → List (List ℕ) → List Posting → Option Txn
@@ -83,7 +103,8 @@ closing_of day comments (p ∷ ps) = Some (closing_txn day comments (p ∷ ps))
 
 -- the closing of a book at a day: of the accounts that are selected, into that one, with these comments
 unfoldable pub closing : (List ℕ → Bool) → List ℕ → List (List ℕ) → List Style → List Entry → Day → Option Txn
-closing select into comments styles b day = closing_of day comments (closing_postings b day into (selected select b) (declared styles))
+closing select into comments styles b day =
+    closing_of day comments (closing_postings b day into (selected select b) (declared styles))
 
 -- the record of a closing, with its postings as they are written
 abbrev pub closing_record : Day → Txn → Record
@@ -98,7 +119,8 @@ closing_answer (Some t) = if nat_lt posting_limit (length t.postings) then Err (
 
 -- the closing of a branch at a day, as it was chosen
 abbrev pub closing_in : Federation → List ℕ → Day → Choice → Option Txn
-closing_in f name day c = closing (is_selected c.accounts) (target_in c.into) (choice_comments c) f.styles (book_of f name) day
+closing_in f name day c =
+    closing (is_selected c.accounts) (target_in c.into) (choice_comments c) f.styles (book_of f name) day
 
 -- the closing, unless the choice is refused
 abbrev pub chosen_answer : Option Refusal → Option Txn → Result Txn Refusal
@@ -107,4 +129,5 @@ chosen_answer None txn = closing_answer txn
 
 -- the closing entry that a branch is answered, or the refusal
 unfoldable pub closing_reply : Federation → List ℕ → Day → Choice → Result Txn Refusal
-closing_reply f name day c = if not (has_branch f name) then Err (Plain UnknownBranch) else chosen_answer (choice_refusal c) (closing_in f name day c)
+closing_reply f name day c = if not (has_branch f name) then Err (Plain UnknownBranch)
+    else chosen_answer (choice_refusal c) (closing_in f name day c)

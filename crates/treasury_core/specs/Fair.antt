@@ -15,8 +15,8 @@ pub record IsMarked (t : Transfer) : Type 0 where
   pub id : is_id t.id ≡ true
   pub parts : HasGoodParts t
 
--- a transfer of a positive amount between two names without a colon that differ; neither its payer nor a payee is `assets:transit` or below it, and its
--- receipts are good
+-- a transfer of a positive amount between two names without a colon that differ; neither its payer nor a payee is
+-- `assets:transit` or below it, and its receipts are good
 pub record IsFair (t : Transfer) : Type 0 where
   pub marked : IsMarked t
   pub positive : int_le (pos 1) t.qty ≡ true

@@ -1,5 +1,6 @@
 -- The state of a federation, as plain records (own rules; docs/RULES.md, "Branches", "Commodities", "Books").
-use Rattle.std.specs.Prelude.{ℕ, suc, ◌==◌, nat_le, Bool, ◌&&◌, ◌||◌, if◌then◌else◌, List, [], ◌∷◌, map, length, slice_index, Option, None}
+use Rattle.std.specs.Prelude.{ℕ, suc, ◌==◌, nat_le, Bool, ◌&&◌, ◌||◌, if◌then◌else◌, List, [], ◌∷◌, map, length}
+use Rattle.std.specs.Prelude.{slice_index, Option, None}
 use Rattle.std.specs.Char.{is_ascii_lowercase, is_ascii_digit}
 use Rattle.std.specs.List.{list_all, list_any}
 use Rattle.std.specs.Str.{bytes_eq}
@@ -31,7 +32,8 @@ most_name_bytes = 32
 
 -- a branch's name: a lower-case ASCII letter, then 0 to 31 lower-case letters, digits or `-`
 abbrev pub is_branch_name : List ℕ → Bool
-is_branch_name name = is_ascii_lowercase (slice_index name 0) && list_all is_name_byte name && nat_le (length name) most_name_bytes
+is_branch_name name =
+    is_ascii_lowercase (slice_index name 0) && list_all is_name_byte name && nat_le (length name) most_name_bytes
 
 -- the greatest number of branches
 abbrev pub most_branches : ℕ

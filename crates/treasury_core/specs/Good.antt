@@ -1,5 +1,7 @@
--- When a state is good, and which commands fit (own rules; docs/RULES.md, "Branches", "Books", "Marks and repeats", "Transfers").
-use Rattle.std.specs.Prelude.{◌≡◌, ◌≤◌, ◌<◌, ◌^◌, ℕ, true, false, List, [], ◌∷◌, length, filter, pos, int_le, Option, Some, None, Ok, ⊤, IfSome}
+-- When a state is good, and which commands fit (own rules; docs/RULES.md, "Branches", "Books", "Marks and repeats",
+-- "Transfers").
+use Rattle.std.specs.Prelude.{◌≡◌, ◌≤◌, ◌<◌, ◌^◌, ℕ, true, false, List, [], ◌∷◌, length, filter, pos, int_le, Option}
+use Rattle.std.specs.Prelude.{Some, None, Ok, ⊤, IfSome}
 use Rattle.std.specs.List.{list_any, AllByRecursion}
 use Rattle.std.specs.Str.{bytes_eq}
 use Rattle.std.specs.declared.cmp.Ordering.TheVariants.{Less}
@@ -47,8 +49,8 @@ pub record IsLockedClosing (lock : Option Day) (r : Record) : Type 0 where
 abbrev pub IsWithinLock : Option Day → Record → Type 0
 IsWithinLock lock r = is_closing r ≡ true → IsLockedClosing lock r
 
--- a branch: its name is well formed, no mark stands twice, each record is good, only those of transfers are on transit accounts, a record with the mark
--- of a closing is one, and its book is good
+-- a branch: its name is well formed, no mark stands twice, each record is good, only those of transfers are on transit
+-- accounts, a record with the mark of a closing is one, and its book is good
 pub record IsGoodBranch (styles : List Style) (b : Branch) : Type 0 where
   pub named : is_branch_name b.name ≡ true
   pub marks : HaveOwnMarks b.records
@@ -78,7 +80,8 @@ abbrev pub AreKeyed : List Part → Type 0
 AreKeyed [] = ⊤
 AreKeyed (p ∷ ps) = AllByRecursion (λ (x : Part). name_cmp p.key x.key ≡ Less) ps × AreKeyed ps
 
--- receipts of parts: each key is well formed and none is `all`, they are in order, each receipt is good, and together they are at most the amount
+-- receipts of parts: each key is well formed and none is `all`, they are in order, each receipt is good, and together
+-- they are at most the amount
 pub record HasGoodParts (t : Transfer) : Type 0 where
   pub keys : AllByRecursion (λ (p : Part). is_key p.key ≡ true) t.parts
   pub keyed : AreKeyed t.parts
@@ -90,7 +93,8 @@ abbrev pub IsGoodRest : Transfer → Option Receipt → Type 0
 IsGoodRest t None = ⊤
 IsGoodRest t (Some r) = IsGoodPart t.day (rest_part t r)
 
--- a transfer of a positive amount between two branches that differ; neither its payer nor a payee is `assets:transit` or below it, and its receipts are good
+-- a transfer of a positive amount between two branches that differ; neither its payer nor a payee is `assets:transit`
+-- or below it, and its receipts are good
 pub record IsGoodTransfer (bs : List Branch) (t : Transfer) : Type 0 where
   pub id : is_id t.id ≡ true
   pub source : list_any (has_name t.source) bs ≡ true
@@ -105,9 +109,9 @@ pub record IsGoodTransfer (bs : List Branch) (t : Transfer) : Type 0 where
 abbrev pub IsCarried : List Transfer → Branch → Type 0
 IsCarried ts b = (mark : List ℕ) → held (filter is_of_transfer b.records) mark ≡ held (asked ts b.name) mark
 
--- a good state: each style is one that a sample has, and no symbol stands twice; at most 32 branches, each good, no name twice; transfers in byte
--- order of their IDs, no ID twice, each good, with its dispatch in its source's book and its receipts in its target's; and no other record has the mark
--- of a transfer
+-- a good state: each style is one that a sample has, and no symbol stands twice; at most 32 branches, each good, no
+-- name twice; transfers in byte order of their IDs, no ID twice, each good, with its dispatch in its source's book and
+-- its receipts in its target's; and no other record has the mark of a transfer
 pub record IsGoodState (f : Federation) : Type 0 where
   pub styles : AreStyles f.styles
   pub few : length f.branches ≤ most_branches
@@ -132,8 +136,8 @@ pub record IsReceive (styles : List Style) (r : Receive) : Type 0 where
   pub day : IsDayNumber r.day
   pub part : IfSome r.part (λ (a : AskedPart). IsDeclared styles a.unit a.qty)
 
--- what a command has to be that is decided: a style that a sample has, days of the years 1 to 9999, declared commodities, quantities within the limit,
--- transactions that can be printed
+-- what a command has to be that is decided: a style that a sample has, days of the years 1 to 9999, declared
+-- commodities, quantities within the limit, transactions that can be printed
 abbrev pub Fits : List Style → Command → Type 0
 Fits styles (cmd.Branch name) = ⊤
 Fits styles (cmd.Commodity style) = is_style style ≡ true

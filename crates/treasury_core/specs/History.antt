@@ -1,5 +1,6 @@
 -- Runs of commands, and what the accepted ones added (own rules; docs/RULES.md, "Books", "Orders").
-use Rattle.std.specs.Prelude.{◌≡◌, ◌⊎◌, ◌+ℤ◌, ℕ, false, if◌then◌else◌, List, [], ◌∷◌, ◌++◌, map, ⊤, Option, Result, Ok, Err}
+use Rattle.std.specs.Prelude.{◌≡◌, ◌⊎◌, ◌+ℤ◌, ℕ, false, if◌then◌else◌, List, [], ◌∷◌, ◌++◌, map, ⊤, Option, Result, Ok}
+use Rattle.std.specs.Prelude.{Err}
 use Rattle.std.specs.List.{list_any, AllByRecursion}
 use Rattle.std.specs.Str.{bytes_eq}
 use Rattle.money_core.specs.declared.day.Day.{Day}
@@ -73,8 +74,8 @@ IsRefusedOrRepeated (Ok (Entered new repeated)) = ⊥
 IsRefusedOrRepeated (Ok Repeated) = ⊤
 IsRefusedOrRepeated (Err refusal) = ⊤
 
--- a record that comes new behind those that are held: no one has its mark, which is not the product's, it has no leg on `assets:transit` or below
--- it, and its day is behind the lock day
+-- a record that comes new behind those that are held: no one has its mark, which is not the product's, it has no leg on
+-- `assets:transit` or below it, and its day is behind the lock day
 pub record IsNew (lock : Option Day) (held : List Record) (r : Record) : Type 0 where
   pub absent : is_held held r.mark ≡ false
   pub own : is_product_mark r.mark ≡ false
@@ -118,8 +119,10 @@ pub record HasGrown (earlier later : Federation) : Type 0 where
   pub branches : Grows (names_of earlier.branches) (names_of later.branches)
   pub records : (name : List ℕ) → Grows (records_of earlier name) (records_of later name)
 
--- the balances of the transit account of one branch and another, in the books of both, add up to the open amount, on every day
+-- the balances of the transit account of one branch and another, in the books of both, add up to the open amount, on
+-- every day
 abbrev pub AddsUp : Federation → List ℕ → List ℕ → Type 0
 AddsUp f from to = (unit : Commodity) (day : Day) →
-    balance Own (book_of f from) (transit_account from to) unit (Through day) +ℤ balance Own (book_of f to) (transit_account from to) unit (Through day)
+    balance Own (book_of f from) (transit_account from to) unit (Through day)
+    +ℤ balance Own (book_of f to) (transit_account from to) unit (Through day)
     ≡ open_amount f.transfers from to unit day

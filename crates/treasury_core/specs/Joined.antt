@@ -51,7 +51,8 @@ rest_with false p o = o
 
 -- a transfer with one receipt more
 abbrev pub with_receipt : Part → Transfer → Transfer
-with_receipt p t = record t { parts = parts_with (is_all p.key) p t.parts; receipt = rest_with (is_all p.key) p t.receipt }
+with_receipt p t =
+    record t { parts = parts_with (is_all p.key) p t.parts; receipt = rest_with (is_all p.key) p t.receipt }
 
 -- the transfers, of which that of the ID has one receipt more
 abbrev pub received : List ℕ → Part → List Transfer → List Transfer

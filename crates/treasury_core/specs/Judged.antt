@@ -18,4 +18,5 @@ new_unless (Some refusal) = Err refusal
 -- whether it is new, or why it is refused
 abbrev pub judged : List Style → Option Day → Record → Option Record → Result Bool Refusal
 judged styles lock r None = new_unless (barred lock r)
-judged styles lock r (Some h) = if bytes_eq (body_text styles h.txn) (body_text styles r.txn) then Ok false else Err (Plain MarkClash)
+judged styles lock r (Some h) =
+    if bytes_eq (body_text styles h.txn) (body_text styles r.txn) then Ok false else Err (Plain MarkClash)

@@ -1,4 +1,5 @@
--- Mirrors code: how a state is kept, with an index of its branches' names, each branch with its ledger and an index of its marks.
+-- Mirrors code: how a state is kept, with an index of its branches' names, each branch with its ledger and an index of
+-- its marks.
 use Rattle.std.specs.Prelude.{ℕ, ◌≡◌, List, Option, find}
 use Rattle.std.specs.List.{AllByRecursion, position_from}
 use Rattle.std.specs.HashMap.{HashMap, get_by_text}
@@ -38,7 +39,8 @@ pub record IsKept {L : Type 0} (book : L → List Entry) (b : Kept L) : Type 0 w
   pub index : IsIndexOf b.index b.records
 
 -- each branch is, and the state is good
-pub record AreKept {L : Type 0} (book : L → List Entry) (styles : List Style) (bs : List (Kept L)) (ts : List Transfer) : Type 0 where
+pub record AreKept {L : Type 0} (book : L → List Entry) (styles : List Style) (bs : List (Kept L))
+    (ts : List Transfer) : Type 0 where
   pub kept : AllByRecursion (IsKept book) bs
   pub good : IsGoodState (federation_of styles bs ts)
 

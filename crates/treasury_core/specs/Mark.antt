@@ -1,5 +1,7 @@
--- Marks: what a transaction goes by in its branch, and when one is a repeat (own rules; docs/RULES.md, "Marks and repeats").
-use Rattle.std.specs.Prelude.{◌≡◌, ℕ, nat_eq, Bool, ◌&&◌, ◌||◌, not, List, [], ◌∷◌, ◌++◌, codes, decimal, Option, Some, None, is_some, find, ⊤}
+-- Marks: what a transaction goes by in its branch, and when one is a repeat (own rules; docs/RULES.md, "Marks and
+-- repeats").
+use Rattle.std.specs.Prelude.{◌≡◌, ℕ, nat_eq, Bool, ◌&&◌, ◌||◌, not, List, [], ◌∷◌, ◌++◌, codes, decimal, Option, Some}
+use Rattle.std.specs.Prelude.{None, is_some, find, ⊤}
 use Rattle.std.specs.List.{starts_with, list_any, count_by}
 use Rattle.std.specs.Str.{bytes_eq}
 use Rattle.sha2.specs.Sha256.{sha256}
@@ -41,7 +43,8 @@ HaveOwnMarks (r ∷ rs) = (held rs r.mark ≡ None) × HaveOwnMarks rs
 
 -- one of the records has the record's mark, and an equal canonical text
 abbrev pub is_repeat : List Style → List Record → Record → Bool
-is_repeat styles rs r = list_any (λ (h : Record). bytes_eq h.mark r.mark && bytes_eq (body_text styles h.txn) (body_text styles r.txn)) rs
+is_repeat styles rs r =
+    list_any (λ (h : Record). bytes_eq h.mark r.mark && bytes_eq (body_text styles h.txn) (body_text styles r.txn)) rs
 
 -- marks of dispatches and receipts
 abbrev pub is_transfer_mark : List ℕ → Bool

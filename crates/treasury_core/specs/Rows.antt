@@ -54,13 +54,22 @@ branch_row b x = record { nr = pos b; name = x.name; locked = option_map (λ d. 
 
 -- the rows of the n-th record of the b-th branch: one of the entry, one of each leg, one of each assertion
 abbrev pub entry_row : List Style → ℕ → ℕ → Record → EntryRow
-entry_row styles b n r = record { branch = pos b; nr = pos n; day = r.entry.day.0; mark = r.mark; body = body_text styles r.txn }
+entry_row styles b n r =
+    record { branch = pos b; nr = pos n; day = r.entry.day.0; mark = r.mark; body = body_text styles r.txn }
 
 abbrev pub leg_row : ℕ → ℕ → ℕ → Leg → LegRow
-leg_row b n k x = record { branch = pos b; entry = pos n; nr = pos k; account = x.account; unit = pos x.unit.0; qty = x.qty }
+leg_row b n k x =
+    record { branch = pos b; entry = pos n; nr = pos k; account = x.account; unit = pos x.unit.0; qty = x.qty }
 
 abbrev pub claim_row : ℕ → ℕ → Placed → ClaimRow
-claim_row b n x = record { branch = pos b; entry = pos n; leg = pos x.leg; kind = kind_number x.claim.kind; unit = pos x.claim.unit.0; qty = x.claim.qty }
+claim_row b n x = record {
+  branch = pos b;
+  entry = pos n;
+  leg = pos x.leg;
+  kind = kind_number x.claim.kind;
+  unit = pos x.claim.unit.0;
+  qty = x.claim.qty;
+}
 
 abbrev pub leg_rows : ℕ → ℕ → Record → List LegRow
 leg_rows b n r = map (λ p. leg_row b n p.0 p.1) (enumerate_from 1 r.entry.legs)
@@ -117,7 +126,8 @@ part_row id p = record { transfer = id; part = p.key; qty = p.qty; received = p.
 abbrev pub part_rows : List Transfer → List PartRow
 part_rows ts = flat_map (λ (t : Transfer). map (part_row t.id) t.parts) ts
 
--- the rows of a state, each list in the order of its key: commodities and branches are numbered from 0, entries and legs from 1
+-- the rows of a state, each list in the order of its key: commodities and branches are numbered from 0, entries and
+-- legs from 1
 abbrev pub rows : Federation → Parts
 rows f = record {
   units = unit_rows f.styles;

@@ -15,7 +15,8 @@ EachBalances f = AllByRecursion (λ (b : Branch). IsBalanced (legs_of (entries b
 -- in each branch every stored assertion holds at its place, in the book as it is
 abbrev pub EachAssertionHolds : Federation → Type 0
 EachAssertionHolds f =
-    AllByRecursion (λ (b : Branch). AllByRecursion (Holds (entries b.records)) (asserted_from 1 (entries b.records))) f.branches
+    AllByRecursion (λ (b : Branch). AllByRecursion (Holds (entries b.records)) (asserted_from 1 (entries b.records)))
+    f.branches
 
 -- an assertion of the old entries or of the new ones does not hold in the book with the new entries
 pub record BreaksAssertion (old new : List Entry) : Type 0 where

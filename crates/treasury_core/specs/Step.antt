@@ -1,5 +1,8 @@
--- What a command is answered, and the state after it (own rules; docs/RULES.md, "Orders"). The cases stand in the order of the refusals.
-use Rattle.std.specs.Prelude.{◌≡◌, ◌⊎◌, ℕ, ℤ, ◌+◌, ◌-◌, nat_eq, nat_le, Bool, true, false, ◌&&◌, ◌||◌, not, if◌then◌else◌, List, [], ◌∷◌, ◌++◌, map, length, find, pos, int_le, int_lt, Option, Some, None, is_some, Result, Ok, Err}
+-- What a command is answered, and the state after it (own rules; docs/RULES.md, "Orders"). The cases stand in the order
+-- of the refusals.
+use Rattle.std.specs.Prelude.{◌≡◌, ◌⊎◌, ℕ, ℤ, ◌+◌, ◌-◌, nat_eq, nat_le, Bool, true, false, ◌&&◌, ◌||◌, not}
+use Rattle.std.specs.Prelude.{if◌then◌else◌, List, [], ◌∷◌, ◌++◌, map, length, find, pos, int_le, int_lt, Option, Some}
+use Rattle.std.specs.Prelude.{None, is_some, Result, Ok, Err}
 use Rattle.std.specs.Ordering.{int_eq}
 use Rattle.std.specs.Cmp.Lexicographic.{pointwise}
 use Rattle.std.specs.List.{list_any}
@@ -10,7 +13,10 @@ use Rattle.money_core.specs.declared.day.Day.{Day}
 use Rattle.money_core.specs.declared.unit.Declared.{Declared}
 use Rattle.money_core.specs.declared.unit.Declared.TheVariants.{New, Same}
 use Rattle.money_core.specs.declared.cause.Cause.{Cause}
-use Rattle.money_core.specs.declared.cause.Cause.TheVariants.{UnknownBranch, BranchName, Full, MarkClash, ReservedMark, ReservedAccount, Locked, SameBranch, UnknownTransfer, WrongBranch, AlreadyReceived, TooEarly, LockBack, BadAccount, BadAmount, BadId, OutOfMemory, TooMuch}
+use Rattle.money_core.specs.declared.cause.Cause.TheVariants.{UnknownBranch, BranchName, Full, MarkClash, ReservedMark}
+use Rattle.money_core.specs.declared.cause.Cause.TheVariants.{ReservedAccount, Locked, SameBranch, UnknownTransfer}
+use Rattle.money_core.specs.declared.cause.Cause.TheVariants.{WrongBranch, AlreadyReceived, TooEarly, LockBack}
+use Rattle.money_core.specs.declared.cause.Cause.TheVariants.{BadAccount, BadAmount, BadId, OutOfMemory, TooMuch}
 use Rattle.money_core.specs.Style.{declared}
 use Rattle.book_core.specs.declared.entry.Entry.{Entry}
 use Rattle.book_core.specs.declared.refusal.Refusal.{Refusal}
@@ -33,12 +39,15 @@ use Rattle.treasury_core.specs.declared.command.Receive.{Receive}
 use Rattle.treasury_core.specs.declared.command.Close.{Close}
 use Rattle.treasury_core.specs.declared.command.Command.{Command}
 use Rattle.treasury_core.specs.declared.command.Command.TheVariants as cmd
-use Rattle.treasury_core.specs.Federation.{Federation, is_branch_name, most_branches, has_branch, records_of, lock_of, entries}
+use Rattle.treasury_core.specs.Federation.{Federation, is_branch_name, most_branches, has_branch, records_of, lock_of}
+use Rattle.treasury_core.specs.Federation.{entries}
 use Rattle.treasury_core.specs.Mark.{held, is_held, is_repeat, is_product_mark, mark_of, alike}
-use Rattle.treasury_core.specs.Transfer.{is_id, is_account_text, is_reserved, is_transit, has_id, dispatch_record, receipt_record, all_key, is_key, receipts_of, left_of}
+use Rattle.treasury_core.specs.Transfer.{is_id, is_account_text, is_reserved, is_transit, has_id, dispatch_record}
+use Rattle.treasury_core.specs.Transfer.{receipt_record, all_key, is_key, receipts_of, left_of}
 use Rattle.treasury_core.specs.Choice.{choice_comments, choice_refusal}
 use Rattle.treasury_core.specs.Closing.{close_mark, closing_record, closing_answer, closing_in}
-use Rattle.treasury_core.specs.Joined.{with_style, with_branch, with_entered, with_locked, with_dispatched, with_received}
+use Rattle.treasury_core.specs.Joined.{with_style, with_branch, with_entered, with_locked, with_dispatched}
+use Rattle.treasury_core.specs.Joined.{with_received}
 
 -- the answer, unless there is a refusal
 abbrev pub unless : Answer → Option Refusal → Result Answer Refusal
@@ -143,7 +152,8 @@ new_in held (r ∷ rs) = if is_held held r.mark then new_in held rs else r ∷ n
 abbrev pub new_records : Federation → List ℕ → List Located → List Record
 new_records f name file = new_in (records_of f name) (records_in_file f.styles file)
 
--- why a file is refused behind records: first every transaction has to balance, then each is looked at in turn, then all new ones together
+-- why a file is refused behind records: first every transaction has to balance, then each is looked at in turn, then
+-- all new ones together
 abbrev pub file_refusal : List Style → Option Day → List Record → List Located → Option Refusal
 file_refusal styles lock held file =
     option_or (unbalanced styles file)
@@ -170,13 +180,24 @@ transfer_at f id = find (has_id id) f.transfers
 
 -- the transfer that a dispatch asks for
 abbrev pub transfer_of : Dispatch → Transfer
-transfer_of d = record { id = d.id; source = d.source; target = d.target; unit = d.unit; qty = d.qty; day = d.day; payer = d.account; parts = []; receipt = None }
+transfer_of d = record {
+  id = d.id;
+  source = d.source;
+  target = d.target;
+  unit = d.unit;
+  qty = d.qty;
+  day = d.day;
+  payer = d.account;
+  parts = [];
+  receipt = None;
+}
 
 -- it was dispatched just so
 abbrev pub is_dispatched_so : Dispatch → Option Transfer → Bool
 is_dispatched_so d None = false
 is_dispatched_so d (Some t) =
-    bytes_eq t.source d.source && bytes_eq t.target d.target && int_eq t.day.0 d.day.0 && nat_eq t.unit.0 d.unit.0 && int_eq t.qty d.qty && bytes_eq t.payer d.account
+    bytes_eq t.source d.source && bytes_eq t.target d.target && int_eq t.day.0 d.day.0 && nat_eq t.unit.0 d.unit.0
+    && int_eq t.qty d.qty && bytes_eq t.payer d.account
 
 -- why a dispatch is refused, whose ID no transfer has, by what its source holds, if it is
 abbrev pub dispatch_refusal : Option Day → List Record → Dispatch → Option Refusal
@@ -276,12 +297,14 @@ receive_reply f r =
 -- what a receipt of the transfer of its ID adds
 abbrev pub receipt_additions : Receive → Option Transfer → List Addition
 receipt_additions r None = []
-receipt_additions r (Some t) = add.Record r.branch (receipt_record t (receipt_of t r)) ∷ add.Received r.id (receipt_of t r) ∷ []
+receipt_additions r (Some t) =
+    add.Record r.branch (receipt_record t (receipt_of t r)) ∷ add.Received r.id (receipt_of t r) ∷ []
 
 -- and the state with it
 abbrev pub with_receipt_of : Federation → Receive → Option Transfer → Federation
 with_receipt_of f r None = f
-with_receipt_of f r (Some t) = with_received (with_entered f r.branch (receipt_record t (receipt_of t r) ∷ [])) r.id (receipt_of t r)
+with_receipt_of f r (Some t) =
+    with_received (with_entered f r.branch (receipt_record t (receipt_of t r) ∷ [])) r.id (receipt_of t r)
 
 -- ---- Close
 
@@ -297,10 +320,13 @@ close_refusal lock held c txn =
     (if is_locked lock c.day then Some (Plain Locked)
     else entering_refusal held c.day (closing_answer txn))
 
--- the reply by the record that has the mark of the day, if there is one: what it says was asked has to be what is asked now
+-- the reply by the record that has the mark of the day, if there is one: what it says was asked has to be what is asked
+-- now
 abbrev pub closed_reply : Federation → Close → Option Record → Result Answer Refusal
-closed_reply f c None = unless Done (close_refusal (lock_of f c.branch) (records_of f c.branch) c (closing_in f c.branch c.day c.choice))
-closed_reply f c (Some r) = if pointwise bytes_eq r.txn.comments (choice_comments c.choice) then Ok Repeated else Err (Plain MarkClash)
+closed_reply f c None =
+    unless Done (close_refusal (lock_of f c.branch) (records_of f c.branch) c (closing_in f c.branch c.day c.choice))
+closed_reply f c (Some r) =
+    if pointwise bytes_eq r.txn.comments (choice_comments c.choice) then Ok Repeated else Err (Plain MarkClash)
 
 abbrev pub close_reply : Federation → Close → Result Answer Refusal
 close_reply f c =
@@ -329,10 +355,12 @@ unfoldable pub done : Federation → Command → Federation
 done f (cmd.Branch name) = with_branch f name
 done f (cmd.Commodity style) = with_style f style
 done f (cmd.Enter name file) = with_entered f name (new_records f name file)
-done f (cmd.Dispatch d) = with_dispatched (with_entered f d.source (dispatch_record (transfer_of d) ∷ [])) (transfer_of d)
+done f (cmd.Dispatch d) =
+    with_dispatched (with_entered f d.source (dispatch_record (transfer_of d) ∷ [])) (transfer_of d)
 done f (cmd.Receive r) = with_receipt_of f r (transfer_at f r.id)
 done f (cmd.Lock name day) = with_locked f name day
-done f (cmd.Close c) = with_locked (with_entered f c.branch (closing_records c.day (closing_in f c.branch c.day c.choice))) c.branch c.day
+done f (cmd.Close c) =
+    with_locked (with_entered f c.branch (closing_records c.day (closing_in f c.branch c.day c.choice))) c.branch c.day
 
 -- the state after a reply: a refusal or a repeat leaves it
 abbrev pub after : Federation → Command → Result Answer Refusal → Federation
@@ -357,7 +385,8 @@ added f (cmd.Enter name file) = map (λ (r : Record). add.Record name r) (new_re
 added f (cmd.Dispatch d) = add.Record d.source (dispatch_record (transfer_of d)) ∷ add.Dispatched (transfer_of d) ∷ []
 added f (cmd.Receive r) = receipt_additions r (transfer_at f r.id)
 added f (cmd.Lock name day) = add.Locked name day ∷ []
-added f (cmd.Close c) = map (λ (x : Record). add.Record c.branch x) (closing_records c.day (closing_in f c.branch c.day c.choice)) ++ add.Locked c.branch c.day ∷ []
+added f (cmd.Close c) = map (λ (x : Record). add.Record c.branch x)
+    (closing_records c.day (closing_in f c.branch c.day c.choice)) ++ add.Locked c.branch c.day ∷ []
 
 -- what it adds by its reply
 abbrev pub delta : Federation → Command → Result Answer Refusal → List Addition

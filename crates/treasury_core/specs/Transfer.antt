@@ -1,5 +1,7 @@
--- Transfers: the records that they ask for, and what is open between two branches (own rules; docs/RULES.md, "Transfers").
-use Rattle.std.specs.Prelude.{ℕ, nat_eq, nat_lt, nat_le, ◌==◌, Bool, true, false, ◌&&◌, ◌||◌, not, if◌then◌else◌, List, [], ◌∷◌, ◌++◌, codes, length, map, ℤ, pos, ◌+ℤ◌, ◌-ℤ◌, int_le, Option, Some, None}
+-- Transfers: the records that they ask for, and what is open between two branches (own rules; docs/RULES.md,
+-- "Transfers").
+use Rattle.std.specs.Prelude.{ℕ, nat_eq, nat_lt, nat_le, ◌==◌, Bool, true, false, ◌&&◌, ◌||◌, not, if◌then◌else◌, List}
+use Rattle.std.specs.Prelude.{[], ◌∷◌, ◌++◌, codes, length, map, ℤ, pos, ◌+ℤ◌, ◌-ℤ◌, int_le, Option, Some, None}
 use Rattle.std.specs.Char.{is_ascii_digit, is_ascii_alphabetic}
 use Rattle.std.specs.List.{list_all}
 use Rattle.std.specs.Str.{bytes_eq, is_utf8}
@@ -45,13 +47,28 @@ transit_account from to = codes "assets:transit:" ++ (from ++ (colon ∷ to))
 
 -- a posting with its amount alone
 abbrev pub posting : Leg → Posting
-posting x = record { status = None; account = x.account; amount = Some (x.unit, x.qty); price = None; claim = None; comments = [] }
+posting x = record {
+  status = None;
+  account = x.account;
+  amount = Some (x.unit, x.qty);
+  price = None;
+  claim = None;
+  comments = [];
+}
 
 -- the record of a transaction that the treasury makes itself: no status, code or comments
 abbrev pub product_record : List ℕ → Day → List ℕ → Leg → Leg → Record
 product_record mark day description x y = record {
   mark = mark;
-  txn = record { day = day; status = None; code = None; description = description; comments = []; mark = Some mark; postings = posting x ∷ posting y ∷ [] };
+  txn = record {
+    day = day;
+    status = None;
+    code = None;
+    description = description;
+    comments = [];
+    mark = Some mark;
+    postings = posting x ∷ posting y ∷ [];
+  };
   entry = record { day = day; legs = x ∷ y ∷ []; claims = [] };
 }
 
@@ -126,7 +143,8 @@ dispatch_record t =
 -- a receipt: the payee gets what was received, and it is on its way no more
 abbrev pub receipt_record : Transfer → Part → Record
 receipt_record t p =
-    product_record (in_mark t.id p.key) p.day (in_text t p.key) (leg p.payee t.unit p.qty) (leg (transit_account t.source t.target) t.unit (pos 0 -ℤ p.qty))
+    product_record (in_mark t.id p.key) p.day (in_text t p.key) (leg p.payee t.unit p.qty)
+    (leg (transit_account t.source t.target) t.unit (pos 0 -ℤ p.qty))
 
 -- the transfer has that ID
 abbrev pub has_id : List ℕ → Transfer → Bool
@@ -145,7 +163,8 @@ in_records t false ps = []
 -- the records that transfers ask for in the branch of that name
 abbrev pub asked : List Transfer → List ℕ → List Record
 asked [] name = []
-asked (t ∷ ts) name = out_records t (bytes_eq t.source name) ++ (in_records t (bytes_eq t.target name) (receipts_of t) ++ asked ts name)
+asked (t ∷ ts) name =
+    out_records t (bytes_eq t.source name) ++ (in_records t (bytes_eq t.target name) (receipts_of t) ++ asked ts name)
 
 -- ---- what is open
 
@@ -165,4 +184,5 @@ is_between from to unit t = (bytes_eq t.source from && bytes_eq t.target to) && 
 -- the open amount between two branches in a commodity through a day: what was dispatched, less what was received
 abbrev pub open_amount : List Transfer → List ℕ → List ℕ → Commodity → Day → ℤ
 open_amount [] from to unit day = pos 0
-open_amount (t ∷ ts) from to unit day = (if is_between from to unit t then open_of t day else pos 0) +ℤ open_amount ts from to unit day
+open_amount (t ∷ ts) from to unit day =
+    (if is_between from to unit t then open_of t day else pos 0) +ℤ open_amount ts from to unit day

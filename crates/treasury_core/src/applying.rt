@@ -62,8 +62,10 @@ fn apply_record<L: Ledger>(
 ) -> Result<(), Cause>
     requires kept { AllByRecursion (IsKept L.book) branches.old.items }
     requires places { ArePlacesOf places.now (branches_of branches.old.items) }
-    requires room { AllByRecursion HasRoom (changed (with_records (row ∷ [])) name.now (branches_of branches.old.items)) }
-    ensures ok { OnOk result (branches_of branches.new.items ≡ changed (with_records (row ∷ [])) name.now (branches_of branches.old.items)) }
+    requires room { AllByRecursion HasRoom
+        (changed (with_records (row ∷ [])) name.now (branches_of branches.old.items)) }
+    ensures ok { OnOk result (branches_of branches.new.items
+        ≡ changed (with_records (row ∷ [])) name.now (branches_of branches.old.items)) }
     ensures kept { OnOk result (AllByRecursion (IsKept L.book) branches.new.items) }
     ensures memory { IsOkUnless result Cause.OutOfMemory }
 {
@@ -145,7 +147,8 @@ fn apply_one<L: Ledger>(
     requires places { ArePlacesOf places.old (branches_of branches.old.items) }
     requires room { IsRoomy (joined_one (federation_of styles.old branches.old.items transfers.old.items) addition) }
     requires order { AreAscending transfers.old.items }
-    ensures ok { OnOk result (federation_of styles.new branches.new.items transfers.new.items ≡ joined_one (federation_of styles.old branches.old.items transfers.old.items) addition) }
+    ensures ok { OnOk result (federation_of styles.new branches.new.items transfers.new.items
+        ≡ joined_one (federation_of styles.old branches.old.items transfers.old.items) addition) }
     ensures kept { OnOk result (AllByRecursion (IsKept L.book) branches.new.items) }
     ensures places { OnOk result (ArePlacesOf places.new (branches_of branches.new.items)) }
     ensures memory { IsOkUnless result Cause.OutOfMemory }

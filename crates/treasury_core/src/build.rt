@@ -16,10 +16,11 @@ use money_core::Cause;
 use std::alloc::Global;
 
 impl<L: Ledger> State<L> {
-    /// The state that has these rows: they are read, what they spell is judged, and its own rows are compared with them.
+    /// The state that has these rows: they are read, what they spell is judged, and its own rows are compared with
+    /// them.
     ///
-    /// It answers 43 where they are no good state's, and 40 for want of memory. It costs what the rows have, and one check
-    /// of each book.
+    /// It answers 43 where they are no good state's, and 40 for want of memory. It costs what the rows have, and one
+    /// check of each book.
     pub fn build(alloc: Global, parts: Parts) -> Result<Self, Cause>
         ensures built { IfOk result (λ f. rows f ≡ parts) }
         // No state in memory has a lock day that is not in 32 bits.

@@ -63,9 +63,11 @@ fn entered<L: Ledger>(
     requires there { branch_at state.now.branches close.now.branch ≡ Some (branch_of branch.now) }
     requires kept { IsKept L.book branch.now }
     ensures value { IfOk result (λ delta. delta ≡ added state.now (Command.Close close.now)) }
-    ensures passes { OnOk result (entering_refusal branch.now.records close.now.day (closing_answer (closing_in state.now close.now.branch close.now.day close.now.choice)) ≡ None) }
+    ensures passes { OnOk result (entering_refusal branch.now.records close.now.day
+        (closing_answer (closing_in state.now close.now.branch close.now.day close.now.choice)) ≡ None) }
     ensures err { IfErr result (λ e. (e ≡ Refusal.Plain Cause.OutOfMemory)
-        ⊎ (entering_refusal branch.now.records close.now.day (closing_answer (closing_in state.now close.now.branch close.now.day close.now.choice)) ≡ Some e)) }
+        ⊎ (entering_refusal branch.now.records close.now.day
+        (closing_answer (closing_in state.now close.now.branch close.now.day close.now.choice)) ≡ Some e)) }
 {
     state.is_good();
     let day = close.day;
@@ -101,9 +103,11 @@ fn judged<L: Ledger>(
     requires there { branch_at state.now.branches close.now.branch ≡ Some (branch_of branch.now) }
     requires kept { IsKept L.book branch.now }
     ensures value { IfOk result (λ delta. delta ≡ added state.now (Command.Close close.now)) }
-    ensures passes { OnOk result (close_refusal branch.now.locked branch.now.records close.now (closing_in state.now close.now.branch close.now.day close.now.choice) ≡ None) }
+    ensures passes { OnOk result (close_refusal branch.now.locked branch.now.records close.now
+        (closing_in state.now close.now.branch close.now.day close.now.choice) ≡ None) }
     ensures err { IfErr result (λ e. (e ≡ Refusal.Plain Cause.OutOfMemory)
-        ⊎ (close_refusal branch.now.locked branch.now.records close.now (closing_in state.now close.now.branch close.now.day close.now.choice) ≡ Some e)) }
+        ⊎ (close_refusal branch.now.locked branch.now.records close.now
+        (closing_in state.now close.now.branch close.now.day close.now.choice) ≡ Some e)) }
 {
     if let Some(refusal) = choice_refusal(&close.choice) {
         return Err(refusal);
@@ -114,8 +118,8 @@ fn judged<L: Ledger>(
     entered(alloc, state, branch, close)
 }
 
-/// Decides a closing. Where the branch was closed at that day, it is repeated if it was asked for as it is now, whatever
-/// is asked and whatever the lock.
+/// Decides a closing. Where the branch was closed at that day, it is repeated if it was asked for as it is now,
+/// whatever is asked and whatever the lock.
 pub(crate) fn decide_close<L: Ledger>(alloc: Global, state: &State<L>, close: &Close) -> Decision
     requires { IsDayNumber close.now.day }
     ensures { Decides state.now (Command.Close close.now) result }

@@ -11,7 +11,9 @@ ghost use Rattle.journal_format.specs.Printable.{IsPrintable};
 ghost use Rattle.journal_balance.specs.Legs.{declared};
 ghost use Rattle.journal_balance.specs.Plain.{written_leg, written_legs};
 ghost use Rattle.treasury_core.specs.Choice.{is_selected, target_in, choice_comments};
-ghost use Rattle.treasury_core.specs.Closing.{selected, through, zero_claim, posting_of, closed_account, closing_postings, close_mark, closing_txn, closing_of, closing_answer, closing_reply};
+ghost use Rattle.treasury_core.specs.Closing.{selected, through, zero_claim, posting_of, closed_account};
+ghost use Rattle.treasury_core.specs.Closing.{closing_postings, close_mark, closing_txn, closing_of, closing_answer};
+ghost use Rattle.treasury_core.specs.Closing.{closing_reply};
 
 use crate::choice::{Choice, choice_comments, choice_refusal, is_selected, target_of};
 use crate::state::State;
@@ -72,7 +74,8 @@ fn push_closed<L: Ledger>(
 ) -> Result<(), Cause>
     requires { IsGoodBook (L.book ledger.now) }
     ensures ok { OnOk result (postings.new
-        ≡ postings.old ++ posting_of account.now unit (pos 0 -ℤ through (L.book ledger.now) day account.now unit) (Some (zero_claim unit))) }
+        ≡ postings.old ++ posting_of account.now unit (pos 0 -ℤ through (L.book ledger.now) day account.now unit)
+        (Some (zero_claim unit))) }
     ensures memory { IsOkUnless result Cause.OutOfMemory }
 {
     let qty = ledger.balance(account, unit, day);
@@ -115,7 +118,8 @@ fn close_accounts<L: Ledger>(
 ) -> Result<Items<Posting>, Cause>
     requires { IsGoodBook (L.book ledger.now) }
     ensures value { IfOk result (λ list. list
-        ≡ flat_map (closed_account (L.book ledger.now) day (declared styles.now)) (selected (is_selected choice.now.accounts) (L.book ledger.now))) }
+        ≡ flat_map (closed_account (L.book ledger.now) day (declared styles.now))
+        (selected (is_selected choice.now.accounts) (L.book ledger.now))) }
     ensures memory { IsOkUnless result Cause.OutOfMemory }
 {
     let mut postings = Items::empty(alloc);
@@ -160,7 +164,8 @@ fn gaining_account(
 ) -> Result<Items<Posting>, Cause>
     requires { (unit : Commodity) → moved unit (written_legs closed.now) ≤ most_turnover }
     ensures value { IfOk result (λ list. list
-        ≡ flat_map (λ (unit : Commodity). posting_of into.now unit (pos 0 -ℤ value unit (written_legs closed.now)) None) (declared styles.now)) }
+        ≡ flat_map (λ (unit : Commodity). posting_of into.now unit (pos 0 -ℤ value unit (written_legs closed.now)) None)
+        (declared styles.now)) }
     ensures memory { IsOkUnless result Cause.OutOfMemory }
 {
     let mut postings = Items::empty(alloc);
@@ -182,7 +187,8 @@ fn closing_postings<L: Ledger>(
 ) -> Result<Items<Posting>, Cause>
     requires { IsGoodBook (L.book ledger.now) }
     ensures value { IfOk result (λ list. list
-        ≡ closing_postings (L.book ledger.now) day (target_in choice.now.into) (selected (is_selected choice.now.accounts) (L.book ledger.now)) (declared styles.now)) }
+        ≡ closing_postings (L.book ledger.now) day (target_in choice.now.into)
+        (selected (is_selected choice.now.accounts) (L.book ledger.now)) (declared styles.now)) }
     ensures memory { IsOkUnless result Cause.OutOfMemory }
 {
     let closed = close_accounts(alloc, ledger, styles, day, choice)?;
@@ -239,7 +245,8 @@ fn limited_txn(
     postings: Items<Posting>,
 ) -> Result<Txn, Refusal>
     requires { IsDayNumber day }
-    ensures { (result ≡ closing_answer (closing_of day (choice_comments choice.now) postings)) ⊎ (result ≡ Err (Refusal.Plain Cause.OutOfMemory)) }
+    ensures { (result ≡ closing_answer (closing_of day (choice_comments choice.now) postings))
+        ⊎ (result ≡ Err (Refusal.Plain Cause.OutOfMemory)) }
 {
     let count = postings.items().len();
     if count == 0 {
@@ -254,14 +261,14 @@ fn limited_txn(
     }
 }
 
-/// The transaction by which a branch is closed at a day of the years 1 to 9999: the accounts that are selected are taken
-/// to zero through that day, each with an assertion that it is, and the target gets what they held. Its comments tell the
-/// choice.
+/// The transaction by which a branch is closed at a day of the years 1 to 9999: the accounts that are selected are
+/// taken to zero through that day, each with an assertion that it is, and the target gets what they held. Its comments
+/// tell the choice.
 ///
-/// Answers 20 where the branch is not there; of the choice 37 where a listed account or the target is not well formed, 26
-/// where one of them has transit accounts, 37 where the target would be closed itself, 28 where the list has over 880
-/// bytes; 36 where there is nothing to close, 28 where it would have over 1,000 postings, or 40. Costs one balance for
-/// each selected account and each commodity, and a look at the list for each account.
+/// Answers 20 where the branch is not there; of the choice 37 where a listed account or the target is not well formed,
+/// 26 where one of them has transit accounts, 37 where the target would be closed itself, 28 where the list has over
+/// 880 bytes; 36 where there is nothing to close, 28 where it would have over 1,000 postings, or 40. Costs one balance
+/// for each selected account and each commodity, and a look at the list for each account.
 pub fn closing_entry<L: Ledger>(
     alloc: Global,
     state: &State<L>,
@@ -270,7 +277,8 @@ pub fn closing_entry<L: Ledger>(
     choice: &Choice,
 ) -> Result<Txn, Refusal>
     requires { IsDayNumber day }
-    ensures exact { (result ≡ closing_reply state.now branch.now day choice.now) ⊎ (result ≡ Err (Refusal.Plain Cause.OutOfMemory)) }
+    ensures exact { (result ≡ closing_reply state.now branch.now day choice.now)
+        ⊎ (result ≡ Err (Refusal.Plain Cause.OutOfMemory)) }
     // It prints and reads back under the state's styles.
     ensures printable { IfOk result (λ txn. IsPrintable state.now.styles txn) }
 {

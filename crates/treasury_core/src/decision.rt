@@ -1,6 +1,7 @@
 //! The reply to a command, and what it adds.
 
-ghost use Rattle.std.specs.Prelude.{Ok, Err, Some, None, ◌≡◌, ◌≤◌, ◌-◌, ◌⊎◌, [], ◌∷◌, ◌++◌, map, length, slice_index, MatchResult, IfOk, IfErr, OnOk};
+ghost use Rattle.std.specs.Prelude.{Ok, Err, Some, None, ◌≡◌, ◌≤◌, ◌-◌, ◌⊎◌, [], ◌∷◌, ◌++◌, map, length, slice_index};
+ghost use Rattle.std.specs.Prelude.{MatchResult, IfOk, IfErr, OnOk};
 ghost use Rattle.std.specs.List.{list_all, AllByRecursion};
 ghost use Rattle.std.specs.Result.{IsOkUnless};
 ghost use Rattle.book_core.specs.GoodBook.{IsFit, IsGoodBook, Checks, verdict};
@@ -144,7 +145,8 @@ fn new_style(alloc: Global, style: &Style) -> Result<Delta, Cause>
 /// What is done, with what it adds; or want of memory.
 fn done(delta: Result<Delta, Cause>) -> Decision
     requires { IsOkUnless delta Cause.OutOfMemory }
-    ensures { MatchResult result (λ p. (p.0 ≡ Answer.Done) × (delta ≡ Ok p.1)) (λ e. e ≡ Refusal.Plain Cause.OutOfMemory) }
+    ensures { MatchResult result (λ p. (p.0 ≡ Answer.Done) × (delta ≡ Ok p.1))
+        (λ e. e ≡ Refusal.Plain Cause.OutOfMemory) }
 {
     match delta {
         Ok(delta) => Ok((Answer::Done, delta)),
@@ -272,7 +274,8 @@ pub(crate) fn recorded<L: Ledger>(
     requires fit { IsFit row.entry }
     ensures value { IfOk result (λ delta. delta ≡ Addition.Record name.now row ∷ other ∷ []) }
     ensures passes { OnOk result (verdict (L.book ledger.now ++ entries (row ∷ [])) ≡ None) }
-    ensures err { IfErr result (λ e. (e ≡ Refusal.Plain Cause.OutOfMemory) ⊎ (verdict (L.book ledger.now ++ entries (row ∷ [])) ≡ Some e)) }
+    ensures err { IfErr result (λ e.
+        (e ≡ Refusal.Plain Cause.OutOfMemory) ⊎ (verdict (L.book ledger.now ++ entries (row ∷ [])) ≡ Some e)) }
 {
     if let Err(refusal) = check(alloc, ledger, slice::from_ref(&row)) {
         return Err(refusal);
@@ -305,7 +308,9 @@ fn new_records<L: Ledger>(
     requires file { IsFile styles.now file.now }
     ensures value { IfOk result (λ new. new ≡ new_in branch.now.records (records_in_file styles.now file.now)) }
     ensures passes { OnOk result (file_refusal styles.now branch.now.locked branch.now.records file.now ≡ None) }
-    ensures err { IfErr result (λ e. (e ≡ Refusal.Plain Cause.OutOfMemory) ⊎ (file_refusal styles.now branch.now.locked branch.now.records file.now ≡ Some e)) }
+    ensures err { IfErr result (λ e.
+        (e ≡ Refusal.Plain Cause.OutOfMemory)
+        ⊎ (file_refusal styles.now branch.now.locked branch.now.records file.now ≡ Some e)) }
 {
     let rows = match records_in_file(alloc, styles, file) {
         Ok(rows) => rows,
@@ -325,7 +330,9 @@ fn new_records<L: Ledger>(
 /// What is answered where so many transactions of a file have these new ones among them.
 fn entered(alloc: Global, name: &Text, new: Items<Record>, all: usize) -> Decision
     requires { length new ≤ all }
-    ensures { MatchResult result (λ p. (p.0 ≡ Answer.Entered (length new) (all - length new)) × (p.1 ≡ map (λ (r : Row). Addition.Record name.now r) new)) (λ e. e ≡ Refusal.Plain Cause.OutOfMemory) }
+    ensures { MatchResult result (λ p.
+        (p.0 ≡ Answer.Entered (length new) (all - length new))
+        × (p.1 ≡ map (λ (r : Row). Addition.Record name.now r) new)) (λ e. e ≡ Refusal.Plain Cause.OutOfMemory) }
 {
     let count = new.items().len();
     let repeated = all - count;

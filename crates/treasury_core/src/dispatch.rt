@@ -100,9 +100,14 @@ fn transfer_of(alloc: Global, dispatch: &Dispatch) -> Result<Transfer, Cause>
 fn sent<L: Ledger>(alloc: Global, source: &Branch<L>, dispatch: &Dispatch) -> Result<Delta, Refusal>
     requires good { IsGoodBook (L.book source.now.ledger) }
     requires small { unsigned_abs dispatch.now.qty ≤ limit }
-    ensures value { IfOk result (λ delta. delta ≡ Addition.Record dispatch.now.source (dispatch_record (transfer_of dispatch.now)) ∷ Addition.Dispatched (transfer_of dispatch.now) ∷ []) }
-    ensures passes { OnOk result (verdict (L.book source.now.ledger ++ entries (dispatch_record (transfer_of dispatch.now) ∷ [])) ≡ None) }
-    ensures err { IfErr result (λ e. (e ≡ Refusal.Plain Cause.OutOfMemory) ⊎ (verdict (L.book source.now.ledger ++ entries (dispatch_record (transfer_of dispatch.now) ∷ [])) ≡ Some e)) }
+    ensures value { IfOk result (λ delta.
+        delta ≡ Addition.Record dispatch.now.source (dispatch_record (transfer_of dispatch.now))
+        ∷ Addition.Dispatched (transfer_of dispatch.now) ∷ []) }
+    ensures passes { OnOk result (verdict
+        (L.book source.now.ledger ++ entries (dispatch_record (transfer_of dispatch.now) ∷ [])) ≡ None) }
+    ensures err { IfErr result (λ e.
+        (e ≡ Refusal.Plain Cause.OutOfMemory)
+        ⊎ (verdict (L.book source.now.ledger ++ entries (dispatch_record (transfer_of dispatch.now) ∷ [])) ≡ Some e)) }
 {
     let transfer = match transfer_of(alloc, dispatch) {
         Ok(transfer) => transfer,
@@ -126,9 +131,13 @@ fn judged<L: Ledger>(
     requires kept { IsKept L.book source.now }
     requires good { IsGoodBook (entries source.now.records) }
     requires small { unsigned_abs dispatch.now.qty ≤ limit }
-    ensures value { IfOk result (λ delta. delta ≡ Addition.Record dispatch.now.source (dispatch_record (transfer_of dispatch.now)) ∷ Addition.Dispatched (transfer_of dispatch.now) ∷ []) }
+    ensures value { IfOk result (λ delta.
+        delta ≡ Addition.Record dispatch.now.source (dispatch_record (transfer_of dispatch.now))
+        ∷ Addition.Dispatched (transfer_of dispatch.now) ∷ []) }
     ensures passes { OnOk result (dispatch_refusal source.now.locked source.now.records dispatch.now ≡ None) }
-    ensures err { IfErr result (λ e. (e ≡ Refusal.Plain Cause.OutOfMemory) ⊎ (dispatch_refusal source.now.locked source.now.records dispatch.now ≡ Some e)) }
+    ensures err { IfErr result (λ e.
+        (e ≡ Refusal.Plain Cause.OutOfMemory)
+        ⊎ (dispatch_refusal source.now.locked source.now.records dispatch.now ≡ Some e)) }
 {
     if !is_account_text(&dispatch.account) {
         return Err(Refusal::Plain(Cause::BadAccount));

@@ -24,10 +24,11 @@ use unit_rows::read_styles;
 
 /// The draft of a state, read from its rows: what a good state with these rows has to be.
 ///
-/// It looks at all rows but those of legs and claims, and it does not look at the days of entries. 43 where no good state
-/// has these rows, and 40 for want of memory.
+/// It looks at all rows but those of legs and claims, and it does not look at the days of entries. 43 where no good
+/// state has these rows, and 40 for want of memory.
 pub(crate) fn drafted(alloc: Global, parts: &Parts) -> Result<Draft, Cause>
-    ensures good { IfOk result (λ d. AllByRecursion (λ (b : FederationBranch). AllByRecursion (IsGoodRecord d.styles) b.records) d.branches) }
+    ensures good { IfOk result (λ d.
+        AllByRecursion (λ (b : FederationBranch). AllByRecursion (IsGoodRecord d.styles) b.records) d.branches) }
     // If a good state has these rows, it is this one.
     ensures only { IfOk result (λ d. (f : Federation) → IsGoodState f → rows f ≡ parts.now → f ≡ d) }
     ensures err { IfErr result (λ e. (e ≡ Cause.OutOfMemory)

@@ -1,6 +1,7 @@
 //! Which transactions of a file are new.
 
-ghost use Rattle.std.specs.Prelude.{Ok, Err, Some, None, true, false, ◌≡◌, ◌⊎◌, [], ◌∷◌, ◌++◌, IfOk, IfErr, OnOk, IfSome, option_copied};
+ghost use Rattle.std.specs.Prelude.{Ok, Err, Some, None, true, false, ◌≡◌, ◌⊎◌, [], ◌∷◌, ◌++◌, IfOk, IfErr, OnOk};
+ghost use Rattle.std.specs.Prelude.{IfSome, option_copied};
 ghost use Rattle.std.specs.List.{list_any, AllByRecursion};
 ghost use Rattle.std.specs.Result.{IsOkUnless};
 ghost use Rattle.std.specs.Str.{bytes_eq};
@@ -88,7 +89,8 @@ fn barred(lock: Option<Day>, row: &Record) -> Option<Refusal>
 fn is_same_text(alloc: Global, styles: &Styles, held: &Record, row: &Record) -> Result<bool, Cause>
     requires held { IsPrintable styles.now held.now.txn }
     requires row { IsPrintable styles.now row.now.txn }
-    ensures value { IfOk result (λ is. is ≡ bytes_eq (body_text styles.now held.now.txn) (body_text styles.now row.now.txn)) }
+    ensures value { IfOk result (λ is.
+        is ≡ bytes_eq (body_text styles.now held.now.txn) (body_text styles.now row.now.txn)) }
     ensures memory { IsOkUnless result Cause.OutOfMemory }
 {
     let text = text_of(alloc, &held.txn, styles)?;
@@ -125,7 +127,8 @@ fn is_new(
     requires row { IsPrintable styles.now row.now.txn }
     requires holder { IfSome (option_copied holder) (λ h. IsPrintable styles.now h.txn) }
     ensures value { IfOk result (λ is. judged styles.now lock row.now (option_copied holder.entry) ≡ Ok is) }
-    ensures err { IfErr result (λ e. (e ≡ Refusal.Plain Cause.OutOfMemory) ⊎ (judged styles.now lock row.now (option_copied holder.entry) ≡ Err e)) }
+    ensures err { IfErr result (λ e.
+        (e ≡ Refusal.Plain Cause.OutOfMemory) ⊎ (judged styles.now lock row.now (option_copied holder.entry) ≡ Err e)) }
 {
     let Some(holder) = holder else {
         return match barred(lock, row) {
@@ -155,7 +158,8 @@ pub(crate) fn new_of(
     requires rows { AllByRecursion (IsGoodRecord styles.now) rows }
     ensures value { IfOk result (λ new. new ≡ new_in base.now rows) }
     ensures taken { OnOk result (refused_in styles.now lock base.now rows ≡ None) }
-    ensures err { IfErr result (λ e. (e ≡ Refusal.Plain Cause.OutOfMemory) ⊎ (refused_in styles.now lock base.now rows ≡ Some e)) }
+    ensures err { IfErr result (λ e.
+        (e ≡ Refusal.Plain Cause.OutOfMemory) ⊎ (refused_in styles.now lock base.now rows ≡ Some e)) }
 {
     let mut new = Items::empty(alloc);
     let mut marks = HashMap::new(alloc);

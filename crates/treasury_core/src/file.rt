@@ -1,6 +1,7 @@
 //! The transactions of a file, each with its mark and its entry.
 
-ghost use Rattle.std.specs.Prelude.{Ok, Err, ◌≡◌, ◌<◌, ◌+◌, ◌^◌, ◌⊎◌, ℕ, [], ◌∷◌, ◌++◌, List, IfOk, IfErr, OnOk, Some, None};
+ghost use Rattle.std.specs.Prelude.{Ok, Err, ◌≡◌, ◌<◌, ◌+◌, ◌^◌, ◌⊎◌, ℕ, [], ◌∷◌, ◌++◌, List, IfOk, IfErr, OnOk, Some};
+ghost use Rattle.std.specs.Prelude.{None};
 ghost use Rattle.std.specs.Result.{IsOkUnless};
 ghost use Rattle.std.specs.Global.{Vec as Bytes};
 ghost use Rattle.journal_format.specs.declared.txn.Txn.{Txn as Transaction};
@@ -29,7 +30,8 @@ fn next_mark(
 ) -> Result<Text, Cause>
     requires { count_of counts.old text + 1 < 2 ^ 64 }
     ensures value { IfOk result (λ mark. mark ≡ hash_mark text.items (count_of counts.old text + 1)) }
-    ensures counted { OnOk result ((other : Bytes ℕ) → count_of counts.new other ≡ counted_more text (count_of counts.old text) other (count_of counts.old other)) }
+    ensures counted { OnOk result ((other : Bytes ℕ)
+        → count_of counts.new other ≡ counted_more text (count_of counts.old text) other (count_of counts.old other)) }
     ensures memory { IsOkUnless result Cause.OutOfMemory }
 {
     let n = match counts.get(text.as_slice()) {
@@ -103,7 +105,9 @@ fn record_in_file(
     ensures balanced { OnOk result (fault_on located.now.line (legs_of styles.now located.now.txn) ≡ None) }
     ensures counted { (before : List Transaction) → AreCounted styles.now counts.old before
         → OnOk result (AreCounted styles.now counts.new (before ++ located.now.txn ∷ [])) }
-    ensures err { IfErr result (λ e. (e ≡ Refusal.Plain Cause.OutOfMemory) ⊎ (fault_on located.now.line (legs_of styles.now located.now.txn) ≡ Some e)) }
+    ensures err { IfErr result (λ e.
+        (e ≡ Refusal.Plain Cause.OutOfMemory)
+        ⊎ (fault_on located.now.line (legs_of styles.now located.now.txn) ≡ Some e)) }
 {
     let entry = match legs(alloc, &located.txn, styles) {
         Ok(entry) => entry,
@@ -128,7 +132,8 @@ pub(crate) fn records_in_file(
     requires { IsFile styles.now file.now }
     ensures value { IfOk result (λ rows. rows ≡ records_in_file styles.now file.now) }
     ensures balanced { OnOk result (unbalanced styles.now file.now ≡ None) }
-    ensures err { IfErr result (λ e. (e ≡ Refusal.Plain Cause.OutOfMemory) ⊎ (unbalanced styles.now file.now ≡ Some e)) }
+    ensures err { IfErr result (λ e.
+        (e ≡ Refusal.Plain Cause.OutOfMemory) ⊎ (unbalanced styles.now file.now ≡ Some e)) }
 {
     let mut counts = HashMap::new(alloc);
     let Ok(mut rows) = Vec::with_capacity(alloc, file.len()) else {

@@ -35,7 +35,9 @@ pub(crate) fn put_place(
     text: &str,
     place: usize,
 ) -> Result<(), Cause>
-    ensures put { OnOk result ((other : List ℕ) → get_by_text index.new other ≡ option_or (get_by_text index.old other) (cond (bytes_eq text.now other) (Some place) None)) }
+    ensures put { OnOk result ((other : List ℕ)
+        → get_by_text index.new other
+        ≡ option_or (get_by_text index.old other) (cond (bytes_eq text.now other) (Some place) None)) }
     ensures memory { IsOkUnless result Cause.OutOfMemory }
 {
     if index.contains_key(text) {

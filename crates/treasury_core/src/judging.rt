@@ -8,7 +8,8 @@ ghost use Rattle.book_core.specs.GoodBook.{IsFit, IsGoodBook};
 ghost use Rattle.treasury_core.specs.declared.transfer.Transfer.{Transfer as Moved};
 ghost use Rattle.treasury_core.specs.Federation.{Branch, has_name, entries};
 ghost use Rattle.treasury_core.specs.Mark.{is_of_transfer};
-ghost use Rattle.treasury_core.specs.Good.{AreAscending, HaveOwnNames, IsCarried, IsGoodBranch, IsGoodRecord, IsGoodState, IsOffTransit};
+ghost use Rattle.treasury_core.specs.Good.{AreAscending, HaveOwnNames, IsCarried, IsGoodBranch, IsGoodRecord};
+ghost use Rattle.treasury_core.specs.Good.{IsGoodState, IsOffTransit};
 ghost use Rattle.treasury_core.specs.Fair.{IsMarked};
 
 mod carried;
@@ -103,7 +104,8 @@ fn is_good_branch<L: Ledger>(
     requires ids { AreAscending transfers.now }
     requires marked { AllByRecursion IsMarked transfers.now }
     requires small { AllByRecursion (λ (t : Moved). unsigned_abs t.qty ≤ limit) transfers.now }
-    ensures value { IfOk result (λ is. IsTrue is ↔ IsGoodBranch styles.now branch.now × IsCarried transfers.now branch.now) }
+    ensures value { IfOk result (λ is. IsTrue is
+        ↔ IsGoodBranch styles.now branch.now × IsCarried transfers.now branch.now) }
     ensures memory { IsOkUnless result Cause.OutOfMemory }
 {
     let rows = branch.records.items();
@@ -129,11 +131,13 @@ fn are_good_branches<L: Ledger>(
     transfers: &[Transfer],
     branches: &[DraftBranch],
 ) -> Result<bool, Cause>
-    requires records { AllByRecursion (λ (b : Branch). AllByRecursion (IsGoodRecord styles.now) b.records) branches.now }
+    requires records { AllByRecursion (λ (b : Branch). AllByRecursion (IsGoodRecord styles.now) b.records)
+        branches.now }
     requires ids { AreAscending transfers.now }
     requires marked { AllByRecursion IsMarked transfers.now }
     requires small { AllByRecursion (λ (t : Moved). unsigned_abs t.qty ≤ limit) transfers.now }
-    ensures value { IfOk result (λ is. IsTrue is ↔ AllByRecursion (λ (b : Branch). IsGoodBranch styles.now b × IsCarried transfers.now b) branches.now) }
+    ensures value { IfOk result (λ is. IsTrue is
+        ↔ AllByRecursion (λ (b : Branch). IsGoodBranch styles.now b × IsCarried transfers.now b) branches.now) }
     ensures memory { IsOkUnless result Cause.OutOfMemory }
 {
     for branch in branches {
@@ -149,7 +153,8 @@ fn are_good_branches<L: Ledger>(
 ///
 /// Where memory is refused, it answers 40.
 pub(crate) fn is_good<L: Ledger>(alloc: Global, draft: &Draft) -> Result<bool, Cause>
-    requires records { AllByRecursion (λ (b : Branch). AllByRecursion (IsGoodRecord draft.now.styles) b.records) draft.now.branches }
+    requires records { AllByRecursion (λ (b : Branch). AllByRecursion (IsGoodRecord draft.now.styles) b.records)
+        draft.now.branches }
     ensures value { IfOk result (λ is. IsTrue is ↔ IsGoodState draft.now) }
     ensures memory { IsOkUnless result Cause.OutOfMemory }
 {

@@ -1,6 +1,7 @@
 //! What holds of every step and of every run of commands.
 
-ghost use Rattle.std.specs.Prelude.{◌≡◌, ◌≤◌, [], ◌∷◌, ◌++◌, ◌+◌, ◌+ℤ◌, ◌-ℤ◌, ◌≤ℤ◌, int_le, ℕ, pos, Bool, true, false, List, Some, length, None, Result, Ok, Err, IsErr};
+ghost use Rattle.std.specs.Prelude.{◌≡◌, ◌≤◌, [], ◌∷◌, ◌++◌, ◌+◌, ◌+ℤ◌, ◌-ℤ◌, ◌≤ℤ◌, int_le, ℕ, pos, Bool, true, false};
+ghost use Rattle.std.specs.Prelude.{List, Some, length, None, Result, Ok, Err, IsErr};
 ghost use Rattle.std.specs.List.{AllByRecursion};
 ghost use Rattle.std.specs.Str.{bytes_eq};
 ghost use Rattle.money_core.specs.declared.unit.Unit.{Unit as Commodity};
@@ -34,13 +35,16 @@ ghost use Rattle.treasury_core.specs.Federation.{Federation, has_branch, records
 ghost use Rattle.treasury_core.specs.Mark.{is_held, is_of_transfer, is_closing};
 ghost use Rattle.treasury_core.specs.Transfer.{open_amount};
 ghost use Rattle.treasury_core.specs.Joined.{joined};
-ghost use Rattle.treasury_core.specs.Step.{reply, after, delta, step, new_records, is_locked, unbalanced, refused_in, records_in_file};
+ghost use Rattle.treasury_core.specs.Step.{reply, after, delta, step, new_records, is_locked, unbalanced, refused_in};
+ghost use Rattle.treasury_core.specs.Step.{records_in_file};
 ghost use Rattle.treasury_core.specs.Good.{Fits, IsGoodState};
 ghost use Rattle.treasury_core.specs.Sound.{EachBalances, EachAssertionHolds, BreaksAssertion};
 ghost use Rattle.treasury_core.specs.Choice.{is_selected, target_in, choice_refusal};
 ghost use Rattle.treasury_core.specs.Closing.{selected, held_in, closing_in, closing_record};
 ghost use Rattle.treasury_core.specs.Closed.{IsClosing, closed_book};
-ghost use Rattle.treasury_core.specs.History.{Turn, Replies, IsRun, state_after, history, records_among, IsRefusedOrRepeated, IsNew, IsOwn, IsOwnJournal, AreAmong, txns_in, HasGrown, AddsUp};
+ghost use Rattle.treasury_core.specs.History.{Turn, Replies, IsRun, state_after, history, records_among};
+ghost use Rattle.treasury_core.specs.History.{IsRefusedOrRepeated, IsNew, IsOwn, IsOwnJournal, AreAmong, txns_in};
+ghost use Rattle.treasury_core.specs.History.{HasGrown, AddsUp};
 ghost use Rattle.treasury_core.specs.Headline.{KeepsBooks};
 ghost use Rattle.treasury_core.specs.Rows.{rows};
 
@@ -48,7 +52,8 @@ ghost use Rattle.treasury_core.specs.Rows.{rows};
 pub fn good_law()
     ensures empty { IsGoodState (record { styles = []; branches = []; transfers = [] }) }
     ensures step { (f : Federation) (c : Command) → IsGoodState f → Fits f.styles c → IsGoodState (step f c).next }
-    ensures run { (f : Federation) (turns : List Turn) → IsGoodState f → IsRun f turns → IsGoodState (state_after f turns) }
+    ensures run { (f : Federation) (turns : List Turn) → IsGoodState f → IsRun f turns
+        → IsGoodState (state_after f turns) }
 {}
 
 /// A law of good states: in each branch every commodity sums to zero, and every stored assertion holds at its place, in
@@ -67,28 +72,30 @@ pub fn joined_law()
 
 /// A law of refusals and repeats: they leave the state, as does a file of repeats alone. Costs nothing.
 pub fn unchanged_law()
-    ensures refused { (f : Federation) (c : Command) (r : Result Answer Refusal) → IsRefusedOrRepeated r → after f c r ≡ f }
+    ensures refused { (f : Federation) (c : Command) (r : Result Answer Refusal) → IsRefusedOrRepeated r
+        → after f c r ≡ f }
     ensures none_new { (f : Federation) (name : List ℕ) (file : List Located) (repeated : ℕ)
         → reply f (Enter name file) ≡ Ok (Entered 0 repeated) → (step f (Enter name file)).next ≡ f }
 {}
 
 /// A law of accepted files: what is counted as new comes into the branch, each transaction under a mark that was not
-/// held and is not the product's, without a leg on transit accounts, on a day that is not locked; and each transaction of
-/// the file is counted once. Costs nothing.
+/// held and is not the product's, without a leg on transit accounts, on a day that is not locked; and each transaction
+/// of the file is counted once. Costs nothing.
 pub fn entered_law()
     ensures records { (f : Federation) (name : List ℕ) (file : List Located) (new repeated : ℕ)
         → reply f (Enter name file) ≡ Ok (Entered new repeated)
         → records_of (step f (Enter name file)).next name ≡ records_of f name ++ new_records f name file }
     ensures new { (f : Federation) (name : List ℕ) (file : List Located) (new repeated : ℕ)
-        → reply f (Enter name file) ≡ Ok (Entered new repeated) → AllByRecursion (IsNew (lock_of f name) (records_of f name)) (new_records f name file) }
+        → reply f (Enter name file) ≡ Ok (Entered new repeated)
+        → AllByRecursion (IsNew (lock_of f name) (records_of f name)) (new_records f name file) }
     ensures counts { (f : Federation) (name : List ℕ) (file : List Located) (new repeated : ℕ)
         → reply f (Enter name file) ≡ Ok (Entered new repeated)
         → (length (new_records f name file) ≡ new) × (new + repeated ≡ length file) }
 {}
 
-/// A law of late entries: a file that would break an assertion of the book, or brings one that does not hold, is refused,
-/// and nothing changes. Where nothing else is wrong with it, the refusal is 29, and names the first assertion by place that
-/// would not hold. Costs nothing.
+/// A law of late entries: a file that would break an assertion of the book, or brings one that does not hold, is
+/// refused, and nothing changes. Where nothing else is wrong with it, the refusal is 29, and names the first assertion
+/// by place that would not hold. Costs nothing.
 pub fn late_entry_law()
     ensures refused { (f : Federation) (name : List ℕ) (file : List Located) (r : Result Answer Refusal)
         → BreaksAssertion (book_of f name) (entries (new_records f name file)) → Replies f (Enter name file) r
@@ -105,33 +112,38 @@ pub fn late_entry_law()
 /// A law of a branch's own journal: entering its own transactions again, with their marks, finds them all there, also
 /// behind a lock, and also those of dispatches and receipts. Costs nothing.
 pub fn own_journal_law()
-    ensures { (f : Federation) (name : List ℕ) (file : List Located) → IsGoodState f → has_branch f name ≡ true → IsOwnJournal (records_of f name) file
+    ensures { (f : Federation) (name : List ℕ) (file : List Located) → IsGoodState f → has_branch f name ≡ true
+        → IsOwnJournal (records_of f name) file
         → (reply f (Enter name file) ≡ Ok (Entered 0 (length file))) × ((step f (Enter name file)).next ≡ f) }
 {}
 
-/// A law of a branch's journal as it is printed: any of its transactions, printed with their marks within the limits of a
-/// text, read as themselves, and entering them finds them all there. A text has one list at most, so reading it answers
-/// this list or 40. Costs nothing.
+/// A law of a branch's journal as it is printed: any of its transactions, printed with their marks within the limits of
+/// a text, read as themselves, and entering them finds them all there. A text has one list at most, so reading it
+/// answers this list or 40. Costs nothing.
 pub fn printed_journal_law()
-    ensures reads { (f : Federation) (name : List ℕ) (rs : List Record) → IsGoodState f → AreAmong (records_of f name) rs → FitsText f.styles (txns_in rs)
+    ensures reads { (f : Federation) (name : List ℕ) (rs : List Record) → IsGoodState f
+        → AreAmong (records_of f name) rs → FitsText f.styles (txns_in rs)
         → Reads f.styles (journal_text f.styles (txns_in rs)) (located_from f.styles 1 (txns_in rs)) }
-    ensures enters { (f : Federation) (name : List ℕ) (rs : List Record) (file : List Located) → IsGoodState f → has_branch f name ≡ true → AreAmong (records_of f name) rs
+    ensures enters { (f : Federation) (name : List ℕ) (rs : List Record) (file : List Located) → IsGoodState f
+        → has_branch f name ≡ true → AreAmong (records_of f name) rs
         → FitsText f.styles (txns_in rs) → Reads f.styles (journal_text f.styles (txns_in rs)) file
         → (reply f (Enter name file) ≡ Ok (Entered 0 (length rs))) × ((step f (Enter name file)).next ≡ f) }
 {}
 
-/// A law of a branch's journal in another branch: a transaction of a transfer is refused there with 25, once those before
-/// it were not refused; and so is a closing, where the other branch does not hold its mark. Costs nothing.
+/// A law of a branch's journal in another branch: a transaction of a transfer is refused there with 25, once those
+/// before it were not refused; and so is a closing, where the other branch does not hold its mark. Costs nothing.
 pub fn other_journal_law()
     ensures transfers { (f : Federation) (from to : List ℕ) (before : List Located) (x : Located) (rest : List Located)
-        → IsGoodState f → has_branch f from ≡ true → has_branch f to ≡ true → bytes_eq from to ≡ false → IsOwnJournal (records_of f from) (before ++ x ∷ rest)
+        → IsGoodState f → has_branch f from ≡ true → has_branch f to ≡ true → bytes_eq from to ≡ false
+        → IsOwnJournal (records_of f from) (before ++ x ∷ rest)
         → refused_in f.styles (lock_of f to) (records_of f to) (records_in_file f.styles before) ≡ None
         → (own : IsOwn (records_of f from) x) → is_of_transfer own.holder ≡ true
         → reply f (Enter to (before ++ x ∷ rest)) ≡ Err (Plain ReservedMark) }
     ensures closings { (f : Federation) (from to : List ℕ) (before : List Located) (x : Located) (rest : List Located)
         → IsGoodState f → has_branch f to ≡ true → IsOwnJournal (records_of f from) (before ++ x ∷ rest)
         → refused_in f.styles (lock_of f to) (records_of f to) (records_in_file f.styles before) ≡ None
-        → (own : IsOwn (records_of f from) x) → is_closing own.holder ≡ true → is_held (records_of f to) own.holder.mark ≡ false
+        → (own : IsOwn (records_of f from) x) → is_closing own.holder ≡ true
+        → is_held (records_of f to) own.holder.mark ≡ false
         → reply f (Enter to (before ++ x ∷ rest)) ≡ Err (Plain ReservedMark) }
 {}
 
@@ -140,9 +152,11 @@ pub fn other_journal_law()
 pub fn records_law()
     ensures records { (f : Federation) (turns : List Turn) (name : List ℕ) → IsRun f turns
         → records_of (state_after f turns) name ≡ records_of f name ++ records_among name (history f turns) }
-    ensures moved { (f : Federation) (turns : List Turn) (name : List ℕ) (reach : Reach) (account : List ℕ) (unit : Commodity) (day : Day) → IsRun f turns
+    ensures moved { (f : Federation) (turns : List Turn) (name : List ℕ) (reach : Reach) (account : List ℕ)
+        (unit : Commodity) (day : Day) → IsRun f turns
         → balance reach (book_of (state_after f turns) name) account unit (Through day)
-        ≡ balance reach (book_of f name) account unit (Through day) +ℤ balance reach (entries (records_among name (history f turns))) account unit (Through day) }
+        ≡ balance reach (book_of f name) account unit (Through day)
+        +ℤ balance reach (entries (records_among name (history f turns))) account unit (Through day) }
 {}
 
 /// A law of runs: commodities, branches and records stay where they are, and only more come behind them. Costs nothing.
@@ -154,16 +168,20 @@ pub fn growing_law()
 pub fn lock_law()
     ensures locked { (f : Federation) (turns : List Turn) (name : List ℕ) (day : Day) → IsRun f turns
         → is_locked (lock_of f name) day ≡ true → is_locked (lock_of (state_after f turns) name) day ≡ true }
-    ensures balances { (f : Federation) (turns : List Turn) (name : List ℕ) (day : Day) (reach : Reach) (account : List ℕ) (unit : Commodity) → IsRun f turns
+    ensures balances { (f : Federation) (turns : List Turn) (name : List ℕ) (day : Day) (reach : Reach)
+        (account : List ℕ) (unit : Commodity) → IsRun f turns
         → is_locked (lock_of f name) day ≡ true
-        → balance reach (book_of (state_after f turns) name) account unit (Through day) ≡ balance reach (book_of f name) account unit (Through day) }
+        → balance reach (book_of (state_after f turns) name) account unit (Through day)
+        ≡ balance reach (book_of f name) account unit (Through day) }
 {}
 
 /// A law of good states: for two branches that differ, in every commodity and through every day, the balances of their
 /// transit account in the books of both add up to the open amount, which is never negative. Costs nothing.
 pub fn transit_law()
-    ensures adds_up { (f : Federation) (from to : List ℕ) → IsGoodState f → has_branch f from ≡ true → has_branch f to ≡ true → bytes_eq from to ≡ false → AddsUp f from to }
-    ensures low { (f : Federation) (from to : List ℕ) (unit : Commodity) (day : Day) → IsGoodState f → pos 0 ≤ℤ open_amount f.transfers from to unit day }
+    ensures adds_up { (f : Federation) (from to : List ℕ) → IsGoodState f → has_branch f from ≡ true
+        → has_branch f to ≡ true → bytes_eq from to ≡ false → AddsUp f from to }
+    ensures low { (f : Federation) (from to : List ℕ) (unit : Commodity) (day : Day) → IsGoodState f
+        → pos 0 ≤ℤ open_amount f.transfers from to unit day }
 {}
 
 /// The headline, a law of runs: from a good state on, every list of commands keeps the books. The state has what the
@@ -184,7 +202,8 @@ pub fn rows_law()
 pub fn closing_law()
     ensures entry { (select : List ℕ → Bool) (into : List ℕ) (f : Federation) (name : List ℕ) (day : Day) (t : Txn)
         → IsClosing select into f name day t → legs_of f.styles t ≡ Ok (written_entry t) }
-    ensures printable { (f : Federation) (name : List ℕ) (day : Day) (c : Choice) (t : Txn) → IsGoodState f → IsDayNumber day → choice_refusal c ≡ None
+    ensures printable { (f : Federation) (name : List ℕ) (day : Day) (c : Choice) (t : Txn) → IsGoodState f
+        → IsDayNumber day → choice_refusal c ≡ None
         → closing_in f name day c ≡ Some t → length t.postings ≤ posting_limit → IsPrintable f.styles t }
 {}
 
@@ -192,27 +211,38 @@ pub fn closing_law()
 /// day and each later one it has moved by what it held through that day, and the account that gets it by the sum. No
 /// other account moves, and none through an earlier day. Costs nothing.
 pub fn closed_law()
-    ensures closed { (select : List ℕ → Bool) (into : List ℕ) (f : Federation) (name : List ℕ) (day : Day) (t : Txn) (account : List ℕ) (unit : Commodity)
-        → IsClosing select into f name day t → select account ≡ true → balance Own (closed_book f name t) account unit (Through day) ≡ pos 0 }
-    ensures moved { (select : List ℕ → Bool) (into : List ℕ) (f : Federation) (name : List ℕ) (day : Day) (t : Txn) (account : List ℕ) (unit : Commodity) (later : Day)
+    ensures closed { (select : List ℕ → Bool) (into : List ℕ) (f : Federation) (name : List ℕ) (day : Day) (t : Txn)
+        (account : List ℕ) (unit : Commodity)
+        → IsClosing select into f name day t → select account ≡ true
+        → balance Own (closed_book f name t) account unit (Through day) ≡ pos 0 }
+    ensures moved { (select : List ℕ → Bool) (into : List ℕ) (f : Federation) (name : List ℕ) (day : Day) (t : Txn)
+        (account : List ℕ) (unit : Commodity) (later : Day)
         → IsClosing select into f name day t → select account ≡ true → int_le day.0 later.0 ≡ true
         → balance Own (closed_book f name t) account unit (Through later)
-        ≡ balance Own (book_of f name) account unit (Through later) -ℤ balance Own (book_of f name) account unit (Through day) }
-    ensures gained { (select : List ℕ → Bool) (into : List ℕ) (f : Federation) (name : List ℕ) (day : Day) (t : Txn) (unit : Commodity) (later : Day)
+        ≡ balance Own (book_of f name) account unit (Through later)
+        -ℤ balance Own (book_of f name) account unit (Through day) }
+    ensures gained { (select : List ℕ → Bool) (into : List ℕ) (f : Federation) (name : List ℕ) (day : Day) (t : Txn)
+        (unit : Commodity) (later : Day)
         → IsClosing select into f name day t → int_le day.0 later.0 ≡ true
         → balance Own (closed_book f name t) into unit (Through later)
-        ≡ balance Own (book_of f name) into unit (Through later) +ℤ held_in (book_of f name) day unit (selected select (book_of f name)) }
-    ensures untouched { (select : List ℕ → Bool) (into : List ℕ) (f : Federation) (name : List ℕ) (day : Day) (t : Txn) (account : List ℕ) (unit : Commodity) (on : Day)
+        ≡ balance Own (book_of f name) into unit (Through later)
+        +ℤ held_in (book_of f name) day unit (selected select (book_of f name)) }
+    ensures untouched { (select : List ℕ → Bool) (into : List ℕ) (f : Federation) (name : List ℕ) (day : Day) (t : Txn)
+        (account : List ℕ) (unit : Commodity) (on : Day)
         → IsClosing select into f name day t → select account ≡ false → bytes_eq into account ≡ false
-        → balance Own (closed_book f name t) account unit (Through on) ≡ balance Own (book_of f name) account unit (Through on) }
-    ensures before { (select : List ℕ → Bool) (into : List ℕ) (f : Federation) (name : List ℕ) (day : Day) (t : Txn) (account : List ℕ) (unit : Commodity) (earlier : Day)
+        → balance Own (closed_book f name t) account unit (Through on)
+        ≡ balance Own (book_of f name) account unit (Through on) }
+    ensures before { (select : List ℕ → Bool) (into : List ℕ) (f : Federation) (name : List ℕ) (day : Day) (t : Txn)
+        (account : List ℕ) (unit : Commodity) (earlier : Day)
         → IsClosing select into f name day t → int_le day.0 earlier.0 ≡ false
-        → balance Own (closed_book f name t) account unit (Through earlier) ≡ balance Own (book_of f name) account unit (Through earlier) }
+        → balance Own (closed_book f name t) account unit (Through earlier)
+        ≡ balance Own (book_of f name) account unit (Through earlier) }
 {}
 
 /// A law of accepted closings: the book gets the closing of its branch and nothing else, and is locked through the day.
 /// Through that day each account that is selected is at zero in every commodity, and stays so whatever comes later. No
-/// balance moves but theirs and that of the target, which is not selected, and nothing in another branch. Costs nothing.
+/// balance moves but theirs and that of the target, which is not selected, and nothing in another branch. Costs
+/// nothing.
 pub fn accepted_closing_law()
     ensures adds { (f : Federation) (x : Closing) → reply f (Close x) ≡ Ok Done
         → (t : Txn) × ((closing_in f x.branch x.day x.choice ≡ Some t)
@@ -224,12 +254,19 @@ pub fn accepted_closing_law()
     ensures zero { (f : Federation) (x : Closing) (account : List ℕ) (unit : Commodity) → IsGoodState f
         → reply f (Close x) ≡ Ok Done → is_selected x.choice.accounts account ≡ true
         → balance Own (book_of (step f (Close x)).next x.branch) account unit (Through x.day) ≡ pos 0 }
-    ensures stays { (f : Federation) (x : Closing) (turns : List Turn) (account : List ℕ) (unit : Commodity) → IsGoodState f
-        → reply f (Close x) ≡ Ok Done → IsRun (step f (Close x)).next turns → is_selected x.choice.accounts account ≡ true
-        → balance Own (book_of (state_after (step f (Close x)).next turns) x.branch) account unit (Through x.day) ≡ pos 0 }
+    ensures stays { (f : Federation) (x : Closing) (turns : List Turn) (account : List ℕ) (unit : Commodity)
+        → IsGoodState f
+        → reply f (Close x) ≡ Ok Done → IsRun (step f (Close x)).next turns
+        → is_selected x.choice.accounts account ≡ true
+        → balance Own (book_of (state_after (step f (Close x)).next turns) x.branch) account unit (Through x.day)
+        ≡ pos 0 }
     ensures untouched { (f : Federation) (x : Closing) (account : List ℕ) (unit : Commodity) (on : Day) → IsGoodState f
-        → reply f (Close x) ≡ Ok Done → is_selected x.choice.accounts account ≡ false → bytes_eq (target_in x.choice.into) account ≡ false
-        → balance Own (book_of (step f (Close x)).next x.branch) account unit (Through on) ≡ balance Own (book_of f x.branch) account unit (Through on) }
-    ensures elsewhere { (f : Federation) (x : Closing) (other : List ℕ) → reply f (Close x) ≡ Ok Done → bytes_eq x.branch other ≡ false
-        → (records_of (step f (Close x)).next other ≡ records_of f other) × (lock_of (step f (Close x)).next other ≡ lock_of f other) }
+        → reply f (Close x) ≡ Ok Done → is_selected x.choice.accounts account ≡ false
+        → bytes_eq (target_in x.choice.into) account ≡ false
+        → balance Own (book_of (step f (Close x)).next x.branch) account unit (Through on)
+        ≡ balance Own (book_of f x.branch) account unit (Through on) }
+    ensures elsewhere { (f : Federation) (x : Closing) (other : List ℕ) → reply f (Close x) ≡ Ok Done
+        → bytes_eq x.branch other ≡ false
+        → (records_of (step f (Close x)).next other ≡ records_of f other)
+        × (lock_of (step f (Close x)).next other ≡ lock_of f other) }
 {}

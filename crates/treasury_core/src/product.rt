@@ -4,7 +4,8 @@ ghost use Rattle.std.specs.Prelude.{◌≡◌, ◌≤◌, unsigned_abs, [], ◌�
 ghost use Rattle.std.specs.Result.{IsOkUnless};
 ghost use Rattle.money_core.specs.Amount.{limit};
 ghost use Rattle.journal_balance.specs.Legs.{leg};
-ghost use Rattle.treasury_core.specs.Transfer.{transit_account, posting, product_record, in_mark, in_text, dispatch_record, receipt_record};
+ghost use Rattle.treasury_core.specs.Transfer.{transit_account, posting, product_record, in_mark, in_text};
+ghost use Rattle.treasury_core.specs.Transfer.{dispatch_record, receipt_record};
 
 use crate::record::Record;
 use crate::transfer::{Part, Transfer, is_all};
@@ -51,7 +52,8 @@ fn in_mark(alloc: Global, id: &Text, key: &Text) -> Result<Text, Cause>
 
 /// The description of a dispatch: `transfer ID to BRANCH`.
 fn out_text(alloc: Global, transfer: &Transfer) -> Result<Text, Cause>
-    ensures value { IfOk result (λ text. text ≡ codes "transfer " ++ (transfer.now.id ++ (codes " to " ++ transfer.now.target))) }
+    ensures value { IfOk result (λ text.
+        text ≡ codes "transfer " ++ (transfer.now.id ++ (codes " to " ++ transfer.now.target))) }
     ensures memory { IsOkUnless result Cause.OutOfMemory }
 {
     let id = transfer.id.as_str();

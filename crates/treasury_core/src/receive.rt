@@ -1,6 +1,7 @@
 //! Money received that was dispatched to a branch.
 
-ghost use Rattle.std.specs.Prelude.{Some, None, true, false, ◌≡◌, ◌≤◌, ◌⊎◌, ◌&&◌, [], ◌∷◌, ◌++◌, find, IfOk, IfErr, OnOk, unsigned_abs, option_copied};
+ghost use Rattle.std.specs.Prelude.{Some, None, true, false, ◌≡◌, ◌≤◌, ◌⊎◌, ◌&&◌, [], ◌∷◌, ◌++◌, find, IfOk, IfErr};
+ghost use Rattle.std.specs.Prelude.{OnOk, unsigned_abs, option_copied};
 ghost use Rattle.std.specs.Option.{option_map};
 ghost use Rattle.std.specs.Ordering.{int_eq};
 ghost use Rattle.std.specs.Result.{IsOkUnless};
@@ -9,7 +10,8 @@ ghost use Rattle.money_core.specs.Amount.{limit};
 ghost use Rattle.book_core.specs.GoodBook.{IsGoodBook, verdict};
 ghost use Rattle.treasury_core.specs.Federation.{entries};
 ghost use Rattle.treasury_core.specs.Transfer.{receipts_of, receipt_record};
-ghost use Rattle.treasury_core.specs.Step.{key_of, qty_of, receipt_of, has_key, is_received_so, is_too_much, has_bad_key, has_nothing_left, receipt_refusal, Decides};
+ghost use Rattle.treasury_core.specs.Step.{key_of, qty_of, receipt_of, has_key, is_received_so, is_too_much};
+ghost use Rattle.treasury_core.specs.Step.{has_bad_key, has_nothing_left, receipt_refusal, Decides};
 ghost use Rattle.treasury_core.specs.Good.{HasGoodParts, IsReceive};
 ghost use Rattle.treasury_core.specs.Kept.{IsKept};
 
@@ -108,7 +110,8 @@ fn is_rest_so(receive: &Receive, receipt: &Receipt) -> bool
 fn rest_so(transfer: &Transfer, receive: &Receive) -> Option<bool>
     requires parts { HasGoodParts transfer.now }
     requires whole { receive.now.part ≡ None }
-    ensures { result ≡ option_map (is_received_so transfer.now receive.now) (find (has_key (key_of receive.now.part)) (receipts_of transfer.now)) }
+    ensures { result ≡ option_map (is_received_so transfer.now receive.now)
+        (find (has_key (key_of receive.now.part)) (receipts_of transfer.now)) }
 {
     match &transfer.receipt {
         None => None,
@@ -120,7 +123,8 @@ fn rest_so(transfer: &Transfer, receive: &Receive) -> Option<bool>
 fn held_so(transfer: &Transfer, receive: &Receive) -> Option<bool>
     requires parts { HasGoodParts transfer.now }
     requires key { has_bad_key receive.now.part ≡ false }
-    ensures { result ≡ option_map (is_received_so transfer.now receive.now) (find (has_key (key_of receive.now.part)) (receipts_of transfer.now)) }
+    ensures { result ≡ option_map (is_received_so transfer.now receive.now)
+        (find (has_key (key_of receive.now.part)) (receipts_of transfer.now)) }
 {
     let Some(asked) = &receive.part else {
         return rest_so(transfer, receive);
@@ -166,9 +170,16 @@ fn taken<L: Ledger>(
     requires good { IsGoodBook (L.book target.now.ledger) }
     requires parts { HasGoodParts transfer.now }
     requires small { unsigned_abs (qty_of transfer.now receive.now.part) ≤ limit }
-    ensures value { IfOk result (λ delta. delta ≡ Addition.Record receive.now.branch (receipt_record transfer.now (receipt_of transfer.now receive.now)) ∷ Addition.Received receive.now.id (receipt_of transfer.now receive.now) ∷ []) }
-    ensures passes { OnOk result (verdict (L.book target.now.ledger ++ entries (receipt_record transfer.now (receipt_of transfer.now receive.now) ∷ [])) ≡ None) }
-    ensures err { IfErr result (λ e. (e ≡ Refusal.Plain Cause.OutOfMemory) ⊎ (verdict (L.book target.now.ledger ++ entries (receipt_record transfer.now (receipt_of transfer.now receive.now) ∷ [])) ≡ Some e)) }
+    ensures value { IfOk result (λ delta.
+        delta ≡ Addition.Record receive.now.branch (receipt_record transfer.now (receipt_of transfer.now receive.now))
+        ∷ Addition.Received receive.now.id (receipt_of transfer.now receive.now) ∷ []) }
+    ensures passes { OnOk result (verdict
+        (L.book target.now.ledger ++ entries (receipt_record transfer.now (receipt_of transfer.now receive.now) ∷ []))
+        ≡ None) }
+    ensures err { IfErr result (λ e.
+        (e ≡ Refusal.Plain Cause.OutOfMemory)
+        ⊎ (verdict (L.book target.now.ledger
+        ++ entries (receipt_record transfer.now (receipt_of transfer.now receive.now) ∷ [])) ≡ Some e)) }
 {
     let part = match receipt_of(alloc, transfer, receive) {
         Ok(part) => part,
@@ -196,9 +207,14 @@ fn judged<L: Ledger>(
     requires good { IsGoodBook (entries target.now.records) }
     requires parts { HasGoodParts transfer.now }
     requires small { unsigned_abs (qty_of transfer.now receive.now.part) ≤ limit }
-    ensures value { IfOk result (λ delta. delta ≡ Addition.Record receive.now.branch (receipt_record transfer.now (receipt_of transfer.now receive.now)) ∷ Addition.Received receive.now.id (receipt_of transfer.now receive.now) ∷ []) }
-    ensures passes { OnOk result (receipt_refusal target.now.locked target.now.records transfer.now receive.now ≡ None) }
-    ensures err { IfErr result (λ e. (e ≡ Refusal.Plain Cause.OutOfMemory) ⊎ (receipt_refusal target.now.locked target.now.records transfer.now receive.now ≡ Some e)) }
+    ensures value { IfOk result (λ delta.
+        delta ≡ Addition.Record receive.now.branch (receipt_record transfer.now (receipt_of transfer.now receive.now))
+        ∷ Addition.Received receive.now.id (receipt_of transfer.now receive.now) ∷ []) }
+    ensures passes { OnOk result (receipt_refusal target.now.locked target.now.records transfer.now receive.now
+        ≡ None) }
+    ensures err { IfErr result (λ e.
+        (e ≡ Refusal.Plain Cause.OutOfMemory)
+        ⊎ (receipt_refusal target.now.locked target.now.records transfer.now receive.now ≡ Some e)) }
 {
     if !is_account_text(&receive.account) {
         return Err(Refusal::Plain(Cause::BadAccount));

@@ -1,6 +1,7 @@
 //! Whether rows are those of a draft.
 
-ghost use Rattle.std.specs.Prelude.{◌≡◌, ◌↔◌, ◌++◌, ◌∷◌, [], ℕ, List, map, length, pos, Option, IfOk, IsTrue, MatchOption};
+ghost use Rattle.std.specs.Prelude.{◌≡◌, ◌↔◌, ◌++◌, ◌∷◌, [], ℕ, List, map, length, pos, Option, IfOk, IsTrue};
+ghost use Rattle.std.specs.Prelude.{MatchOption};
 ghost use Rattle.std.specs.List.{enumerate_from, AllByRecursion};
 ghost use Rattle.std.specs.Option.{option_map};
 ghost use Rattle.std.specs.Result.{IsOkUnless};
@@ -10,7 +11,9 @@ ghost use Rattle.treasury_core.specs.declared.record.Record.{Record as BranchRec
 ghost use Rattle.treasury_core.specs.declared.transfer.Receipt.{Receipt as TransferReceipt};
 ghost use Rattle.treasury_core.specs.Federation.{Branch as FederationBranch, name_place};
 ghost use Rattle.treasury_core.specs.Good.{IsGoodRecord};
-ghost use Rattle.treasury_core.specs.Rows.{truth, kind_number, unit_row, unit_rows, branch_row, branch_rows_from, entry_row, leg_row, claim_row, leg_rows, claim_rows, transfer_row, part_row, part_rows, rows};
+ghost use Rattle.treasury_core.specs.Rows.{truth, kind_number, unit_row, unit_rows, branch_row, branch_rows_from};
+ghost use Rattle.treasury_core.specs.Rows.{entry_row, leg_row, claim_row, leg_rows, claim_rows, transfer_row, part_row};
+ghost use Rattle.treasury_core.specs.Rows.{part_rows, rows};
 ghost use Rattle.treasury_core.specs.Drafted.{record_rows_from, record_rows_in};
 
 use crate::draft::{Draft, DraftBranch};
@@ -125,7 +128,8 @@ fn place_of(branches: &[DraftBranch], name: &Text) -> usize
 
 /// Whether two columns have that receipt, or none.
 fn is_receipt(received: Option<i64>, payee: &Option<Text>, receipt: &Option<Receipt>) -> bool
-    ensures { IsTrue result ↔ ((option_map (λ (r : TransferReceipt). r.day.0) receipt.now ≡ received) × (option_map (λ (r : TransferReceipt). r.payee) receipt.now ≡ payee.now)) }
+    ensures { IsTrue result ↔ ((option_map (λ (r : TransferReceipt). r.day.0) receipt.now ≡ received)
+        × (option_map (λ (r : TransferReceipt). r.payee) receipt.now ≡ payee.now)) }
 {
     match (received, payee, receipt) {
         (None, None, None) => true,
@@ -420,7 +424,8 @@ fn are_record_rows<T: RecordRow>(
     branches: &[DraftBranch],
     list: &[T],
 ) -> Result<bool, Cause>
-    requires { AllByRecursion (λ (b : FederationBranch). AllByRecursion (IsGoodRecord styles.now) b.records) branches.now }
+    requires { AllByRecursion (λ (b : FederationBranch). AllByRecursion (IsGoodRecord styles.now) b.records)
+        branches.now }
     ensures value { IfOk result (λ is. IsTrue is ↔ (record_rows_in (T.rows styles.now) 0 branches.now ≡ list.now)) }
     ensures memory { IsOkUnless result Cause.OutOfMemory }
 {
@@ -436,7 +441,8 @@ fn are_record_rows<T: RecordRow>(
 
 /// Whether the draft has just these rows: it is walked beside them once, and each body is printed.
 pub(crate) fn has_rows(alloc: Global, draft: &Draft, parts: &Parts) -> Result<bool, Cause>
-    requires { AllByRecursion (λ (b : FederationBranch). AllByRecursion (IsGoodRecord draft.now.styles) b.records) draft.now.branches }
+    requires { AllByRecursion (λ (b : FederationBranch). AllByRecursion (IsGoodRecord draft.now.styles) b.records)
+        draft.now.branches }
     ensures value { IfOk result (λ is. IsTrue is ↔ (rows draft.now ≡ parts.now)) }
     ensures memory { IsOkUnless result Cause.OutOfMemory }
 {

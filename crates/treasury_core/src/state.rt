@@ -48,7 +48,8 @@ impl<L: Ledger> Model for State<L> {
 
     ghost view = { λ s. federation_of s.styles s.branches.items s.transfers };
 
-    ghost invariant = { λ s. AreKept L.book s.styles s.branches.items s.transfers × ArePlacesOf s.places (branches_of s.branches.items) };
+    ghost invariant = { λ s. AreKept L.book s.styles s.branches.items s.transfers
+        × ArePlacesOf s.places (branches_of s.branches.items) };
 }
 
 impl<L: Ledger> State<L> {
@@ -87,7 +88,8 @@ impl<L: Ledger> State<L> {
         self.branches.as_slice()
     }
 
-    /// The ledger of the branch of that name, if there is one: its book, a good one, is the entries of the branch's records.
+    /// The ledger of the branch of that name, if there is one: its book, a good one, is the entries of the branch's
+    /// records.
     pub fn ledger(&self, name: &str) -> Option<&L>
         ensures found { MatchOption result (has_branch self.now name.now ≡ false)
             (λ ledger. (has_branch self.now name.now ≡ true) × (L.book ledger.now ≡ book_of self.now name.now)) }
@@ -110,7 +112,8 @@ impl<L: Ledger> State<L> {
 
 /// The branch of that name: one look-up, whatever the number of branches.
 pub(crate) fn find_branch<'a, L: Ledger>(state: &'a State<L>, name: &str) -> Option<&'a Branch<L>>
-    ensures found { MatchOption result (branch_at state.now.branches name.now ≡ None) (λ b. branch_at state.now.branches name.now ≡ Some (branch_of b.now)) }
+    ensures found { MatchOption result (branch_at state.now.branches name.now ≡ None)
+        (λ b. branch_at state.now.branches name.now ≡ Some (branch_of b.now)) }
     ensures kept { IfSome result (λ b. IsKept L.book b.now) }
 {
     match state.places.get(name) {

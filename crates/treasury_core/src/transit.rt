@@ -92,7 +92,8 @@ pub fn open_amount<L: Ledger>(state: &State<L>, from: &str, to: &str, unit: Unit
     ensures value { result ≡ open_amount state.now.transfers from.now to.now unit day }
     ensures low { pos 0 ≤ℤ result }
     ensures unknown { (has_branch state.now from.now && has_branch state.now to.now) ≡ false → result ≡ pos 0 }
-    ensures adds_up { has_branch state.now from.now ≡ true → has_branch state.now to.now ≡ true → bytes_eq from.now to.now ≡ false → AddsUp state.now from.now to.now }
+    ensures adds_up { has_branch state.now from.now ≡ true → has_branch state.now to.now ≡ true
+        → bytes_eq from.now to.now ≡ false → AddsUp state.now from.now to.now }
 {
     state.is_good();
     open_between(state.transfers(), from, to, unit, day)

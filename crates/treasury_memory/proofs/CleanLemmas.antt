@@ -14,7 +14,8 @@ both : (a b : Bool) → IsTrue a → IsTrue b → IsTrue (a && b)
 both true b p q = q
 both false b p q = p
 
-always_clean : {D : Type 0} {g : Ghosts D} → ((disk : D) → IsTrue (g.is_clean disk)) → (conn : Held (FileStore D g)) → HasCleanDisk (file_state conn)
+always_clean : {D : Type 0} {g : Ghosts D} → ((disk : D) → IsTrue (g.is_clean disk)) → (conn : Held (FileStore D g))
+    → HasCleanDisk (file_state conn)
 unfolding state
 always_clean right conn = no_doubt _ (both _ _ (right _) (right _))
 

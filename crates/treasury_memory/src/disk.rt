@@ -1,6 +1,7 @@
 //! A file in memory that no crash reaches: it keeps its bytes alone, and a sync does nothing.
 
-ghost use Rattle.std.specs.Prelude.{◌≡◌, ◌+◌, ◌≤◌, ◌<◌, [], length, take, drop, true, false, refl, is_ok, IfOk, OnOk, OnErr, vec_capacity};
+ghost use Rattle.std.specs.Prelude.{◌≡◌, ◌+◌, ◌≤◌, ◌<◌, [], length, take, drop, true, false, refl, is_ok, IfOk, OnOk};
+ghost use Rattle.std.specs.Prelude.{OnErr, vec_capacity};
 ghost use Rattle.sqlite_disk.specs.Disk.{Holds, Torn, Cut, CountsFault};
 ghost use Rattle.sqlite_disk.specs.Refusal.{finds_no_room};
 ghost use Rattle.treasury_memory.specs.Disk.{disk_bytes, disk_room, disk_faults};
@@ -23,11 +24,13 @@ const SHARE: usize = 8;
 /// The bytes of a page.
 const PAGE: usize = 1024;
 
-/// How a database with such pages begins that has no rows: the header of SQLite's file format, and an empty leaf behind it.
+/// How a database with such pages begins that has no rows: the header of SQLite's file format, and an empty leaf behind
+/// it.
 const START: [u8; 108] = [
     // "SQLite format 3", and a 0.
     83, 81, 76, 105, 116, 101, 32, 102, 111, 114, 109, 97, 116, 32, 51, 0,
-    // The size of a page, a log for writing and for reading, no bytes kept at a page's end, and three fractions that are fixed.
+    // The size of a page, a log for writing and for reading, no bytes kept at a page's end, and three fractions that
+    // are fixed.
     4, 0, 2, 2, 0, 64, 32, 32,
     // One change, one page, no free pages, no change of the schema, the schema's format 4.
     0, 0, 0, 1, 0, 0, 0, 1, 0, 0, 0, 0, 0, 0, 0, 0, 0, 0, 0, 0, 0, 0, 0, 4,
@@ -160,7 +163,8 @@ fn take_room(alloc: Global) -> Result<Vec<u8>, AllocError>
 
 /// Reads the bytes from `at` on; past the end of the file is an error.
 fn read(file: &[u8], at: usize, buf: &mut [u8]) -> io::Result<()>
-    ensures read { OnOk result ((at + length buf.old ≤ length file.now) × (buf.new ≡ take (length buf.old) (drop at file.now))) }
+    ensures read { OnOk result ((at + length buf.old ≤ length file.now)
+        × (buf.new ≡ take (length buf.old) (drop at file.now))) }
     ensures past { OnErr result (length file.now < at + length buf.old) }
 {
     if at > file.len() || buf.len() > file.len() - at {
@@ -211,8 +215,8 @@ fn resize(file: &mut Vec<u8>, len: usize) -> Result<(), AllocError>
     file.resize(len, 0)
 }
 
-/// Writes the bytes at `at`, over what is there and past the end. It fails only past the file's room, and then nothing is
-/// changed.
+/// Writes the bytes at `at`, over what is there and past the end. It fails only past the file's room, and then nothing
+/// is changed.
 fn overwrite(file: &mut Vec<u8>, at: usize, bytes: &[u8]) -> Result<(), AllocError>
     ensures written { OnOk result (Holds file.new.items at bytes.now) }
     ensures others { Torn at (length bytes.now) file.old.items file.new.items }

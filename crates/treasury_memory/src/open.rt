@@ -45,8 +45,8 @@ pub fn open_memory(alloc: Global) -> Result<Connection<MemoryStore>, Cause>
     Ok(conn)
 }
 
-/// A law: whatever was done with such a database, its disk has returned what was written. So each clause that stands under
-/// `HasCleanDisk` holds of it outright. Costs nothing.
+/// A law: whatever was done with such a database, its disk has returned what was written. So each clause that stands
+/// under `HasCleanDisk` holds of it outright. Costs nothing.
 pub fn clean_law(conn: &Connection<MemoryStore>)
     ensures { HasCleanDisk (file_state conn.now) }
 {}

@@ -17,8 +17,10 @@ within_abs : (m : ℕ) (z : ℤ) → Within m z → unsigned_abs z ≤ m
 within_abs m z h = let a = h.low in let b = h.high in omega (arith, ints)
 
 -- no balance passes the turnover
-pub balance_is_declared : (styles : List Style) (entries : List Entry) (account : List ℕ) (unit : Commodity) (day : Day) → unit.0 < length styles → HasRoom entries → IsDeclared styles unit (balance Own entries account unit (Through day))
+pub balance_is_declared : (styles : List Style) (entries : List Entry) (account : List ℕ) (unit : Commodity) (day : Day)
+    → unit.0 < length styles → HasRoom entries → IsDeclared styles unit (balance Own entries account unit (Through day))
 unfolding balance
 balance_is_declared styles entries account unit day known room =
-    let within = within_abs (turnover unit entries) (balance Own entries account unit (Through day)) (within_entries Own account unit (Through day) 1 entries) in
+    let within = within_abs (turnover unit entries) (balance Own entries account unit (Through day))
+    (within_entries Own account unit (Through day) 1 entries) in
     record { known = known; size = omega (arith, room unit) }

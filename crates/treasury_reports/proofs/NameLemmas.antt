@@ -1,5 +1,6 @@
 -- the names of branches, put in order one after another
-use Rattle.std.proofs.Common.{◌≡◌, ℕ, ◌+◌, ◌<◌, List, [], ◌∷◌, ◌++◌, length, take, get_or, map, refl, ap, ◌∙◌, sym, subst, ◌⊎◌, inl, inr}
+use Rattle.std.proofs.Common.{◌≡◌, ℕ, ◌+◌, ◌<◌, List, [], ◌∷◌, ◌++◌, length, take, get_or, map, refl, ap, ◌∙◌, sym}
+use Rattle.std.proofs.Common.{subst, ◌⊎◌, inl, inr}
 use Rattle.std.specs.Prelude.{◌↔◌, Contains}
 use Rattle.std.specs.List.Sorted.{IsStrictlySortedBy}
 use Rattle.std.proofs.lemmas.List.{take_more}
@@ -21,17 +22,30 @@ unfolding IsStrictlySortedBy
 nothing = tt
 
 pub none_in_order : (names : List (List ℕ)) → names ≡ [] → InOrder names []
-none_in_order names e = subst (λ (xs : List (List ℕ)). InOrder xs []) (sym e) (record { sorted = nothing; exact = λ x. ((λ h. h), (λ h. h)) })
+none_in_order names e = subst (λ (xs : List (List ℕ)). InOrder xs []) (sym e)
+    (record { sorted = nothing; exact = λ x. ((λ h. h), (λ h. h)) })
 
-names-append : {L : Type 0} (xs : List (Kept L)) (b : Kept L) → names_of (branches_of (xs ++ b ∷ [])) ≡ names_of (branches_of xs) ++ b.name ∷ []
+names-append : {L : Type 0} (xs : List (Kept L)) (b : Kept L)
+    → names_of (branches_of (xs ++ b ∷ [])) ≡ names_of (branches_of xs) ++ b.name ∷ []
 names-append [] b = refl
 names-append (x ∷ xs) b = ap (λ (l : List (List ℕ)). x.name ∷ l) (names-append xs b)
 
-pub names_more : {L : Type 0} (xs : List (Kept L)) (i : ℕ) (b : Kept L) → i < length xs → b ≡ get_or xs i b → names_of (branches_of (take (i + 1) xs)) ≡ names_of (branches_of (take i xs)) ++ b.name ∷ []
-names_more {L} xs i b below e = ap (λ (l : List (Kept L)). names_of (branches_of l)) (take_more xs i b below ∙ ap (λ (y : Kept L). take i xs ++ y ∷ []) (sym e)) ∙ names-append (take i xs) b
+pub names_more : {L : Type 0} (xs : List (Kept L)) (i : ℕ) (b : Kept L) → i < length xs → b ≡ get_or xs i b
+    → names_of (branches_of (take (i + 1) xs)) ≡ names_of (branches_of (take i xs)) ++ b.name ∷ []
+names_more {L} xs i b below e =
+    ap (λ (l : List (Kept L)). names_of (branches_of l))
+    (take_more xs i b below ∙ ap (λ (y : Kept L). take i xs ++ y ∷ []) (sym e)) ∙ names-append (take i xs) b
 
-pub one_more : (old new all more : List (List ℕ)) (name : List ℕ) → InOrder old all → IsStrictlySortedBy name_cmp new → ((x : List ℕ) → Contains new x ↔ (Contains old x ⊎ (x ≡ name))) → more ≡ all ++ name ∷ [] → InOrder new more
-one_more old new all more name h sorted put e = record { sorted = sorted; exact = λ x. ((λ k. subst (λ (xs : List (List ℕ)). Contains xs x) (sym e) (forth x ((put x).0 k))), (λ k. (put x).1 (back x (Contains-push_cases all name x (subst (λ (xs : List (List ℕ)). Contains xs x) e k))))) }
+pub one_more : (old new all more : List (List ℕ)) (name : List ℕ) → InOrder old all → IsStrictlySortedBy name_cmp new
+    → ((x : List ℕ) → Contains new x ↔ (Contains old x ⊎ (x ≡ name))) → more ≡ all ++ name ∷ [] → InOrder new more
+one_more old new all more name h sorted put e =
+    record {
+      sorted = sorted;
+      exact = λ x. (
+        (λ k. subst (λ (xs : List (List ℕ)). Contains xs x) (sym e) (forth x ((put x).0 k))),
+        (λ k. (put x).1 (back x (Contains-push_cases all name x (subst (λ (xs : List (List ℕ)). Contains xs x) e k)))),
+      );
+    }
   where
     forth : (x : List ℕ) → Contains old x ⊎ (x ≡ name) → Contains (all ++ name ∷ []) x
     forth x (inl k) = Contains-append_left all (name ∷ []) x ((h.exact x).0 k)
@@ -42,4 +56,8 @@ one_more old new all more name h sorted put e = record { sorted = sorted; exact 
     back x (inr k) = inr (sym k)
 
 pub all_in_order : (names all : List (List ℕ)) → InOrder names all → names ≡ ordered_names all
-all_in_order names all h = same_names names (ordered_names all) h.sorted (ordered_names_ascend all) (λ x. ((λ k. (Contains-ordered_names all x).1 ((h.exact x).0 k)), (λ k. (h.exact x).1 ((Contains-ordered_names all x).0 k))))
+all_in_order names all h = same_names names (ordered_names all) h.sorted (ordered_names_ascend all)
+    (λ x. (
+      (λ k. (Contains-ordered_names all x).1 ((h.exact x).0 k)),
+      (λ k. (h.exact x).1 ((Contains-ordered_names all x).0 k)),
+    ))

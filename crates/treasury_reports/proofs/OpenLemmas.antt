@@ -1,5 +1,6 @@
 -- open amounts can be printed: in a book that sums to zero a balance is at most half of the turnover
-use Rattle.std.proofs.Common.{◌≡◌, ℕ, ◌+◌, ◌≤◌, ◌<◌, Bool, true, false, ◌&&◌, nat_eq, List, [], ◌∷◌, ◌++◌, length, ℤ, pos, neg_ℤ, ◌+ℤ◌, ◌-ℤ◌, ◌≤ℤ◌, arith, refl, ap, ◌∙◌, sym, subst}
+use Rattle.std.proofs.Common.{◌≡◌, ℕ, ◌+◌, ◌≤◌, ◌<◌, Bool, true, false, ◌&&◌, nat_eq, List, [], ◌∷◌, ◌++◌, length, ℤ}
+use Rattle.std.proofs.Common.{pos, neg_ℤ, ◌+ℤ◌, ◌-ℤ◌, ◌≤ℤ◌, arith, refl, ap, ◌∙◌, sym, subst}
 use Rattle.std.specs.Prelude.{unsigned_abs, if◌then◌else◌}
 use Rattle.std.specs.List.{AllByRecursion}
 use Rattle.std.specs.Str.{bytes_eq}
@@ -34,15 +35,18 @@ zero_within : Within 0 (pos 0)
 zero_within = record { low = omega (arith, ints); high = omega (arith, ints) }
 
 opposite : (q z : ℤ) → z ≡ (pos 0 -ℤ q) → Within (unsigned_abs q) z
-opposite q z e = let h = Within_abs q in let a = h.low in let b = h.high in record { low = omega (arith, ints, e); high = omega (arith, ints, e) }
+opposite q z e = let h = Within_abs q in let a = h.low in let b =
+    h.high in record { low = omega (arith, ints, e); high = omega (arith, ints, e) }
 
 same : (q z : ℤ) → z ≡ q → Within (unsigned_abs q) z
-same q z e = let h = Within_abs q in let a = h.low in let b = h.high in record { low = omega (arith, ints, e); high = omega (arith, ints, e) }
+same q z e = let h = Within_abs q in let a = h.low in let b =
+    h.high in record { low = omega (arith, ints, e); high = omega (arith, ints, e) }
 
 none : (z : ℤ) → z ≡ pos 0 → Within 0 z
 none z e = record { low = omega (arith, ints, e); high = omega (arith, ints, e) }
 
-twice : (u r w : Bool) (q : ℤ) → Within (if u then unsigned_abs q else 0) (((if ((u && r) && w) then q else pos 0) +ℤ (if ((u && r) && w) then q else pos 0)) -ℤ (if u then q else pos 0))
+twice : (u r w : Bool) (q : ℤ) → Within (if u then unsigned_abs q else 0)
+    (((if ((u && r) && w) then q else pos 0) +ℤ (if ((u && r) && w) then q else pos 0)) -ℤ (if u then q else pos 0))
 twice false r w q = none _ (omega (arith, ints))
 twice true false w q = opposite q _ (omega (arith, ints))
 twice true true false q = opposite q _ (omega (arith, ints))
@@ -52,79 +56,106 @@ regroup : (a b c d : ℤ) → ((a +ℤ a) -ℤ b) +ℤ ((c +ℤ c) -ℤ d) ≡ (
 regroup a b c d = omega (arith, ints)
 
 half_legs : (account : List ℕ) (unit : Commodity) (limit : Until) (day : Day) (n k : ℕ) (legs : List Leg)
-    → Within (moved unit legs) ((total (counts Own account unit limit) (posted_legs day n k legs) +ℤ total (counts Own account unit limit) (posted_legs day n k legs)) -ℤ value unit legs)
+    → Within (moved unit legs) ((total (counts Own account unit limit) (posted_legs day n k legs)
+    +ℤ total (counts Own account unit limit) (posted_legs day n k legs)) -ℤ value unit legs)
 half_legs account unit limit day n k [] = none _ (omega (arith, ints))
 half_legs account unit limit day n k (x ∷ xs) =
-    subst (Within (moved unit (x ∷ xs))) (regroup _ _ (total (counts Own account unit limit) (posted_legs day n (k + 1) xs)) (value unit xs))
+    subst (Within (moved unit (x ∷ xs)))
+    (regroup _ _ (total (counts Own account unit limit) (posted_legs day n (k + 1) xs)) (value unit xs))
     (Within_add _ _ _ _ (twice _ _ _ x.qty) (half_legs account unit limit day n (k + 1) xs))
 
 balanced_half : (m : ℕ) (s v : ℤ) → v ≡ pos 0 → Within m ((s +ℤ s) -ℤ v) → Within m (s +ℤ s)
-balanced_half m s v e h = let a = h.low in let b = h.high in record { low = omega (arith, ints, e); high = omega (arith, ints, e) }
+balanced_half m s v e h =
+    let a = h.low in let b = h.high in record { low = omega (arith, ints, e); high = omega (arith, ints, e) }
 
 add_twice : (a b c : ℤ) → c ≡ (a +ℤ b) → (a +ℤ a) +ℤ (b +ℤ b) ≡ c +ℤ c
 add_twice a b c e = omega (arith, ints, e)
 
 half_entries : (account : List ℕ) (unit : Commodity) (limit : Until) (n : ℕ) (es : List Entry) → AllByRecursion IsFit es
-    → Within (turnover unit es) (total (counts Own account unit limit) (posted_from n es) +ℤ total (counts Own account unit limit) (posted_from n es))
+    → Within (turnover unit es) (total (counts Own account unit limit) (posted_from n es)
+    +ℤ total (counts Own account unit limit) (posted_from n es))
 half_entries account unit limit n [] h = none _ (omega (arith, ints))
 half_entries account unit limit n (e ∷ es) h =
     let test = counts Own account unit limit in
     let here = total test (posted_legs e.day n 1 e.legs) in
     let rest = total test (posted_from (n + 1) es) in
-    subst (λ (m : ℕ). Within m (total test (posted_from n (e ∷ es)) +ℤ total test (posted_from n (e ∷ es)))) (sym (moved-append unit e.legs (legs_of es)))
-    (subst (Within (moved unit e.legs + turnover unit es)) (add_twice here rest (total test (posted_from n (e ∷ es))) (total-append test (posted_legs e.day n 1 e.legs) (posted_from (n + 1) es)))
-    (Within_add _ _ _ _ (balanced_half (moved unit e.legs) here (value unit e.legs) (h.0.balanced unit) (half_legs account unit limit e.day n 1 e.legs)) (half_entries account unit limit (n + 1) es h.1)))
+    subst (λ (m : ℕ). Within m (total test (posted_from n (e ∷ es)) +ℤ total test (posted_from n (e ∷ es))))
+    (sym (moved-append unit e.legs (legs_of es)))
+    (subst (Within (moved unit e.legs + turnover unit es))
+    (add_twice here rest (total test (posted_from n (e ∷ es)))
+    (total-append test (posted_legs e.day n 1 e.legs) (posted_from (n + 1) es)))
+    (Within_add _ _ _ _ (balanced_half (moved unit e.legs) here (value unit e.legs) (h.0.balanced unit)
+    (half_legs account unit limit e.day n 1 e.legs)) (half_entries account unit limit (n + 1) es h.1)))
 
 half_of : (m : ℕ) (z : ℤ) → m ≤ most_turnover → Within m (z +ℤ z) → z ≤ℤ pos 5000000000000000
 half_of m z le h = let a = h.high in omega (arith, ints, le)
 
-half_balance : (es : List Entry) (account : List ℕ) (unit : Commodity) (day : Day) → IsGoodBook es → balance Own es account unit (Through day) ≤ℤ pos 5000000000000000
+half_balance : (es : List Entry) (account : List ℕ) (unit : Commodity) (day : Day) → IsGoodBook es
+    → balance Own es account unit (Through day) ≤ℤ pos 5000000000000000
 unfolding balance
-half_balance es account unit day good = half_of (turnover unit es) _ (good.within.small unit) (half_entries account unit (Through day) 1 es good.fit)
+half_balance es account unit day good =
+    half_of (turnover unit es) _ (good.within.small unit) (half_entries account unit (Through day) 1 es good.fit)
 
 good_book : (f : Federation) (name : List ℕ) → IsGoodState f → IsGoodBook (book_of f name)
-good_book f name good = of_branch (λ rs. IsGoodBook (entries rs)) f.styles f.branches name good_nil (λ b h. h.book) good.branches
+good_book f name good =
+    of_branch (λ rs. IsGoodBook (entries rs)) f.styles f.branches name good_nil (λ b h. h.book) good.branches
 
-two_halves : (x y z : ℤ) → (x +ℤ y) ≡ z → x ≤ℤ pos 5000000000000000 → y ≤ℤ pos 5000000000000000 → z ≤ℤ pos 10000000000000000
+two_halves : (x y z : ℤ) → (x +ℤ y) ≡ z → x ≤ℤ pos 5000000000000000 → y ≤ℤ pos 5000000000000000
+    → z ≤ℤ pos 10000000000000000
 two_halves x y z e h k = omega (arith, ints)
 
 nothing : (z : ℤ) → z ≡ pos 0 → z ≤ℤ pos 10000000000000000
 nothing z e = omega (arith, ints)
 
-apart_small : (f : Federation) (from to : List ℕ) (unit : Commodity) (day : Day) (a b : Bool) → IsGoodState f → has_branch f from ≡ a → has_branch f to ≡ b → bytes_eq from to ≡ false
+apart_small : (f : Federation) (from to : List ℕ) (unit : Commodity) (day : Day) (a b : Bool) → IsGoodState f
+    → has_branch f from ≡ a → has_branch f to ≡ b → bytes_eq from to ≡ false
     → open_amount f.transfers from to unit day ≤ℤ pos 10000000000000000
-apart_small f from to unit day false b good h k e = nothing _ (unknown f.transfers f.branches from to unit day good.transfers (rw h refl))
-apart_small f from to unit day true false good h k e = nothing _ (unknown f.transfers f.branches from to unit day good.transfers (rw (h, k) refl))
+apart_small f from to unit day false b good h k e =
+    nothing _ (unknown f.transfers f.branches from to unit day good.transfers (rw h refl))
+apart_small f from to unit day true false good h k e =
+    nothing _ (unknown f.transfers f.branches from to unit day good.transfers (rw (h, k) refl))
 apart_small f from to unit day true true good h k e =
-    two_halves _ _ _ (adds_up_named f from to good h k e unit day) (half_balance (book_of f from) (transit_account from to) unit day (good_book f from good)) (half_balance (book_of f to) (transit_account from to) unit day (good_book f to good))
+    two_halves _ _ _ (adds_up_named f from to good h k e unit day)
+    (half_balance (book_of f from) (transit_account from to) unit day (good_book f from good))
+    (half_balance (book_of f to) (transit_account from to) unit day (good_book f to good))
 
 within_abs : (z : ℤ) → pos 0 ≤ℤ z → z ≤ℤ pos 10000000000000000 → unsigned_abs z ≤ 10000000000000000
 within_abs z low high = omega (arith, ints)
 
 -- nothing goes from a branch to itself
-self_at : (x : Transfer) (from to : List ℕ) (unit : Commodity) (a b : Bool) → bytes_eq x.source from ≡ a → bytes_eq x.target to ≡ b → IsFair x → bytes_eq from to ≡ true → ((a && b) && nat_eq x.unit.0 unit.0) ≡ false
+self_at : (x : Transfer) (from to : List ℕ) (unit : Commodity) (a b : Bool) → bytes_eq x.source from ≡ a
+    → bytes_eq x.target to ≡ b → IsFair x → bytes_eq from to ≡ true → ((a && b) && nat_eq x.unit.0 unit.0) ≡ false
 self_at x from to unit true true e f fair n =
-    let z : true ≡ false = sym ((bytes_eq-Decides x.source x.target).1 (same_bytes x.source from e ∙ same_bytes from to n ∙ sym (same_bytes x.target to f))) ∙ fair.apart in absurd (cc)
+    let z : true ≡ false = sym ((bytes_eq-Decides x.source x.target).1
+    (same_bytes x.source from e ∙ same_bytes from to n ∙ sym (same_bytes x.target to f))) ∙ fair.apart in absurd
+    (cc)
 self_at x from to unit true false e f fair n = refl
 self_at x from to unit false b e f fair n = refl
 
-oneself : (ts : List Transfer) (from to : List ℕ) (unit : Commodity) (day : Day) → AllByRecursion IsFair ts → bytes_eq from to ≡ true → open_amount ts from to unit day ≡ pos 0
+oneself : (ts : List Transfer) (from to : List ℕ) (unit : Commodity) (day : Day) → AllByRecursion IsFair ts
+    → bytes_eq from to ≡ true → open_amount ts from to unit day ≡ pos 0
 oneself [] from to unit day fair n = refl
 oneself (x ∷ xs) from to unit day fair n =
-    let a = open_none x from to unit day (self_at x from to unit (bytes_eq x.source from) (bytes_eq x.target to) refl refl fair.0 n) in
+    let a = open_none x from to unit day
+    (self_at x from to unit (bytes_eq x.source from) (bytes_eq x.target to) refl refl fair.0 n) in
     let b = oneself xs from to unit day fair.1 n in
     omega (arith, ints)
 
 fair_transfers : (f : Federation) → IsGoodState f → AllByRecursion IsFair f.transfers
 fair_transfers f good = all_fair f.branches f.transfers (names_good f good) good.transfers
 
-open_small : (f : Federation) (from to : List ℕ) (unit : Commodity) (day : Day) → IsGoodState f → (b : Bool) → bytes_eq from to ≡ b → open_amount f.transfers from to unit day ≤ℤ pos 10000000000000000
+open_small : (f : Federation) (from to : List ℕ) (unit : Commodity) (day : Day) → IsGoodState f → (b : Bool)
+    → bytes_eq from to ≡ b → open_amount f.transfers from to unit day ≤ℤ pos 10000000000000000
 open_small f from to unit day good true e = nothing _ (oneself f.transfers from to unit day (fair_transfers f good) e)
-open_small f from to unit day good false e = apart_small f from to unit day (has_branch f from) (has_branch f to) good refl refl e
+open_small f from to unit day good false e =
+    apart_small f from to unit day (has_branch f from) (has_branch f to) good refl refl e
 
 -- an open amount of a declared commodity can be printed
-pub open_is_declared : (f : Federation) (from to : List ℕ) (unit : Commodity) (day : Day) → IsGoodState f → unit.0 < length f.styles → IsDeclared f.styles unit (open_amount f.transfers from to unit day)
+pub open_is_declared : (f : Federation) (from to : List ℕ) (unit : Commodity) (day : Day) → IsGoodState f
+    → unit.0 < length f.styles → IsDeclared f.styles unit (open_amount f.transfers from to unit day)
 open_is_declared f from to unit day good known = record {
   known = known;
-  size = within_abs (open_amount f.transfers from to unit day) (open_sum_low f.transfers from to unit day (fair_transfers f good)) (open_small f from to unit day good (bytes_eq from to) refl);
+  size = within_abs (open_amount f.transfers from to unit day)
+      (open_sum_low f.transfers from to unit day (fair_transfers f good))
+      (open_small f from to unit day good (bytes_eq from to) refl);
 }

@@ -14,7 +14,8 @@ use Rattle.std.proofs.Common.{append-nil, ◌∙◌}
 use Rattle.journal_lines.specs.Tag.{first_tag, starts_tag, tag_at}
 use Rattle.treasury_reports.specs.Columns.{right_aligned}
 use Rattle.treasury_reports.specs.BalanceReport.{ordered_names}
-use Rattle.treasury_reports.specs.RegisterReport.{is_asked, txn_has, is_wanted, listed_from, by_day, register_line, register_lines}
+use Rattle.treasury_reports.specs.RegisterReport.{is_asked, txn_has, is_wanted, listed_from, by_day, register_line}
+use Rattle.treasury_reports.specs.RegisterReport.{register_lines}
 use Rattle.treasury_reports.specs.TransitReport.{open_line, transit_text}
 use Rattle.treasury_reports.specs.JournalReport.{branch_journal}
 
@@ -29,7 +30,8 @@ too_long = refl
 
 -- ---- accounts
 -- each once, in byte order
-pub names_once : ordered_names (codes "b" ∷ codes "A" ∷ codes "b" ∷ codes "a" ∷ []) ≡ codes "A" ∷ codes "a" ∷ codes "b" ∷ []
+pub names_once : ordered_names (codes "b" ∷ codes "A" ∷ codes "b" ∷ codes "a" ∷ [])
+    ≡ codes "A" ∷ codes "a" ∷ codes "b" ∷ []
 names_once = refl
 
 -- ---- tags
@@ -70,17 +72,29 @@ one day number commodity qty = record {
 }
 
 -- by day, and on one day in the order in which they stood
-pub in_order : by_day (one (pos 2) 1 0 (pos 5) ∷ one (pos 1) 2 0 (pos 3) ∷ one (pos 2) 3 1 (pos 4) ∷ one (negsuc 0) 4 0 (pos 1) ∷ [])
+pub in_order : by_day (one (pos 2) 1 0 (pos 5) ∷ one (pos 1) 2 0 (pos 3) ∷ one (pos 2) 3 1 (pos 4)
+    ∷ one (negsuc 0) 4 0 (pos 1) ∷ [])
     ≡ one (negsuc 0) 4 0 (pos 1) ∷ one (pos 1) 2 0 (pos 3) ∷ one (pos 2) 1 0 (pos 5) ∷ one (pos 2) 3 1 (pos 4) ∷ []
 in_order = refl
 
 -- each commodity has its own sum
-pub sums_so_far : (styles : List Style) → register_lines styles [] (one (pos 1) 1 0 (pos 5) ∷ one (pos 1) 1 1 (pos 7) ∷ one (pos 2) 2 0 (negsuc 1) ∷ [])
-    ≡ register_line styles (one (pos 1) 1 0 (pos 5)) (pos 5) ++ (register_line styles (one (pos 1) 1 1 (pos 7)) (pos 7) ++ (register_line styles (one (pos 2) 2 0 (negsuc 1)) (pos 3) ++ []))
+pub sums_so_far : (styles : List Style)
+    → register_lines styles [] (one (pos 1) 1 0 (pos 5) ∷ one (pos 1) 1 1 (pos 7) ∷ one (pos 2) 2 0 (negsuc 1) ∷ [])
+    ≡ register_line styles (one (pos 1) 1 0 (pos 5)) (pos 5)
+    ++ (register_line styles (one (pos 1) 1 1 (pos 7)) (pos 7)
+    ++ (register_line styles (one (pos 2) 2 0 (negsuc 1)) (pos 3) ++ []))
 sums_so_far styles = refl
 
 abbrev pub txn : ℤ → List (List ℕ) → Txn
-txn day comments = record { day = record { 0 = day }; status = None; code = None; description = codes "d"; comments = comments; mark = Some (codes "x:1"); postings = [] }
+txn day comments = record {
+  day = record { 0 = day };
+  status = None;
+  code = None;
+  description = codes "d";
+  comments = comments;
+  mark = Some (codes "x:1");
+  postings = [];
+}
 
 -- a comment of the transaction or of a posting, and not the mark
 pub in_a_comment : txn_has (codes "x") (txn (pos 1) (codes "y, x:1" ∷ [])) ≡ true
@@ -95,10 +109,16 @@ abbrev pub leg_on : List ℕ → ℤ → Leg
 leg_on account qty = record { account = account; unit = unit 0; qty = qty }
 
 abbrev pub row : ℤ → List (List ℕ) → List Leg → Record
-row day comments legs = record { mark = codes "x:1"; txn = txn day comments; entry = record { day = record { 0 = day }; legs = legs; claims = [] } }
+row day comments legs = record {
+  mark = codes "x:1";
+  txn = txn day comments;
+  entry = record { day = record { 0 = day }; legs = legs; claims = [] };
+}
 
 -- the account and its subaccounts, of entries numbered in order of entry
-pub legs_listed : listed_from (codes "a") None 1 (row (pos 3) [] (leg_on (codes "a:b") (pos 1) ∷ leg_on (codes "ab") (pos 2) ∷ []) ∷ row (pos 1) [] (leg_on (codes "b") (pos 3) ∷ leg_on (codes "a") (pos 4) ∷ []) ∷ [])
+pub legs_listed : listed_from (codes "a") None 1
+    (row (pos 3) [] (leg_on (codes "a:b") (pos 1) ∷ leg_on (codes "ab") (pos 2) ∷ [])
+    ∷ row (pos 1) [] (leg_on (codes "b") (pos 3) ∷ leg_on (codes "a") (pos 4) ∷ []) ∷ [])
     ≡ record { day = record { 0 = pos 3 }; number = 1; leg = leg_on (codes "a:b") (pos 1); description = codes "d" }
     ∷ record { day = record { 0 = pos 1 }; number = 2; leg = leg_on (codes "a") (pos 4); description = codes "d" } ∷ []
 legs_listed = refl
@@ -107,26 +127,43 @@ abbrev pub day : ℤ → Day
 day n = record { 0 = n }
 
 abbrev pub sent : Transfer
-sent = record { id = codes "t"; source = codes "north"; target = codes "south"; unit = unit 0; qty = pos 5; day = day (pos 3); payer = codes "a"; parts = []; receipt = Some (record { day = day (pos 4); payee = codes "b" }) }
+sent = record {
+  id = codes "t";
+  source = codes "north";
+  target = codes "south";
+  unit = unit 0;
+  qty = pos 5;
+  day = day (pos 3);
+  payer = codes "a";
+  parts = [];
+  receipt = Some (record { day = day (pos 4); payee = codes "b" });
+}
 
 abbrev pub branch : List ℕ → List Record → Branch
 branch name records = record { name = name; locked = None; records = records }
 
 abbrev pub federation : Style → Federation
-federation style = record { styles = style ∷ []; branches = branch (codes "south") [] ∷ branch (codes "north") (row (pos 1) [] [] ∷ []) ∷ []; transfers = sent ∷ [] }
+federation style = record {
+  styles = style ∷ [];
+  branches = branch (codes "south") [] ∷ branch (codes "north") (row (pos 1) [] [] ∷ []) ∷ [];
+  transfers = sent ∷ [];
+}
 
 -- nothing before its day; then its line, also where nothing is open
 pub before_dispatch : (style : Style) → transit_text (federation style) (day (pos 2)) ≡ []
 unfolding transit_text
 before_dispatch style = refl
 
-pub after_receipt : (style : Style) → transit_text (federation style) (day (pos 4)) ≡ open_line (federation style) (day (pos 4)) (codes "north") (codes "south") (unit 0)
+pub after_receipt : (style : Style)
+    → transit_text (federation style) (day (pos 4))
+    ≡ open_line (federation style) (day (pos 4)) (codes "north") (codes "south") (unit 0)
 unfolding transit_text
 after_receipt style =
     let line : List ℕ = open_line (federation style) (day (pos 4)) (codes "north") (codes "south") (unit 0) in
     append-nil ((line ++ []) ++ []) ∙ (append-nil (line ++ []) ∙ append-nil line)
 
 -- a journal has each transaction and an empty line
-pub journal_of_north : (style : Style) → branch_journal (federation style) (codes "north") ≡ (txn_text (style ∷ []) (txn (pos 1) []) ++ codes "\n") ++ []
+pub journal_of_north : (style : Style)
+    → branch_journal (federation style) (codes "north") ≡ (txn_text (style ∷ []) (txn (pos 1) []) ++ codes "\n") ++ []
 unfolding branch_journal
 journal_of_north style = refl

@@ -54,9 +54,11 @@ balance_line styles entries day account unit =
 
 -- the lines of an account
 abbrev pub account_lines : List Style → List Entry → Day → List ℕ → List ℕ
-account_lines styles entries day account = flat_map (balance_line styles entries day account) (first_units (length styles))
+account_lines styles entries day account =
+    flat_map (balance_line styles entries day account) (first_units (length styles))
 
--- the balances of a book through the day that are not zero, account by account, each in the commodities as they were declared
+-- the balances of a book through the day that are not zero, account by account, each in the commodities as they were
+-- declared
 unfoldable pub book_balances : List Style → List Entry → Day → List ℕ
 book_balances styles entries day = flat_map (account_lines styles entries day) (book_accounts entries)
 

@@ -1,4 +1,5 @@
--- Columns of a report: texts right-aligned by characters (own rule; docs/FORMATS.md, "Balance report", "Register report", "Transit report").
+-- Columns of a report: texts right-aligned by characters (own rule; docs/FORMATS.md, "Balance report", "Register
+-- report", "Transit report").
 use Rattle.std.specs.Prelude.{ℕ, ◌-◌, ℤ, Bool, ◌&&◌, not, nat_le, nat_lt, List, ◌++◌, count_by, replicate}
 use Rattle.money_core.specs.declared.style.Style.{Style}
 use Rattle.money_core.specs.declared.unit.Unit.{Unit as Commodity}

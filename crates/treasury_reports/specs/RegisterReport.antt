@@ -1,5 +1,6 @@
 -- The register of an account (own rule; docs/FORMATS.md, "Register report"; hledger manual, "register", "Tags").
-use Rattle.std.specs.Prelude.{ℕ, ◌+◌, ◌==◌, nat_lt, Bool, true, ◌&&◌, ◌||◌, not, if◌then◌else◌, ℤ, int_le, List, [], ◌∷◌, ◌++◌, map, length, take, drop, codes, decimal, Option, Some, None}
+use Rattle.std.specs.Prelude.{ℕ, ◌+◌, ◌==◌, nat_lt, Bool, true, ◌&&◌, ◌||◌, not, if◌then◌else◌, ℤ, int_le, List, []}
+use Rattle.std.specs.Prelude.{◌∷◌, ◌++◌, map, length, take, drop, codes, decimal, Option, Some, None}
 use Rattle.std.specs.List.{list_any, position_or_len}
 use Rattle.std.specs.Str.{bytes_eq}
 use Rattle.money_core.specs.declared.style.Style.{Style}
@@ -22,7 +23,8 @@ cut asked = position_or_len (λ b. b == 61) asked
 -- a tag, a name and a value, is the one that is asked for by `NAME`, with any value, or by `NAME=VALUE`
 abbrev pub is_asked : List ℕ → List ℕ × List ℕ → Bool
 is_asked asked tag =
-    bytes_eq tag.0 (take (cut asked) asked) && (not (nat_lt (cut asked) (length asked)) || bytes_eq tag.1 (drop (cut asked + 1) asked))
+    bytes_eq tag.0 (take (cut asked) asked)
+    && (not (nat_lt (cut asked) (length asked)) || bytes_eq tag.1 (drop (cut asked + 1) asked))
 
 -- a comment has it among its tags
 abbrev pub comment_has : List ℕ → List ℕ → Bool
@@ -48,7 +50,8 @@ listed_leg n r x = record { day = r.entry.day; number = n; leg = x; description 
 -- those of its legs that are on the account or a subaccount
 abbrev pub listed_legs : List ℕ → ℕ → Record → List Leg → List Listed
 listed_legs account n r [] = []
-listed_legs account n r (x ∷ xs) = if is_inside account x.account then listed_leg n r x ∷ listed_legs account n r xs else listed_legs account n r xs
+listed_legs account n r (x ∷ xs) =
+    if is_inside account x.account then listed_leg n r x ∷ listed_legs account n r xs else listed_legs account n r xs
 
 -- what is listed of record n
 abbrev pub listed_in : List ℕ → Option (List ℕ) → ℕ → Record → List Listed
@@ -85,14 +88,17 @@ number_width = 6
 -- day, entry number, amount, sum so far, account and description of a listed leg
 unfoldable pub register_line : List Style → Listed → ℤ → List ℕ
 register_line styles x sum =
-    printed_date x.day ++ codes "  " ++ right_aligned number_width (decimal x.number) ++ codes "  " ++ amount_column styles x.leg.unit x.leg.qty ++ codes "  "
-    ++ amount_column styles x.leg.unit sum ++ codes "  " ++ x.leg.account ++ description_column x.description ++ codes "\n"
+    printed_date x.day ++ codes "  " ++ right_aligned number_width (decimal x.number) ++ codes "  "
+    ++ amount_column styles x.leg.unit x.leg.qty ++ codes "  "
+    ++ amount_column styles x.leg.unit sum ++ codes "  " ++ x.leg.account ++ description_column x.description
+    ++ codes "\n"
 
 -- the lines of what is listed behind other lines, each with the sum of all that is listed so far in its commodity
 abbrev pub register_lines : List Style → List Listed → List Listed → List ℕ
 register_lines styles before [] = []
 register_lines styles before (x ∷ xs) =
-    register_line styles x (value x.leg.unit (legs_in (before ++ x ∷ []))) ++ register_lines styles (before ++ x ∷ []) xs
+    register_line styles x (value x.leg.unit (legs_in (before ++ x ∷ [])))
+    ++ register_lines styles (before ++ x ∷ []) xs
 
 -- the register of an account and its subaccounts in a branch, in order of place
 unfoldable pub register_text : Federation → List ℕ → List ℕ → Option (List ℕ) → List ℕ

@@ -26,7 +26,8 @@ has_way ts from to unit day = list_any (λ (t : Transfer). is_way from to day t 
 -- the open amount between two branches in a commodity, and where it goes
 abbrev pub open_line : Federation → Day → List ℕ → List ℕ → Commodity → List ℕ
 open_line f day from to unit =
-    amount_column f.styles unit (open_amount f.transfers from to unit day) ++ codes "  " ++ from ++ codes " to " ++ to ++ codes "\n"
+    amount_column f.styles unit (open_amount f.transfers from to unit day) ++ codes "  " ++ from ++ codes " to " ++ to
+    ++ codes "\n"
 
 -- its line, where a transfer was dispatched so on or before the day
 abbrev pub transit_line : Federation → Day → List ℕ → List ℕ → Commodity → List ℕ

@@ -5,7 +5,8 @@ ghost use Rattle.std.specs.Result.{IsOkUnless};
 ghost use Rattle.money_core.specs.AmountText.{IsDeclared};
 ghost use Rattle.book_core.specs.GoodBook.{HasRoom};
 ghost use Rattle.treasury_core.specs.Federation.{has_branch};
-ghost use Rattle.treasury_reports.specs.BalanceReport.{amount_line, balance_line, account_lines, book_balances, balance_text};
+ghost use Rattle.treasury_reports.specs.BalanceReport.{amount_line, balance_line, account_lines, book_balances};
+ghost use Rattle.treasury_reports.specs.BalanceReport.{balance_text};
 
 use crate::columns::push_amount;
 use book_core::Ledger;

@@ -52,8 +52,8 @@ fn push_records(
     Ok(())
 }
 
-/// Appends the journal of a branch: the canonical texts of its transactions, each with its mark and an empty line behind
-/// it, in order of entry.
+/// Appends the journal of a branch: the canonical texts of its transactions, each with its mark and an empty line
+/// behind it, in order of entry.
 ///
 /// Refuses with 20 where the branch is not there, or with 40; the vector is then as it was.
 pub fn journal_report<L: Ledger>(

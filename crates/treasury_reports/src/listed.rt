@@ -65,7 +65,8 @@ fn list_leg(
 
 /// Lists the legs of a record that are on the account or a subaccount.
 fn list_legs(number: usize, row: &Record, account: &str, all: &mut Vec<Listed>) -> Result<(), Cause>
-    ensures ok { OnOk result (all.new.items ≡ all.old.items ++ listed_legs account.now number row.now row.now.entry.legs) }
+    ensures ok { OnOk result (all.new.items
+        ≡ all.old.items ++ listed_legs account.now number row.now row.now.entry.legs) }
     ensures memory { IsOkUnless result Cause.OutOfMemory }
 {
     'legs: for leg in row.entry.legs.items() {
@@ -82,7 +83,8 @@ fn list_record(
     tag: Option<&str>,
     all: &mut Vec<Listed>,
 ) -> Result<(), Cause>
-    ensures ok { OnOk result (all.new.items ≡ all.old.items ++ listed_in account.now (option_copied tag.entry) number row.now) }
+    ensures ok { OnOk result (all.new.items
+        ≡ all.old.items ++ listed_in account.now (option_copied tag.entry) number row.now) }
     ensures memory { IsOkUnless result Cause.OutOfMemory }
 {
     if is_wanted(&row.txn, tag) {
@@ -92,7 +94,8 @@ fn list_record(
     }
 }
 
-/// The legs on the account or its subaccounts, in order of entry, of the records that have the tag, where one is asked for.
+/// The legs on the account or its subaccounts, in order of entry, of the records that have the tag, where one is asked
+/// for.
 pub fn listed_of(
     alloc: Global,
     records: &[Record],

@@ -1,6 +1,7 @@
 //! The names of the branches, in byte order.
 
-ghost use Rattle.std.specs.Prelude.{◌≡◌, ℕ, ◌<◌, ◌≤◌, ◌↔◌, ◌⊎◌, List, [], IsTrue, IfOk, OnOk, length, Contains, slice_index_or};
+ghost use Rattle.std.specs.Prelude.{◌≡◌, ℕ, ◌<◌, ◌≤◌, ◌↔◌, ◌⊎◌, List, [], IsTrue, IfOk, OnOk, length, Contains};
+ghost use Rattle.std.specs.Prelude.{slice_index_or};
 ghost use Rattle.std.specs.Result.{IsOkUnless};
 ghost use Rattle.std.specs.List.Sorted.{IsStrictlySortedBy};
 ghost use Rattle.std.specs.declared.cmp.Ordering.TheVariants.{Less};
@@ -19,7 +20,8 @@ fn count_before(names: &[Text], name: &str) -> usize
     requires { IsStrictlySortedBy name_cmp names.now }
     ensures bound { result ≤ length names.now }
     ensures before { (k : ℕ) → k < result → name_cmp (slice_index_or names.now k []) name.now ≡ Less }
-    ensures after { (k : ℕ) → result ≤ k → k < length names.now → name_cmp (slice_index_or names.now k []) name.now ≡ Less → ⊥ }
+    ensures after { (k : ℕ) → result ≤ k → k < length names.now
+        → name_cmp (slice_index_or names.now k []) name.now ≡ Less → ⊥ }
 {
     let mut low = 0;
     let mut high = names.len();
@@ -50,7 +52,8 @@ fn has_name(names: &[Text], name: &str) -> bool
 fn put_name(names: &mut Vec<Text>, name: Text) -> Result<(), Cause>
     requires { IsStrictlySortedBy name_cmp names.old.items }
     ensures sorted { OnOk result (IsStrictlySortedBy name_cmp names.new.items) }
-    ensures exact { OnOk result ((x : List ℕ) → Contains names.new.items x ↔ (Contains names.old.items x ⊎ (x ≡ name))) }
+    ensures exact { OnOk result ((x : List ℕ)
+        → Contains names.new.items x ↔ (Contains names.old.items x ⊎ (x ≡ name))) }
     ensures memory { IsOkUnless result Cause.OutOfMemory }
 {
     if has_name(names, name.as_str()) {

@@ -1,6 +1,7 @@
 //! The register report of an account.
 
-ghost use Rattle.std.specs.Prelude.{◌≡◌, ◌↔◌, ◌⊎◌, ◌++◌, ◌<◌, ◌≤◌, ◌+ℤ◌, [], length, slice_set, unsigned_abs, false, decimal, IfOk, OnOk, OnErr, IfErr, Err, option_copied};
+ghost use Rattle.std.specs.Prelude.{◌≡◌, ◌↔◌, ◌⊎◌, ◌++◌, ◌<◌, ◌≤◌, ◌+ℤ◌, [], length, slice_set, unsigned_abs, false};
+ghost use Rattle.std.specs.Prelude.{decimal, IfOk, OnOk, OnErr, IfErr, Err, option_copied};
 ghost use Rattle.std.specs.Result.{IsOkUnless};
 ghost use Rattle.std.specs.List.{AllByRecursion};
 ghost use Rattle.money_core.specs.Amount.{limit};
@@ -8,7 +9,8 @@ ghost use Rattle.money_core.specs.AmountText.{IsDeclared};
 ghost use Rattle.book_core.specs.GoodBook.{HasRoom};
 ghost use Rattle.treasury_core.specs.Federation.{has_branch, entries};
 ghost use Rattle.treasury_core.specs.Good.{IsGoodRecord};
-ghost use Rattle.treasury_reports.specs.RegisterReport.{register_line, register_lines, register_text, description_column, by_day, listed_from};
+ghost use Rattle.treasury_reports.specs.RegisterReport.{register_line, register_lines, register_text};
+ghost use Rattle.treasury_reports.specs.RegisterReport.{description_column, by_day, listed_from};
 ghost use Rattle.treasury_reports.specs.Columns.{right_aligned};
 ghost use Rattle.treasury_reports.specs.Lent.{IsListable, HaveRoom, sum_at};
 
@@ -133,7 +135,8 @@ pub fn register_report<L: Ledger>(
     tag: Option<&str>,
     out: &mut Vec<u8>,
 ) -> Result<(), Cause>
-    ensures ok { OnOk result (out.new.items ≡ out.old.items ++ register_text state.now branch.now account.now (option_copied tag.entry)) }
+    ensures ok { OnOk result (out.new.items
+        ≡ out.old.items ++ register_text state.now branch.now account.now (option_copied tag.entry)) }
     ensures unknown { (result ≡ Err Cause.UnknownBranch) ↔ (has_branch state.now branch.now ≡ false) }
     ensures err { OnErr result (out.new.items ≡ out.old.items) }
     ensures causes { IfErr result (λ cause. (cause ≡ Cause.UnknownBranch) ⊎ (cause ≡ Cause.OutOfMemory)) }

@@ -5,7 +5,8 @@ ghost use Rattle.std.specs.Result.{IsOkUnless};
 ghost use Rattle.std.specs.List.{list_any, flat_map};
 ghost use Rattle.std.specs.Str.{bytes_eq};
 ghost use Rattle.treasury_core.specs.Federation.{Federation};
-ghost use Rattle.treasury_reports.specs.TransitReport.{is_from, is_way, open_line, transit_line, way_lines, lines_from, branch_names, transit_text};
+ghost use Rattle.treasury_reports.specs.TransitReport.{is_from, is_way, open_line, transit_line, way_lines, lines_from};
+ghost use Rattle.treasury_reports.specs.TransitReport.{branch_names, transit_text};
 ghost use Rattle.treasury_reports.specs.Lent.{lent};
 
 use crate::columns::push_amount;
@@ -175,8 +176,8 @@ fn text_of<L: Ledger>(alloc: Global, state: &State<L>, day: Day) -> Result<Vec<u
     Ok(text)
 }
 
-/// Appends what is on its way: from each branch to each, in byte order of their names, a line for each commodity in which a
-/// transfer was dispatched on or before the day, with the open amount, also where that is 0.
+/// Appends what is on its way: from each branch to each, in byte order of their names, a line for each commodity in
+/// which a transfer was dispatched on or before the day, with the open amount, also where that is 0.
 ///
 /// Where memory is refused, it answers 40, and the vector is as it was. Costs two passes over the transfers for each
 /// branch, and one for each line.

@@ -18,9 +18,11 @@ lines_utf8 : (ls : List (List ℕ)) → list_all is_line ls ≡ true → is_utf8
 lines_utf8 [] h = utf8_low [] refl
 lines_utf8 (l ∷ ls) h =
     let parts = and_parts (is_line l) (list_all is_line ls) h in
-    utf8_joined (l ++ 10 ∷ []) (ended ls) (utf8_joined l (10 ∷ []) (line_utf8 l parts.0) (utf8_low (10 ∷ []) refl)) (lines_utf8 ls parts.1)
+    utf8_joined (l ++ 10 ∷ []) (ended ls) (utf8_joined l (10 ∷ []) (line_utf8 l parts.0) (utf8_low (10 ∷ []) refl))
+    (lines_utf8 ls parts.1)
 
-pub body_utf8 : (styles : List Style) → AreStyles styles → (t : Txn) → IsPrintable styles t → is_utf8 (body_text styles t) ≡ true
+pub body_utf8 : (styles : List Style) → AreStyles styles → (t : Txn) → IsPrintable styles t
+    → is_utf8 (body_text styles t) ≡ true
 body_utf8 styles ok t h =
     let plain : IsPrintable styles (marked t None) = record {
       header = h.header;

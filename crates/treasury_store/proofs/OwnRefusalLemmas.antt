@@ -1,12 +1,17 @@
 -- a step is refused by the rules of commands alone
-use Rattle.std.proofs.Common.{◌≡◌, ◌⊎◌, ◌∙◌, inl, inr, ℕ, Bool, true, false, not, List, [], ◌∷◌, ◌++◌, refl, sym, ap, IsTrue, Some, None, Ok, Err, nat_le, nat_lt, length, slice_get, subst}
+use Rattle.std.proofs.Common.{◌≡◌, ◌⊎◌, ◌∙◌, inl, inr, ℕ, Bool, true, false, not, List, [], ◌∷◌, ◌++◌, refl, sym, ap}
+use Rattle.std.proofs.Common.{IsTrue, Some, None, Ok, Err, nat_le, nat_lt, length, slice_get, subst}
 use Rattle.std.specs.Prelude.{if◌then◌else◌, Result, Option, IfSome, IfErr, is_some, int_le, int_lt, pos, find}
 use Rattle.std.specs.Cmp.Lexicographic.{pointwise}
 use Rattle.std.specs.List.{list_all, list_any}
 use Rattle.std.specs.Str.{bytes_eq}
 use Rattle.std.specs.Option.{option_or, option_map}
 use Rattle.money_core.specs.declared.cause.Cause.{Cause}
-use Rattle.money_core.specs.declared.cause.Cause.TheVariants.{Full, CommodityExists, UnknownBranch, BranchName, MarkClash, ReservedMark, ReservedAccount, Locked, SameBranch, WrongBranch, AlreadyReceived, TooEarly, TooMuch, LockBack, BadAccount, BadAmount, BadId, Limit, OutOfMemory, Store as Failed, Damaged}
+use Rattle.money_core.specs.declared.cause.Cause.TheVariants.{Full, CommodityExists, UnknownBranch, BranchName}
+use Rattle.money_core.specs.declared.cause.Cause.TheVariants.{MarkClash, ReservedMark, ReservedAccount, Locked}
+use Rattle.money_core.specs.declared.cause.Cause.TheVariants.{SameBranch, WrongBranch, AlreadyReceived, TooEarly}
+use Rattle.money_core.specs.declared.cause.Cause.TheVariants.{TooMuch, LockBack, BadAccount, BadAmount, BadId, Limit}
+use Rattle.money_core.specs.declared.cause.Cause.TheVariants.{OutOfMemory, Store as Failed, Damaged}
 use Rattle.money_core.specs.declared.style.Style.{Style}
 use Rattle.money_core.specs.declared.day.Day.{Day}
 use Rattle.money_core.specs.declared.unit.Declared.TheVariants.{New, Same}
@@ -31,12 +36,18 @@ use Rattle.treasury_core.specs.declared.command.Receive.{Receive}
 use Rattle.treasury_core.specs.declared.command.Close.{Close}
 use Rattle.treasury_core.specs.declared.command.Command.{Command}
 use Rattle.treasury_core.specs.declared.command.Command.TheVariants as cmd
-use Rattle.treasury_core.specs.Federation.{Federation, is_branch_name, most_branches, has_branch, records_of, lock_of, entries}
+use Rattle.treasury_core.specs.Federation.{Federation, is_branch_name, most_branches, has_branch, records_of, lock_of}
+use Rattle.treasury_core.specs.Federation.{entries}
 use Rattle.treasury_core.specs.Mark.{held, is_held, is_repeat, is_product_mark}
 use Rattle.treasury_core.specs.Transfer.{is_id, is_account_text, is_reserved, is_transit, receipts_of}
-use Rattle.treasury_core.specs.Choice.{is_selected, target_in, listed, list_text, choice_comments, list_limit, holds_transit, choice_refusal}
+use Rattle.treasury_core.specs.Choice.{is_selected, target_in, listed, list_text, choice_comments, list_limit}
+use Rattle.treasury_core.specs.Choice.{holds_transit, choice_refusal}
 use Rattle.treasury_core.specs.Closing.{close_mark, closing_record, closing_answer, closing_in}
-use Rattle.treasury_core.specs.Step.{unless, reply, commodity_reply, fault_on, unbalanced, barred, refused_in, file_refusal, dispatch_refusal, receipt_refusal, receipt_reply, transfer_at, is_dispatched_so, is_received_so, entering_refusal, close_refusal, closed_reply, is_lock, is_locked, goes_back, held_reply, key_of, qty_of, has_key, is_too_much, has_bad_key, has_nothing_left}
+use Rattle.treasury_core.specs.Step.{unless, reply, commodity_reply, fault_on, unbalanced, barred, refused_in}
+use Rattle.treasury_core.specs.Step.{file_refusal, dispatch_refusal, receipt_refusal, receipt_reply, transfer_at}
+use Rattle.treasury_core.specs.Step.{is_dispatched_so, is_received_so, entering_refusal, close_refusal, closed_reply}
+use Rattle.treasury_core.specs.Step.{is_lock, is_locked, goes_back, held_reply, key_of, qty_of, has_key, is_too_much}
+use Rattle.treasury_core.specs.Step.{has_bad_key, has_nothing_left}
 use Rattle.treasury_store.specs.Store.{AnswersState}
 use Rattle.treasury_store.specs.Treasury.{FailsBy, MayReply, is_by_rules, IsListed}
 
@@ -62,7 +73,8 @@ unfolding IsOwnReply
 err_own e own = own
 
 -- a case of a reply, and of a fault
-refuses : (t : Bool) (e : Refusal) (r : Result Answer Refusal) → IsOwn e → IsOwnReply r → IsOwnReply (if t then Err e else r)
+refuses : (t : Bool) (e : Refusal) (r : Result Answer Refusal) → IsOwn e → IsOwnReply r
+    → IsOwnReply (if t then Err e else r)
 unfolding IsOwnReply
 refuses true e r own rest = own
 refuses false e r own rest = rest
@@ -98,9 +110,11 @@ own_claim (Some failure) = refl
 
 own_verdict : (b : List Entry) → IsOwnFault (verdict b)
 unfolding verdict
-own_verdict b = faults (nat_lt most_entries (length b)) (Plain Full) _ refl (faults (is_over b) (Plain Limit) _ refl (own_claim (failure b)))
+own_verdict b = faults (nat_lt most_entries (length b)) (Plain Full) _ refl
+    (faults (is_over b) (Plain Limit) _ refl (own_claim (failure b)))
 
-own_same : (t : Bool) (place : ℕ) → IsOwnReply (commodity_reply (if t then Ok (Same (record { 0 = place })) else Err CommodityExists))
+own_same : (t : Bool) (place : ℕ)
+    → IsOwnReply (commodity_reply (if t then Ok (Same (record { 0 = place })) else Err CommodityExists))
 own_same true place = ok_own _
 own_same false place = err_own _ refl
 
@@ -108,11 +122,13 @@ own_with : (style : Style) (place : ℕ) (o : Option Style) → IsOwnReply (comm
 own_with style place None = err_own _ refl
 own_with style place (Some held) = own_same (style_eq held style) place
 
-own_room : (t : Bool) (place : ℕ) → IsOwnReply (commodity_reply (if t then Err Full else Ok (New (record { 0 = place }))))
+own_room : (t : Bool) (place : ℕ)
+    → IsOwnReply (commodity_reply (if t then Err Full else Ok (New (record { 0 = place }))))
 own_room true place = err_own _ refl
 own_room false place = ok_own _
 
-own_at : (styles : List Style) (style : Style) (o : Option ℕ) → IsOwnReply (commodity_reply (declared_at styles style o))
+own_at : (styles : List Style) (style : Style) (o : Option ℕ)
+    → IsOwnReply (commodity_reply (declared_at styles style o))
 own_at styles style (Some place) = own_with style place (slice_get styles place)
 own_at styles style None = own_room (nat_le max_commodities (length styles)) (length styles)
 
@@ -131,37 +147,51 @@ own_unbalanced styles (x ∷ xs) = first_of _ _ (own_line x.line _) (own_unbalan
 
 own_barred : (lock : Option Day) (r : Record) → IsOwnFault (barred lock r)
 own_barred lock r =
-    faults (is_product_mark r.mark) (Plain ReservedMark) _ refl (faults (list_any is_transit r.entry.legs) (Plain ReservedAccount) _ refl
+    faults (is_product_mark r.mark) (Plain ReservedMark) _ refl
+    (faults (list_any is_transit r.entry.legs) (Plain ReservedAccount) _ refl
     (faults (is_locked lock r.entry.day) (Plain Locked) _ refl none_own))
 
-own_refused : (styles : List Style) (lock : Option Day) (held rs : List Record) → IsOwnFault (refused_in styles lock held rs)
+own_refused : (styles : List Style) (lock : Option Day) (held rs : List Record)
+    → IsOwnFault (refused_in styles lock held rs)
 own_refused styles lock held [] = none_own
 own_refused styles lock held (r ∷ rs) =
-    passed (is_repeat styles held r) _ _ (own_refused styles lock held rs) (first_of _ _ (faults (is_held held r.mark) (Plain MarkClash) _ refl (own_barred lock r)) (own_refused styles lock (held ++ r ∷ []) rs))
+    passed (is_repeat styles held r) _ _ (own_refused styles lock held rs)
+    (first_of _ _ (faults (is_held held r.mark) (Plain MarkClash) _ refl (own_barred lock r))
+    (own_refused styles lock (held ++ r ∷ []) rs))
 
-own_file : (styles : List Style) (lock : Option Day) (held : List Record) (file : List Located) → IsOwnFault (file_refusal styles lock held file)
-own_file styles lock held file = first_of _ _ (own_unbalanced styles file) (first_of _ _ (own_refused styles lock held _) (own_verdict _))
+own_file : (styles : List Style) (lock : Option Day) (held : List Record) (file : List Located)
+    → IsOwnFault (file_refusal styles lock held file)
+own_file styles lock held file =
+    first_of _ _ (own_unbalanced styles file) (first_of _ _ (own_refused styles lock held _) (own_verdict _))
 
 own_dispatch : (lock : Option Day) (held : List Record) (d : Dispatch) → IsOwnFault (dispatch_refusal lock held d)
 own_dispatch lock held d =
-    faults (not (is_account_text d.account)) (Plain BadAccount) _ refl (faults (is_reserved d.account) (Plain ReservedAccount) _ refl
-    (faults (int_le d.qty (pos 0)) (Plain BadAmount) _ refl (faults (is_locked lock d.day) (Plain Locked) _ refl (own_verdict _))))
+    faults (not (is_account_text d.account)) (Plain BadAccount) _ refl
+    (faults (is_reserved d.account) (Plain ReservedAccount) _ refl
+    (faults (int_le d.qty (pos 0)) (Plain BadAmount) _ refl
+    (faults (is_locked lock d.day) (Plain Locked) _ refl (own_verdict _))))
 
-own_receipt : (lock : Option Day) (held : List Record) (t : Transfer) (r : Receive) → IsOwnFault (receipt_refusal lock held t r)
+own_receipt : (lock : Option Day) (held : List Record) (t : Transfer) (r : Receive)
+    → IsOwnFault (receipt_refusal lock held t r)
 own_receipt lock held t r =
-    faults (not (is_account_text r.account)) (Plain BadAccount) _ refl (faults (is_reserved r.account) (Plain ReservedAccount) _ refl
-    (faults (int_le (qty_of t r.part) (pos 0)) (Plain BadAmount) _ refl (faults (is_too_much t r.part) (Plain TooMuch) _ refl
-    (faults (int_lt r.day.0 t.day.0) (Plain TooEarly) _ refl (faults (is_locked lock r.day) (Plain Locked) _ refl (own_verdict _))))))
+    faults (not (is_account_text r.account)) (Plain BadAccount) _ refl
+    (faults (is_reserved r.account) (Plain ReservedAccount) _ refl
+    (faults (int_le (qty_of t r.part) (pos 0)) (Plain BadAmount) _ refl
+    (faults (is_too_much t r.part) (Plain TooMuch) _ refl
+    (faults (int_lt r.day.0 t.day.0) (Plain TooEarly) _ refl
+    (faults (is_locked lock r.day) (Plain Locked) _ refl (own_verdict _))))))
 
 own_held : (f : Federation) (t : Transfer) (r : Receive) (o : Option Part) → IsOwnReply (held_reply f t r o)
 own_held f t r (Some p) = answers (is_received_so t r p) Repeated _ (err_own _ refl)
 own_held f t r None =
-    refuses (has_nothing_left t r.part) (Plain AlreadyReceived) _ refl (own_unless Done _ (own_receipt (lock_of f r.branch) (records_of f r.branch) t r))
+    refuses (has_nothing_left t r.part) (Plain AlreadyReceived) _ refl
+    (own_unless Done _ (own_receipt (lock_of f r.branch) (records_of f r.branch) t r))
 
 own_received : (f : Federation) (r : Receive) (o : Option Transfer) → IsOwnReply (receipt_reply f r o)
 own_received f r None = err_own _ refl
 own_received f r (Some t) =
-    refuses (not (bytes_eq t.target r.branch)) (Plain WrongBranch) _ refl (own_held f t r (find (has_key (key_of r.part)) (receipts_of t)))
+    refuses (not (bytes_eq t.target r.branch)) (Plain WrongBranch) _ refl
+    (own_held f t r (find (has_key (key_of r.part)) (receipts_of t)))
 
 abbrev IsOwnAnswer : Result Txn Refusal → Type 0
 IsOwnAnswer r = IfErr r IsOwn
@@ -174,24 +204,33 @@ own_closed : (o : Option Txn) → IsOwnAnswer (closing_answer o)
 own_closed None = refl
 own_closed (Some t) = own_limited (nat_lt posting_limit (length t.postings)) t
 
-own_entering : (held : List Record) (day : Day) (r : Result Txn Refusal) → IsOwnAnswer r → IsOwnFault (entering_refusal held day r)
+own_entering : (held : List Record) (day : Day) (r : Result Txn Refusal) → IsOwnAnswer r
+    → IsOwnFault (entering_refusal held day r)
 unfolding IsOwnFault
 own_entering held day (Ok t) own = own_verdict (entries held ++ entries (closing_record day t ∷ []))
 own_entering held day (Err e) own = own
 
 own_choice : (c : Choice) → IsOwnFault (choice_refusal c)
 own_choice c =
-    faults (not (list_all is_account_text (listed c.accounts))) (Plain BadAccount) _ refl (faults (not (is_account_text (target_in c.into))) (Plain BadAccount) _ refl
-    (faults (list_any holds_transit (listed c.accounts)) (Plain ReservedAccount) _ refl (faults (is_reserved (target_in c.into)) (Plain ReservedAccount) _ refl
-    (faults (is_selected c.accounts (target_in c.into)) (Plain BadAccount) _ refl (faults (nat_lt list_limit (length (list_text (listed c.accounts)))) (Plain Limit) _ refl none_own)))))
+    faults (not (list_all is_account_text (listed c.accounts))) (Plain BadAccount) _ refl
+    (faults (not (is_account_text (target_in c.into))) (Plain BadAccount) _ refl
+    (faults (list_any holds_transit (listed c.accounts)) (Plain ReservedAccount) _ refl
+    (faults (is_reserved (target_in c.into)) (Plain ReservedAccount) _ refl
+    (faults (is_selected c.accounts (target_in c.into)) (Plain BadAccount) _ refl
+    (faults (nat_lt list_limit (length (list_text (listed c.accounts)))) (Plain Limit) _ refl none_own)))))
 
-own_close : (lock : Option Day) (held : List Record) (x : Close) (o : Option Txn) → IsOwnFault (close_refusal lock held x o)
+own_close : (lock : Option Day) (held : List Record) (x : Close) (o : Option Txn)
+    → IsOwnFault (close_refusal lock held x o)
 own_close lock held x o =
-    first_of _ _ (own_choice x.choice) (faults (is_locked lock x.day) (Plain Locked) _ refl (own_entering held x.day (closing_answer o) (own_closed o)))
+    first_of _ _ (own_choice x.choice)
+    (faults (is_locked lock x.day) (Plain Locked) _ refl
+    (own_entering held x.day (closing_answer o) (own_closed o)))
 
 own_closing : (f : Federation) (x : Close) (o : Option Record) → IsOwnReply (closed_reply f x o)
-own_closing f x None = own_unless Done _ (own_close (lock_of f x.branch) (records_of f x.branch) x (closing_in f x.branch x.day x.choice))
-own_closing f x (Some r) = answers (pointwise bytes_eq r.txn.comments (choice_comments x.choice)) Repeated _ (err_own _ refl)
+own_closing f x None =
+    own_unless Done _ (own_close (lock_of f x.branch) (records_of f x.branch) x (closing_in f x.branch x.day x.choice))
+own_closing f x (Some r) =
+    answers (pointwise bytes_eq r.txn.comments (choice_comments x.choice)) Repeated _ (err_own _ refl)
 
 own_reply : (f : Federation) (c : Command) → IsOwnReply (reply f c)
 unfolding reply
@@ -199,18 +238,25 @@ own_reply f (cmd.Branch name) =
     refuses (not (is_branch_name name)) (Plain BranchName) _ refl (answers (has_branch f name) Repeated _
     (refuses (nat_le most_branches (length f.branches)) (Plain Full) _ refl (ok_own Done)))
 own_reply f (cmd.Commodity style) = own_commodity f.styles style
-own_reply f (cmd.Enter name file) = refuses (not (has_branch f name)) (Plain UnknownBranch) _ refl (own_unless _ _ (own_file f.styles (lock_of f name) (records_of f name) file))
+own_reply f (cmd.Enter name file) =
+    refuses (not (has_branch f name)) (Plain UnknownBranch) _ refl
+    (own_unless _ _ (own_file f.styles (lock_of f name) (records_of f name) file))
 own_reply f (cmd.Dispatch d) =
-    refuses (not (has_branch f d.source)) (Plain UnknownBranch) _ refl (refuses (not (has_branch f d.target)) (Plain UnknownBranch) _ refl
+    refuses (not (has_branch f d.source)) (Plain UnknownBranch) _ refl
+    (refuses (not (has_branch f d.target)) (Plain UnknownBranch) _ refl
     (refuses (bytes_eq d.source d.target) (Plain SameBranch) _ refl (refuses (not (is_id d.id)) (Plain BadId) _ refl
-    (answers (is_dispatched_so d (transfer_at f d.id)) Repeated _ (refuses (is_some (transfer_at f d.id)) (Plain MarkClash) _ refl
+    (answers (is_dispatched_so d (transfer_at f d.id)) Repeated _
+    (refuses (is_some (transfer_at f d.id)) (Plain MarkClash) _ refl
     (own_unless Done _ (own_dispatch (lock_of f d.source) (records_of f d.source) d)))))))
 own_reply f (cmd.Receive r) =
-    refuses (not (has_branch f r.branch)) (Plain UnknownBranch) _ refl (refuses (not (is_id r.id)) (Plain BadId) _ refl (refuses (has_bad_key r.part) (Plain BadId) _ refl (own_received f r (transfer_at f r.id))))
+    refuses (not (has_branch f r.branch)) (Plain UnknownBranch) _ refl
+    (refuses (not (is_id r.id)) (Plain BadId) _ refl
+    (refuses (has_bad_key r.part) (Plain BadId) _ refl (own_received f r (transfer_at f r.id))))
 own_reply f (cmd.Lock name day) =
     refuses (not (has_branch f name)) (Plain UnknownBranch) _ refl (answers (is_lock (lock_of f name) day) Repeated _
     (refuses (goes_back (lock_of f name) day) (Plain LockBack) _ refl (ok_own Done)))
-own_reply f (cmd.Close x) = refuses (not (has_branch f x.branch)) (Plain UnknownBranch) _ refl (own_closing f x (held (records_of f x.branch) (close_mark x.day)))
+own_reply f (cmd.Close x) = refuses (not (has_branch f x.branch)) (Plain UnknownBranch) _ refl
+    (own_closing f x (held (records_of f x.branch) (close_mark x.day)))
 
 own_is : (r : Result Answer Refusal) → IsOwnReply r → r ≡ Err (Plain Failed) → ⊥
 unfolding IsOwnReply
@@ -221,9 +267,11 @@ pub reply_not_failed : (f : Federation) (c : Command) → reply f c ≡ Err (Pla
 reply_not_failed f c is = own_is (reply f c) (own_reply f c) is
 
 -- a refused command has not failed
-pub refused_unfailed : (f : Federation) (c : Command) (e : Refusal) (failed : Bool) → failed ≡ false → (e ≡ Plain OutOfMemory) ⊎ (reply f c ≡ Err e) → FailsBy (Err e) failed
+pub refused_unfailed : (f : Federation) (c : Command) (e : Refusal) (failed : Bool) → failed ≡ false
+    → (e ≡ Plain OutOfMemory) ⊎ (reply f c ≡ Err e) → FailsBy (Err e) failed
 refused_unfailed f c e failed unfailed (inl memory) = ((λ is. absurd cc), (λ is. absurd cc))
-refused_unfailed f c e failed unfailed (inr refused) = ((λ is. absurd cc), (λ is. absurd (reply_not_failed f c (refused ∙ is))))
+refused_unfailed f c e failed unfailed (inr refused) =
+    ((λ is. absurd cc), (λ is. absurd (reply_not_failed f c (refused ∙ is))))
 
 own_err : (r : Result Answer Refusal) → IsOwnReply r → IfErr r (λ e. IsTrue (is_by_rules e))
 unfolding IsOwnReply
@@ -232,13 +280,18 @@ own_err r own = own
 -- what may be replied to a command is refused by the rules, or by 41
 pub listed_reply : (f : Federation) (c : Command) (r : Result Answer Refusal) → MayReply f c r → IfErr r IsListed
 listed_reply f c (Ok answer) replies = tt
-listed_reply f c (Err e) (inl (inl step)) = inl (subst (λ (r : Result Answer Refusal). IfErr r (λ x. IsTrue (is_by_rules x))) (sym step) (own_err (reply f c) (own_reply f c)))
-listed_reply f c (Err e) (inl (inr memory)) = let k : e ≡ Plain OutOfMemory = cc in inl (subst (λ (x : Refusal). IsTrue (is_by_rules x)) (sym k) refl)
+listed_reply f c (Err e) (inl (inl step)) =
+    inl (subst (λ (r : Result Answer Refusal). IfErr r (λ x. IsTrue (is_by_rules x))) (sym step)
+    (own_err (reply f c) (own_reply f c)))
+listed_reply f c (Err e) (inl (inr memory)) =
+    let k : e ≡ Plain OutOfMemory = cc in inl (subst (λ (x : Refusal). IsTrue (is_by_rules x)) (sym k) refl)
 listed_reply f c (Err e) (inr failed) = let k : e ≡ Plain Failed = cc in inr (inl k)
 
 -- and so is a command on a state that could not be had
-pub listed_unheld : {T : Type 0} (cause : Cause) (failed : Bool) → AnswersState {T = T} (Err cause) failed → IsListed (Plain cause)
-listed_unheld cause failed (inl (inl memory)) = inl (subst (λ (x : Cause). IsTrue (is_by_rules (Plain x))) (sym memory.0) refl)
+pub listed_unheld : {T : Type 0} (cause : Cause) (failed : Bool) → AnswersState {T = T} (Err cause) failed
+    → IsListed (Plain cause)
+listed_unheld cause failed (inl (inl memory)) =
+    inl (subst (λ (x : Cause). IsTrue (is_by_rules (Plain x))) (sym memory.0) refl)
 listed_unheld cause failed (inl (inr failure)) = inr (inl (ap Plain failure.0))
 listed_unheld {T = T} cause failed (inr damaged) = inr (inr (ap Plain (same {T = T} damaged.0)))
   where

@@ -1,5 +1,6 @@
 -- What a query answers, and that it changes nothing.
-use Rattle.std.proofs.Common.{◌≡◌, codes, List, [], ◌∷◌, Ok, Err, Result, IfOk, map, filter, true, refl, sym, ap, subst, subst₂, ◌∙◌, IsPermutation}
+use Rattle.std.proofs.Common.{◌≡◌, codes, List, [], ◌∷◌, Ok, Err, Result, IfOk, map, filter, true, refl, sym, ap, subst}
+use Rattle.std.proofs.Common.{subst₂, ◌∙◌, IsPermutation}
 use Rattle.std.proofs.lemmas.List.Sorted.{IsPermutation-map}
 use Rattle.sqlite_keyed.proofs.ListLemmas.{map-map}
 use Rattle.sqlite.specs.declared.types.Value.TheVariants.{Null}
@@ -20,16 +21,24 @@ pub all_chosen : (rows : List Row) → filter (λ _. true) rows ≡ rows
 all_chosen [] = refl
 all_chosen (r ∷ rows) = ap (λ l. r ∷ l) (all_chosen rows)
 
-pub versions_are : (old new : State) (rows : List Row) → old.now.schema ≡ store_schema → Shown format_rows_text [] old new rows → IsPermutation (map (λ r. column r 1 ∷ []) (old.now.trees 0)) rows
+pub versions_are : (old new : State) (rows : List Row) → old.now.schema ≡ store_schema
+    → Shown format_rows_text [] old new rows → IsPermutation (map (λ r. column r 1 ∷ []) (old.now.trees 0)) rows
 versions_are old new rows has h =
-    let got = reads_as format_rows_text [] old new store_schema has (Select (record { lets = []; body = format_query }) (codes "version" ∷ [])) format_rows_is.0 format_rows_is.2 format_rows_is.1 rows h in
-    let answer = answer_is [] 0 [] format_columns format_order (λ _. true) (λ _. refl) (overlay old.now.trees []) rows (got.answer Null) in
-    let shows : map (λ (o : Output). o.1) (map (λ r. output format_query (at [] r)) (filter (λ _. true) (old.now.trees 0))) ≡ map (λ r. column r 1 ∷ []) (old.now.trees 0) =
-    ap (λ l. map (λ (o : Output). o.1) (map (λ r. output format_query (at [] r)) l)) (all_chosen (old.now.trees 0)) ∙ map-map (λ (o : Output). o.1) (λ r. output format_query (at [] r)) (old.now.trees 0) in
+    let got = reads_as format_rows_text [] old new store_schema has
+    (Select (record { lets = []; body = format_query }) (codes "version" ∷ [])) format_rows_is.0 format_rows_is.2
+    format_rows_is.1 rows h in
+    let answer = answer_is [] 0 [] format_columns format_order (λ _. true) (λ _. refl) (overlay old.now.trees []) rows
+    (got.answer Null) in
+    let shows : map (λ (o : Output). o.1)
+    (map (λ r. output format_query (at [] r)) (filter (λ _. true) (old.now.trees 0)))
+    ≡ map (λ r. column r 1 ∷ []) (old.now.trees 0) =
+    ap (λ l. map (λ (o : Output). o.1) (map (λ r. output format_query (at [] r)) l)) (all_chosen (old.now.trees 0)) ∙
+    map-map (λ (o : Output). o.1) (λ r. output format_query (at [] r)) (old.now.trees 0) in
     subst₂ IsPermutation shows (sym answer.3) (IsPermutation-map (λ (o : Output). o.1) _ _ answer.1)
 
 -- a query changes nothing
-pub shown_same : (sql : List ℕ) (params : Row) (old new : State) (rows : List Row) → IsPlain (understood old.now.schema sql) → Shown sql params old new rows → IsUnchanged old new
+pub shown_same : (sql : List ℕ) (params : Row) (old new : State) (rows : List Row)
+    → IsPlain (understood old.now.schema sql) → Shown sql params old new rows → IsUnchanged old new
 unfolding Shown
 shown_same sql params old new rows plain h =
     let bare = (subst IsPlain h.1.is plain).0 in

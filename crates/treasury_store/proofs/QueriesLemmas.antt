@@ -1,5 +1,6 @@
 -- What queries of our tables leave, whatever they answer.
-use Rattle.std.proofs.Common.{◌≡◌, ◌∙◌, ◌⊎◌, inl, inr, ℕ, List, Option, Some, None, Ok, Err, Result, IfOk, IfErr, OnErr, IsSome, IsTrue, true≢false, sym, ap, subst, arith}
+use Rattle.std.proofs.Common.{◌≡◌, ◌∙◌, ◌⊎◌, inl, inr, ℕ, List, Option, Some, None, Ok, Err, Result, IfOk, IfErr, OnErr}
+use Rattle.std.proofs.Common.{IsSome, IsTrue, true≢false, sym, ap, subst, arith}
 use Rattle.std.specs.Prelude.{IsErrAnd}
 use Rattle.std.proofs.lemmas.Result.{err_from_is_err_and}
 use Rattle.sqlite.specs.Order.{Row}
@@ -7,7 +8,8 @@ use Rattle.sqlite.specs.Store.{Ghosts}
 use Rattle.sqlite.specs.Effect.{Database}
 use Rattle.sqlite.specs.Tree.{Trees}
 use Rattle.sqlite.specs.declared.error.Error.{Error}
-use Rattle.sqlite.specs.State.{State, HasCleanDisk, Survives, IsUnchanged, IsRolledBack, Shown, FailsToQuery, FailsToShow, ShowsRows, IsNotRun, CommitsShowing}
+use Rattle.sqlite.specs.State.{State, HasCleanDisk, Survives, IsUnchanged, IsRolledBack, Shown, FailsToQuery}
+use Rattle.sqlite.specs.State.{FailsToShow, ShowsRows, IsNotRun, CommitsShowing}
 use Rattle.sqlite.specs.Held.{Held, state}
 use Rattle.sqlite.specs.Clock.{timed}
 use Rattle.sqlite.specs.Listing.{understood}
@@ -23,7 +25,8 @@ module _ (sql : List ℕ) (params : Row) (old new : State) where
   unfolding Shown
   shown_open rows h = opens h.0.returning h.2
     where
-      opens : (o : Option Returning) → ShowsRows old new sql h.0 (timed params h.0.formats h.1.now) rows o → IsTrue old.is_open × IsTrue new.is_open
+      opens : (o : Option Returning) → ShowsRows old new sql h.0 (timed params h.0.formats h.1.now) rows o
+          → IsTrue old.is_open × IsTrue new.is_open
       opens None k = (k.3.0.was_open, k.3.0.is_open)
       opens (Some what) k = (k.1.shown.was_open, k.1.shown.is_open)
 
@@ -34,13 +37,15 @@ module _ (sql : List ℕ) (params : Row) (old new : State) where
   failed_back e (inl (inr h)) = inr h.3
   failed_back e (inr h) = fails h.0.returning h.2
     where
-      fails : (o : Option Returning) → FailsToShow old new sql h.0 (timed params h.0.formats h.1.now) e o → IsUnchanged old new ⊎ IsRolledBack old new
+      fails : (o : Option Returning) → FailsToShow old new sql h.0 (timed params h.0.formats h.1.now) e o
+          → IsUnchanged old new ⊎ IsRolledBack old new
       fails None k = inl k.3
       fails (Some what) (inl k) = inl k.1
       fails (Some what) (inr k) = inr k.3
 
 -- of a schema that is ours a query commits nothing
-pub ours_shows_no_commit : (sql : List ℕ) (params : Row) (old : State) → IsPlain (understood store_schema sql) → (trees : Trees) → CommitsShowing sql params old trees → old.now.schema ≡ store_schema → ⊥
+pub ours_shows_no_commit : (sql : List ℕ) (params : Row) (old : State) → IsPlain (understood store_schema sql)
+    → (trees : Trees) → CommitsShowing sql params old trees → old.now.schema ≡ store_schema → ⊥
 unfolding CommitsShowing
 ours_shows_no_commit sql params old plain trees h has =
     let bare = (subst IsPlain (ap (λ s. understood s sql) (sym has) ∙ h.1.is) plain).0 in
@@ -50,26 +55,34 @@ was_back : (old new : State) → IsUnchanged old new ⊎ IsRolledBack old new �
 was_back old new (inl h) is = h.0.was_open
 was_back old new (inr h) is = h.was_open is
 
-same_back : (old new : State) → IsUnchanged old new ⊎ IsRolledBack old new → IsTrue new.is_open → old.committed ≡ old.now → (new.now ≡ old.now) × (new.committed ≡ old.committed)
+same_back : (old new : State) → IsUnchanged old new ⊎ IsRolledBack old new → IsTrue new.is_open
+    → old.committed ≡ old.now → (new.now ≡ old.now) × (new.committed ≡ old.committed)
 same_back old new (inl h) is all = (h.0.now_is, h.0.committed_is)
 same_back old new (inr h) is all = ((h.undone is).0 ∙ all, (h.undone is).1)
 
 -- a query that fails outside a transaction changes nothing, while the connection is open
-pub fails_alone : {X : Type 0} (sql : List ℕ) (params : Row) (old new : State) (r : Result X Error) → IfErr r (FailsToQuery sql params old new) → (IsTrue old.is_open → old.now ≡ old.committed) → IsTrue new.is_open
+pub fails_alone : {X : Type 0} (sql : List ℕ) (params : Row) (old new : State) (r : Result X Error)
+    → IfErr r (FailsToQuery sql params old new) → (IsTrue old.is_open → old.now ≡ old.committed) → IsTrue new.is_open
     → OnErr r ((new.now ≡ old.now) × (new.committed ≡ old.committed))
 fails_alone sql params old new (Ok x) err alone is = tt
-fails_alone sql params old new (Err e) err alone is = let back = failed_back sql params old new e err in same_back old new back is (sym (alone (was_back old new back is)))
+fails_alone sql params old new (Err e) err alone is = let back =
+    failed_back sql params old new e err in same_back old new back is (sym (alone (was_back old new back is)))
 
 -- the same error of another answer
-of_error : {S Y : Type 0} (g : Ghosts S) (old new : Held S) (e : Error) (r : Result Y Error) → IsErrAnd r (λ y. y ≡ e) → Queries {X = Y} g old new (Err e) → Queries g old new r
+of_error : {S Y : Type 0} (g : Ghosts S) (old new : Held S) (e : Error) (r : Result Y Error) → IsErrAnd r (λ y. y ≡ e)
+    → Queries {X = Y} g old new (Err e) → Queries g old new r
 of_error g old new e r is q = let p = err_from_is_err_and r is in subst (Queries g old new) (sym (p.1 ∙ ap Err p.2)) q
 
-pub same_error : {S X Y : Type 0} {g : Ghosts S} {old new : Held S} (e : Error) (r : Result Y Error) → IsErrAnd r (λ y. y ≡ e) → Queries {X = X} g old new (Err e) → Queries g old new r
-same_error {g = g} {old = old} {new = new} e r is q = of_error g old new e r is (record { opened = λ clean. tt; was_open = q.was_open; undone = q.undone; survives = q.survives })
+pub same_error : {S X Y : Type 0} {g : Ghosts S} {old new : Held S} (e : Error) (r : Result Y Error)
+    → IsErrAnd r (λ y. y ≡ e) → Queries {X = X} g old new (Err e) → Queries g old new r
+same_error {g = g} {old = old} {new = new} e r is q =
+    of_error g old new e r is
+    (record { opened = λ clean. tt; was_open = q.was_open; undone = q.undone; survives = q.survives })
 
 module _ {S : Type 0} (g : Ghosts S) where
   -- one query
-  pub one_query : {X : Type 0} (old new : Held S) (sql : List ℕ) (params : Row) (rows : X → List Row) (r : Result X Error) → IsPlain (understood store_schema sql)
+  pub one_query : {X : Type 0} (old new : Held S) (sql : List ℕ) (params : Row) (rows : X → List Row)
+      (r : Result X Error) → IsPlain (understood store_schema sql)
       → (HasCleanDisk (state g new) → IfOk r (λ x. Shown sql params (state g old) (state g new) (rows x)))
       → (HasCleanDisk (state g new) → IfErr r (FailsToQuery sql params (state g old) (state g new)))
       → Survives (state g old) (state g new) (CommitsShowing sql params (state g old)) → Queries g old new r
@@ -77,19 +90,25 @@ module _ {S : Type 0} (g : Ghosts S) where
     opened = λ clean. shown_open sql params (state g old) (state g new) (rows x) (ok clean);
     was_open = λ clean is. (shown_open sql params (state g old) (state g new) (rows x) (ok clean)).0;
     undone = λ clean is. tt;
-    survives = survives_weaker (state g old) (state g new) _ _ (λ clean trees h. ours_shows_no_commit sql params (state g old) plain trees h) left;
+    survives = survives_weaker (state g old) (state g new) _ _
+        (λ clean trees h. ours_shows_no_commit sql params (state g old) plain trees h) left;
   }
   one_query old new sql params rows (Err e) plain ok err left = record {
     opened = λ clean. tt;
-    was_open = λ clean is. was_back (state g old) (state g new) (failed_back sql params (state g old) (state g new) e (err clean)) is;
-    undone = λ clean is has all. same_back (state g old) (state g new) (failed_back sql params (state g old) (state g new) e (err clean)) is all;
-    survives = survives_weaker (state g old) (state g new) _ _ (λ clean trees h. ours_shows_no_commit sql params (state g old) plain trees h) left;
+    was_open = λ clean is. was_back (state g old) (state g new)
+        (failed_back sql params (state g old) (state g new) e (err clean)) is;
+    undone = λ clean is has all. same_back (state g old) (state g new)
+        (failed_back sql params (state g old) (state g new) e (err clean)) is all;
+    survives = survives_weaker (state g old) (state g new) _ _
+        (λ clean trees h. ours_shows_no_commit sql params (state g old) plain trees h) left;
   }
 
   -- what is made of the rows of a query that changed nothing
-  pub then_made : {X Y : Type 0} (old new : Held S) (x : X) → Queries g old new (Ok x) → (HasCleanDisk (state g new) → (state g old).now.schema ≡ store_schema → IsUnchanged (state g old) (state g new))
+  pub then_made : {X Y : Type 0} (old new : Held S) (x : X) → Queries g old new (Ok x)
+      → (HasCleanDisk (state g new) → (state g old).now.schema ≡ store_schema → IsUnchanged (state g old) (state g new))
       → (r : Result Y Error) → Queries g old new r
-  then_made old new x q same (Ok y) = record { opened = q.opened; was_open = q.was_open; undone = λ clean is. tt; survives = q.survives }
+  then_made old new x q same (Ok y) =
+      record { opened = q.opened; was_open = q.was_open; undone = λ clean is. tt; survives = q.survives }
   then_made old new x q same (Err e) = record {
     opened = λ clean. tt;
     was_open = q.was_open;
@@ -100,11 +119,19 @@ module _ {S : Type 0} (g : Ghosts S) where
 -- queries that changed nothing, one after another
 pub record Quiet {S : Type 0} (g : Ghosts S) (a b : Held S) : Type 0 where
   pub opened : HasCleanDisk (state g b) → IsTrue (state g a).is_open × IsTrue (state g b).is_open
-  pub same : HasCleanDisk (state g b) → (state g a).now.schema ≡ store_schema → ((state g b).now ≡ (state g a).now) × ((state g b).committed ≡ (state g a).committed)
+  pub same : HasCleanDisk (state g b) → (state g a).now.schema ≡ store_schema
+      → ((state g b).now ≡ (state g a).now) × ((state g b).committed ≡ (state g a).committed)
   pub survives : KeepsTables g a b
 
-pub quiet : {S X : Type 0} {g : Ghosts S} {a b : Held S} {x : X} → Queries g a b (Ok x) → (HasCleanDisk (state g b) → (state g a).now.schema ≡ store_schema → IsUnchanged (state g a) (state g b)) → Quiet g a b
-quiet q same = record { opened = q.opened; same = λ clean has. let kept = (same clean has).0 in (kept.now_is, kept.committed_is); survives = q.survives }
+pub quiet : {S X : Type 0} {g : Ghosts S} {a b : Held S} {x : X} → Queries g a b (Ok x)
+    → (HasCleanDisk (state g b) → (state g a).now.schema ≡ store_schema → IsUnchanged (state g a) (state g b))
+    → Quiet g a b
+quiet q same = record {
+  opened = q.opened;
+  same = λ clean has.
+      let kept = (same clean has).0 in (kept.now_is, kept.committed_is);
+  survives = q.survives;
+}
 
 module _ {S : Type 0} (g : Ghosts S) (a b c : Held S) (one : Quiet g a b) (two : KeepsTables g b c) where
   cleaner : HasCleanDisk (state g c) → HasCleanDisk (state g b)
@@ -114,10 +141,12 @@ module _ {S : Type 0} (g : Ghosts S) (a b c : Held S) (one : Quiet g a b) (two :
   ours clean has = ap (λ (d : Database). d.schema) (one.same (cleaner clean) has).0 ∙ has
 
   left : KeepsTables g a c
-  left = survives_then (state g a) (state g b) (state g c) _ _ _ (λ clean trees h. h) (λ clean trees h has. h (ours clean has)) one.survives two
+  left = survives_then (state g a) (state g b) (state g c) _ _ _ (λ clean trees h. h)
+      (λ clean trees h has. h (ours clean has)) one.survives two
 
 pub quiet_more : {S X : Type 0} {g : Ghosts S} {a b c : Held S} {x : X} → Quiet g a b → Queries g b c (Ok x)
-    → (HasCleanDisk (state g c) → (state g b).now.schema ≡ store_schema → IsUnchanged (state g b) (state g c)) → Quiet g a c
+    → (HasCleanDisk (state g c) → (state g b).now.schema ≡ store_schema → IsUnchanged (state g b) (state g c))
+    → Quiet g a c
 quiet_more {g = g} {a = a} {b = b} {c = c} one two same = record {
   opened = λ clean. ((one.opened (cleaner g a b c one two.survives clean)).0, (two.opened clean).1);
   same = λ clean has.
@@ -128,7 +157,8 @@ quiet_more {g = g} {a = a} {b = b} {c = c} one two same = record {
 }
 
 -- one that fails behind them
-pub quiet_error : {S X Y : Type 0} {g : Ghosts S} {a b c : Held S} (e : Error) (r : Result Y Error) → IsErrAnd r (λ y. y ≡ e) → Quiet g a b → Queries {X = X} g b c (Err e) → Queries g a c r
+pub quiet_error : {S X Y : Type 0} {g : Ghosts S} {a b c : Held S} (e : Error) (r : Result Y Error)
+    → IsErrAnd r (λ y. y ≡ e) → Quiet g a b → Queries {X = X} g b c (Err e) → Queries g a c r
 quiet_error {g = g} {a = a} {b = b} {c = c} e r is one two = of_error g a c e r is (record {
   opened = λ clean. tt;
   was_open = λ clean is. (one.opened (cleaner g a b c one two.survives clean)).0;
@@ -141,10 +171,17 @@ quiet_error {g = g} {a = a} {b = b} {c = c} e r is one two = of_error g a c e r 
 
 -- none that fails
 pub quiet_ok : {S Y : Type 0} {g : Ghosts S} {a b : Held S} {y : Y} → Quiet g a b → Queries g a b (Ok y)
-quiet_ok one = record { opened = one.opened; was_open = λ clean is. (one.opened clean).0; undone = λ clean is. tt; survives = one.survives }
+quiet_ok one = record {
+  opened = one.opened;
+  was_open = λ clean is. (one.opened clean).0;
+  undone = λ clean is. tt;
+  survives = one.survives;
+}
 
 -- what a query answers of the tables, it answers of those before the queries ahead of it
-pub seen_before : {S : Type 0} {g : Ghosts S} {a b : Held S} (c : Held S) (P : Database → Type 0) → Quiet g a b → KeepsTables g b c
-    → (HasCleanDisk (state g c) → (state g b).now.schema ≡ store_schema → P (state g b).now) → HasCleanDisk (state g c) → (state g a).now.schema ≡ store_schema → P (state g a).now
+pub seen_before : {S : Type 0} {g : Ghosts S} {a b : Held S} (c : Held S) (P : Database → Type 0) → Quiet g a b
+    → KeepsTables g b c
+    → (HasCleanDisk (state g c) → (state g b).now.schema ≡ store_schema → P (state g b).now) → HasCleanDisk (state g c)
+    → (state g a).now.schema ≡ store_schema → P (state g a).now
 seen_before {g = g} {a = a} {b = b} c P one two shown clean has =
     subst P (one.same (cleaner g a b c one two clean) has).0 (shown clean (ours g a b c one two clean has))

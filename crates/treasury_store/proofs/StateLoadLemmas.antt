@@ -24,10 +24,14 @@ use Rattle.treasury_store.specs.Store.{TablesAre, Knows, IsOf}
 use Rattle.treasury_store.proofs.ShownLemmas.{holds_shows}
 use Rattle.treasury_store.proofs.OrderedLemmas.{rows_in_order}
 
-module _ {S : Type 0} (g : Ghosts S) (old new : Held S) (cleaner : HasCleanDisk (state g new) → HasCleanDisk (state g old)) where
+module _ {S : Type 0} (g : Ghosts S) (old new : Held S)
+    (cleaner : HasCleanDisk (state g new) → HasCleanDisk (state g old)) where
   -- tables that stay
-  pub tables_stay : (t : Tables) → (HasCleanDisk (state g new) → IsTrue (state g new).is_open → IsTrue (state g old).is_open)
-      → (HasCleanDisk (state g new) → IsTrue (state g new).is_open → Holds (state g old).now t → (state g old).committed ≡ (state g old).now → ((state g new).now ≡ (state g old).now) × ((state g new).committed ≡ (state g old).committed))
+  pub tables_stay : (t : Tables) → (HasCleanDisk (state g new) → IsTrue (state g new).is_open
+      → IsTrue (state g old).is_open)
+      → (HasCleanDisk (state g new) → IsTrue (state g new).is_open → Holds (state g old).now t
+      → (state g old).committed ≡ (state g old).now
+      → ((state g new).now ≡ (state g old).now) × ((state g new).committed ≡ (state g old).committed))
       → TablesAre g old t → TablesAre g new t
   tables_stay t was_open same are clean is_open =
       let was = are (cleaner clean) (was_open clean is_open) in
@@ -35,25 +39,33 @@ module _ {S : Type 0} (g : Ghosts S) (old new : Held S) (cleaner : HasCleanDisk 
       (subst (λ (db : Database). Holds db t) (sym kept.0) was.0, kept.1 ∙ (was.1 ∙ sym kept.0))
 
   module _ (opened : HasCleanDisk (state g new) → IsTrue (state g old).is_open × IsTrue (state g new).is_open)
-      (same : HasCleanDisk (state g new) → (state g old).now.schema ≡ store_schema → IsUnchanged (state g old) (state g new)) where
+      (same : HasCleanDisk (state g new) → (state g old).now.schema ≡ store_schema
+      → IsUnchanged (state g old) (state g new)) where
     pub read_tables_stay : (t : Tables) → TablesAre g old t → TablesAre g new t
     read_tables_stay t are =
-        tables_stay t (λ clean is_open. (opened clean).0) (λ clean is_open holds all. let kept = (same clean holds.schema).0 in (kept.now_is, kept.committed_is)) are
+        tables_stay t (λ clean is_open. (opened clean).0)
+        (λ clean is_open holds all. let kept = (same clean holds.schema).0 in (kept.now_is, kept.committed_is)) are
 
-    module _ (parts : Parts) (read : HasCleanDisk (state g new) → (t : Tables) → InOrder t → ShowsTables (state g old).now t → parts ≡ t) (f : Federation) (good : IsGoodState f) (are : TablesAre g old (rows f)) where
+    module _ (parts : Parts) (read : HasCleanDisk (state g new) → (t : Tables) → InOrder t
+        → ShowsTables (state g old).now t → parts ≡ t) (f : Federation) (good : IsGoodState f)
+        (are : TablesAre g old (rows f)) where
       -- the rows that were read are the state's
       pub parts_are : HasCleanDisk (state g new) → rows f ≡ parts
-      parts_are clean = sym (read clean (rows f) (rows_in_order f good) (holds_shows (state g old).now (rows f) (are (cleaner clean) (opened clean).0).0))
+      parts_are clean = sym (read clean (rows f) (rows_in_order f good)
+          (holds_shows (state g old).now (rows f) (are (cleaner clean) (opened clean).0).0))
 
       pub loaded_is : (s : Federation) → IsGoodState s → rows s ≡ parts → HasCleanDisk (state g new) → s ≡ f
       loaded_is s fine built clean = same_state s f fine good (built ∙ sym (parts_are clean))
 
       pub loaded_tables : (s : Federation) → IsGoodState s → rows s ≡ parts → TablesAre g new (rows s)
       loaded_tables s fine built clean is_open =
-          subst (λ (x : Federation). TablesAre g new (rows x)) (sym (loaded_is s fine built clean)) (read_tables_stay (rows f) are) clean is_open
+          subst (λ (x : Federation). TablesAre g new (rows x)) (sym (loaded_is s fine built clean))
+          (read_tables_stay (rows f) are) clean is_open
 
       -- rows that are no state's are not this one's
-      pub not_damaged : (e : Cause) → (e ≡ OutOfMemory) ⊎ ((e ≡ Damaged) × ((x : Federation) → IsGoodState x → HasShortLocks x → rows x ≡ parts → ⊥)) → e ≡ Damaged → HasShortLocks f → HasCleanDisk (state g new) → ⊥
+      pub not_damaged : (e : Cause) → (e ≡ OutOfMemory)
+          ⊎ ((e ≡ Damaged) × ((x : Federation) → IsGoodState x → HasShortLocks x → rows x ≡ parts → ⊥)) → e ≡ Damaged
+          → HasShortLocks f → HasCleanDisk (state g new) → ⊥
       not_damaged e (inl memory) is short clean = absurd cc
       not_damaged e (inr none) is short clean = none.1 f good short (parts_are clean)
 
@@ -64,42 +76,66 @@ any_err (Err e) P h = h
 
 module _ {S X : Type 0} (g : Ghosts S) (old new : Store S) (f : Federation) where
   -- where the rows are not read, the store is of the state that it was of
-  pub failed_of : (e : Error) → Queries {X = X} g old.conn new.conn (Err e) → new.numbers ≡ old.numbers → IsOf g old f → IsOf g new f
+  pub failed_of : (e : Error) → Queries {X = X} g old.conn new.conn (Err e) → new.numbers ≡ old.numbers → IsOf g old f
+      → IsOf g new f
   failed_of e q numbers of = record {
     good = of.good;
-    tables = tables_stay g old.conn new.conn (λ clean. omega (arith, q.survives.clean, clean)) (rows f) q.was_open (λ clean is holds all. q.undone clean is holds.schema all) of.tables;
+    tables = tables_stay g old.conn new.conn (λ clean. omega (arith, q.survives.clean, clean)) (rows f) q.was_open
+        (λ clean is holds all. q.undone clean is holds.schema all) of.tables;
     numbers = numbers ∙ of.numbers;
   }
 
-  module _ (x : X) (q : Queries g old.conn new.conn (Ok x)) (same : HasCleanDisk (state g new.conn) → (state g old.conn).now.schema ≡ store_schema → IsUnchanged (state g old.conn) (state g new.conn)) where
+  module _ (x : X) (q : Queries g old.conn new.conn (Ok x))
+      (same : HasCleanDisk (state g new.conn) → (state g old.conn).now.schema ≡ store_schema
+      → IsUnchanged (state g old.conn) (state g new.conn)) where
     cleaner : HasCleanDisk (state g new.conn) → HasCleanDisk (state g old.conn)
     cleaner clean = omega (arith, q.survives.clean, clean)
 
     -- and where they are no state's
     pub read_of : new.numbers ≡ old.numbers → IsOf g old f → IsOf g new f
-    read_of numbers of = record { good = of.good; tables = read_tables_stay g old.conn new.conn cleaner q.opened same (rows f) of.tables; numbers = numbers ∙ of.numbers }
+    read_of numbers of = record {
+      good = of.good;
+      tables = read_tables_stay g old.conn new.conn cleaner q.opened same (rows f) of.tables;
+      numbers = numbers ∙ of.numbers;
+    }
 
-    module _ (parts : Parts) (read : HasCleanDisk (state g new.conn) → (t : Tables) → InOrder t → ShowsTables (state g old.conn).now t → parts ≡ t) (good : IsGoodState f) (are : TablesAre g old.conn (rows f)) where
+    module _ (parts : Parts) (read : HasCleanDisk (state g new.conn) → (t : Tables) → InOrder t
+        → ShowsTables (state g old.conn).now t → parts ≡ t) (good : IsGoodState f)
+        (are : TablesAre g old.conn (rows f)) where
       -- where they are, it is of the state that they make, which is the one whose rows the tables are
-      pub loaded_of : (s : Federation) → IsGoodState s → rows s ≡ parts → Knows new s → IsOf g new s × (HasCleanDisk (state g new.conn) → s ≡ f)
+      pub loaded_of : (s : Federation) → IsGoodState s → rows s ≡ parts → Knows new s
+          → IsOf g new s × (HasCleanDisk (state g new.conn) → s ≡ f)
       loaded_of s fine built knows = (
-        record { good = fine; tables = loaded_tables g old.conn new.conn cleaner q.opened same parts read f good are s fine built; numbers = knows },
+        record {
+          good = fine;
+          tables = loaded_tables g old.conn new.conn cleaner q.opened same parts read f good are s
+              fine built;
+          numbers = knows;
+        },
         loaded_is g old.conn new.conn cleaner q.opened same parts read f good are s fine built,
       )
 
-      pub none_damaged : {Y : Type 0} (r : Result Y Cause) (e : Cause) → IsErrAnd r (λ y. y ≡ e) → (e ≡ OutOfMemory) ⊎ ((e ≡ Damaged) × ((x : Federation) → IsGoodState x → HasShortLocks x → rows x ≡ parts → ⊥)) → r ≡ Err Damaged → HasShortLocks f → HasCleanDisk (state g new.conn) → ⊥
+      pub none_damaged : {Y : Type 0} (r : Result Y Cause) (e : Cause) → IsErrAnd r (λ y. y ≡ e)
+          → (e ≡ OutOfMemory)
+          ⊎ ((e ≡ Damaged) × ((x : Federation) → IsGoodState x → HasShortLocks x → rows x ≡ parts → ⊥))
+          → r ≡ Err Damaged → HasShortLocks f → HasCleanDisk (state g new.conn) → ⊥
       none_damaged r e is why damaged short clean =
           let p = err_from_is_err_and r is in
           let same_cause : p.0 ≡ Damaged = cause_is p.0 (sym p.1 ∙ damaged) in
-          not_damaged g old.conn new.conn cleaner q.opened same parts read f good are e why (sym p.2 ∙ same_cause) short clean
+          not_damaged g old.conn new.conn cleaner q.opened same parts read f good are e why (sym p.2 ∙ same_cause) short
+          clean
         where
           cause_is : {Y : Type 0} (x : Cause) → ◌≡◌ {A = Result Y Cause} (Err x) (Err Damaged) → x ≡ Damaged
           cause_is x e = cc
 
 -- where the rows that were read are no good state's, the tables show none
-pub none_shown : {Y : Type 0} (db : Database) (parts : Parts) → ((t : Tables) → InOrder t → ShowsTables db t → parts ≡ t) → (r : Result Y Cause) (e : Cause) → IsErrAnd r (λ y. y ≡ e)
-    → (e ≡ OutOfMemory) ⊎ ((e ≡ Damaged) × ((x : Federation) → IsGoodState x → HasShortLocks x → rows x ≡ parts → ⊥)) → r ≡ Err Damaged → (f : Federation) → IsGoodState f → HasShortLocks f → ShowsTables db (rows f) → ⊥
-none_shown db parts read r e is why damaged f good short shows = why_not e (sym p.2 ∙ cause_is p.0 (sym p.1 ∙ damaged)) why
+pub none_shown : {Y : Type 0} (db : Database) (parts : Parts)
+    → ((t : Tables) → InOrder t → ShowsTables db t → parts ≡ t) → (r : Result Y Cause) (e : Cause)
+    → IsErrAnd r (λ y. y ≡ e)
+    → (e ≡ OutOfMemory) ⊎ ((e ≡ Damaged) × ((x : Federation) → IsGoodState x → HasShortLocks x → rows x ≡ parts → ⊥))
+    → r ≡ Err Damaged → (f : Federation) → IsGoodState f → HasShortLocks f → ShowsTables db (rows f) → ⊥
+none_shown db parts read r e is why damaged f good short shows =
+    why_not e (sym p.2 ∙ cause_is p.0 (sym p.1 ∙ damaged)) why
   where
     p : (x : Cause) × (r ≡ Err x) × (x ≡ e)
     p = err_from_is_err_and r is
@@ -107,6 +143,8 @@ none_shown db parts read r e is why damaged f good short shows = why_not e (sym 
     cause_is : {Y : Type 0} (x : Cause) → ◌≡◌ {A = Result Y Cause} (Err x) (Err Damaged) → x ≡ Damaged
     cause_is x e = cc
 
-    why_not : (e : Cause) → e ≡ Damaged → (e ≡ OutOfMemory) ⊎ ((e ≡ Damaged) × ((x : Federation) → IsGoodState x → HasShortLocks x → rows x ≡ parts → ⊥)) → ⊥
+    why_not : (e : Cause) → e ≡ Damaged
+        → (e ≡ OutOfMemory)
+        ⊎ ((e ≡ Damaged) × ((x : Federation) → IsGoodState x → HasShortLocks x → rows x ≡ parts → ⊥)) → ⊥
     why_not e is (inl memory) = absurd cc
     why_not e is (inr none) = none.1 f good short (sym (read (rows f) (rows_in_order f good) shows))

@@ -35,17 +35,23 @@ pub some_numbers : (n m : Numbering) → ◌≡◌ {A = Option Numbering} (Some 
 some_numbers n m e = cc
 
 -- the changes written to the rows of the state are the rows of the joined one
-pub holds_joined : (f : Federation) (xs : List Addition) (n : Numbering) (changes : List Change) (db : Database) → IsGoodState f → Joins f xs → n ≡ numbers_of f → changes ≡ changes_of n xs
+pub holds_joined : (f : Federation) (xs : List Addition) (n : Numbering) (changes : List Change) (db : Database)
+    → IsGoodState f → Joins f xs → n ≡ numbers_of f → changes ≡ changes_of n xs
     → Holds db (written changes (rows f)) → Holds db (rows (joined f xs))
 holds_joined f xs n changes db good next e is h =
     holds_same db (written changes (rows f)) (rows (joined f xs))
-    (subst (λ (cs : List Change). Same (written cs (rows f)) (rows (joined f xs))) (sym (is ∙ ap (λ (m : Numbering). changes_of m xs) e)) (writes_joined f xs good next.good (good_room (joined f xs) next.good) next.found)) h
+    (subst (λ (cs : List Change). Same (written cs (rows f)) (rows (joined f xs)))
+    (sym (is ∙ ap (λ (m : Numbering). changes_of m xs) e))
+    (writes_joined f xs good next.good (good_room (joined f xs) next.good) next.found)) h
 
 module _ {S : Type 0} (g : Ghosts S) (old : Store S) (f : Federation) (of : IsOf g old f) where
   -- while the tables stay, so does the state
-  pub stays_of : (new : Store S) → new.numbers ≡ old.numbers → (HasCleanDisk (state g new.conn) → HasCleanDisk (state g old.conn))
+  pub stays_of : (new : Store S) → new.numbers ≡ old.numbers
+      → (HasCleanDisk (state g new.conn) → HasCleanDisk (state g old.conn))
       → (HasCleanDisk (state g new.conn) → IsTrue (state g new.conn).is_open → IsTrue (state g old.conn).is_open)
-      → (HasCleanDisk (state g new.conn) → IsTrue (state g new.conn).is_open → ((state g new.conn).now ≡ (state g old.conn).now) × ((state g new.conn).committed ≡ (state g old.conn).committed)) → IsOf g new f
+      → (HasCleanDisk (state g new.conn) → IsTrue (state g new.conn).is_open
+      → ((state g new.conn).now ≡ (state g old.conn).now)
+      × ((state g new.conn).committed ≡ (state g old.conn).committed)) → IsOf g new f
   stays_of new numbers clean opened same = record {
     good = of.good;
     tables = λ is_clean is_open.
@@ -55,7 +61,8 @@ module _ {S : Type 0} (g : Ghosts S) (old : Store S) (f : Federation) (of : IsOf
     numbers = numbers ∙ of.numbers;
   }
 
-  module _ (xs : List Addition) (next : Joins f xs) (n : Numbering) (known : old.numbers ≡ Some n) (changes : List Change) (is : changes ≡ changes_of n xs) where
+  module _ (xs : List Addition) (next : Joins f xs) (n : Numbering) (known : old.numbers ≡ Some n)
+      (changes : List Change) (is : changes ≡ changes_of n xs) where
     same_numbers : n ≡ numbers_of f
     same_numbers = some_numbers n (numbers_of f) (sym known ∙ of.numbers)
 
@@ -63,9 +70,12 @@ module _ {S : Type 0} (g : Ghosts S) (old : Store S) (f : Federation) (of : IsOf
     holds_next db h = holds_joined f xs n changes db of.good next same_numbers is h
 
     -- once the changes are written, the store is of the joined state
-    pub becomes_of : (new : Store S) → new.numbers ≡ Some (numbers_with n xs) → (HasCleanDisk (state g new.conn) → HasCleanDisk (state g old.conn))
+    pub becomes_of : (new : Store S) → new.numbers ≡ Some (numbers_with n xs)
+        → (HasCleanDisk (state g new.conn) → HasCleanDisk (state g old.conn))
         → (HasCleanDisk (state g new.conn) → IsTrue (state g new.conn).is_open → IsTrue (state g old.conn).is_open)
-        → (HasCleanDisk (state g new.conn) → (t : Tables) → Holds (state g old.conn).now t → Holds (state g new.conn).now (written changes t) × ((state g new.conn).committed ≡ (state g new.conn).now))
+        → (HasCleanDisk (state g new.conn) → (t : Tables) → Holds (state g old.conn).now t
+        → Holds (state g new.conn).now (written changes t)
+        × ((state g new.conn).committed ≡ (state g new.conn).now))
         → IsOf g new (joined f xs)
     becomes_of new numbers clean opened puts = record {
       good = next.good;
@@ -73,20 +83,32 @@ module _ {S : Type 0} (g : Ghosts S) (old : Store S) (f : Federation) (of : IsOf
           let was = of.tables (clean is_clean) (opened is_clean is_open) in
           let put = puts is_clean (rows f) was.0 in
           (holds_next (state g new.conn).now put.0, put.1);
-      numbers = numbers ∙ ap (λ (m : Numbering). Some m) (ap (λ (m : Numbering). numbers_with m xs) same_numbers ∙ numbers_joined f xs);
+      numbers = numbers ∙ ap (λ (m : Numbering). Some m)
+          (ap (λ (m : Numbering). numbers_with m xs) same_numbers ∙ numbers_joined f xs);
     }
 
 -- the numbers behind what is written are those of the joined state
-pub knows_joined : (f : Federation) (xs : List Addition) (n : Numbering) (now : Option Numbering) → now ≡ Some n → now ≡ Some (numbers_of f) → ◌≡◌ {A = Option Numbering} (Some (numbers_with n xs)) (Some (numbers_of (joined f xs)))
+pub knows_joined : (f : Federation) (xs : List Addition) (n : Numbering) (now : Option Numbering) → now ≡ Some n
+    → now ≡ Some (numbers_of f)
+    → ◌≡◌ {A = Option Numbering} (Some (numbers_with n xs)) (Some (numbers_of (joined f xs)))
 knows_joined f xs n now known knows =
-    ap (λ (m : Numbering). Some m) (ap (λ (m : Numbering). numbers_with m xs) (some_numbers n (numbers_of f) (sym known ∙ knows)) ∙ numbers_joined f xs)
+    ap (λ (m : Numbering). Some m) (ap (λ (m : Numbering). numbers_with m xs)
+    (some_numbers n (numbers_of f) (sym known ∙ knows)) ∙ numbers_joined f xs)
 
 -- what a crash leaves are the rows of one of the two states
-pub crash_joined : {S : Type 0} (g : Ghosts S) (old : Store S) (new : Held S) (xs : List Addition) (n : Numbering) → old.numbers ≡ Some n → (changes : List Change) → changes ≡ changes_of n xs
-    → Survives (state g old.conn) (state g new) (λ trees. (db : Database) × (trees ≡ db.trees) × ((t : Tables) → Holds (state g old.conn).now t → Holds db (written changes t)))
-    → Survives (state g old.conn) (state g new) (λ trees. (db : Database) × (trees ≡ db.trees) × ((f : Federation) → IsOf g old f → Joins f xs → Holds (state g old.conn).now (rows f) → Holds db (rows (joined f xs))))
+pub crash_joined : {S : Type 0} (g : Ghosts S) (old : Store S) (new : Held S) (xs : List Addition) (n : Numbering)
+    → old.numbers ≡ Some n → (changes : List Change) → changes ≡ changes_of n xs
+    → Survives (state g old.conn) (state g new)
+    (λ trees. (db : Database) × (trees ≡ db.trees)
+    × ((t : Tables) → Holds (state g old.conn).now t → Holds db (written changes t)))
+    → Survives (state g old.conn) (state g new)
+    (λ trees. (db : Database) × (trees ≡ db.trees)
+    × ((f : Federation) → IsOf g old f → Joins f xs → Holds (state g old.conn).now (rows f)
+    → Holds db (rows (joined f xs))))
 crash_joined g old new xs n known changes is left =
-    survives_weaker (state g old.conn) (state g new) _ _ (λ clean trees p. (p.0, p.1, λ f of next h. holds_next g old f of xs next n known changes is p.0 (p.2 (rows f) h))) left
+    survives_weaker (state g old.conn) (state g new) _ _
+    (λ clean trees p.
+    (p.0, p.1, λ f of next h. holds_next g old f of xs next n known changes is p.0 (p.2 (rows f) h))) left
 
 pub empty_good : IsGoodState empty_state
 empty_good = record {

@@ -1,5 +1,6 @@
 -- what a command makes of a treasury
-use Rattle.std.proofs.Common.{◌≡◌, ℕ, IsTrue, Bool, true, false, ◌||◌, cond, List, [], ◌∷◌, map, refl, ap, ◌∙◌, sym, subst, arith, inl, inr, Some, None, Ok, Err, ℤ, pos, neg_ℤ, ◌≤ℤ◌, FitsSigned, w32}
+use Rattle.std.proofs.Common.{◌≡◌, ℕ, IsTrue, Bool, true, false, ◌||◌, cond, List, [], ◌∷◌, map, refl, ap, ◌∙◌, sym}
+use Rattle.std.proofs.Common.{subst, arith, inl, inr, Some, None, Ok, Err, ℤ, pos, neg_ℤ, ◌≤ℤ◌, FitsSigned, w32}
 use Rattle.std.proofs.lemmas.Int.{ints}
 use Rattle.std.specs.Prelude.{if◌then◌else◌, find, Result, Option, IfSome, ⊤}
 use Rattle.std.specs.List.{list_any, AllByRecursion}
@@ -28,7 +29,8 @@ use Rattle.treasury_core.specs.declared.delta.Addition.{Addition}
 use Rattle.treasury_core.specs.declared.delta.Addition.TheVariants as add
 use Rattle.treasury_core.specs.Good.{Fits, IsGoodState}
 use Rattle.treasury_core.specs.Joined.{changed, new_branch, with_records, with_lock, joined_one, joined}
-use Rattle.treasury_core.specs.Step.{reply, after, done, added, delta, step, new_records, transfer_of, transfer_at, receipt_of, receipt_additions, with_receipt_of, closing_records}
+use Rattle.treasury_core.specs.Step.{reply, after, done, added, delta, step, new_records, transfer_of, transfer_at}
+use Rattle.treasury_core.specs.Step.{receipt_of, receipt_additions, with_receipt_of, closing_records}
 use Rattle.treasury_core.specs.Closing.{closing_in}
 use Rattle.treasury_core.specs.Transfer.{has_id, dispatch_record, receipt_record}
 use Rattle.treasury_core.specs.Rows.{HasShortLock, HasShortLocks, rows}
@@ -40,7 +42,8 @@ use Rattle.treasury_store.specs.declared.store.Store.{Store}
 use Rattle.treasury_store.specs.Rows.{Holds, AreTreesOf}
 use Rattle.treasury_store.specs.Kept.{KeepsTables}
 use Rattle.treasury_store.specs.Store.{IsOf, AnswersState, FailsAs, Finds, FindsAll, Joins}
-use Rattle.treasury_store.specs.Treasury.{Treasury, IsTreasuryOf, MayReply, Performs, is_failure, turn_if, SurvivesCommand, IsUnfit}
+use Rattle.treasury_store.specs.Treasury.{Treasury, IsTreasuryOf, MayReply, Performs, is_failure, turn_if}
+use Rattle.treasury_store.specs.Treasury.{SurvivesCommand, IsUnfit}
 
 -- ---- lock days that a table takes
 
@@ -48,10 +51,13 @@ either : (t : Bool) (P : List Branch → Type 0) (x y : List Branch) → P x →
 either true P x y one other = one
 either false P x y one other = other
 
-short_changed : (change : Branch → Branch) → ((b : Branch) → HasShortLock b → HasShortLock (change b)) → (name : List ℕ) (bs : List Branch) → AllByRecursion HasShortLock bs → AllByRecursion HasShortLock (changed change name bs)
+short_changed : (change : Branch → Branch) → ((b : Branch) → HasShortLock b → HasShortLock (change b))
+    → (name : List ℕ) (bs : List Branch) → AllByRecursion HasShortLock bs
+    → AllByRecursion HasShortLock (changed change name bs)
 short_changed change keeps name [] all = tt
 short_changed change keeps name (b ∷ bs) all =
-    either (bytes_eq b.name name) (AllByRecursion HasShortLock) (change b ∷ bs) (b ∷ changed change name bs) (keeps b all.0, all.1) (all.0, short_changed change keeps name bs all.1)
+    either (bytes_eq b.name name) (AllByRecursion HasShortLock) (change b ∷ bs) (b ∷ changed change name bs)
+    (keeps b all.0, all.1) (all.0, short_changed change keeps name bs all.1)
 
 short_bounds : (z : ℤ) → neg_ℤ (pos 719_162) ≤ℤ z → z ≤ℤ pos 2_932_896 → FitsSigned w32 z
 short_bounds z low high = omega (arith, ints)
@@ -59,24 +65,32 @@ short_bounds z low high = omega (arith, ints)
 short_day : (day : Day) → IsDayNumber day → FitsSigned w32 day.0
 short_day day number = let bounds = day_number_bounds day number in short_bounds day.0 bounds.0 bounds.1
 
-short_received : (f : Federation) (r : Receive) (o : Option Transfer) → HasShortLocks f → HasShortLocks (with_receipt_of f r o)
+short_received : (f : Federation) (r : Receive) (o : Option Transfer) → HasShortLocks f
+    → HasShortLocks (with_receipt_of f r o)
 short_received f r None short = short
-short_received f r (Some t) short = short_changed (with_records (receipt_record t (receipt_of t r) ∷ [])) (λ b h. h) r.branch f.branches short
+short_received f r (Some t) short =
+    short_changed (with_records (receipt_record t (receipt_of t r) ∷ [])) (λ b h. h) r.branch f.branches short
 
 short_done : (f : Federation) (c : Command) → Fits f.styles c → HasShortLocks f → HasShortLocks (done f c)
 unfolding done
 short_done f (cmd.Branch name) fits short = all-append HasShortLock f.branches (new_branch name ∷ []) short (tt, tt)
 short_done f (cmd.Commodity style) fits short = short
-short_done f (cmd.Enter name file) fits short = short_changed (with_records (new_records f name file)) (λ b h. h) name f.branches short
-short_done f (cmd.Dispatch d) fits short = short_changed (with_records (dispatch_record (transfer_of d) ∷ [])) (λ b h. h) d.source f.branches short
+short_done f (cmd.Enter name file) fits short =
+    short_changed (with_records (new_records f name file)) (λ b h. h) name f.branches short
+short_done f (cmd.Dispatch d) fits short =
+    short_changed (with_records (dispatch_record (transfer_of d) ∷ [])) (λ b h. h) d.source f.branches short
 short_done f (cmd.Receive r) fits short = short_received f r (transfer_at f r.id) short
-short_done f (cmd.Lock name day) fits short = short_changed (with_lock day) (λ b h. short_day day fits) name f.branches short
+short_done f (cmd.Lock name day) fits short =
+    short_changed (with_lock day) (λ b h. short_day day fits) name f.branches short
 short_done f (cmd.Close x) fits short =
     let records = closing_records x.day (closing_in f x.branch x.day x.choice) in
-    short_changed (with_lock x.day) (λ b h. short_day x.day fits) x.branch (changed (with_records records) x.branch f.branches) (short_changed (with_records records) (λ b h. h) x.branch f.branches short)
+    short_changed (with_lock x.day) (λ b h. short_day x.day fits) x.branch
+    (changed (with_records records) x.branch f.branches)
+    (short_changed (with_records records) (λ b h. h) x.branch f.branches short)
 
 -- after a command that fits, each lock day is still one that a table takes
-pub short_after : (f : Federation) (c : Command) (r : Result Answer Refusal) → Fits f.styles c → HasShortLocks f → HasShortLocks (after f c r)
+pub short_after : (f : Federation) (c : Command) (r : Result Answer Refusal) → Fits f.styles c → HasShortLocks f
+    → HasShortLocks (after f c r)
 short_after f c (Ok Done) fits short = short_done f c fits short
 short_after f c (Ok (Entered new repeated)) fits short = short_done f c fits short
 short_after f c (Ok Repeated) fits short = short
@@ -85,7 +99,8 @@ short_after f c (Err refusal) fits short = short
 -- ---- loading
 
 -- what was loaded is the state that the treasury is of
-pub held_again : {S : Type 0} (g : Ghosts S) (old new : Treasury S) (s f : Federation) → new.held ≡ Some s → IsTreasuryOf g old f → IsOf g new.store s → s ≡ f → IsTreasuryOf g new f
+pub held_again : {S : Type 0} (g : Ghosts S) (old new : Treasury S) (s f : Federation) → new.held ≡ Some s
+    → IsTreasuryOf g old f → IsOf g new.store s → s ≡ f → IsTreasuryOf g new f
 held_again g old new s f is was of same = record {
   store = subst (λ (x : Federation). IsOf g new.store x) same of;
   short = was.short;
@@ -95,8 +110,10 @@ held_again g old new s f is was of same = record {
 -- ---- performing
 
 -- what was decided, once it is written, is the step
-pub performs_decided : {S : Type 0} (g : Ghosts S) (new : Treasury S) (f : Federation) (c : Command) (a : Answer) (next : Federation)
-    → reply f c ≡ Ok a → next ≡ (step f c).next → Fits f.styles c → HasShortLocks f → IsOf g new.store next → IfSome new.held (λ s. s ≡ next) → Performs g new f c (Ok a)
+pub performs_decided : {S : Type 0} (g : Ghosts S) (new : Treasury S) (f : Federation) (c : Command) (a : Answer)
+    (next : Federation)
+    → reply f c ≡ Ok a → next ≡ (step f c).next → Fits f.styles c → HasShortLocks f → IsOf g new.store next
+    → IfSome new.held (λ s. s ≡ next) → Performs g new f c (Ok a)
 performs_decided g new f c a next replied is fits short of held =
     let same : next ≡ after f c (Ok a) = is ∙ ap (λ (r : Result Answer Refusal). after f c r) replied in
     record {
@@ -109,22 +126,27 @@ performs_decided g new f c a next replied is fits short of held =
     }
 
 -- a command that fits the state in memory
-pub fits_held : (held : Option Federation) (s : Federation) (c : Command) → IfSome held (λ (x : Federation). Fits x.styles c) → held ≡ Some s → Fits s.styles c
+pub fits_held : (held : Option Federation) (s : Federation) (c : Command)
+    → IfSome held (λ (x : Federation). Fits x.styles c) → held ≡ Some s → Fits s.styles c
 fits_held held s c fits is = subst (λ (o : Option Federation). IfSome o (λ (x : Federation). Fits x.styles c)) is fits
 
 -- a command that fits the state in memory fits the state that the treasury is of
-pub fits_of : {S : Type 0} (g : Ghosts S) (old : Treasury S) (s f : Federation) (c : Command) → old.held ≡ Some s → IsTreasuryOf g old f → Fits s.styles c → Fits f.styles c
+pub fits_of : {S : Type 0} (g : Ghosts S) (old : Treasury S) (s f : Federation) (c : Command) → old.held ≡ Some s
+    → IsTreasuryOf g old f → Fits s.styles c → Fits f.styles c
 fits_of g old s f c is of fits =
     let same : s ≡ f = subst (λ (o : Option Federation). IfSome o (λ x. x ≡ f)) is of.held in
     subst (λ (x : Federation). Fits x.styles c) same fits
 
 -- what is performed on the state in memory is performed on the state that the treasury is of
-pub performs_held : {S : Type 0} (g : Ghosts S) (old new : Treasury S) (s f : Federation) (c : Command) (r : Result Answer Refusal)
-    → old.held ≡ Some s → IsTreasuryOf g old f → (IsOf g old.store s → HasShortLocks s → Performs g new s c r) → Performs g new f c r
+pub performs_held : {S : Type 0} (g : Ghosts S) (old new : Treasury S) (s f : Federation) (c : Command)
+    (r : Result Answer Refusal)
+    → old.held ≡ Some s → IsTreasuryOf g old f → (IsOf g old.store s → HasShortLocks s → Performs g new s c r)
+    → Performs g new f c r
 performs_held g old new s f c r is of performs =
     let same : s ≡ f = subst (λ (o : Option Federation). IfSome o (λ x. x ≡ f)) is of.held in
     subst (λ (x : Federation). Performs g new x c r) same
-    (performs (subst (λ (x : Federation). IsOf g old.store x) (sym same) of.store) (subst HasShortLocks (sym same) of.short))
+    (performs (subst (λ (x : Federation). IsOf g old.store x) (sym same) of.store)
+    (subst HasShortLocks (sym same) of.short))
 
 -- a call that succeeded has not failed
 pub ok_unfailed : {T : Type 0} (x : T) (failed : Bool) → AnswersState (Ok x) failed → failed ≡ false
@@ -147,10 +169,12 @@ fails_as {T = T} e failed (inr damaged) = inr (inr (err_is {T = T} e Damaged dam
 -- ---- the headline
 
 -- a reply of the step, or 40, is a turn of a run; 41 is none
-pub turn_runs : (f : Federation) (c : Command) (r : Result Answer Refusal) → Fits f.styles c → MayReply f c r → IsRun f (turn_if c r)
+pub turn_runs : (f : Federation) (c : Command) (r : Result Answer Refusal) → Fits f.styles c → MayReply f c r
+    → IsRun f (turn_if c r)
 turn_runs f c r fits replies = by_test (is_failure r) refl replies
   where
-    by_test : (t : Bool) → is_failure r ≡ t → MayReply f c r → IsRun f (if t then [] else record { command = c; reply = r } ∷ [])
+    by_test : (t : Bool) → is_failure r ≡ t → MayReply f c r
+        → IsRun f (if t then [] else record { command = c; reply = r } ∷ [])
     by_test true e h = tt
     by_test false e (inl h) = (fits, h, tt)
     by_test false e (inr failed) = absurd (let h : false ≡ true = sym e ∙ ap is_failure failed in cc)
@@ -165,23 +189,30 @@ turn_leads f c (Err refusal) = either_way (is_failure (Err refusal))
     either_way false = refl
 
 -- where the state cannot be loaded, the command is answered 40 or 41
-pub performs_unheld : {S T : Type 0} (g : Ghosts S) (new : Treasury S) (f : Federation) (c : Command) (cause : Cause) (failed : Bool) → AnswersState {T = T} (Err cause) failed
-    → (◌≡◌ {A = Result T Cause} (Err cause) (Err Damaged) → ⊥) → IsTreasuryOf g new f → Performs g new f c (Err (Plain cause))
-performs_unheld g new f c cause failed (inl (inl memory)) sound of = record { replies = inl (inr (ap (λ (x : Cause). Err (Plain x)) memory.0)); next = of }
-performs_unheld g new f c cause failed (inl (inr failure)) sound of = record { replies = inr (ap (λ (x : Cause). Err (Plain x)) failure.0); next = of }
+pub performs_unheld : {S T : Type 0} (g : Ghosts S) (new : Treasury S) (f : Federation) (c : Command) (cause : Cause)
+    (failed : Bool) → AnswersState {T = T} (Err cause) failed
+    → (◌≡◌ {A = Result T Cause} (Err cause) (Err Damaged) → ⊥) → IsTreasuryOf g new f
+    → Performs g new f c (Err (Plain cause))
+performs_unheld g new f c cause failed (inl (inl memory)) sound of =
+    record { replies = inl (inr (ap (λ (x : Cause). Err (Plain x)) memory.0)); next = of }
+performs_unheld g new f c cause failed (inl (inr failure)) sound of =
+    record { replies = inr (ap (λ (x : Cause). Err (Plain x)) failure.0); next = of }
 performs_unheld g new f c cause failed (inr damaged) sound of = absurd (sound damaged.0)
 
 -- it is answered so too where no state could be had
-pub unfit_unheld : {T : Type 0} (cause : Cause) (failed : Bool) → AnswersState {T = T} (Err cause) failed → IsUnfit (Err (Plain cause))
+pub unfit_unheld : {T : Type 0} (cause : Cause) (failed : Bool) → AnswersState {T = T} (Err cause) failed
+    → IsUnfit (Err (Plain cause))
 unfit_unheld cause failed (inl (inl memory)) = inr (inl (ap (λ (x : Cause). Err (Plain x)) memory.0))
 unfit_unheld cause failed (inl (inr failure)) = inr (inr (ap (λ (x : Cause). Err (Plain x)) failure.0))
 unfit_unheld {T = T} cause failed (inr damaged) = inl (same {T = T} damaged.0)
   where
-    same : {T : Type 0} → ◌≡◌ {A = Result T Cause} (Err cause) (Err Damaged) → ◌≡◌ {A = Result Answer Refusal} (Err (Plain cause)) (Err (Plain Damaged))
+    same : {T : Type 0} → ◌≡◌ {A = Result T Cause} (Err cause) (Err Damaged)
+        → ◌≡◌ {A = Result Answer Refusal} (Err (Plain cause)) (Err (Plain Damaged))
     same e = let k : cause ≡ Damaged = cc in ap (λ (x : Cause). Err (Plain x)) k
 
 -- what is performed keeps the books
-pub headline_of : {S : Type 0} (g : Ghosts S) (new : Treasury S) (f : Federation) (c : Command) (r : Result Answer Refusal) → IsGoodState f → Fits f.styles c → Performs g new f c r
+pub headline_of : {S : Type 0} (g : Ghosts S) (new : Treasury S) (f : Federation) (c : Command)
+    (r : Result Answer Refusal) → IsGoodState f → Fits f.styles c → Performs g new f c r
     → KeepsBooks f (turn_if c r) × IsTreasuryOf g new (state_after f (turn_if c r))
 headline_of g new f c r good fits performs = (
   keeps_books f (turn_if c r) good (turn_runs f c r fits performs.replies),
@@ -192,27 +223,40 @@ headline_of g new f c r good fits performs = (
 
 -- what a crash leaves of a store of a state while its rows become those of another
 abbrev pub SurvivesChange : {S : Type 0} → Ghosts S → Store S → Held S → Federation → Federation → Type 0
-SurvivesChange g old new f next = Survives (state g old.conn) (state g new) (λ trees. IsOf g old f → Holds (state g old.conn).now (rows f) → AreTreesOf trees (rows next))
+SurvivesChange g old new f next =
+    Survives (state g old.conn) (state g new)
+    (λ trees. IsOf g old f → Holds (state g old.conn).now (rows f) → AreTreesOf trees (rows next))
 
 -- what is written, whichever way the store is left
-pub survives_write : {S : Type 0} (g : Ghosts S) (old : Store S) (new : Held S) (now : Federation) (xs : List Addition) → Joins now xs
-    → Survives (state g old.conn) (state g new) (λ trees. (db : Database) × (trees ≡ db.trees) × ((f : Federation) → IsOf g old f → Joins f xs → Holds (state g old.conn).now (rows f) → Holds db (rows (joined f xs))))
+pub survives_write : {S : Type 0} (g : Ghosts S) (old : Store S) (new : Held S) (now : Federation) (xs : List Addition)
+    → Joins now xs
+    → Survives (state g old.conn) (state g new)
+    (λ trees. (db : Database) × (trees ≡ db.trees)
+    × ((f : Federation) → IsOf g old f → Joins f xs → Holds (state g old.conn).now (rows f)
+    → Holds db (rows (joined f xs))))
     → SurvivesChange g old new now (joined now xs)
-survives_write g old new now xs good left = survives_weaker (state g old.conn) (state g new) _ _ (λ clean trees p of h. (p.0, p.1, p.2 now of good h)) left
+survives_write g old new now xs good left =
+    survives_weaker (state g old.conn) (state g new) _ _ (λ clean trees p of h. (p.0, p.1, p.2 now of good h)) left
 
 -- the tables of a state that was loaded
-pub rows_loaded : {S : Type 0} (g : Ghosts S) (new : Store S) (s f : Federation) → IsOf g new s → s ≡ f → HasCleanDisk (state g new.conn) → IsTrue (state g new.conn).is_open → Holds (state g new.conn).now (rows f)
-rows_loaded g new s f of same clean is_open = subst (λ (x : Federation). Holds (state g new.conn).now (rows x)) same (of.tables clean is_open).0
+pub rows_loaded : {S : Type 0} (g : Ghosts S) (new : Store S) (s f : Federation) → IsOf g new s → s ≡ f
+    → HasCleanDisk (state g new.conn) → IsTrue (state g new.conn).is_open → Holds (state g new.conn).now (rows f)
+rows_loaded g new s f of same clean is_open =
+    subst (λ (x : Federation). Holds (state g new.conn).now (rows x)) same (of.tables clean is_open).0
 
 module _ {S : Type 0} (g : Ghosts S) (old new : Treasury S) (c : Command) where
   -- a state that is loaded at most
   pub survives_load : KeepsTables g old.store.conn new.store.conn → SurvivesCommand g old new c
-  survives_load left = survives_weaker (state g old.store.conn) (state g new.store.conn) _ _ (λ clean trees none f of fits h. absurd (none h.schema)) left
+  survives_load left = survives_weaker (state g old.store.conn) (state g new.store.conn) _ _
+      (λ clean trees none f of fits h. absurd (none h.schema)) left
 
   -- a command that is settled on the state in memory, behind that
-  pub survives_settle : (mid : Treasury S) (s : Federation) → (HasCleanDisk (state g new.store.conn) → HasCleanDisk (state g mid.store.conn)) → KeepsTables g old.store.conn mid.store.conn
+  pub survives_settle : (mid : Treasury S) (s : Federation)
+      → (HasCleanDisk (state g new.store.conn) → HasCleanDisk (state g mid.store.conn))
+      → KeepsTables g old.store.conn mid.store.conn
       → (HasCleanDisk (state g mid.store.conn) → (f : Federation) → IsTreasuryOf g old f → IsTreasuryOf g mid f)
-      → (HasCleanDisk (state g mid.store.conn) → (f : Federation) → IsTreasuryOf g old f → Holds (state g old.store.conn).now (rows f) → Holds (state g mid.store.conn).now (rows f))
+      → (HasCleanDisk (state g mid.store.conn) → (f : Federation) → IsTreasuryOf g old f
+      → Holds (state g old.store.conn).now (rows f) → Holds (state g mid.store.conn).now (rows f))
       → mid.held ≡ Some s
       → SurvivesChange g mid.store new.store.conn s (step s c).next → SurvivesCommand g old new c
   survives_settle mid s cleaner held of_mid rows_mid is settled =
@@ -221,7 +265,8 @@ module _ {S : Type 0} (g : Ghosts S) (old new : Treasury S) (c : Command) where
       (λ clean trees made f of fits h.
       let there = of_mid (cleaner clean) f of in
       let same : s ≡ f = subst (λ (o : Option Federation). IfSome o (λ x. x ≡ f)) is there.held in
-      let moved = subst (λ (x : Federation). IsOf g mid.store x → Holds (state g mid.store.conn).now (rows x) → AreTreesOf trees (rows (step x c).next)) same made in
+      let moved = subst (λ (x : Federation). IsOf g mid.store x → Holds (state g mid.store.conn).now (rows x)
+      → AreTreesOf trees (rows (step x c).next)) same made in
       moved there.store (rows_mid (cleaner clean) f of h))
       held settled
 
@@ -256,11 +301,13 @@ any_found : {X : Type 0} (p : X → Bool) (xs : List X) (x : X) → find p xs �
 any_found p [] x h = absurd cc
 any_found {X} p (y ∷ ys) x h = by_test (p y) h (any_found p ys x)
   where
-    by_test : (t : Bool) → cond t (Some y) (find p ys) ≡ Some x → (find p ys ≡ Some x → list_any p ys ≡ true) → (t || list_any p ys) ≡ true
+    by_test : (t : Bool) → cond t (Some y) (find p ys) ≡ Some x → (find p ys ≡ Some x → list_any p ys ≡ true)
+        → (t || list_any p ys) ≡ true
     by_test true e k = refl
     by_test false e k = k e
 
-finds_receipt : (f : Federation) (r : Receive) (o : Option Transfer) → transfer_at f r.id ≡ o → FindsAll f (receipt_additions r o)
+finds_receipt : (f : Federation) (r : Receive) (o : Option Transfer) → transfer_at f r.id ≡ o
+    → FindsAll f (receipt_additions r o)
 finds_receipt f r None e = tt
 finds_receipt f r (Some t) e = (tt, (λ part. any_found (has_id r.id) f.transfers t e, tt))
 
@@ -272,12 +319,16 @@ finds_added f (cmd.Enter name file) = all_apart _ f (records_apart name (new_rec
 finds_added f (cmd.Dispatch d) = (tt, (refl, tt))
 finds_added f (cmd.Receive r) = finds_receipt f r (transfer_at f r.id) refl
 finds_added f (cmd.Lock name day) = (tt, tt)
-finds_added f (cmd.Close c) = all_apart _ f (all-append IsApart (map (λ (r : Record). add.Record c.branch r) (closing_records c.day (closing_in f c.branch c.day c.choice))) (add.Locked c.branch c.day ∷ []) (records_apart c.branch _) (tt, tt))
+finds_added f (cmd.Close c) = all_apart _ f
+    (all-append IsApart
+    (map (λ (r : Record). add.Record c.branch r) (closing_records c.day (closing_in f c.branch c.day c.choice)))
+    (add.Locked c.branch c.day ∷ []) (records_apart c.branch _) (tt, tt))
 
 finds_delta : (f : Federation) (c : Command) (a : Answer) → FindsAll f (delta f c (Ok a))
 finds_delta f c Done = finds_added f c
 finds_delta f c (Entered new repeated) = finds_added f c
 finds_delta f c Repeated = tt
 
-pub decided_joins : (f : Federation) (c : Command) (a : Answer) (xs : List Addition) → xs ≡ delta f c (Ok a) → IsGoodState (joined f xs) → Joins f xs
+pub decided_joins : (f : Federation) (c : Command) (a : Answer) (xs : List Addition) → xs ≡ delta f c (Ok a)
+    → IsGoodState (joined f xs) → Joins f xs
 decided_joins f c a xs is good = record { found = subst (FindsAll f) (sym is) (finds_delta f c a); good = good }

@@ -1,5 +1,6 @@
 -- Version 1 of the tables made into version 2.
-use Rattle.std.proofs.Common.{◌≡◌, ◌≢◌, inl, inr, List, [], ◌∷◌, map, drop, filter, true, false, None, Ok, pos, refl, sym, ap, subst, subst₂, ◌∙◌, IsPermutation, ℕ, arith}
+use Rattle.std.proofs.Common.{◌≡◌, ◌≢◌, inl, inr, List, [], ◌∷◌, map, drop, filter, true, false, None, Ok, pos, refl}
+use Rattle.std.proofs.Common.{sym, ap, subst, subst₂, ◌∙◌, IsPermutation, ℕ, arith}
 use Rattle.std.specs.List.{AllByRecursion}
 use Rattle.std.proofs.lemmas.List.Sorted.{IsPermutation-map, IsPermutation-refl}
 use Rattle.sqlite_keyed.proofs.ListLemmas.{map-map}
@@ -26,7 +27,8 @@ use Rattle.sqlite.specs.Held.{Held, state}
 use Rattle.sqlite.proofs.StateLemmas.{survives_then, survives_weaker}
 use Rattle.sqlite.proofs.Callers.{statement_of, runs_as, one_permutation}
 use Rattle.treasury_store.specs.Tables.{format, receipt, store_schema, first_schema}
-use Rattle.treasury_store.specs.Rows.{Tables, Holds, HoldsFirst, HoldsEither, versions, stored_unit, stored_branch, entry_row, leg_row, claim_row, transfer_row, part_row}
+use Rattle.treasury_store.specs.Rows.{Tables, Holds, HoldsFirst, HoldsEither, versions, stored_unit, stored_branch}
+use Rattle.treasury_store.specs.Rows.{entry_row, leg_row, claim_row, transfer_row, part_row}
 use Rattle.treasury_store.specs.Creating.{has_receipt, Makes}
 use Rattle.treasury_store.specs.Opening.{AreOurs, IsFirst, IsFirstNumbered}
 use Rattle.treasury_store.specs.Upgrading.{SetsVersion, Upgrades, AreUpgraded}
@@ -60,31 +62,43 @@ no_other (x ∷ xs) = no_other xs
 two_stays : (r : Row) → column (recast (shown r)) 1 ≡ Int (pos 2)
 two_stays r = cast_int (pos 2)
 
-pub sets : (old new : State) (count : ℕ) → old.now.schema ≡ store_schema → versions old.now ≡ Int (pos 1) ∷ [] → IsShaped shape.Table (old.now.trees 0) → Executes second_text [] old new (Ok count) → SetsVersion old.now new.now
+pub sets : (old new : State) (count : ℕ) → old.now.schema ≡ store_schema → versions old.now ≡ Int (pos 1) ∷ []
+    → IsShaped shape.Table (old.now.trees 0) → Executes second_text [] old new (Ok count) → SetsVersion old.now new.now
 sets old new count has version table h =
     let command = Update 0 (record { lets = []; body = second_query }) in
     let w = runs_as second_text [] old new store_schema has command second_is.0 second_is.1 count h in
     let text = statement_of second_text (understood store_schema second_text) in
-    let done = subst (λ s. Does old.step_limit (mode_of old) [] (record old.now { schema = s }) text None command (Ok (w.tally, new.now))) has w.changed in
-    let made = updates old.step_limit store_schema format.name format.tree format.columns format.key format.primary format.uniques format.orders [] old.now.trees w.tally new.now (mode_of old) 0 (record { lets = []; body = second_query }) (λ _ _. refl) done in
+    let done = subst (λ s. Does old.step_limit (mode_of old) [] (record old.now { schema = s }) text None command
+    (Ok (w.tally, new.now))) has w.changed in
+    let made = updates old.step_limit store_schema format.name format.tree format.columns format.key format.primary
+    format.uniques format.orders [] old.now.trees w.tally new.now (mode_of old) 0
+    (record { lets = []; body = second_query }) (λ _ _. refl) done in
     let db = old.now.trees in
     let got = made.0 in
     let a = made.3 in
     let one = one_row (λ r. column r 1) (Int (pos 1)) (db 0) version in
     let r = one.0 in
-    let answer = answer_is [] 0 [] second_terms [] (λ _. true) (λ _. refl) (overlay db []) got (made.2.answer value.Null) in
+    let answer =
+    answer_is [] 0 [] second_terms [] (λ _. true) (λ _. refl) (overlay db []) got (made.2.answer value.Null) in
     let shows : IsPermutation (map shown (filter (λ _. true) (db 0))) got =
-    subst₂ IsPermutation (map-map (λ (o : Output). o.1) (λ r. output second_query (at [] r)) (filter (λ _. true) (db 0))) (sym answer.3) (IsPermutation-map (λ (o : Output). o.1) _ _ answer.1) in
-    let is_got : got ≡ shown r ∷ [] = one_permutation (shown r) got (subst (λ l. IsPermutation (map shown (filter (λ _. true) l)) got) one.1 shows) in
+    subst₂ IsPermutation (map-map (λ (o : Output). o.1) (λ r. output second_query (at [] r))
+    (filter (λ _. true) (db 0))) (sym answer.3) (IsPermutation-map (λ (o : Output). o.1) _ _ answer.1) in
+    let is_got : got ≡ shown r ∷ [] =
+    one_permutation (shown r) got (subst (λ l. IsPermutation (map shown (filter (λ _. true) l)) got) one.1 shows) in
     let edit : Edit = edit_of db format (ids_of got) Given 1 got in
-    let left : left_by db edit ≡ [] = without_chosen (db 0) table (λ _. true) shown (λ _. refl) got shows ∙ no_other (db 0) in
-    let news : edit.news ≡ recast (shown r) ∷ [] = numbered_given (left_by db edit) (map recast got) ∙ ap (map recast) is_got in
-    let rows : new.now.trees 0 ≡ recast (shown r) ∷ [] = a.rows ∙ (ap (λ l. put_all l edit.news) left ∙ ap (put_all []) news) in
+    let left : left_by db edit ≡ [] =
+    without_chosen (db 0) table (λ _. true) shown (λ _. refl) got shows ∙ no_other (db 0) in
+    let news : edit.news ≡ recast (shown r) ∷ [] =
+    numbered_given (left_by db edit) (map recast got) ∙ ap (map recast) is_got in
+    let rows : new.now.trees 0 ≡ recast (shown r) ∷ [] =
+    a.rows ∙ (ap (λ l. put_all l edit.news) left ∙ ap (put_all []) news) in
     record {
       schema = made.1 ∙ sym has;
       version = ap (map (λ r. column r 1)) rows ∙ ap (λ v. v ∷ []) (two_stays r);
-      numbered = subst (IsShaped shape.Table) (sym a.rows) (shaped_puts edit.news (left_by db edit) a.keyed (subst (IsShaped shape.Table) (sym left) (tt, tt)));
-      others = subst (λ s. AllByRecursion (λ (t : Table). t.tree ≢ format.tree → new.now.trees t.tree ≡ db t.tree) s.tables) (sym has) a.tables;
+      numbered = subst (IsShaped shape.Table) (sym a.rows)
+          (shaped_puts edit.news (left_by db edit) a.keyed (subst (IsShaped shape.Table) (sym left) (tt, tt)));
+      others = subst (λ s. AllByRecursion (λ (t : Table). t.tree ≢ format.tree → new.now.trees t.tree ≡ db t.tree)
+          s.tables) (sym has) a.tables;
     }
 
 -- ---- both statements
@@ -92,7 +106,8 @@ pub upgraded : (a b c : Database) → a.schema ≡ first_schema → Makes receip
 upgraded a b c has made set =
     let second : b.schema ≡ store_schema = made.schema ∙ ap (λ s. created s receipt) has in
     let kept = subst (λ s. KeepsRows s.tables a.trees b.trees) has made.others in
-    let others = subst (λ s. AllByRecursion (λ (t : Table). t.tree ≢ format.tree → c.trees t.tree ≡ b.trees t.tree) s.tables) second set.others in
+    let others = subst (λ s. AllByRecursion (λ (t : Table). t.tree ≢ format.tree → c.trees t.tree ≡ b.trees t.tree)
+    s.tables) second set.others in
     record {
       schema = set.schema ∙ second;
       version = set.version;
@@ -106,7 +121,10 @@ upgraded a b c has made set =
             others.1.1.1.0 (omega arith) ∙ kept.1.1.1.0,
             (
               others.1.1.1.1.0 (omega arith) ∙ kept.1.1.1.1.0,
-              (others.1.1.1.1.1.0 (omega arith) ∙ kept.1.1.1.1.1.0, (others.1.1.1.1.1.1.0 (omega arith) ∙ kept.1.1.1.1.1.1.0, tt)),
+              (
+                others.1.1.1.1.1.0 (omega arith) ∙ kept.1.1.1.1.1.0,
+                (others.1.1.1.1.1.1.0 (omega arith) ∙ kept.1.1.1.1.1.1.0, tt),
+              ),
             ),
           ),
         ),
@@ -120,11 +138,13 @@ row_stays a b has made = (subst (λ s. KeepsRows s.tables a.trees b.trees) has m
 -- ---- what a crash leaves of an opening
 
 -- where no more than a query was made
-pub no_upgrade : (old mid : State) → Survives old mid (λ _. ⊥) → Survives old mid (λ trees. AreOurs old.now.schema → AreUpgraded old.now trees)
+pub no_upgrade : (old mid : State) → Survives old mid (λ _. ⊥)
+    → Survives old mid (λ trees. AreOurs old.now.schema → AreUpgraded old.now trees)
 no_upgrade old mid left = survives_weaker old mid _ _ (λ clean trees none. absurd none) left
 
 -- and where the upgrade stands behind it
-pub then_upgrade : (old mid new : State) → (HasCleanDisk mid → AreOurs old.now.schema → IsFirst old.now) → Survives old mid (λ _. ⊥) → (HasCleanDisk mid → IsUnchanged old mid)
+pub then_upgrade : (old mid new : State) → (HasCleanDisk mid → AreOurs old.now.schema → IsFirst old.now)
+    → Survives old mid (λ _. ⊥) → (HasCleanDisk mid → IsUnchanged old mid)
     → Survives mid new (λ trees. (db : Database) × (trees ≡ db.trees) × (IsFirstNumbered mid.now → Upgrades mid.now db))
     → Survives old new (λ trees. AreOurs old.now.schema → AreUpgraded old.now trees)
 then_upgrade old mid new is_first one same two =
@@ -137,7 +157,8 @@ then_upgrade old mid new is_first one same two =
       first = first;
       db = made.0;
       is = made.1;
-      upgrades = λ numbered. subst (λ (d : Database). Upgrades d made.0) kept (made.2 (subst IsFirstNumbered (sym kept) (first, numbered)));
+      upgrades = λ numbered. subst (λ (d : Database). Upgrades d made.0) kept
+          (made.2 (subst IsFirstNumbered (sym kept) (first, numbered)));
     }) one two
 
 -- ---- the tables hold version 2 of what they held
@@ -150,19 +171,26 @@ upgraded_holds a c t holds up = record {
   branches = subst (IsPermutation (map stored_branch t.branches)) (sym up.others.1.0) holds.branches;
   entries = subst (λ rs. IsPermutation (map entry_row t.entries) (map (drop 1) rs)) (sym up.others.1.1.0) holds.entries;
   legs = subst (λ rs. IsPermutation (map leg_row t.legs) (map (drop 1) rs)) (sym up.others.1.1.1.0) holds.legs;
-  claims = subst (λ rs. IsPermutation (map claim_row t.claims) (map (drop 1) rs)) (sym up.others.1.1.1.1.0) holds.claims;
-  transfers = subst (λ rs. IsPermutation (map transfer_row t.transfers) (map (drop 1) rs)) (sym up.others.1.1.1.1.1.0) holds.transfers;
-  receipts = subst₂ (λ ps rs. IsPermutation (map part_row ps) (map (drop 1) rs)) (sym holds.receipts) (sym up.empty) (IsPermutation-refl []);
+  claims =
+      subst (λ rs. IsPermutation (map claim_row t.claims) (map (drop 1) rs)) (sym up.others.1.1.1.1.0) holds.claims;
+  transfers = subst (λ rs. IsPermutation (map transfer_row t.transfers) (map (drop 1) rs)) (sym up.others.1.1.1.1.1.0)
+      holds.transfers;
+  receipts = subst₂ (λ ps rs. IsPermutation (map part_row ps) (map (drop 1) rs)) (sym holds.receipts) (sym up.empty)
+      (IsPermutation-refl []);
   keyed = subst (IsShaped shape.Table) (sym up.others.1.1.1.1.1.0) holds.keyed;
 }
 
 -- whichever version held these rows, version 2 holds them behind an opening
 pub opened_holds : {S : Type 0} (g : Ghosts S) (old new : Held S)
-    → (HasCleanDisk (state g new) → IsFirstNumbered (state g old).now → Upgrades (state g old).now (state g new).now × ((state g new).committed ≡ (state g new).now))
-    → (HasCleanDisk (state g new) → AreOurs (state g old).now.schema → (IsFirst (state g old).now → ⊥) → ((state g new).now ≡ (state g old).now) × ((state g new).committed ≡ (state g old).committed))
+    → (HasCleanDisk (state g new) → IsFirstNumbered (state g old).now
+    → Upgrades (state g old).now (state g new).now × ((state g new).committed ≡ (state g new).now))
+    → (HasCleanDisk (state g new) → AreOurs (state g old).now.schema → (IsFirst (state g old).now → ⊥)
+    → ((state g new).now ≡ (state g old).now) × ((state g new).committed ≡ (state g old).committed))
     → (state g old).committed ≡ (state g old).now → (t : Tables) → HoldsEither (state g old).now t → TablesAre g new t
 opened_holds g old new first same settled t (inr holds) clean is_open =
-    let up = first clean (record { schema = holds.schema; version = holds.format }, holds.numbered) in (upgraded_holds (state g old).now (state g new).now t holds up.0, up.1)
+    let up = first clean (record { schema = holds.schema; version = holds.format }, holds.numbered) in
+    (upgraded_holds (state g old).now (state g new).now t holds up.0, up.1)
 opened_holds g old new first same settled t (inl holds) clean is_open =
-    let kept = same clean (ours_second (state g old).now.schema holds.schema) (λ is. not_first (state g old).now (ap has_receipt holds.schema ∙ second_more) is) in
+    let kept = same clean (ours_second (state g old).now.schema holds.schema)
+    (λ is. not_first (state g old).now (ap has_receipt holds.schema ∙ second_more) is) in
     (subst (λ (d : Database). Holds d t) (sym kept.0) holds, kept.1 ∙ (settled ∙ sym kept.0))

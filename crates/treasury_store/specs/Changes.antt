@@ -1,5 +1,7 @@
--- Mirrors code: the changes of the tables by which additions are written. What they make of the rows of a state is said by `commit` alone.
-use Rattle.std.specs.Prelude.{◌≤◌, ◌<◌, ◌^◌, ℕ, Bool, true, false, suc, pos, if◌then◌else◌, nat_lt, List, [], ◌∷◌, ◌++◌, map, length, slice_index, slice_set, ⊤}
+-- Mirrors code: the changes of the tables by which additions are written. What they make of the rows of a state is said
+-- by `commit` alone.
+use Rattle.std.specs.Prelude.{◌≤◌, ◌<◌, ◌^◌, ℕ, Bool, true, false, suc, pos, if◌then◌else◌, nat_lt, List, [], ◌∷◌, ◌++◌}
+use Rattle.std.specs.Prelude.{map, length, slice_index, slice_set, ⊤}
 use Rattle.std.specs.List.{AllByRecursion}
 use Rattle.money_core.specs.declared.style.Style.{Style}
 use Rattle.book_core.specs.declared.claim.Placed.{Placed}
@@ -31,9 +33,11 @@ place_in names name = name_place (named names) name
 
 -- the rows of the n-th record of the b-th branch
 abbrev pub record_changes : List Style → ℕ → ℕ → Record → List Change
-record_changes styles b n r = change.Entry (entry_row styles b n r) ∷ (map change.Leg (leg_rows b n r) ++ map change.Claim (claim_rows b n r))
+record_changes styles b n r =
+    change.Entry (entry_row styles b n r) ∷ (map change.Leg (leg_rows b n r) ++ map change.Claim (claim_rows b n r))
 
--- the change by a receipt of the transfer of that ID: under the key `all` two columns of the transfer's row, else a row of its own
+-- the change by a receipt of the transfer of that ID: under the key `all` two columns of the transfer's row, else a row
+-- of its own
 abbrev pub receipt_change : Bool → List ℕ → Part → Change
 receipt_change true id p = change.Receipt id p.day.0 p.payee
 receipt_change false id p = change.Part (part_row id p)
@@ -43,7 +47,8 @@ abbrev pub changes_by : List Style → List (List ℕ) → Counts → Addition �
 changes_by styles names n (add.Commodity style) = change.Unit (unit_row n.units style) ∷ []
 changes_by styles names n (add.Branch name) = change.Branch (branch_row (length n.records) (new_branch name)) ∷ []
 changes_by styles names n (add.Record name r) =
-    if nat_lt (place_in names name) (length n.records) then record_changes styles (place_in names name) (suc (slice_index n.records (place_in names name))) r else []
+    if nat_lt (place_in names name) (length n.records)
+    then record_changes styles (place_in names name) (suc (slice_index n.records (place_in names name))) r else []
 changes_by styles names n (add.Dispatched t) = change.Transfer (transfer_row (named names) t) ∷ []
 changes_by styles names n (add.Received id p) = receipt_change (is_all p.key) id p ∷ []
 changes_by styles names n (add.Locked name day) = change.Lock (pos (place_in names name)) day.0 ∷ []
@@ -52,7 +57,8 @@ changes_by styles names n (add.Locked name day) = change.Lock (pos (place_in nam
 abbrev pub counted : List (List ℕ) → Counts → Addition → Counts
 counted names n (add.Commodity style) = record n { units = suc n.units }
 counted names n (add.Branch name) = record n { records = n.records ++ 0 ∷ [] }
-counted names n (add.Record name r) = record n { records = slice_set n.records (place_in names name) (suc (slice_index n.records (place_in names name))) }
+counted names n (add.Record name r) =
+    record n { records = slice_set n.records (place_in names name) (suc (slice_index n.records (place_in names name))) }
 counted names n (add.Dispatched t) = n
 counted names n (add.Received id p) = n
 counted names n (add.Locked name day) = n
@@ -108,7 +114,8 @@ pub record IsWritable (styles : List Style) (n : ℕ) (r : Record) : Type 0 wher
 abbrev pub CanWrite : List Style → List (List ℕ) → Counts → Addition → Type 0
 CanWrite styles names n (add.Commodity style) = n.units < 2 ^ 32
 CanWrite styles names n (add.Branch name) = ⊤
-CanWrite styles names n (add.Record name r) = place_in names name < length n.records → IsWritable styles (slice_index n.records (place_in names name)) r
+CanWrite styles names n (add.Record name r) =
+    place_in names name < length n.records → IsWritable styles (slice_index n.records (place_in names name)) r
 CanWrite styles names n (add.Dispatched t) = ⊤
 CanWrite styles names n (add.Received id p) = ⊤
 CanWrite styles names n (add.Locked name day) = ⊤

@@ -24,4 +24,5 @@ is_single _ = true
 
 -- the changes that write eight rows
 abbrev pub all_of : {T : Type 0} → (T → Change) → Eight T → List Change
-all_of kind it = kind it.a.now ∷ kind it.b.now ∷ kind it.c.now ∷ kind it.d.now ∷ kind it.e.now ∷ kind it.f.now ∷ kind it.g.now ∷ kind it.h.now ∷ []
+all_of kind it = kind it.a.now ∷ kind it.b.now ∷ kind it.c.now ∷ kind it.d.now ∷ kind it.e.now ∷ kind it.f.now
+    ∷ kind it.g.now ∷ kind it.h.now ∷ []

@@ -1,5 +1,5 @@
--- What a connection may leave of the tables: at a crash, at a stop, or where a failure shuts it. The next opening finds one of these
--- (own rules; docs/RULES.md, "Runs").
+-- What a connection may leave of the tables: at a crash, at a stop, or where a failure shuts it. The next opening finds
+-- one of these (own rules; docs/RULES.md, "Runs").
 use Rattle.std.specs.Prelude.{◌≡◌, ◌⊎◌, List, IsTrue}
 use Rattle.sqlite.specs.Store.{Ghosts}
 use Rattle.sqlite.specs.Tree.{Trees}
@@ -23,28 +23,37 @@ LeavesRows g h t = HasCleanDisk (state g h) → (trees : Trees) → (state g h).
 
 -- whatever is left are the ones or the others
 abbrev pub LeavesEither : {S : Type 0} → Ghosts S → Held S → Tables → Tables → Type 0
-LeavesEither g h t u = HasCleanDisk (state g h) → (trees : Trees) → (state g h).may_leave trees → AreTreesOf trees t ⊎ AreTreesOf trees u
+LeavesEither g h t u =
+    HasCleanDisk (state g h) → (trees : Trees) → (state g h).may_leave trees → AreTreesOf trees t ⊎ AreTreesOf trees u
 
 -- a call on a connection that was open, and whose tables held rows: whatever is left behind it are these
 abbrev pub LeavesSame : {S : Type 0} → Ghosts S → Held S → Held S → Type 0
 LeavesSame g old new = IsTrue (state g old).is_open → (t : Tables) → TablesAre g old t → LeavesRows g new t
 
--- while the disk returned what was written and the connection is open, the tables hold these rows as version 1, and so does what is committed
+-- while the disk returned what was written and the connection is open, the tables hold these rows as version 1, and so
+-- does what is committed
 abbrev pub FirstTablesAre : {S : Type 0} → Ghosts S → Held S → Tables → Type 0
-FirstTablesAre g h t = HasCleanDisk (state g h) → IsTrue (state g h).is_open → HoldsFirst (state g h).now t × ((state g h).committed ≡ (state g h).now)
+FirstTablesAre g h t = HasCleanDisk (state g h) → IsTrue (state g h).is_open
+    → HoldsFirst (state g h).now t × ((state g h).committed ≡ (state g h).now)
 
--- the opening of version 1 on a connection that was open: whatever is left behind it are the same rows, as version 1 or as version 2
+-- the opening of version 1 on a connection that was open: whatever is left behind it are the same rows, as version 1 or
+-- as version 2
 abbrev pub LeavesEitherVersion : {S : Type 0} → Ghosts S → Held S → Held S → Type 0
 LeavesEitherVersion g old new =
-    IsTrue (state g old).is_open → (t : Tables) → FirstTablesAre g old t → HasCleanDisk (state g new) → (trees : Trees) → (state g new).may_leave trees
+    IsTrue (state g old).is_open → (t : Tables) → FirstTablesAre g old t → HasCleanDisk (state g new) → (trees : Trees)
+    → (state g new).may_leave trees
     → AreFirstTreesOf trees t ⊎ AreTreesOf trees t
 
--- what a command adds is written to an open store of a state: whatever is left are the rows of that state, or of the one with it
+-- what a command adds is written to an open store of a state: whatever is left are the rows of that state, or of the
+-- one with it
 abbrev pub LeavesJoined : {S : Type 0} → Ghosts S → Store S → Store S → List Addition → Type 0
 LeavesJoined g old new xs =
-    IsTrue (state g old.conn).is_open → (f : Federation) → IsOf g old f → Joins f xs → LeavesEither g new.conn (rows f) (rows (joined f xs))
+    IsTrue (state g old.conn).is_open → (f : Federation) → IsOf g old f → Joins f xs
+    → LeavesEither g new.conn (rows f) (rows (joined f xs))
 
--- a command on an open treasury of a state which it fits: whatever is left are the rows of the state before it, or of the one after it
+-- a command on an open treasury of a state which it fits: whatever is left are the rows of the state before it, or of
+-- the one after it
 abbrev pub LeavesStep : {S : Type 0} → Ghosts S → Treasury S → Treasury S → Command → Type 0
 LeavesStep g old new c =
-    IsTrue (state g old.store.conn).is_open → (f : Federation) → IsTreasuryOf g old f → Fits f.styles c → LeavesEither g new.store.conn (rows f) (rows (step f c).next)
+    IsTrue (state g old.store.conn).is_open → (f : Federation) → IsTreasuryOf g old f → Fits f.styles c
+    → LeavesEither g new.store.conn (rows f) (rows (step f c).next)

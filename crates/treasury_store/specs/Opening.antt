@@ -1,4 +1,5 @@
--- When the tables of a treasury are there: those of version 2, or those of version 1, which an opening makes into version 2.
+-- When the tables of a treasury are there: those of version 2, or those of version 1, which an opening makes into
+-- version 2.
 use Rattle.std.specs.Prelude.{◌≡◌, ◌⊎◌, pos, true, false, [], ◌∷◌}
 use Rattle.sqlite.specs.declared.types.Value.TheVariants.{Int}
 use Rattle.sqlite_trees.specs.View.{IsShaped}
@@ -9,8 +10,8 @@ use Rattle.treasury_store.specs.Tables.{store_schema, first_schema, format}
 use Rattle.treasury_store.specs.Rows.{versions}
 use Rattle.treasury_store.specs.Creating.{has_all, has_receipt}
 
--- Tables with our names were made by our statements, in an empty database to which nothing else was added: with a table `receipt` they are
--- those of version 2, without it those of version 1.
+-- Tables with our names were made by our statements, in an empty database to which nothing else was added: with a table
+-- `receipt` they are those of version 2, without it those of version 1.
 pub record AreOurs (s : Schema) : Type 0 where
   pub first : has_all s ≡ true → has_receipt s ≡ false → s ≡ first_schema
   pub second : has_all s ≡ true → has_receipt s ≡ true → s ≡ store_schema

@@ -27,7 +27,8 @@ abbrev pub format_row : Row
 format_row = Int (pos 2) ∷ []
 
 abbrev pub unit_row : UnitRow → Row
-unit_row u = Int u.nr ∷ Text u.symbol ∷ Int u.decimals ∷ Text u.mark ∷ Int u.grouped ∷ Int u.leftside ∷ Int u.spaced ∷ []
+unit_row u =
+    Int u.nr ∷ Text u.symbol ∷ Int u.decimals ∷ Text u.mark ∷ Int u.grouped ∷ Int u.leftside ∷ Int u.spaced ∷ []
 
 abbrev pub branch_row : BranchRow → Row
 branch_row b = Int b.nr ∷ Text b.name ∷ or_null Int b.locked ∷ []
@@ -43,14 +44,16 @@ claim_row c = Int c.branch ∷ Int c.entry ∷ Int c.leg ∷ Int c.kind ∷ Int 
 
 abbrev pub transfer_row : TransferRow → Row
 transfer_row x =
-    Text x.id ∷ Int x.source ∷ Int x.target ∷ Int x.unit ∷ Int x.qty ∷ Int x.dispatched ∷ Text x.payer ∷ or_null Int x.received ∷ or_null Text x.payee ∷ []
+    Text x.id ∷ Int x.source ∷ Int x.target ∷ Int x.unit ∷ Int x.qty ∷ Int x.dispatched ∷ Text x.payer
+    ∷ or_null Int x.received ∷ or_null Text x.payee ∷ []
 
 abbrev pub part_row : PartRow → Row
 part_row p = Text p.transfer ∷ Text p.part ∷ Int p.qty ∷ Int p.received ∷ Text p.payee ∷ []
 
 -- a commodity and a branch as their trees have them: the number is the rowid, and stands as NULL in its own column
 abbrev pub stored_unit : UnitRow → Row
-stored_unit u = Int u.nr ∷ Null ∷ Text u.symbol ∷ Int u.decimals ∷ Text u.mark ∷ Int u.grouped ∷ Int u.leftside ∷ Int u.spaced ∷ []
+stored_unit u =
+    Int u.nr ∷ Null ∷ Text u.symbol ∷ Int u.decimals ∷ Text u.mark ∷ Int u.grouped ∷ Int u.leftside ∷ Int u.spaced ∷ []
 
 abbrev pub stored_branch : BranchRow → Row
 stored_branch b = Int b.nr ∷ Null ∷ Text b.name ∷ or_null Int b.locked ∷ []
@@ -66,8 +69,8 @@ Tables = Parts
 abbrev pub no_rows : Tables
 no_rows = record { units = []; branches = []; entries = []; legs = []; claims = []; transfers = []; receipts = [] }
 
--- The database is these tables, and no other, and `format` has the one row 2. Rowids that are no column are not looked at, but those of `format`
--- and of transfers are integers that rise, as SQLite has no others: an UPDATE goes by them.
+-- The database is these tables, and no other, and `format` has the one row 2. Rowids that are no column are not looked
+-- at, but those of `format` and of transfers are integers that rise, as SQLite has no others: an UPDATE goes by them.
 pub record Holds (db : Database) (t : Tables) : Type 0 where
   pub schema : db.schema ≡ store_schema
   pub format : versions db ≡ Int (pos 2) ∷ []

@@ -6,9 +6,11 @@ use Rattle.treasury_core.specs.Federation.{Federation}
 use Rattle.treasury_core.specs.Good.{IsGoodState}
 use Rattle.treasury_core.specs.Rows.{rows}
 use Rattle.treasury_store.specs.Tables.{store_schema}
-use Rattle.treasury_store.specs.Rows.{Tables, unit_row, branch_row, entry_row, leg_row, claim_row, transfer_row, part_row}
+use Rattle.treasury_store.specs.Rows.{Tables, unit_row, branch_row, entry_row, leg_row, claim_row, transfer_row}
+use Rattle.treasury_store.specs.Rows.{part_row}
 
--- The columns of a stored row. Column 0 is the rowid, which is the number of a commodity and of a branch; a column that the row lacks is NULL.
+-- The columns of a stored row. Column 0 is the rowid, which is the number of a commodity and of a branch; a column that
+-- the row lacks is NULL.
 abbrev pub shown_unit : Row → Row
 shown_unit r = column r 0 ∷ column r 2 ∷ column r 3 ∷ column r 4 ∷ column r 5 ∷ column r 6 ∷ column r 7 ∷ []
 
@@ -25,7 +27,8 @@ abbrev pub shown_claim : Row → Row
 shown_claim r = column r 1 ∷ column r 2 ∷ column r 3 ∷ column r 4 ∷ column r 5 ∷ column r 6 ∷ []
 
 abbrev pub shown_transfer : Row → Row
-shown_transfer r = column r 1 ∷ column r 2 ∷ column r 3 ∷ column r 4 ∷ column r 5 ∷ column r 6 ∷ column r 7 ∷ column r 8 ∷ column r 9 ∷ []
+shown_transfer r = column r 1 ∷ column r 2 ∷ column r 3 ∷ column r 4 ∷ column r 5 ∷ column r 6 ∷ column r 7 ∷ column r 8
+    ∷ column r 9 ∷ []
 
 abbrev pub shown_part : Row → Row
 shown_part r = column r 1 ∷ column r 2 ∷ column r 3 ∷ column r 4 ∷ column r 5 ∷ []

@@ -21,9 +21,11 @@ use Rattle.treasury_store.specs.declared.store.Store.{Store}
 abbrev pub empty_state : Federation
 empty_state = record { styles = []; branches = []; transfers = [] }
 
--- while the disk returned what was written and the connection is open, the tables hold these rows, and so does what is committed
+-- while the disk returned what was written and the connection is open, the tables hold these rows, and so does what is
+-- committed
 abbrev pub TablesAre : {S : Type 0} → Ghosts S → Held S → Tables → Type 0
-TablesAre g h t = HasCleanDisk (state g h) → IsTrue (state g h).is_open → Holds (state g h).now t × ((state g h).committed ≡ (state g h).now)
+TablesAre g h t = HasCleanDisk (state g h) → IsTrue (state g h).is_open
+    → Holds (state g h).now t × ((state g h).committed ≡ (state g h).now)
 
 -- the store knows by which numbers the rows of a state go on
 abbrev pub Knows : {S : Type 0} → Store S → Federation → Type 0
@@ -53,9 +55,11 @@ pub record IsOf {S : Type 0} (g : Ghosts S) (s : Store S) (f : Federation) : Typ
   pub tables : TablesAre g s.conn (rows f)
   pub numbers : Knows s f
 
--- what a call on a store that no call has failed answers, and whether it has failed then: 40 and 41 are its errors, and 41 is for ever
+-- what a call on a store that no call has failed answers, and whether it has failed then: 40 and 41 are its errors, and
+-- 41 is for ever
 abbrev pub Answers : {T : Type 0} → Result T Cause → Bool → Type 0
-Answers r failed = MatchResult r (λ _. failed ≡ false) (λ e. ((e ≡ OutOfMemory) × (failed ≡ false)) ⊎ ((e ≡ Failed) × (failed ≡ true)))
+Answers r failed =
+    MatchResult r (λ _. failed ≡ false) (λ e. ((e ≡ OutOfMemory) × (failed ≡ false)) ⊎ ((e ≡ Failed) × (failed ≡ true)))
 
 -- the same of a call that reads the rows of a state, which also answers 43, and has not failed then
 abbrev pub AnswersState : {T : Type 0} → Result T Cause → Bool → Type 0
@@ -63,4 +67,5 @@ AnswersState r failed = Answers r failed ⊎ ((r ≡ Err Damaged) × (failed ≡
 
 -- by which cause a call on a store that no call has failed refuses, and whether it has failed then
 abbrev pub FailsAs : Cause → Bool → Type 0
-FailsAs e failed = ((e ≡ OutOfMemory) × (failed ≡ false)) ⊎ (((e ≡ Failed) × (failed ≡ true)) ⊎ ((e ≡ Damaged) × (failed ≡ false)))
+FailsAs e failed =
+    ((e ≡ OutOfMemory) × (failed ≡ false)) ⊎ (((e ≡ Failed) × (failed ≡ true)) ⊎ ((e ≡ Damaged) × (failed ≡ false)))

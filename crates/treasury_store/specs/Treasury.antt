@@ -1,6 +1,8 @@
 -- What a treasury is of, and what a command makes of it.
-use Rattle.std.specs.Prelude.{◌≡◌, ◌⊎◌, ◌↔◌, Bool, true, false, if◌then◌else◌, List, [], ◌∷◌, Option, Result, Err, IfSome, IsTrue}
-use Rattle.money_core.specs.declared.cause.Cause.TheVariants.{Damaged, OutOfMemory, Store as Failed, Closed, Request, ReadFault, WriteFault}
+use Rattle.std.specs.Prelude.{◌≡◌, ◌⊎◌, ◌↔◌, Bool, true, false, if◌then◌else◌, List, [], ◌∷◌, Option, Result, Err}
+use Rattle.std.specs.Prelude.{IfSome, IsTrue}
+use Rattle.money_core.specs.declared.cause.Cause.TheVariants.{Damaged, OutOfMemory, Store as Failed, Closed, Request}
+use Rattle.money_core.specs.declared.cause.Cause.TheVariants.{ReadFault, WriteFault}
 use Rattle.book_core.specs.declared.refusal.Refusal.{Refusal}
 use Rattle.book_core.specs.declared.refusal.Refusal.TheVariants.{Plain}
 use Rattle.sqlite.specs.Store.{Ghosts}
@@ -22,7 +24,8 @@ pub record Treasury (S : Type 0) : Type 0 where
   pub store : Store S
   pub held : Option Federation
 
--- The treasury is of a good state: its store is, no lock day is past what a table takes, and the state in memory, while it is held, is that one.
+-- The treasury is of a good state: its store is, no lock day is past what a table takes, and the state in memory, while
+-- it is held, is that one.
 pub record IsTreasuryOf {S : Type 0} (g : Ghosts S) (t : Treasury S) (f : Federation) : Type 0 where
   pub store : IsOf g t.store f
   pub short : HasShortLocks f
@@ -37,7 +40,8 @@ abbrev pub IsUnfit : Result Answer Refusal → Type 0
 IsUnfit r = (r ≡ Err (Plain Damaged)) ⊎ (r ≡ Err (Plain OutOfMemory)) ⊎ (r ≡ Err (Plain Failed))
 
 -- A turn of a run: the reply is the step's, or 40 or 41, and the treasury is of the state after it.
-pub record Performs {S : Type 0} (g : Ghosts S) (new : Treasury S) (f : Federation) (c : Command) (r : Result Answer Refusal) : Type 0 where
+pub record Performs {S : Type 0} (g : Ghosts S) (new : Treasury S) (f : Federation) (c : Command)
+    (r : Result Answer Refusal) : Type 0 where
   pub replies : MayReply f c r
   pub next : IsTreasuryOf g new (after f c r)
 
@@ -50,12 +54,13 @@ is_failure _ = false
 abbrev pub turn_if : Command → Result Answer Refusal → List Turn
 turn_if c r = if is_failure r then [] else record { command = c; reply = r } ∷ []
 
--- Whichever state the treasury was of, whose rows the tables were, and which the command fits: a crash leaves what it could leave before, or the rows of
--- the state after the command.
+-- Whichever state the treasury was of, whose rows the tables were, and which the command fits: a crash leaves what it
+-- could leave before, or the rows of the state after the command.
 abbrev pub SurvivesCommand : {S : Type 0} → Ghosts S → Treasury S → Treasury S → Command → Type 0
 SurvivesCommand g old new c =
     Survives (state g old.store.conn) (state g new.store.conn)
-    (λ trees. (f : Federation) → IsTreasuryOf g old f → Fits f.styles c → Holds (state g old.store.conn).now (rows f) → AreTreesOf trees (rows (step f c).next))
+    (λ trees. (f : Federation) → IsTreasuryOf g old f → Fits f.styles c → Holds (state g old.store.conn).now (rows f)
+    → AreTreesOf trees (rows (step f c).next))
 
 -- a command that adds nothing: it is refused, or everything that it asks for is there
 abbrev pub AddsNothing : Federation → Command → Type 0
@@ -65,7 +70,8 @@ AddsNothing f c = delta f c (reply f c) ≡ []
 abbrev pub FailsBy : Result Answer Refusal → Bool → Type 0
 FailsBy r failed = IsTrue failed ↔ (r ≡ Err (Plain Failed))
 
--- a refusal by the rules of commands, or for want of memory: not one of the database, of a request, or of an input or output
+-- a refusal by the rules of commands, or for want of memory: not one of the database, of a request, or of an input or
+-- output
 abbrev pub is_by_rules : Refusal → Bool
 is_by_rules (Plain Failed) = false
 is_by_rules (Plain Closed) = false

@@ -19,9 +19,11 @@ pub record SetsVersion (old new : Database) : Type 0 where
   pub schema : new.schema ≡ old.schema
   pub version : versions new ≡ Int (pos 2) ∷ []
   pub numbered : IsShaped shape.Table (new.trees format.tree)
-  pub others : AllByRecursion (λ (t : Table). t.tree ≢ format.tree → new.trees t.tree ≡ old.trees t.tree) old.schema.tables
+  pub others : AllByRecursion (λ (t : Table). t.tree ≢ format.tree → new.trees t.tree ≡ old.trees t.tree)
+      old.schema.tables
 
--- Version 2 of what was version 1: `receipt` is there and empty, the row of `format` is 2, and each other table has the rows that it had.
+-- Version 2 of what was version 1: `receipt` is there and empty, the row of `format` is 2, and each other table has the
+-- rows that it had.
 pub record Upgrades (old new : Database) : Type 0 where
   pub schema : new.schema ≡ store_schema
   pub version : versions new ≡ Int (pos 2) ∷ []
@@ -36,6 +38,8 @@ pub record AreUpgraded (old : Database) (trees : Trees) : Type 0 where
   pub is : trees ≡ db.trees
   pub upgrades : IsShaped shape.Table (old.trees format.tree) → Upgrades old db
 
--- If tables with our names were made by our statements, a crash leaves what it could leave before, or, of version 1, its version 2.
+-- If tables with our names were made by our statements, a crash leaves what it could leave before, or, of version 1,
+-- its version 2.
 abbrev pub KeepsOurs : {S : Type 0} → Ghosts S → Held S → Held S → Type 0
-KeepsOurs g old new = Survives (state g old) (state g new) (λ trees. AreOurs (state g old).now.schema → AreUpgraded (state g old).now trees)
+KeepsOurs g old new = Survives (state g old) (state g new)
+    (λ trees. AreOurs (state g old).now.schema → AreUpgraded (state g old).now trees)

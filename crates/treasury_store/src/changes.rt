@@ -1,6 +1,7 @@
 //! The changes of the tables by which additions are written.
 
-ghost use Rattle.std.specs.Prelude.{◌≡◌, ◌<◌, ◌≤◌, ◌^◌, suc, nat_lt, if◌then◌else◌, ◌∷◌, ◌++◌, [], length, map, slice_index, slice_set, OnOk, IfOk};
+ghost use Rattle.std.specs.Prelude.{◌≡◌, ◌<◌, ◌≤◌, ◌^◌, suc, nat_lt, if◌then◌else◌, ◌∷◌, ◌++◌, [], length, map};
+ghost use Rattle.std.specs.Prelude.{slice_index, slice_set, OnOk, IfOk};
 ghost use Rattle.std.specs.Option.{option_map};
 ghost use Rattle.std.specs.List.{AllByRecursion};
 ghost use Rattle.std.specs.Result.{IsOkUnless};
@@ -10,10 +11,13 @@ ghost use Rattle.book_core.specs.declared.claim.Placed.{Placed};
 ghost use Rattle.journal_format.specs.CanonicalText.{body_text};
 ghost use Rattle.journal_format.specs.Printable.{IsPrintable};
 ghost use Rattle.treasury_core.specs.Joined.{new_branch};
-ghost use Rattle.treasury_core.specs.Rows.{truth, kind_number, unit_row, branch_row, entry_row, leg_row, leg_rows, claim_row, transfer_row, part_row};
+ghost use Rattle.treasury_core.specs.Rows.{truth, kind_number, unit_row, branch_row, entry_row, leg_row, leg_rows};
+ghost use Rattle.treasury_core.specs.Rows.{claim_row, transfer_row, part_row};
 ghost use Rattle.treasury_core.specs.Transfer.{is_all};
 ghost use Rattle.treasury_store.specs.declared.change.Change.TheVariants.{Leg as LegChange, Claim as ClaimChange};
-ghost use Rattle.treasury_store.specs.Changes.{named, record_changes, receipt_change, changes_by, counted, changes_from, counted_all, changes_of, numbers_with, styles_with, names_with, counts_of, IsWritable, CanWrite, CanWriteFrom};
+ghost use Rattle.treasury_store.specs.Changes.{named, record_changes, receipt_change, changes_by, counted};
+ghost use Rattle.treasury_store.specs.Changes.{changes_from, counted_all, changes_of, numbers_with, styles_with};
+ghost use Rattle.treasury_store.specs.Changes.{names_with, counts_of, IsWritable, CanWrite, CanWriteFrom};
 
 use crate::change::Change;
 use crate::numbers::{Numbers, more_names, more_styles, place_of};
@@ -354,8 +358,12 @@ fn add_record(
     changes: &mut Items<Change>,
 ) -> Result<(), Cause>
     requires { place < length records.old.items → IsWritable styles.now (slice_index records.old.items place) kept.now }
-    ensures ok { OnOk result (changes.new ≡ changes.old ++ (if nat_lt place (length records.old.items) then record_changes styles.now place (suc (slice_index records.old.items place)) kept.now else [])) }
-    ensures counted { OnOk result (records.new.items ≡ slice_set records.old.items place (suc (slice_index records.old.items place))) }
+    ensures ok { OnOk result (changes.new
+        ≡ changes.old
+        ++ (if nat_lt place (length records.old.items)
+        then record_changes styles.now place (suc (slice_index records.old.items place)) kept.now else [])) }
+    ensures counted { OnOk result (records.new.items
+        ≡ slice_set records.old.items place (suc (slice_index records.old.items place))) }
     ensures memory { IsOkUnless result Cause.OutOfMemory }
 {
     if place >= records.len() {
@@ -440,7 +448,8 @@ pub(crate) fn changes_of(
     additions: &[Addition],
 ) -> Result<(Items<Change>, Numbers), Cause>
     requires styles { AreStyles (styles_with numbers.now.styles additions.now) }
-    requires fit { CanWriteFrom (styles_with numbers.now.styles additions.now) (names_with numbers.now.names additions.now) (counts_of numbers.now) additions.now }
+    requires fit { CanWriteFrom (styles_with numbers.now.styles additions.now)
+        (names_with numbers.now.names additions.now) (counts_of numbers.now) additions.now }
     ensures changes { IfOk result (λ r. r.0 ≡ changes_of numbers.now additions.now) }
     ensures numbers { IfOk result (λ r. r.1 ≡ numbers_with numbers.now additions.now) }
     ensures memory { IsOkUnless result Cause.OutOfMemory }

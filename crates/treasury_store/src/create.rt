@@ -9,8 +9,10 @@ ghost use Rattle.sqlite.specs.Change.{created, next_tree};
 ghost use Rattle.sqlite.specs.State.{HasCleanDisk, KeepsCommit, Survives};
 ghost use Rattle.sqlite.specs.Held.{state};
 ghost use Rattle.treasury_store.specs.Rows.{Holds, no_rows};
-ghost use Rattle.treasury_store.specs.Tables.{no_schema, format, unit, branch, entry, leg, claim, transfer, receipt, state_tables};
-ghost use Rattle.treasury_store.specs.Creating.{is_ours, has_one, has_counter, Creates, MakesAll, GivesRow, Beside, SurvivesMaking};
+ghost use Rattle.treasury_store.specs.Tables.{no_schema, format, unit, branch, entry, leg, claim, transfer, receipt};
+ghost use Rattle.treasury_store.specs.Tables.{state_tables};
+ghost use Rattle.treasury_store.specs.Creating.{is_ours, has_one, has_counter, Creates, MakesAll, GivesRow, Beside};
+ghost use Rattle.treasury_store.specs.Creating.{SurvivesMaking};
 
 use sqlite::types::ToSql;
 use sqlite::{Alter, Connection, Error, ErrorCode, Transaction};
@@ -97,10 +99,15 @@ pub(crate) fn create_receipt<S: Alter>(tx: &mut Transaction<'_, S>) -> Result<us
 /// Puts the one row of `format`, which is the last table: the version.
 fn put_format<S: Alter>(tx: &mut Transaction<'_, S>) -> Result<usize, Error>
     ensures same_reference { tx.new.conn.ghost_name ≡ tx.old.conn.ghost_name }
-    ensures gives { HasCleanDisk (state S.Store tx.new.conn.now) → OnOk result ((s : Schema) → (state S.Store tx.old.conn.now).now.schema ≡ created s format
-        → list_any (λ t. same_name t.name (codes "format")) s.tables ≡ false → (state S.Store tx.old.conn.now).now.trees (next_tree s) ≡ [] → GivesRow s (state S.Store tx.old.conn.now).now (state S.Store tx.new.conn.now).now) }
-    ensures inside { HasCleanDisk (state S.Store tx.new.conn.now) → OnOk result (IsTrue (state S.Store tx.new.conn.now).in_transaction) }
-    ensures kept { HasCleanDisk (state S.Store tx.new.conn.now) → KeepsCommit (state S.Store tx.old.conn.now) (state S.Store tx.new.conn.now) }
+    ensures gives { HasCleanDisk (state S.Store tx.new.conn.now)
+        → OnOk result ((s : Schema) → (state S.Store tx.old.conn.now).now.schema ≡ created s format
+        → list_any (λ t. same_name t.name (codes "format")) s.tables ≡ false
+        → (state S.Store tx.old.conn.now).now.trees (next_tree s) ≡ []
+        → GivesRow s (state S.Store tx.old.conn.now).now (state S.Store tx.new.conn.now).now) }
+    ensures inside { HasCleanDisk (state S.Store tx.new.conn.now)
+        → OnOk result (IsTrue (state S.Store tx.new.conn.now).in_transaction) }
+    ensures kept { HasCleanDisk (state S.Store tx.new.conn.now)
+        → KeepsCommit (state S.Store tx.old.conn.now) (state S.Store tx.new.conn.now) }
     ensures survives { Survives (state S.Store tx.old.conn.now) (state S.Store tx.new.conn.now) (λ _. ⊥) }
 {
     let version = 2i64.to_sql();
@@ -110,9 +117,14 @@ fn put_format<S: Alter>(tx: &mut Transaction<'_, S>) -> Result<usize, Error>
 /// Makes the tables of the state.
 fn create_state<S: Alter>(tx: &mut Transaction<'_, S>) -> Result<usize, Error>
     ensures same_reference { tx.new.conn.ghost_name ≡ tx.old.conn.ghost_name }
-    ensures makes { HasCleanDisk (state S.Store tx.new.conn.now) → OnOk result (has_counter (state S.Store tx.old.conn.now).now.schema ≡ false → MakesAll state_tables (state S.Store tx.old.conn.now).now (state S.Store tx.new.conn.now).now) }
-    ensures inside { HasCleanDisk (state S.Store tx.new.conn.now) → OnOk result (IsTrue (state S.Store tx.new.conn.now).in_transaction) }
-    ensures kept { HasCleanDisk (state S.Store tx.new.conn.now) → KeepsCommit (state S.Store tx.old.conn.now) (state S.Store tx.new.conn.now) }
+    ensures makes { HasCleanDisk (state S.Store tx.new.conn.now)
+        → OnOk result
+        (has_counter (state S.Store tx.old.conn.now).now.schema ≡ false
+        → MakesAll state_tables (state S.Store tx.old.conn.now).now (state S.Store tx.new.conn.now).now) }
+    ensures inside { HasCleanDisk (state S.Store tx.new.conn.now)
+        → OnOk result (IsTrue (state S.Store tx.new.conn.now).in_transaction) }
+    ensures kept { HasCleanDisk (state S.Store tx.new.conn.now)
+        → KeepsCommit (state S.Store tx.old.conn.now) (state S.Store tx.new.conn.now) }
     ensures survives { Survives (state S.Store tx.old.conn.now) (state S.Store tx.new.conn.now) (λ _. ⊥) }
 {
     create_unit(tx)?;
@@ -151,21 +163,34 @@ fn has_one<S: Alter>(conn: &Connection<S>) -> bool
     false
 }
 
-/// Makes the tables of a new treasury in one transaction, or answers `false` where a table of one of their names is there.
+/// Makes the tables of a new treasury in one transaction, or answers `false` where a table of one of their names is
+/// there.
 ///
 /// An open transaction is an error. After an error of a connection that is still open the database is as it was.
 pub fn create_tables<S: Alter>(conn: &mut Connection<S>) -> Result<bool, Error>
     // Into an empty database.
-    ensures made { HasCleanDisk (state S.Store conn.new) → IfOk result (λ made. IsTrue made → (state S.Store conn.old).now.schema ≡ no_schema → Holds (state S.Store conn.new).now no_rows × ((state S.Store conn.new).committed ≡ (state S.Store conn.new).now)) }
+    ensures made { HasCleanDisk (state S.Store conn.new)
+        → IfOk result
+        (λ made. IsTrue made → (state S.Store conn.old).now.schema ≡ no_schema
+        → Holds (state S.Store conn.new).now no_rows
+        × ((state S.Store conn.new).committed ≡ (state S.Store conn.new).now)) }
     // Beside other tables, none of which has AUTOINCREMENT.
-    ensures beside { HasCleanDisk (state S.Store conn.new) → IfOk result (λ made. IsTrue made → has_counter (state S.Store conn.old).now.schema ≡ false → Beside (state S.Store conn.old).now (state S.Store conn.new).now) }
-    ensures still_open { HasCleanDisk (state S.Store conn.new) → IfOk result (λ made. IsTrue made → IsTrue (state S.Store conn.new).is_open) }
+    ensures beside { HasCleanDisk (state S.Store conn.new)
+        → IfOk result
+        (λ made. IsTrue made → has_counter (state S.Store conn.old).now.schema ≡ false
+        → Beside (state S.Store conn.old).now (state S.Store conn.new).now) }
+    ensures still_open { HasCleanDisk (state S.Store conn.new)
+        → IfOk result (λ made. IsTrue made → IsTrue (state S.Store conn.new).is_open) }
     ensures clean { OnOk result (doubt (state S.Store conn.old).is_clean ≤ doubt (state S.Store conn.new).is_clean) }
     ensures crash { SurvivesMaking S.Store conn.old conn.new }
     ensures taken { IsTrue (has_one (state S.Store conn.old).now.schema) → (result ≡ Ok false) × (conn.new ≡ conn.old) }
     ensures free { IfOk result (λ made. IsTrue made → has_one (state S.Store conn.old).now.schema ≡ false) }
-    ensures refused { IfOk result (λ made. made ≡ false → IsTrue (has_one (state S.Store conn.old).now.schema) × (conn.new ≡ conn.old)) }
-    ensures unchanged { HasCleanDisk (state S.Store conn.new) → IsTrue (state S.Store conn.new).is_open → OnErr result (((state S.Store conn.new).now ≡ (state S.Store conn.old).now) × ((state S.Store conn.new).committed ≡ (state S.Store conn.old).committed)) }
+    ensures refused { IfOk result (λ made. made ≡ false
+        → IsTrue (has_one (state S.Store conn.old).now.schema) × (conn.new ≡ conn.old)) }
+    ensures unchanged { HasCleanDisk (state S.Store conn.new) → IsTrue (state S.Store conn.new).is_open
+        → OnErr result
+        (((state S.Store conn.new).now ≡ (state S.Store conn.old).now)
+        × ((state S.Store conn.new).committed ≡ (state S.Store conn.old).committed)) }
 {
     if has_one(conn) {
         return Ok(false);

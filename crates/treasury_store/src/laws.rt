@@ -12,9 +12,12 @@ ghost use Rattle.treasury_store.specs.Left.{LeavesRows, LeavesSame, LeavesStep};
 use sqlite::Alter;
 
 /// A law of connections: while one is open, whatever is left of it are the rows that it shows. So a call that commits
-/// nothing leaves them, and a command leaves the rows of the state before it or those of the state after it. Costs nothing.
+/// nothing leaves them, and a command leaves the rows of the state before it or those of the state after it. Costs
+/// nothing.
 pub fn left_law<S: Alter>()
-    ensures rows { (h : Held S) (t : Tables) → TablesAre S.Store h t → IsTrue (state S.Store h).is_open → LeavesRows S.Store h t }
+    ensures rows { (h : Held S) (t : Tables) → TablesAre S.Store h t → IsTrue (state S.Store h).is_open
+        → LeavesRows S.Store h t }
     ensures same { (old new : Held S) → KeepsTables S.Store old new → LeavesSame S.Store old new }
-    ensures command { (old new : Treasury S) (c : Command) → SurvivesCommand S.Store old new c → LeavesStep S.Store old new c }
+    ensures command { (old new : Treasury S) (c : Command) → SurvivesCommand S.Store old new c
+        → LeavesStep S.Store old new c }
 {}

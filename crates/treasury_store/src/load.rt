@@ -10,8 +10,10 @@ ghost use Rattle.sqlite.specs.Given.{IsPlain};
 ghost use Rattle.sqlite.specs.Listing.{understood};
 ghost use Rattle.sqlite.specs.Held.{state};
 ghost use Rattle.treasury_store.specs.Tables.{store_schema};
-ghost use Rattle.treasury_store.specs.Rows.{Tables, unit_row, branch_row, entry_row, leg_row, claim_row, transfer_row, part_row};
-ghost use Rattle.treasury_store.specs.Shown.{ShowsTables, shown_unit, shown_branch, shown_entry, shown_leg, shown_claim, shown_transfer, shown_part};
+ghost use Rattle.treasury_store.specs.Rows.{Tables, unit_row, branch_row, entry_row, leg_row, claim_row, transfer_row};
+ghost use Rattle.treasury_store.specs.Rows.{part_row};
+ghost use Rattle.treasury_store.specs.Shown.{ShowsTables, shown_unit, shown_branch, shown_entry, shown_leg};
+ghost use Rattle.treasury_store.specs.Shown.{shown_claim, shown_transfer, shown_part};
 ghost use Rattle.treasury_store.specs.Kept.{Queries};
 ghost use Rattle.treasury_store.specs.Order.{InOrder};
 
@@ -56,7 +58,8 @@ fn maybe_text_at(row: &Row, at: usize) -> Result<Option<Text>, Error>
 impl FromRow for UnitRow {
     ghost columns = { unit_row };
 
-    ghost front = { λ r. column r 0 ∷ column r 1 ∷ column r 2 ∷ column r 3 ∷ column r 4 ∷ column r 5 ∷ column r 6 ∷ [] };
+    ghost front = { λ r. column r 0 ∷ column r 1 ∷ column r 2 ∷ column r 3 ∷ column r 4 ∷ column r 5 ∷ column r 6
+        ∷ [] };
 
     fn read(row: &Row) -> Result<Self, Error> {
         let nr = row.get(0)?;
@@ -161,7 +164,8 @@ impl FromRow for ClaimRow {
 impl FromRow for TransferRow {
     ghost columns = { transfer_row };
 
-    ghost front = { λ r. column r 0 ∷ column r 1 ∷ column r 2 ∷ column r 3 ∷ column r 4 ∷ column r 5 ∷ column r 6 ∷ column r 7 ∷ column r 8 ∷ [] };
+    ghost front = { λ r. column r 0 ∷ column r 1 ∷ column r 2 ∷ column r 3 ∷ column r 4 ∷ column r 5 ∷ column r 6
+        ∷ column r 7 ∷ column r 8 ∷ [] };
 
     fn read(row: &Row) -> Result<Self, Error> {
         let id = text_at(row, 0)?;
@@ -224,16 +228,24 @@ fn read_all<T: FromRow>(alloc: Global, rows: &[Row]) -> Result<Items<T>, Error>
 /// The rows of a query of our tables.
 fn queried<S: Alter>(conn: &mut Connection<S>, sql: &str) -> Result<Vec<Row>, Error>
     requires { IsPlain (understood store_schema sql.now) }
-    ensures shown { HasCleanDisk (state S.Store conn.new) → IfOk result (λ rows. Shown sql.now [] (state S.Store conn.old) (state S.Store conn.new) rows.items) }
+    ensures shown { HasCleanDisk (state S.Store conn.new)
+        → IfOk result (λ rows. Shown sql.now [] (state S.Store conn.old) (state S.Store conn.new) rows.items) }
     ensures queries { Queries S.Store conn.old conn.new result }
 {
     conn.query_all(sql, &[])
 }
 
 fn load_units<S: Alter>(alloc: Global, conn: &mut Connection<S>) -> Result<Items<UnitRow>, Error>
-    ensures rows { HasCleanDisk (state S.Store conn.new) → IfOk result (λ rows. (t : Tables) → InOrder t → ShowsTables (state S.Store conn.old).now t → rows ≡ t.units) }
-    ensures shown { HasCleanDisk (state S.Store conn.new) → IfOk result (λ rows. (state S.Store conn.old).now.schema ≡ store_schema → IsPermutation (map unit_row rows) (map shown_unit ((state S.Store conn.old).now.trees 1))) }
-    ensures same { HasCleanDisk (state S.Store conn.new) → OnOk result ((state S.Store conn.old).now.schema ≡ store_schema → IsUnchanged (state S.Store conn.old) (state S.Store conn.new)) }
+    ensures rows { HasCleanDisk (state S.Store conn.new)
+        → IfOk result (λ rows. (t : Tables) → InOrder t → ShowsTables (state S.Store conn.old).now t → rows ≡ t.units) }
+    ensures shown { HasCleanDisk (state S.Store conn.new)
+        → IfOk result
+        (λ rows. (state S.Store conn.old).now.schema ≡ store_schema
+        → IsPermutation (map unit_row rows) (map shown_unit ((state S.Store conn.old).now.trees 1))) }
+    ensures same { HasCleanDisk (state S.Store conn.new)
+        → OnOk result
+        ((state S.Store conn.old).now.schema ≡ store_schema
+        → IsUnchanged (state S.Store conn.old) (state S.Store conn.new)) }
     ensures queries { Queries S.Store conn.old conn.new result }
 {
     let rows = queried(
@@ -247,9 +259,17 @@ fn load_branches<S: Alter>(
     alloc: Global,
     conn: &mut Connection<S>,
 ) -> Result<Items<BranchRow>, Error>
-    ensures rows { HasCleanDisk (state S.Store conn.new) → IfOk result (λ rows. (t : Tables) → InOrder t → ShowsTables (state S.Store conn.old).now t → rows ≡ t.branches) }
-    ensures shown { HasCleanDisk (state S.Store conn.new) → IfOk result (λ rows. (state S.Store conn.old).now.schema ≡ store_schema → IsPermutation (map branch_row rows) (map shown_branch ((state S.Store conn.old).now.trees 3))) }
-    ensures same { HasCleanDisk (state S.Store conn.new) → OnOk result ((state S.Store conn.old).now.schema ≡ store_schema → IsUnchanged (state S.Store conn.old) (state S.Store conn.new)) }
+    ensures rows { HasCleanDisk (state S.Store conn.new)
+        → IfOk result
+        (λ rows. (t : Tables) → InOrder t → ShowsTables (state S.Store conn.old).now t → rows ≡ t.branches) }
+    ensures shown { HasCleanDisk (state S.Store conn.new)
+        → IfOk result
+        (λ rows. (state S.Store conn.old).now.schema ≡ store_schema
+        → IsPermutation (map branch_row rows) (map shown_branch ((state S.Store conn.old).now.trees 3))) }
+    ensures same { HasCleanDisk (state S.Store conn.new)
+        → OnOk result
+        ((state S.Store conn.old).now.schema ≡ store_schema
+        → IsUnchanged (state S.Store conn.old) (state S.Store conn.new)) }
     ensures queries { Queries S.Store conn.old conn.new result }
 {
     let rows = queried(conn, "SELECT nr, name, locked FROM branch ORDER BY nr")?;
@@ -257,9 +277,17 @@ fn load_branches<S: Alter>(
 }
 
 fn load_entries<S: Alter>(alloc: Global, conn: &mut Connection<S>) -> Result<Items<EntryRow>, Error>
-    ensures rows { HasCleanDisk (state S.Store conn.new) → IfOk result (λ rows. (t : Tables) → InOrder t → ShowsTables (state S.Store conn.old).now t → rows ≡ t.entries) }
-    ensures shown { HasCleanDisk (state S.Store conn.new) → IfOk result (λ rows. (state S.Store conn.old).now.schema ≡ store_schema → IsPermutation (map entry_row rows) (map shown_entry ((state S.Store conn.old).now.trees 5))) }
-    ensures same { HasCleanDisk (state S.Store conn.new) → OnOk result ((state S.Store conn.old).now.schema ≡ store_schema → IsUnchanged (state S.Store conn.old) (state S.Store conn.new)) }
+    ensures rows { HasCleanDisk (state S.Store conn.new)
+        → IfOk result
+        (λ rows. (t : Tables) → InOrder t → ShowsTables (state S.Store conn.old).now t → rows ≡ t.entries) }
+    ensures shown { HasCleanDisk (state S.Store conn.new)
+        → IfOk result
+        (λ rows. (state S.Store conn.old).now.schema ≡ store_schema
+        → IsPermutation (map entry_row rows) (map shown_entry ((state S.Store conn.old).now.trees 5))) }
+    ensures same { HasCleanDisk (state S.Store conn.new)
+        → OnOk result
+        ((state S.Store conn.old).now.schema ≡ store_schema
+        → IsUnchanged (state S.Store conn.old) (state S.Store conn.new)) }
     ensures queries { Queries S.Store conn.old conn.new result }
 {
     let rows = queried(
@@ -270,9 +298,16 @@ fn load_entries<S: Alter>(alloc: Global, conn: &mut Connection<S>) -> Result<Ite
 }
 
 fn load_legs<S: Alter>(alloc: Global, conn: &mut Connection<S>) -> Result<Items<LegRow>, Error>
-    ensures rows { HasCleanDisk (state S.Store conn.new) → IfOk result (λ rows. (t : Tables) → InOrder t → ShowsTables (state S.Store conn.old).now t → rows ≡ t.legs) }
-    ensures shown { HasCleanDisk (state S.Store conn.new) → IfOk result (λ rows. (state S.Store conn.old).now.schema ≡ store_schema → IsPermutation (map leg_row rows) (map shown_leg ((state S.Store conn.old).now.trees 8))) }
-    ensures same { HasCleanDisk (state S.Store conn.new) → OnOk result ((state S.Store conn.old).now.schema ≡ store_schema → IsUnchanged (state S.Store conn.old) (state S.Store conn.new)) }
+    ensures rows { HasCleanDisk (state S.Store conn.new)
+        → IfOk result (λ rows. (t : Tables) → InOrder t → ShowsTables (state S.Store conn.old).now t → rows ≡ t.legs) }
+    ensures shown { HasCleanDisk (state S.Store conn.new)
+        → IfOk result
+        (λ rows. (state S.Store conn.old).now.schema ≡ store_schema
+        → IsPermutation (map leg_row rows) (map shown_leg ((state S.Store conn.old).now.trees 8))) }
+    ensures same { HasCleanDisk (state S.Store conn.new)
+        → OnOk result
+        ((state S.Store conn.old).now.schema ≡ store_schema
+        → IsUnchanged (state S.Store conn.old) (state S.Store conn.new)) }
     ensures queries { Queries S.Store conn.old conn.new result }
 {
     let rows = queried(
@@ -283,9 +318,17 @@ fn load_legs<S: Alter>(alloc: Global, conn: &mut Connection<S>) -> Result<Items<
 }
 
 fn load_claims<S: Alter>(alloc: Global, conn: &mut Connection<S>) -> Result<Items<ClaimRow>, Error>
-    ensures rows { HasCleanDisk (state S.Store conn.new) → IfOk result (λ rows. (t : Tables) → InOrder t → ShowsTables (state S.Store conn.old).now t → rows ≡ t.claims) }
-    ensures shown { HasCleanDisk (state S.Store conn.new) → IfOk result (λ rows. (state S.Store conn.old).now.schema ≡ store_schema → IsPermutation (map claim_row rows) (map shown_claim ((state S.Store conn.old).now.trees 10))) }
-    ensures same { HasCleanDisk (state S.Store conn.new) → OnOk result ((state S.Store conn.old).now.schema ≡ store_schema → IsUnchanged (state S.Store conn.old) (state S.Store conn.new)) }
+    ensures rows { HasCleanDisk (state S.Store conn.new)
+        → IfOk result
+        (λ rows. (t : Tables) → InOrder t → ShowsTables (state S.Store conn.old).now t → rows ≡ t.claims) }
+    ensures shown { HasCleanDisk (state S.Store conn.new)
+        → IfOk result
+        (λ rows. (state S.Store conn.old).now.schema ≡ store_schema
+        → IsPermutation (map claim_row rows) (map shown_claim ((state S.Store conn.old).now.trees 10))) }
+    ensures same { HasCleanDisk (state S.Store conn.new)
+        → OnOk result
+        ((state S.Store conn.old).now.schema ≡ store_schema
+        → IsUnchanged (state S.Store conn.old) (state S.Store conn.new)) }
     ensures queries { Queries S.Store conn.old conn.new result }
 {
     let rows = queried(
@@ -299,9 +342,17 @@ fn load_transfers<S: Alter>(
     alloc: Global,
     conn: &mut Connection<S>,
 ) -> Result<Items<TransferRow>, Error>
-    ensures rows { HasCleanDisk (state S.Store conn.new) → IfOk result (λ rows. (t : Tables) → InOrder t → ShowsTables (state S.Store conn.old).now t → rows ≡ t.transfers) }
-    ensures shown { HasCleanDisk (state S.Store conn.new) → IfOk result (λ rows. (state S.Store conn.old).now.schema ≡ store_schema → IsPermutation (map transfer_row rows) (map shown_transfer ((state S.Store conn.old).now.trees 12))) }
-    ensures same { HasCleanDisk (state S.Store conn.new) → OnOk result ((state S.Store conn.old).now.schema ≡ store_schema → IsUnchanged (state S.Store conn.old) (state S.Store conn.new)) }
+    ensures rows { HasCleanDisk (state S.Store conn.new)
+        → IfOk result
+        (λ rows. (t : Tables) → InOrder t → ShowsTables (state S.Store conn.old).now t → rows ≡ t.transfers) }
+    ensures shown { HasCleanDisk (state S.Store conn.new)
+        → IfOk result
+        (λ rows. (state S.Store conn.old).now.schema ≡ store_schema
+        → IsPermutation (map transfer_row rows) (map shown_transfer ((state S.Store conn.old).now.trees 12))) }
+    ensures same { HasCleanDisk (state S.Store conn.new)
+        → OnOk result
+        ((state S.Store conn.old).now.schema ≡ store_schema
+        → IsUnchanged (state S.Store conn.old) (state S.Store conn.new)) }
     ensures queries { Queries S.Store conn.old conn.new result }
 {
     let rows = queried(
@@ -312,9 +363,17 @@ fn load_transfers<S: Alter>(
 }
 
 fn load_receipts<S: Alter>(alloc: Global, conn: &mut Connection<S>) -> Result<Items<PartRow>, Error>
-    ensures rows { HasCleanDisk (state S.Store conn.new) → IfOk result (λ rows. (t : Tables) → InOrder t → ShowsTables (state S.Store conn.old).now t → rows ≡ t.receipts) }
-    ensures shown { HasCleanDisk (state S.Store conn.new) → IfOk result (λ rows. (state S.Store conn.old).now.schema ≡ store_schema → IsPermutation (map part_row rows) (map shown_part ((state S.Store conn.old).now.trees 14))) }
-    ensures same { HasCleanDisk (state S.Store conn.new) → OnOk result ((state S.Store conn.old).now.schema ≡ store_schema → IsUnchanged (state S.Store conn.old) (state S.Store conn.new)) }
+    ensures rows { HasCleanDisk (state S.Store conn.new)
+        → IfOk result
+        (λ rows. (t : Tables) → InOrder t → ShowsTables (state S.Store conn.old).now t → rows ≡ t.receipts) }
+    ensures shown { HasCleanDisk (state S.Store conn.new)
+        → IfOk result
+        (λ rows. (state S.Store conn.old).now.schema ≡ store_schema
+        → IsPermutation (map part_row rows) (map shown_part ((state S.Store conn.old).now.trees 14))) }
+    ensures same { HasCleanDisk (state S.Store conn.new)
+        → OnOk result
+        ((state S.Store conn.old).now.schema ≡ store_schema
+        → IsUnchanged (state S.Store conn.old) (state S.Store conn.new)) }
     ensures queries { Queries S.Store conn.old conn.new result }
 {
     let rows = queried(
@@ -326,12 +385,18 @@ fn load_receipts<S: Alter>(alloc: Global, conn: &mut Connection<S>) -> Result<It
 
 /// The rows of all tables, each list in the order of its key: one query a table.
 ///
-/// Where the tables are ours, a success answers just the rows that they show, and changes nothing; where they are committed,
-/// nor does an error of a connection that is still open.
+/// Where the tables are ours, a success answers just the rows that they show, and changes nothing; where they are
+/// committed, nor does an error of a connection that is still open.
 pub fn load_parts<S: Alter>(alloc: Global, conn: &mut Connection<S>) -> Result<Parts, Error>
-    ensures parts { HasCleanDisk (state S.Store conn.new) → IfOk result (λ parts. (t : Tables) → InOrder t → ShowsTables (state S.Store conn.old).now t → parts ≡ t) }
-    ensures shown { HasCleanDisk (state S.Store conn.new) → IfOk result (λ parts. (state S.Store conn.old).now.schema ≡ store_schema → ShowsTables (state S.Store conn.old).now parts) }
-    ensures same { HasCleanDisk (state S.Store conn.new) → OnOk result ((state S.Store conn.old).now.schema ≡ store_schema → IsUnchanged (state S.Store conn.old) (state S.Store conn.new)) }
+    ensures parts { HasCleanDisk (state S.Store conn.new)
+        → IfOk result (λ parts. (t : Tables) → InOrder t → ShowsTables (state S.Store conn.old).now t → parts ≡ t) }
+    ensures shown { HasCleanDisk (state S.Store conn.new)
+        → IfOk result
+        (λ parts. (state S.Store conn.old).now.schema ≡ store_schema → ShowsTables (state S.Store conn.old).now parts) }
+    ensures same { HasCleanDisk (state S.Store conn.new)
+        → OnOk result
+        ((state S.Store conn.old).now.schema ≡ store_schema
+        → IsUnchanged (state S.Store conn.old) (state S.Store conn.new)) }
     ensures queries { Queries S.Store conn.old conn.new result }
 {
     let units = load_units(alloc, conn)?;

@@ -1,6 +1,7 @@
 //! Whether the tables are there, in which version.
 
-ghost use Rattle.std.specs.Prelude.{◌≡◌, ◌∷◌, ◌⊎◌, [], pos, map, ◌≤◌, false, Ok, Some, None, IfOk, OnOk, OnErr, IfSome, OnSome, IsTrue, IsPermutation, ◌↔◌, ℤ};
+ghost use Rattle.std.specs.Prelude.{◌≡◌, ◌∷◌, ◌⊎◌, [], pos, map, ◌≤◌, false, Ok, Some, None, IfOk, OnOk, OnErr, IfSome};
+ghost use Rattle.std.specs.Prelude.{OnSome, IsTrue, IsPermutation, ◌↔◌, ℤ};
 ghost use Rattle.std.specs.List.{list_any};
 ghost use Rattle.sqlite.specs.Order.{column};
 ghost use Rattle.sqlite.specs.declared.types.Value.TheVariants.{Int};
@@ -58,9 +59,17 @@ fn has_all<S: Alter>(conn: &Connection<S>) -> bool
 
 /// The rows of `format`. A query of it changes nothing, whatever table or view has that name.
 fn format_rows<S: Alter>(conn: &mut Connection<S>) -> Result<Vec<Row>, Error>
-    ensures rows { HasCleanDisk (state S.Store conn.new) → IfOk result (λ rows. IsEither (state S.Store conn.old).now.schema → IsPermutation (map (λ r. column r 1 ∷ []) ((state S.Store conn.old).now.trees 0)) rows.items) }
-    ensures same { HasCleanDisk (state S.Store conn.new) → OnOk result (IsUnchanged (state S.Store conn.old) (state S.Store conn.new)) }
-    ensures undone { HasCleanDisk (state S.Store conn.new) → IsTrue (state S.Store conn.new).is_open → conn.old.in_transaction ≡ false → OnErr result (((state S.Store conn.new).now ≡ (state S.Store conn.old).now) × ((state S.Store conn.new).committed ≡ (state S.Store conn.old).committed)) }
+    ensures rows { HasCleanDisk (state S.Store conn.new)
+        → IfOk result
+        (λ rows. IsEither (state S.Store conn.old).now.schema
+        → IsPermutation (map (λ r. column r 1 ∷ []) ((state S.Store conn.old).now.trees 0)) rows.items) }
+    ensures same { HasCleanDisk (state S.Store conn.new)
+        → OnOk result (IsUnchanged (state S.Store conn.old) (state S.Store conn.new)) }
+    ensures undone { HasCleanDisk (state S.Store conn.new) → IsTrue (state S.Store conn.new).is_open
+        → conn.old.in_transaction ≡ false
+        → OnErr result
+        (((state S.Store conn.new).now ≡ (state S.Store conn.old).now)
+        × ((state S.Store conn.new).committed ≡ (state S.Store conn.old).committed)) }
     ensures crash { Survives (state S.Store conn.old) (state S.Store conn.new) (λ _. ⊥) }
 {
     // With no transaction open what it shows is committed, by this call's contract.
@@ -102,9 +111,13 @@ fn is_version(rows: &[Row], number: i64) -> bool
 ///
 /// None where a table of version 1 is missing, where `format` has no such row, and where that cannot be read.
 pub fn found_version<S: Alter>(conn: &mut Connection<S>) -> Option<i64>
-    ensures version { HasCleanDisk (state S.Store conn.new) → IfSome result (λ version. IsEither (state S.Store conn.old).now.schema → versions (state S.Store conn.old).now ≡ Int version ∷ []) }
+    ensures version { HasCleanDisk (state S.Store conn.new)
+        → IfSome result
+        (λ version. IsEither (state S.Store conn.old).now.schema
+        → versions (state S.Store conn.old).now ≡ Int version ∷ []) }
     ensures none { has_all (state S.Store conn.old).now.schema ≡ false → (result ≡ None) × (conn.new ≡ conn.old) }
-    ensures same { HasCleanDisk (state S.Store conn.new) → OnSome result (IsUnchanged (state S.Store conn.old) (state S.Store conn.new)) }
+    ensures same { HasCleanDisk (state S.Store conn.new)
+        → OnSome result (IsUnchanged (state S.Store conn.old) (state S.Store conn.new)) }
     ensures crash { Survives (state S.Store conn.old) (state S.Store conn.new) (λ _. ⊥) }
 {
     if !has_all(conn) {
@@ -118,23 +131,43 @@ pub fn found_version<S: Alter>(conn: &mut Connection<S>) -> Option<i64>
 
 /// Whether the tables and the one row of `format` are there, in version 2 once it answers: version 1 is made into it.
 ///
-/// Where it answers that they are not there, nothing changes. If tables of our names were made by our statements, nor does
-/// anything where they are version 2.
+/// Where it answers that they are not there, nothing changes. If tables of our names were made by our statements, nor
+/// does anything where they are version 2.
 pub fn open_tables<S: Alter>(conn: &mut Connection<S>) -> Result<bool, Error>
-    ensures there { HasCleanDisk (state S.Store conn.new) → IfOk result (λ there. AreOurs (state S.Store conn.old).now.schema → IsTrue there ↔ (IsFirst (state S.Store conn.old).now ⊎ IsSecond (state S.Store conn.old).now)) }
+    ensures there { HasCleanDisk (state S.Store conn.new)
+        → IfOk result
+        (λ there. AreOurs (state S.Store conn.old).now.schema
+        → IsTrue there ↔ (IsFirst (state S.Store conn.old).now ⊎ IsSecond (state S.Store conn.old).now)) }
     ensures tables { IfOk result (λ there. IsTrue there → IsTrue (has_all (state S.Store conn.old).now.schema)) }
-    ensures opened { HasCleanDisk (state S.Store conn.new) → IfOk result (λ there. IsTrue there → IsTrue (state S.Store conn.new).is_open) }
+    ensures opened { HasCleanDisk (state S.Store conn.new)
+        → IfOk result (λ there. IsTrue there → IsTrue (state S.Store conn.new).is_open) }
     ensures none { has_all (state S.Store conn.old).now.schema ≡ false → (result ≡ Ok false) × (conn.new ≡ conn.old) }
     // Where they are not there, nothing changes, whatever is.
-    ensures untouched { HasCleanDisk (state S.Store conn.new) → IfOk result (λ there. there ≡ false → ((state S.Store conn.new).now ≡ (state S.Store conn.old).now) × ((state S.Store conn.new).committed ≡ (state S.Store conn.old).committed)) }
+    ensures untouched { HasCleanDisk (state S.Store conn.new)
+        → IfOk result
+        (λ there. there ≡ false
+        → ((state S.Store conn.new).now ≡ (state S.Store conn.old).now)
+        × ((state S.Store conn.new).committed ≡ (state S.Store conn.old).committed)) }
     // Version 1 is made into version 2.
-    ensures first { HasCleanDisk (state S.Store conn.new) → OnOk result (IsFirstNumbered (state S.Store conn.old).now → Upgrades (state S.Store conn.old).now (state S.Store conn.new).now × ((state S.Store conn.new).committed ≡ (state S.Store conn.new).now)) }
+    ensures first { HasCleanDisk (state S.Store conn.new)
+        → OnOk result
+        (IsFirstNumbered (state S.Store conn.old).now
+        → Upgrades (state S.Store conn.old).now (state S.Store conn.new).now
+        × ((state S.Store conn.new).committed ≡ (state S.Store conn.new).now)) }
     // Whatever else is there stays.
-    ensures same { HasCleanDisk (state S.Store conn.new) → OnOk result (AreOurs (state S.Store conn.old).now.schema → (IsFirst (state S.Store conn.old).now → ⊥) → ((state S.Store conn.new).now ≡ (state S.Store conn.old).now) × ((state S.Store conn.new).committed ≡ (state S.Store conn.old).committed)) }
+    ensures same { HasCleanDisk (state S.Store conn.new)
+        → OnOk result
+        (AreOurs (state S.Store conn.old).now.schema → (IsFirst (state S.Store conn.old).now → ⊥)
+        → ((state S.Store conn.new).now ≡ (state S.Store conn.old).now)
+        × ((state S.Store conn.new).committed ≡ (state S.Store conn.old).committed)) }
     ensures clean { doubt (state S.Store conn.old).is_clean ≤ doubt (state S.Store conn.new).is_clean }
     ensures crash { KeepsOurs S.Store conn.old conn.new }
     // An error of a connection that is still open changes nothing, where no transaction was open.
-    ensures undone { HasCleanDisk (state S.Store conn.new) → IsTrue (state S.Store conn.new).is_open → conn.old.in_transaction ≡ false → OnErr result (((state S.Store conn.new).now ≡ (state S.Store conn.old).now) × ((state S.Store conn.new).committed ≡ (state S.Store conn.old).committed)) }
+    ensures undone { HasCleanDisk (state S.Store conn.new) → IsTrue (state S.Store conn.new).is_open
+        → conn.old.in_transaction ≡ false
+        → OnErr result
+        (((state S.Store conn.new).now ≡ (state S.Store conn.old).now)
+        × ((state S.Store conn.new).committed ≡ (state S.Store conn.old).committed)) }
 {
     if !has_all(conn) {
         return Ok(false);

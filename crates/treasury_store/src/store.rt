@@ -1,6 +1,7 @@
 //! The store of a treasury: a connection whose tables are the rows of a state.
 
-ghost use Rattle.std.specs.Prelude.{◌≡◌, ◌≤◌, ◌⊎◌, ◌↔◌, [], false, None, Some, Err, OnOk, OnErr, IfOk, IfErr, MatchResult, IsTrue};
+ghost use Rattle.std.specs.Prelude.{◌≡◌, ◌≤◌, ◌⊎◌, ◌↔◌, [], false, None, Some, Err, OnOk, OnErr, IfOk, IfErr};
+ghost use Rattle.std.specs.Prelude.{MatchResult, IsTrue};
 ghost use Rattle.sqlite.specs.State.{HasCleanDisk, IsLive, Survives};
 ghost use Rattle.sqlite.specs.Held.{state};
 ghost use Rattle.sqlite.specs.Effect.{Database};
@@ -64,21 +65,32 @@ impl<S: Alter> Store<S> {
     /// A store of the empty state, with tables that are made now.
     ///
     /// It asks that no transaction is open. Where a table has the name of one of ours, but for the case of letters, it
-    /// answers 43, and nothing is changed. After 40, and while the connection is open after 41, its tables are as they were.
+    /// answers 43, and nothing is changed. After 40, and while the connection is open after 41, its tables are as they
+    /// were.
     pub fn create(alloc: Global, mut conn: Connection<S>) -> Result<Self, Refused<S>>
         requires { conn.in_transaction ≡ false }
         // Into an empty database.
         ensures made { IfOk result (λ s. (state S.Store conn).now.schema ≡ no_schema → IsOf S.Store s empty_state) }
         // Beside other tables, none of which has AUTOINCREMENT.
-        ensures beside { IfOk result (λ s. HasCleanDisk (state S.Store s.conn) → has_counter (state S.Store conn).now.schema ≡ false → Beside (state S.Store conn).now (state S.Store s.conn).now) }
-        ensures still_open { IfOk result (λ s. HasCleanDisk (state S.Store s.conn) → IsTrue (state S.Store s.conn).is_open) }
+        ensures beside { IfOk result (λ s. HasCleanDisk (state S.Store s.conn)
+            → has_counter (state S.Store conn).now.schema ≡ false
+            → Beside (state S.Store conn).now (state S.Store s.conn).now) }
+        ensures still_open { IfOk result
+            (λ s. HasCleanDisk (state S.Store s.conn) → IsTrue (state S.Store s.conn).is_open) }
         ensures clean { IfOk result (λ s. doubt (state S.Store conn).is_clean ≤ doubt (state S.Store s.conn).is_clean) }
         ensures fresh { IfOk result (λ s. Knows s empty_state × (s.failed ≡ false)) }
         ensures free { IfOk result (λ s. has_one (state S.Store conn).now.schema ≡ false) }
-        ensures taken { IsTrue (has_one (state S.Store conn).now.schema) → result ≡ Err (record { conn = conn; cause = Cause.Damaged }) }
-        ensures refused { IfErr result (λ r. ((r.cause ≡ Cause.Damaged) × IsTrue (has_one (state S.Store conn).now.schema)) ⊎ ((r.cause ≡ Cause.OutOfMemory) ⊎ (r.cause ≡ Cause.Store))) }
-        ensures unchanged { IfErr result (λ r. HasCleanDisk (state S.Store r.conn) → IsTrue (state S.Store r.conn).is_open → ((state S.Store r.conn).now ≡ (state S.Store conn).now) × ((state S.Store r.conn).committed ≡ (state S.Store conn).committed)) }
-        ensures crash { MatchResult result (λ s. SurvivesMaking S.Store conn s.conn) (λ r. SurvivesMaking S.Store conn r.conn) }
+        ensures taken { IsTrue (has_one (state S.Store conn).now.schema)
+            → result ≡ Err (record { conn = conn; cause = Cause.Damaged }) }
+        ensures refused { IfErr result (λ r.
+            ((r.cause ≡ Cause.Damaged) × IsTrue (has_one (state S.Store conn).now.schema))
+            ⊎ ((r.cause ≡ Cause.OutOfMemory) ⊎ (r.cause ≡ Cause.Store))) }
+        ensures unchanged { IfErr result
+            (λ r. HasCleanDisk (state S.Store r.conn) → IsTrue (state S.Store r.conn).is_open
+            → ((state S.Store r.conn).now ≡ (state S.Store conn).now)
+            × ((state S.Store r.conn).committed ≡ (state S.Store conn).committed)) }
+        ensures crash { MatchResult result (λ s. SurvivesMaking S.Store conn s.conn)
+            (λ r. SurvivesMaking S.Store conn r.conn) }
     {
         match create_tables(&mut conn) {
             Ok(true) => Ok(Store {
@@ -98,36 +110,52 @@ impl<S: Alter> Store<S> {
         }
     }
 
-    /// A store of the state whose rows the tables are. Tables of version 1 are made into those of version 2 first, in one
-    /// transaction, and hold the same rows then.
+    /// A store of the state whose rows the tables are. Tables of version 1 are made into those of version 2 first, in
+    /// one transaction, and hold the same rows then.
     ///
-    /// It asks that no transaction is open. Where neither the tables of version 2 with their one row of `format` are there, nor
-    /// those of version 1 with theirs and without a table `receipt`, it answers 43.
+    /// It asks that no transaction is open. Where neither the tables of version 2 with their one row of `format` are
+    /// there, nor those of version 1 with theirs and without a table `receipt`, it answers 43.
     pub fn open(alloc: Global, mut conn: Connection<S>) -> Result<Self, Refused<S>>
         requires { conn.in_transaction ≡ false }
-        ensures there { IfOk result (λ s. HasCleanDisk (state S.Store s.conn) → AreOurs (state S.Store conn).now.schema → IsFirst (state S.Store conn).now ⊎ IsSecond (state S.Store conn).now) }
+        ensures there { IfOk result (λ s. HasCleanDisk (state S.Store s.conn) → AreOurs (state S.Store conn).now.schema
+            → IsFirst (state S.Store conn).now ⊎ IsSecond (state S.Store conn).now) }
         ensures tables { IfOk result (λ s. IsTrue (has_all (state S.Store conn).now.schema)) }
-        ensures still_open { IfOk result (λ s. HasCleanDisk (state S.Store s.conn) → IsTrue (state S.Store s.conn).is_open) }
+        ensures still_open { IfOk result
+            (λ s. HasCleanDisk (state S.Store s.conn) → IsTrue (state S.Store s.conn).is_open) }
         ensures live { IfOk result (λ s. IsLive (state S.Store s.conn)) }
         // Whichever rows the tables held, in either version: they are the store's.
-        ensures opened { IfOk result (λ s. (state S.Store conn).committed ≡ (state S.Store conn).now → (t : Tables) → HoldsEither (state S.Store conn).now t → TablesAre S.Store s.conn t) }
-        ensures first { IfOk result (λ s. HasCleanDisk (state S.Store s.conn) → IsFirstNumbered (state S.Store conn).now → Upgrades (state S.Store conn).now (state S.Store s.conn).now × ((state S.Store s.conn).committed ≡ (state S.Store s.conn).now)) }
-        ensures same { IfOk result (λ s. HasCleanDisk (state S.Store s.conn) → AreOurs (state S.Store conn).now.schema → (IsFirst (state S.Store conn).now → ⊥)
-            → ((state S.Store s.conn).now ≡ (state S.Store conn).now) × ((state S.Store s.conn).committed ≡ (state S.Store conn).committed)) }
+        ensures opened { IfOk result (λ s. (state S.Store conn).committed ≡ (state S.Store conn).now → (t : Tables)
+            → HoldsEither (state S.Store conn).now t → TablesAre S.Store s.conn t) }
+        ensures first { IfOk result (λ s. HasCleanDisk (state S.Store s.conn) → IsFirstNumbered (state S.Store conn).now
+            → Upgrades (state S.Store conn).now (state S.Store s.conn).now
+            × ((state S.Store s.conn).committed ≡ (state S.Store s.conn).now)) }
+        ensures same { IfOk result (λ s. HasCleanDisk (state S.Store s.conn) → AreOurs (state S.Store conn).now.schema
+            → (IsFirst (state S.Store conn).now → ⊥)
+            → ((state S.Store s.conn).now ≡ (state S.Store conn).now)
+            × ((state S.Store s.conn).committed ≡ (state S.Store conn).committed)) }
         ensures fresh { IfOk result (λ s. (s.numbers ≡ None) × (s.failed ≡ false)) }
         ensures clean { IfOk result (λ s. doubt (state S.Store conn).is_clean ≤ doubt (state S.Store s.conn).is_clean) }
-        ensures none { has_all (state S.Store conn).now.schema ≡ false → result ≡ Err (record { conn = conn; cause = Cause.Damaged }) }
-        ensures refused { IfErr result (λ r. (r.cause ≡ Cause.Damaged) ⊎ ((r.cause ≡ Cause.OutOfMemory) ⊎ (r.cause ≡ Cause.Store))) }
-        ensures damaged { IfErr result (λ r. r.cause ≡ Cause.Damaged → HasCleanDisk (state S.Store r.conn) → (AreOurs (state S.Store conn).now.schema → IsFirst (state S.Store conn).now ⊎ IsSecond (state S.Store conn).now → ⊥)
-            × ((state S.Store r.conn).now ≡ (state S.Store conn).now) × ((state S.Store r.conn).committed ≡ (state S.Store conn).committed)) }
+        ensures none { has_all (state S.Store conn).now.schema ≡ false
+            → result ≡ Err (record { conn = conn; cause = Cause.Damaged }) }
+        ensures refused { IfErr result (λ r.
+            (r.cause ≡ Cause.Damaged) ⊎ ((r.cause ≡ Cause.OutOfMemory) ⊎ (r.cause ≡ Cause.Store))) }
+        ensures damaged { IfErr result (λ r. r.cause ≡ Cause.Damaged → HasCleanDisk (state S.Store r.conn)
+            → (AreOurs (state S.Store conn).now.schema
+            → IsFirst (state S.Store conn).now ⊎ IsSecond (state S.Store conn).now → ⊥)
+            × ((state S.Store r.conn).now ≡ (state S.Store conn).now)
+            × ((state S.Store r.conn).committed ≡ (state S.Store conn).committed)) }
         // After 40, and while the connection is open after 41, its tables are as they were.
-        ensures unchanged { IfErr result (λ r. (r.cause ≡ Cause.Damaged → ⊥) → HasCleanDisk (state S.Store r.conn) → IsTrue (state S.Store r.conn).is_open
-            → ((state S.Store r.conn).now ≡ (state S.Store conn).now) × ((state S.Store r.conn).committed ≡ (state S.Store conn).committed)) }
+        ensures unchanged { IfErr result
+            (λ r. (r.cause ≡ Cause.Damaged → ⊥) → HasCleanDisk (state S.Store r.conn)
+            → IsTrue (state S.Store r.conn).is_open
+            → ((state S.Store r.conn).now ≡ (state S.Store conn).now)
+            × ((state S.Store r.conn).committed ≡ (state S.Store conn).committed)) }
         ensures crash { MatchResult result (λ s. KeepsOurs S.Store conn s.conn) (λ r. KeepsOurs S.Store conn r.conn) }
         // Whatever is left, also behind 41 where the connection is shut, are the rows that were there.
         ensures left { MatchResult result (λ s. LeavesSame S.Store conn s.conn) (λ r. LeavesSame S.Store conn r.conn) }
         // Where they were there as version 1, they are left as version 1 or as version 2.
-        ensures left_first { MatchResult result (λ s. LeavesEitherVersion S.Store conn s.conn) (λ r. LeavesEitherVersion S.Store conn r.conn) }
+        ensures left_first { MatchResult result (λ s. LeavesEitherVersion S.Store conn s.conn)
+            (λ r. LeavesEitherVersion S.Store conn r.conn) }
     {
         match open_tables(&mut conn) {
             Ok(true) => {
@@ -173,23 +201,31 @@ impl<S: Alter> Store<S> {
 
     /// The state whose rows the tables are, read from them and nothing else. The store is of it then.
     ///
-    /// Where the tables are no state's rows, it answers 43, and after that and 40 the store is as it was. After 41 every
-    /// later call answers 42, and changes nothing.
+    /// Where the tables are no state's rows, it answers 43, and after that and 40 the store is as it was. After 41
+    /// every later call answers 42, and changes nothing.
     pub fn load<L: Ledger>(&mut self) -> Result<State<L>, Cause>
         // Of whichever good state the tables are the rows, also those that were opened.
-        ensures ok { IfOk result (λ s. (f : Federation) → IsGoodState f → TablesAre S.Store self.old.conn (rows f) → IsOf S.Store self.new s × (HasCleanDisk (state S.Store self.new.conn) → s ≡ f)) }
+        ensures ok { IfOk result (λ s. (f : Federation) → IsGoodState f → TablesAre S.Store self.old.conn (rows f)
+            → IsOf S.Store self.new s × (HasCleanDisk (state S.Store self.new.conn) → s ≡ f)) }
         ensures known { IfOk result (λ s. Knows self.new s) }
         ensures good { IfOk result IsGoodState }
-        ensures still_open { OnOk result (HasCleanDisk (state S.Store self.new.conn) → IsTrue (state S.Store self.new.conn).is_open) }
+        ensures still_open { OnOk result
+            (HasCleanDisk (state S.Store self.new.conn) → IsTrue (state S.Store self.new.conn).is_open) }
         // No state in memory has a lock day that is not in 32 bits.
-        ensures damaged { result ≡ Err Cause.Damaged → HasCleanDisk (state S.Store self.new.conn) → (f : Federation) → IsGoodState f → HasShortLocks f → TablesAre S.Store self.old.conn (rows f) → ⊥ }
+        ensures damaged { result ≡ Err Cause.Damaged → HasCleanDisk (state S.Store self.new.conn) → (f : Federation)
+            → IsGoodState f → HasShortLocks f → TablesAre S.Store self.old.conn (rows f) → ⊥ }
         // What is loaded has the rows that our tables show, whatever they are, and 43 says that no such state has them.
-        ensures shown { IfOk result (λ s. HasCleanDisk (state S.Store self.new.conn) → (state S.Store self.old.conn).now.schema ≡ store_schema → ShowsTables (state S.Store self.old.conn).now (rows s)) }
-        ensures unfit { result ≡ Err Cause.Damaged → HasCleanDisk (state S.Store self.new.conn) → (f : Federation) → IsGoodState f → HasShortLocks f → ShowsTables (state S.Store self.old.conn).now (rows f) → ⊥ }
+        ensures shown { IfOk result (λ s. HasCleanDisk (state S.Store self.new.conn)
+            → (state S.Store self.old.conn).now.schema ≡ store_schema
+            → ShowsTables (state S.Store self.old.conn).now (rows s)) }
+        ensures unfit { result ≡ Err Cause.Damaged → HasCleanDisk (state S.Store self.new.conn) → (f : Federation)
+            → IsGoodState f → HasShortLocks f → ShowsTables (state S.Store self.old.conn).now (rows f) → ⊥ }
         ensures err { OnErr result ((f : Federation) → IsOf S.Store self.old f → IsOf S.Store self.new f) }
-        ensures tables { OnErr result ((t : Tables) → TablesAre S.Store self.old.conn t → TablesAre S.Store self.new.conn t) }
+        ensures tables { OnErr result ((t : Tables) → TablesAre S.Store self.old.conn t
+            → TablesAre S.Store self.new.conn t) }
         // Whatever is in our tables.
-        ensures unchanged { HasCleanDisk (state S.Store self.new.conn) → IsTrue (state S.Store self.new.conn).is_open → StaysAsIs (state S.Store self.old.conn) (state S.Store self.new.conn) }
+        ensures unchanged { HasCleanDisk (state S.Store self.new.conn) → IsTrue (state S.Store self.new.conn).is_open
+            → StaysAsIs (state S.Store self.old.conn) (state S.Store self.new.conn) }
         ensures unknown { OnErr result (self.new.numbers ≡ self.old.numbers) }
         ensures answers { self.old.failed ≡ false → AnswersState result self.new.failed }
         ensures closed { IsTrue self.old.failed → (result ≡ Err Cause.Closed) × (self.new ≡ self.old) }
@@ -216,21 +252,25 @@ impl<S: Alter> Store<S> {
 
     /// Writes what a decided command adds, in one transaction.
     ///
-    /// It asks that the store knows a state, and that what is added joins it: the state with it is good, and each receipt of a part
-    /// is of a transfer that is there. A store of the one is then of
-    /// the other, or it answers 40 or 41 and is of the old one. After 41 every later call answers 42, and changes nothing. What a stop or a
-    /// crash leaves are the rows of one of the two.
+    /// It asks that the store knows a state, and that what is added joins it: the state with it is good, and each
+    /// receipt of a part is of a transfer that is there. A store of the one is then of the other, or it answers 40 or
+    /// 41 and is of the old one. After 41 every later call answers 42, and changes nothing. What a stop or a crash
+    /// leaves are the rows of one of the two.
     pub fn commit(&mut self, delta: &Delta) -> Result<(), Cause>
         requires { (f : Federation) × Knows self.old f × Joins f delta.now }
-        ensures ok { OnOk result ((f : Federation) → IsOf S.Store self.old f → Joins f delta.now → IsOf S.Store self.new (joined f delta.now)) }
+        ensures ok { OnOk result ((f : Federation) → IsOf S.Store self.old f → Joins f delta.now
+            → IsOf S.Store self.new (joined f delta.now)) }
         ensures knows { OnOk result ((f : Federation) → Knows self.old f → Knows self.new (joined f delta.now)) }
-        ensures still_open { OnOk result (HasCleanDisk (state S.Store self.new.conn) → IsTrue (state S.Store self.new.conn).is_open) }
+        ensures still_open { OnOk result
+            (HasCleanDisk (state S.Store self.new.conn) → IsTrue (state S.Store self.new.conn).is_open) }
         ensures err { OnErr result ((f : Federation) → IsOf S.Store self.old f → IsOf S.Store self.new f) }
         ensures known { OnErr result (self.new.numbers ≡ self.old.numbers) }
         ensures answers { self.old.failed ≡ false → Answers result self.new.failed }
         ensures closed { IsTrue self.old.failed → (result ≡ Err Cause.Closed) × (self.new ≡ self.old) }
-        ensures crash { Survives (state S.Store self.old.conn) (state S.Store self.new.conn) (λ trees. (db : Database) × (trees ≡ db.trees)
-            × ((f : Federation) → IsOf S.Store self.old f → Joins f delta.now → Holds (state S.Store self.old.conn).now (rows f) → Holds db (rows (joined f delta.now)))) }
+        ensures crash { Survives (state S.Store self.old.conn) (state S.Store self.new.conn)
+            (λ trees. (db : Database) × (trees ≡ db.trees)
+            × ((f : Federation) → IsOf S.Store self.old f → Joins f delta.now
+            → Holds (state S.Store self.old.conn).now (rows f) → Holds db (rows (joined f delta.now)))) }
         ensures left { LeavesJoined S.Store self.old self.new delta.now }
     {
         if self.failed {

@@ -6,8 +6,8 @@ use std::alloc::Global;
 use std::process::Abort;
 use treasury_core::mark_of;
 
-// Columns: a journal of one transaction, its number among those of its text in a file, its mark. The hashes are by sha256sum, of the
-// text without its mark.
+// Columns: a journal of one transaction, its number among those of its text in a file, its mark. The hashes are by
+// sha256sum, of the text without its mark.
 const MARKS: &[(&str, usize, &str)] = &[
     (
         "2024-01-05 note\n",

@@ -1,5 +1,5 @@
-//! `treasury_store`: what no word of the program leads to, over databases in memory. What commands leave in each table, and
-//! which tables are damaged, is in the sessions.
+//! `treasury_store`: what no word of the program leads to, over databases in memory. What commands leave in each table,
+//! and which tables are damaged, is in the sessions.
 
 use money_core::Text;
 use sqlite::types::ValueRef;

@@ -35,8 +35,8 @@ fn two_assertions(rt: &impl Abort, alloc: Global) -> Vec<Entry> {
     moves(rt, alloc, "income:dues", ROWS)
 }
 
-/// What fails where, of the assertions of the entries and a new one, that is examined alone which a check names; and how
-/// many were examined.
+/// What fails where, of the assertions of the entries and a new one, that is examined alone which a check names; and
+/// how many were examined.
 fn examined_alone(
     rt: &impl Abort,
     ledger: &DayLedger,

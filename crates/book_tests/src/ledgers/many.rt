@@ -11,8 +11,8 @@ use std::process::Abort;
 /// An assertion of the 10th that fails: the entry, the leg, the commodity, what is asserted, what is found.
 type Failing = (usize, usize, u16, i64, i64);
 
-/// New entries before a statement (day, account, commodity, quantity); the kind of the statement's assertions, the first
-/// amount and the step; the entry that asserts a cent more; what fails.
+/// New entries before a statement (day, account, commodity, quantity); the kind of the statement's assertions, the
+/// first amount and the step; the entry that asserts a cent more; what fails.
 type Row = (
     &'static [(i32, &'static str, u16, i64)],
     (ClaimKind, i64, i64),
@@ -39,8 +39,8 @@ fn push_statement(
     }
 }
 
-/// Asserts what both ledgers answer about a statement behind other new entries, where the book has a euro of the 10th with
-/// an assertion of it, and seven cents of the 20th.
+/// Asserts what both ledgers answer about a statement behind other new entries, where the book has a euro of the 10th
+/// with an assertion of it, and seven cents of the 20th.
 fn assert_statement(rt: &impl Abort, alloc: Global, (first, assertions, wrong, failing): Row) {
     const OLD: &[(i32, i64, Option<i64>)] = &[(10, 100, Some(100)), (20, 7, None)];
     let old = moves(rt, alloc, "income", OLD);
@@ -66,8 +66,8 @@ fn assert_statements(rt: &impl Abort, alloc: Global, rows: &[Row]) {
     }
 }
 
-// The bank has 103 cents at the assertion of the first entry, and the 40th is the book's 42nd. Behind new entries of the
-// 9th the book's own assertion is judged too, before those of the statement.
+// The bank has 103 cents at the assertion of the first entry, and the 40th is the book's 42nd. Behind new entries of
+// the 9th the book's own assertion is judged too, before those of the statement.
 #[test]
 fn a_statement_of_one_day_asserts_its_running_balance(rt: HostRuntime) {
     const ROWS: &[Row] = &[
@@ -134,8 +134,8 @@ fn sum_over(sums: &[i64; 6], account: &str, kind: ClaimKind) -> i64 {
     sum
 }
 
-/// An entry of some cents from one account to another, once in fifty of dollars too, with an assertion on its first leg:
-/// of what is there by the sums, once in a hundred of a cent more.
+/// An entry of some cents from one account to another, once in fifty of dollars too, with an assertion on its first
+/// leg: of what is there by the sums, once in a hundred of a cent more.
 fn draw_asserting(
     rt: &impl Abort,
     alloc: Global,
@@ -182,7 +182,8 @@ fn draw_day_of(
     }
 }
 
-/// Both ledgers answer the same about 60 entries of a day and 30 of the next, behind a book of some entries of the first.
+/// Both ledgers answer the same about 60 entries of a day and 30 of the next, behind a book of some entries of the
+/// first.
 fn agree_on_days(rt: &impl Abort, alloc: Global, state: &mut u64) {
     let mut sums = [0; 6];
     let mut old = Vec::new(alloc);

@@ -63,8 +63,8 @@ pub fn push_header(alloc: Global, txn: &Txn, out: &mut Vec<u8>) -> Result<(), Ca
     Ok(())
 }
 
-/// Whether a terminal would act on the character, and not show it: control characters but the tab, the ends of lines and
-/// paragraphs, a byte order mark, and the marks that change the direction of a text.
+/// Whether a terminal would act on the character, and not show it: control characters but the tab, the ends of lines
+/// and paragraphs, a byte order mark, and the marks that change the direction of a text.
 fn is_hidden(code: u32) -> bool {
     match code {
         0x09 => false,

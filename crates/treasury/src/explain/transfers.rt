@@ -148,7 +148,8 @@ fn transfer_of<'a, L: Ledger>(state: &'a State<L>, request: &Request) -> Option<
     None
 }
 
-/// Appends what is held of the transfer that a request is on; by the cause also what is held under its key, or what is left.
+/// Appends what is held of the transfer that a request is on; by the cause also what is held under its key, or what is
+/// left.
 pub fn push_transfer_of<L: Ledger>(
     alloc: Global,
     state: &State<L>,

@@ -1,4 +1,5 @@
-//! New entries with the day and the legs of a held one that has another text: an edited transaction may have come again.
+//! New entries with the day and the legs of a held one that has another text: an edited transaction may have come
+//! again.
 
 use crate::explain::pieces::{push_header, push_number};
 use crate::explain::push_origin;
@@ -67,8 +68,8 @@ fn holders_of(
     Ok(holders)
 }
 
-/// Whether a new record may be a held one that was edited. Two that have marks of their own are two; so are two unmarked ones
-/// of the same text.
+/// Whether a new record may be a held one that was edited. Two that have marks of their own are two; so are two
+/// unmarked ones of the same text.
 fn may_be_same(alloc: Global, styles: &Styles, held: &Record, new: &Record) -> Result<bool, Cause> {
     if is_marked(held) || is_marked(new) {
         return Ok(!(is_marked(held) && is_marked(new)));

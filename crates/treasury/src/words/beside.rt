@@ -27,8 +27,8 @@ pub enum Look {
     Beside,
 }
 
-/// What a file of `size` bytes is whose first bytes are `head`, at most 16 of them, beside a log of `log` bytes, 0 where
-/// there is none.
+/// What a file of `size` bytes is whose first bytes are `head`, at most 16 of them, beside a log of `log` bytes, 0
+/// where there is none.
 pub fn judge_look(size: u64, head: &[u8], log: Option<u64>) -> Look
     ensures absent { result ≡ Look.Absent ↔ size ≡ 0 }
     ensures foreign { result ≡ Look.Foreign ↔ (size ≢ 0) × (head.now ≢ magic) }
@@ -113,7 +113,8 @@ fn head_of(rt: &HostRuntime, path: &str) -> Result<Vec<u8>, Unopened> {
     }
 }
 
-/// What a file of `size` bytes is, by a look at its first bytes and at its log: 41 where it does not begin as a database.
+/// What a file of `size` bytes is, by a look at its first bytes and at its log: 41 where it does not begin as a
+/// database.
 pub fn look_beside(rt: &HostRuntime, path: &str, size: u64) -> Result<Look, Unopened> {
     let head = match head_of(rt, path) {
         Ok(head) => head,

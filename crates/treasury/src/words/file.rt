@@ -12,7 +12,8 @@ ghost use Rattle.sqlite_store.specs.declared.store.FileStore.{FileStore};
 ghost use Rattle.treasury.specs.declared.words.left.Left.TheVariants.{Untouched, Closed};
 ghost use Rattle.treasury.specs.Left.{KeepsFile};
 ghost use Rattle.treasury.specs.OverFile.{MakesOver, most_journal};
-ghost use Rattle.treasury.specs.Started.{IsOpenedOn, StartsOn, IsStarted, IsClosedAs, IsUnclosed, unopened_as, IsLeftOpen, IsLeftClosed, IsLeftRefused, IsAsked};
+ghost use Rattle.treasury.specs.Started.{IsOpenedOn, StartsOn, IsStarted, IsClosedAs, IsUnclosed, unopened_as};
+ghost use Rattle.treasury.specs.Started.{IsLeftOpen, IsLeftClosed, IsLeftRefused, IsAsked};
 
 use crate::words::beside::{Look, has_log, look_beside};
 use crate::words::left::{Left, close, leave};
@@ -90,8 +91,8 @@ pub fn read_at_most<R: Read + Drop>(alloc: Global, reader: R, most: u64) -> Resu
     }
 }
 
-/// The bytes of a journal, from the reader of its file: as many as a text may have, and one more, so that a longer one is
-/// seen to be. 45 where it cannot be read.
+/// The bytes of a journal, from the reader of its file: as many as a text may have, and one more, so that a longer one
+/// is seen to be. 45 where it cannot be read.
 pub fn read_journal<R: Read + Drop>(alloc: Global, reader: R) -> Result<Vec<u8>, Cause>
     ensures bytes { IfOk result (λ bytes. IfSome (R.remaining reader) (λ had. bytes.items ≡ take most_journal had)) }
     ensures refused { IfErr result (λ cause. (cause ≡ Cause.ReadFault) ⊎ (cause ≡ Cause.OutOfMemory)) }
@@ -247,7 +248,8 @@ fn left_closed<D: Disk + Drop>(conn: Connection<FileStore<D>>) -> Left<D>
     }
 }
 
-/// What is left of a database whose tables are not opened. Behind a call that failed version 1 of them may be version 2.
+/// What is left of a database whose tables are not opened. Behind a call that failed version 1 of them may be version
+/// 2.
 fn left_refused<D: Disk + Drop>(
     conn: Connection<FileStore<D>>,
     cause: Cause,
@@ -267,7 +269,8 @@ fn left_refused<D: Disk + Drop>(
     }
 }
 
-/// What is left of a database whose rows are no state. If its opening made version 2 of its tables, they are copied into the file.
+/// What is left of a database whose rows are no state. If its opening made version 2 of its tables, they are copied
+/// into the file.
 fn left_unstarted<D: Disk + Drop>(conn: Connection<FileStore<D>>, is_upgraded: bool) -> Left<D>
     ensures { IsLeftOpen conn result ⊎ IsLeftClosed conn result }
 {
@@ -285,7 +288,8 @@ fn start_on<D: Disk + Drop>(
     is_alone: bool,
 ) -> Result<Treasury<FileStore<D>>, Unserved<D>>
     requires { conn.in_transaction ≡ false }
-    ensures { MatchResult result (StartsOn D.Disk conn) (λ r. (image : Image) → IsOpenedOn D.Disk image conn → KeepsFile D.Disk image r.left) }
+    ensures { MatchResult result (StartsOn D.Disk conn)
+        (λ r. (image : Image) → IsOpenedOn D.Disk image conn → KeepsFile D.Disk image r.left) }
 {
     match check_tables(alloc, conn.schema(), is_alone) {
         Ok(()) => {}
@@ -312,7 +316,8 @@ fn start_on<D: Disk + Drop>(
 
 /// A database whose tables are not opened.
 fn without_tables<D: Disk + Drop>(refused: Refused<FileStore<D>>, is_first: bool) -> Unserved<D>
-    ensures { (conn : Held (FileStore D D.Disk)) × IsAsked D.Disk refused.conn refused.cause conn × IsLeftRefused conn refused.cause is_first result.left }
+    ensures { (conn : Held (FileStore D D.Disk)) × IsAsked D.Disk refused.conn refused.cause conn
+        × IsLeftRefused conn refused.cause is_first result.left }
 {
     let Refused { mut conn, cause } = refused;
     let why = unopened_tables(&mut conn, cause);
@@ -331,7 +336,8 @@ pub fn open_treasury<S: Start>(
     path: &str,
     start: S,
 ) -> Result<FileTreasury<S>, Unserved<FileFrom<S>>>
-    ensures { MatchResult result (IsStarted ⟦<FileFrom<S> as Disk>⟧ (image_at S.Start)) (λ r. KeepsFile ⟦<FileFrom<S> as Disk>⟧ (image_at S.Start) r.left) }
+    ensures { MatchResult result (IsStarted ⟦<FileFrom<S> as Disk>⟧ (image_at S.Start))
+        (λ r. KeepsFile ⟦<FileFrom<S> as Disk>⟧ (image_at S.Start) r.left) }
 {
     let is_alone = match look_at_treasury(rt, path) {
         Ok(is_alone) => is_alone,
@@ -382,7 +388,8 @@ fn make_on<D: Disk + Drop>(
     conn: Connection<FileStore<D>>,
 ) -> Result<Files<D>, Unserved<D>>
     requires { conn.in_transaction ≡ false }
-    ensures { (image : Image) → IsOpenedOn D.Disk image conn → MatchResult result (λ files. MakesOver D.Disk image (Closed files)) (λ r. KeepsFile D.Disk image r.left) }
+    ensures { (image : Image) → IsOpenedOn D.Disk image conn
+        → MatchResult result (λ files. MakesOver D.Disk image (Closed files)) (λ r. KeepsFile D.Disk image r.left) }
 {
     let store = match Store::create(alloc, conn) {
         Ok(store) => store,
@@ -399,14 +406,15 @@ fn make_on<D: Disk + Drop>(
 
 /// Makes the tables of a new treasury in the file, which is made where it is not there.
 ///
-/// It answers 43 where the file has such tables already; 41 where it cannot be opened as a database, or a log stands beside
-/// it; or 40. Whatever refuses it, the file holds the rows that it held.
+/// It answers 43 where the file has such tables already; 41 where it cannot be opened as a database, or a log stands
+/// beside it; or 40. Whatever refuses it, the file holds the rows that it held.
 pub fn make_tables<S: Start>(
     rt: &HostRuntime,
     path: &str,
     start: S,
 ) -> Result<Files<FileFrom<S>>, Unserved<FileFrom<S>>>
-    ensures { MatchResult result (λ files. MakesOver ⟦<FileFrom<S> as Disk>⟧ (image_at S.Start) (Closed files)) (λ r. KeepsFile ⟦<FileFrom<S> as Disk>⟧ (image_at S.Start) r.left) }
+    ensures { MatchResult result (λ files. MakesOver ⟦<FileFrom<S> as Disk>⟧ (image_at S.Start) (Closed files))
+        (λ r. KeepsFile ⟦<FileFrom<S> as Disk>⟧ (image_at S.Start) r.left) }
 {
     match look_at_new(rt, path) {
         Ok(()) => {}
@@ -418,7 +426,8 @@ pub fn make_tables<S: Start>(
     }
 }
 
-/// Closes the database of a treasury, so that its file alone is a whole copy. Where that fails, it is left with its log.
+/// Closes the database of a treasury, so that its file alone is a whole copy. Where that fails, it is left with its
+/// log.
 pub fn close_treasury<D: Disk + Drop>(
     treasury: Treasury<FileStore<D>>,
 ) -> Result<Files<D>, FileStore<D>>

@@ -4,7 +4,8 @@ ghost use Rattle.std.specs.Prelude.{◌≡◌, ◌∷◌, [], Some, false, codes
 ghost use Rattle.clap.specs.Walk.{rule_of};
 ghost use Rattle.clap.specs.Simple.{app_of, new_app};
 ghost use Rattle.clap.specs.declared.builder.command.Command.TheViews.{out-Command};
-ghost use Rattle.treasury.specs.Known.{known, word, option, optional, operand, number, branch, day, account, id, begins, months, transfers, ends};
+ghost use Rattle.treasury.specs.Known.{known, word, option, optional, operand, number, branch, day, account, id};
+ghost use Rattle.treasury.specs.Known.{begins, months, transfers, ends};
 ghost use Rattle.treasury.specs.Knowing.{IsWord, HasMore};
 
 use clap::{Arg, Command, value_parser};
@@ -315,7 +316,8 @@ fn sending<'a>(alloc: Global) -> Result<Command<'a>, AllocError>
 
 /// The word `dispatch`.
 fn dispatch<'a>(alloc: Global) -> Result<Command<'a>, AllocError>
-    ensures { IfOk result (IsWord (codes "dispatch") (id ∷ option (codes "from") ∷ option (codes "to") ∷ day ∷ option (codes "amount") ∷ account ∷ [])) }
+    ensures { IfOk result (IsWord (codes "dispatch")
+        (id ∷ option (codes "from") ∷ option (codes "to") ∷ day ∷ option (codes "amount") ∷ account ∷ [])) }
 {
     sending(alloc)?
         .arg(day_option(alloc))?
@@ -335,7 +337,8 @@ fn coming<'a>(alloc: Global) -> Result<Command<'a>, AllocError>
 
 /// The word `receive`.
 fn receive<'a>(alloc: Global) -> Result<Command<'a>, AllocError>
-    ensures { IfOk result (IsWord (codes "receive") (id ∷ branch ∷ day ∷ account ∷ optional (codes "part") ∷ optional (codes "amount") ∷ [])) }
+    ensures { IfOk result (IsWord (codes "receive")
+        (id ∷ branch ∷ day ∷ account ∷ optional (codes "part") ∷ optional (codes "amount") ∷ [])) }
 {
     coming(alloc)?
         .arg(account_option(alloc, "The account that is paid"))?
@@ -361,7 +364,8 @@ fn lock<'a>(alloc: Global) -> Result<Command<'a>, AllocError>
 
 /// The word `close`.
 fn close<'a>(alloc: Global) -> Result<Command<'a>, AllocError>
-    ensures { IfOk result (IsWord (codes "close") (branch ∷ day ∷ optional (codes "accounts") ∷ optional (codes "into") ∷ [])) }
+    ensures { IfOk result (IsWord (codes "close")
+        (branch ∷ day ∷ optional (codes "accounts") ∷ optional (codes "into") ∷ [])) }
 {
     word(alloc, "close", ABOUT_CLOSE, EXAMPLE_CLOSE)?
         .arg(branch_option(alloc))?
@@ -425,7 +429,8 @@ fn requests_option<'a>(alloc: Global) -> Arg<'a>
 
 /// The word `serve`.
 fn serve<'a>(alloc: Global) -> Result<Command<'a>, AllocError>
-    ensures { IfOk result (IsWord (codes "serve") (number (codes "port") 65535 ∷ number (codes "requests") 4294967295 ∷ [])) }
+    ensures { IfOk result (IsWord (codes "serve")
+        (number (codes "port") 65535 ∷ number (codes "requests") 4294967295 ∷ [])) }
 {
     word(alloc, "serve", ABOUT_SERVE, EXAMPLE_SERVE)?
         .arg(port_option(alloc))?
@@ -445,7 +450,8 @@ fn run<'a>(alloc: Global) -> Command<'a>
 /// With the words that lock a branch.
 fn with_locks<'a>(alloc: Global, command: Command<'a>) -> Result<Command<'a>, AllocError>
     ensures { IfOk result (HasMore (word (codes "lock") (branch ∷ day ∷ [])
-        ∷ word (codes "close") (branch ∷ day ∷ optional (codes "accounts") ∷ optional (codes "into") ∷ []) ∷ []) command.entry) }
+        ∷ word (codes "close") (branch ∷ day ∷ optional (codes "accounts") ∷ optional (codes "into") ∷ []) ∷ [])
+        command.entry) }
 {
     command.subcommand(lock(alloc)?)?.subcommand(close(alloc)?)
 }

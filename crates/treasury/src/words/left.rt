@@ -1,5 +1,5 @@
-//! What a word leaves of the files that it is over. It is a value that is handed back: what is said of it is said of these files,
-//! and they stay locked until `main` drops them.
+//! What a word leaves of the files that it is over. It is a value that is handed back: what is said of it is said of
+//! these files, and they stay locked until `main` drops them.
 
 ghost use Rattle.std.specs.Prelude.{◌≡◌, IfOk, IfErr};
 ghost use Rattle.sqlite_wal.specs.Reads.{AreClean};
@@ -35,8 +35,8 @@ pub(crate) fn leave<D: Disk + Drop>(conn: Connection<FileStore<D>>) -> FileStore
     conn.into_store()
 }
 
-/// Closes a connection, so that the file alone is a whole copy: the log is copied into it. Where that fails, the files are
-/// handed back with the log.
+/// Closes a connection, so that the file alone is a whole copy: the log is copied into it. Where that fails, the files
+/// are handed back with the log.
 pub(crate) fn close<D: Disk + Drop>(
     conn: Connection<FileStore<D>>,
 ) -> Result<Files<D>, FileStore<D>>

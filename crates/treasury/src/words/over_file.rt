@@ -12,7 +12,8 @@ ghost use Rattle.treasury_api.specs.Left.{LeavesRequest};
 ghost use Rattle.treasury.specs.declared.words.left.Left.TheVariants.{Untouched};
 ghost use Rattle.treasury.specs.Left.{KeepsFile};
 ghost use Rattle.treasury.specs.Word.{SaysTo};
-ghost use Rattle.treasury.specs.OverFile.{IsRefusedBy, IsFileRefused, SaysToInit, SaysOver, SaysToJournal, SaysToImport, SaysToForm, SaysToWord};
+ghost use Rattle.treasury.specs.OverFile.{IsRefusedBy, IsFileRefused, SaysToInit, SaysOver, SaysToJournal};
+ghost use Rattle.treasury.specs.OverFile.{SaysToImport, SaysToForm, SaysToWord};
 ghost use Rattle.treasury.specs.Started.{spoken, IsRoom, IsStarted, refusal_of, IsClosedOrShut};
 
 use crate::explain::{explain, sentence};
@@ -162,8 +163,8 @@ fn left_unasked<D: Disk + Drop>(treasury: Treasury<FileStore<D>>) -> Left<D>
 
 /// Answers the request of a word on the treasury of a file, and closes the file.
 ///
-/// Where it cannot be closed, it answers 41: what the request asks for is done then, or it is not. Where there is no memory
-/// to say so, nothing is asked, and it answers 40.
+/// Where it cannot be closed, it answers 41: what the request asks for is done then, or it is not. Where there is no
+/// memory to say so, nothing is asked, and it answers 40.
 fn answer_on_file<D: Disk + Drop>(
     alloc: Global,
     room: Vec<u8>,
@@ -174,7 +175,8 @@ fn answer_on_file<D: Disk + Drop>(
 ) -> Answered<D>
     requires room { IsRoom room }
     requires days { HasDayNumbers request.now }
-    ensures says { (image : Image) → IsStarted D.Disk image treasury → SaysOver D.Disk image request.now (spoken result.said) result.left }
+    ensures says { (image : Image) → IsStarted D.Disk image treasury
+        → SaysOver D.Disk image request.now (spoken result.said) result.left }
     // What is handed back is what was closed, or could not be.
     ensures touched { IsClosedOrShut result.left }
 {
@@ -259,7 +261,8 @@ fn answer_journal<R: Read + Drop, S: Start>(
     start: S,
 ) -> Answered<FileFrom<S>>
     requires { IsRoom room }
-    ensures { SaysToJournal ⟦<FileFrom<S> as Disk>⟧ (image_at S.Start) branch.now (R.remaining reader) (spoken result.said) result.left }
+    ensures { SaysToJournal ⟦<FileFrom<S> as Disk>⟧ (image_at S.Start) branch.now (R.remaining reader)
+        (spoken result.said) result.left }
 {
     let alloc = rt.alloc();
     let bytes = match read_journal(alloc, reader) {
@@ -284,7 +287,8 @@ fn answer_import<S: Start>(
     start: S,
 ) -> Answered<FileFrom<S>>
     requires { IsRoom room }
-    ensures { SaysToImport ⟦<FileFrom<S> as Disk>⟧ (image_at S.Start) (rows_of (found_of values.now)) (spoken result.said) result.left }
+    ensures { SaysToImport ⟦<FileFrom<S> as Disk>⟧ (image_at S.Start) (rows_of (found_of values.now))
+        (spoken result.said) result.left }
 {
     let alloc = rt.alloc();
     let Some(branch) = value_of(values, "branch") else {
@@ -312,7 +316,8 @@ fn answer_form<S: Start>(
     start: S,
 ) -> Answered<FileFrom<S>>
     requires { IsRoom room }
-    ensures { SaysToForm ⟦<FileFrom<S> as Disk>⟧ (image_at S.Start) word.now (rows_of (found_of values.now)) (spoken result.said) result.left }
+    ensures { SaysToForm ⟦<FileFrom<S> as Disk>⟧ (image_at S.Start) word.now (rows_of (found_of values.now))
+        (spoken result.said) result.left }
 {
     let alloc = rt.alloc();
     let Some(form) = form_of_word(word, values) else {
@@ -345,7 +350,8 @@ fn answer_init<S: Start>(
 
 /// Answers a word over a file, by its values. `start` stands for what the file holds.
 ///
-/// The faults come in this order: 44; for `import` the journal's 45; the database's 40, 41, 43; then as to a line of `run`.
+/// The faults come in this order: 44; for `import` the journal's 45; the database's 40, 41, 43; then as to a line of
+/// `run`.
 pub fn answer_over_file<S: Start>(
     rt: &HostRuntime,
     room: Vec<u8>,
@@ -354,7 +360,8 @@ pub fn answer_over_file<S: Start>(
     start: S,
 ) -> Answered<FileFrom<S>>
     requires { IsRoom room }
-    ensures { SaysToWord ⟦<FileFrom<S> as Disk>⟧ (image_at S.Start) word.now (rows_of (found_of values.now)) (spoken result.said) result.left }
+    ensures { SaysToWord ⟦<FileFrom<S> as Disk>⟧ (image_at S.Start) word.now (rows_of (found_of values.now))
+        (spoken result.said) result.left }
 {
     let Some(path) = value_of(values, "db") else {
         return before(lacking(rt.alloc(), room, word));

@@ -6,7 +6,8 @@ use libc::types::pollfd;
 /// The descriptor of standard output.
 const OUTPUT: i32 = 1;
 
-/// Whether standard output is a pipe whose reader has gone. What was not written is not missed then, as with other tools.
+/// Whether standard output is a pipe whose reader has gone. What was not written is not missed then, as with other
+/// tools.
 pub fn is_unread() -> bool {
     let mut asked = [pollfd {
         fd: OUTPUT,

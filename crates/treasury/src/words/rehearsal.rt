@@ -1,5 +1,5 @@
-//! An opening that is tried on copies in memory first, where a log stands beside the file. So a file that is refused for what
-//! the log makes of it stays as it is, and so does the log.
+//! An opening that is tried on copies in memory first, where a log stands beside the file. So a file that is refused
+//! for what the log makes of it stays as it is, and so does the log.
 
 ghost use Rattle.std.specs.Prelude.{◌≡◌, false, IfOk};
 
@@ -124,8 +124,8 @@ fn start_copies(alloc: Global, conn: Connection<MemoryStore>) -> Result<(), Unop
     }
 }
 
-/// Tries the opening of a file beside a log: what refuses it by what the two hold. Where the copies cannot be made, nothing
-/// is known, and the opening itself says why.
+/// Tries the opening of a file beside a log: what refuses it by what the two hold. Where the copies cannot be made,
+/// nothing is known, and the opening itself says why.
 pub fn rehearse(rt: &HostRuntime, path: &str) -> Result<(), Unopened> {
     let conn = match connect_copies(rt, path) {
         Ok(conn) => conn,

@@ -114,7 +114,8 @@ fn say_cut_off(rt: &HostRuntime, cause: Cause) {
 /// Says that connections can be made: a reader of the output sees it before the first of them is accepted.
 fn announce<W: Write>(output: &mut W) -> Result<(), Cause>
     ensures ok { OnOk result (Appends (W.contents output.old) (W.contents output.new) listening) }
-    ensures err { OnErr result ((taken : ℕ) × Appends (W.contents output.old) (W.contents output.new) (take taken listening)) }
+    ensures err { OnErr result ((taken : ℕ)
+        × Appends (W.contents output.old) (W.contents output.new) (take taken listening)) }
 {
     match write_whole(output, LISTENING) {
         Ok(()) => {}
@@ -126,8 +127,8 @@ fn announce<W: Write>(output: &mut W) -> Result<(), Cause>
     }
 }
 
-/// Reads what a peer still sends after its reply. A connection that is closed with bytes unread is reset, and a reply that is
-/// on its way may be lost with it.
+/// Reads what a peer still sends after its reply. A connection that is closed with bytes unread is reset, and a reply
+/// that is on its way may be lost with it.
 fn read_rest(stream: &TcpStream) {
     let _ = stream.shutdown(Shutdown::Write);
     let _ = stream.set_read_timeout(Some(Duration::from_secs(REST_SECONDS)));
@@ -154,7 +155,8 @@ fn serve_call<R: Read, W: Write, S: Alter>(
     serve_one(alloc, reader, writer, treasury)
 }
 
-/// Serves one connection. A peer that sends nothing, or takes nothing, is not waited for longer than `PATIENCE_SECONDS`.
+/// Serves one connection. A peer that sends nothing, or takes nothing, is not waited for longer than
+/// `PATIENCE_SECONDS`.
 fn serve_connection<S: Alter>(rt: &HostRuntime, stream: &TcpStream, treasury: &mut Treasury<S>)
     ensures { HasServed S.Store treasury.old treasury.new }
 {
@@ -259,7 +261,8 @@ fn serve_on_file<W: Write, D: Disk + Drop>(
 ) -> Serving<D>
     requires room { IsRoom room }
     ensures announced { IsAnnounced W.contents output.old output.new result.ending }
-    ensures says { (image : Image) (values : List Row) → IsStarted D.Disk image treasury → SaysServing D.Disk image values result.ending (spoken result.said) result.left }
+    ensures says { (image : Image) (values : List Row) → IsStarted D.Disk image treasury
+        → SaysServing D.Disk image values result.ending (spoken result.said) result.left }
     // What is handed back is what was closed, or could not be.
     ensures touched { IsClosedOrShut result.left }
 {
@@ -322,8 +325,8 @@ fn wanted_of(values: &ArgMatches<'_>) -> Option<Wanted>
 
 /// Serves over a file, by the values of the word. `start` stands for what the file holds.
 ///
-/// The faults come in this order: the database's 40, 41, 43; the port's 45; 46 where `listening` cannot be written; then 45
-/// where a connection cannot be accepted. The file is closed at the end, and 41 says where it cannot be.
+/// The faults come in this order: the database's 40, 41, 43; the port's 45; 46 where `listening` cannot be written;
+/// then 45 where a connection cannot be accepted. The file is closed at the end, and 41 says where it cannot be.
 pub fn serve_over_file<W: Write, S: Start>(
     rt: &HostRuntime,
     room: Vec<u8>,
@@ -333,7 +336,8 @@ pub fn serve_over_file<W: Write, S: Start>(
 ) -> Serving<FileFrom<S>>
     requires { IsRoom room }
     ensures announced { IsAnnounced W.contents output.old output.new result.ending }
-    ensures says { SaysServing ⟦<FileFrom<S> as Disk>⟧ (image_at S.Start) (rows_of (found_of values.now)) result.ending (spoken result.said) result.left }
+    ensures says { SaysServing ⟦<FileFrom<S> as Disk>⟧ (image_at S.Start) (rows_of (found_of values.now)) result.ending
+        (spoken result.said) result.left }
 {
     let Some(path) = value_of(values, "db") else {
         return unbegun(lacking(rt.alloc(), room, "serve"));

@@ -124,8 +124,9 @@ pub fn fault_of(values: &ArgMatches<'_>) -> &'static str {
     }
 }
 
-/// What the word of a command or a report asks for, `init` and `import` aside: the request that a line of `run` spells whose
-/// keys have these values. Nothing where a value is missing, a day is no date, or of a part only the key or the amount is given.
+/// What the word of a command or a report asks for, `init` and `import` aside: the request that a line of `run` spells
+/// whose keys have these values. Nothing where a value is missing, a day is no date, or of a part only the key or the
+/// amount is given.
 pub fn form_of_word<'a>(word: &str, values: &ArgMatches<'a>) -> Option<Form<'a>>
     ensures value { option_map shown result ≡ request_in word.now (rows_of (found_of values.now)) }
     ensures days { IfSome result (λ form. HasDayNumbers (shown form)) }

@@ -203,8 +203,8 @@ fn find_strange(alloc: Global, schema: &Schema, is_alone: bool) -> Result<Option
     }
 }
 
-/// Looks at the tables of a database: 43 where they have not the names and the columns of a treasury's. That `init` makes
-/// them is only said where no log stands beside the file, which is alone then.
+/// Looks at the tables of a database: 43 where they have not the names and the columns of a treasury's. That `init`
+/// makes them is only said where no log stands beside the file, which is alone then.
 pub fn check_tables(alloc: Global, schema: &Schema, is_alone: bool) -> Result<(), Unopened> {
     match find_strange(alloc, schema, is_alone) {
         Ok(None) => Ok(()),

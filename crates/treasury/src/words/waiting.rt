@@ -11,8 +11,8 @@ const TRIES: usize = 2_500;
 
 const PAUSE_MILLIS: u64 = 2;
 
-/// The bytes that SQLite locks, far beyond those of most files: its own, and behind them one that says whose turn it is among
-/// treasuries. Only the locks stand there.
+/// The bytes that SQLite locks, far beyond those of most files: its own, and behind them one that says whose turn it is
+/// among treasuries. Only the locks stand there.
 const SQLITE_LOCK: u64 = 1 << 30;
 
 const SQLITE_LOCK_LEN: u64 = 512;
@@ -67,8 +67,8 @@ pub fn is_in_use(rt: &HostRuntime, path: &str) -> bool {
 
 /// Waits until no other program uses the file, for at most five seconds. Nothing is read or written.
 ///
-/// While the answer is held no other treasury takes its turn. None where there is no such file, or it stays in use: its opening
-/// says why then.
+/// While the answer is held no other treasury takes its turn. None where there is no such file, or it stays in use: its
+/// opening says why then.
 pub fn wait_for(rt: &HostRuntime, path: &str) -> Option<File> {
     let Some(file) = opened(rt, path) else {
         return None;

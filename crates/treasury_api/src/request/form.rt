@@ -3,7 +3,8 @@
 ghost use Rattle.std.specs.Prelude.{◌≡◌, option_map, option_and_then, IfSome};
 ghost use Rattle.serde_json.specs.View.{view};
 ghost use Rattle.journal_lines.specs.Date.{IsDayNumber};
-ghost use Rattle.treasury_api.specs.Request.{text_at, day_at, key_count, dispatch_at, receive_at, part_at, chosen_at, both_at, tagged_at, report_form, close_form, request_of, HasDayNumbers};
+ghost use Rattle.treasury_api.specs.Request.{text_at, day_at, key_count, dispatch_at, receive_at, part_at, chosen_at};
+ghost use Rattle.treasury_api.specs.Request.{both_at, tagged_at, report_form, close_form, request_of, HasDayNumbers};
 ghost use Rattle.treasury_api.specs.Form.{shown};
 
 use journal_lines::read_date;

@@ -177,8 +177,8 @@ pub fn read_command(alloc: Global, text: &str) -> Result<Request, Cause>
     }
 }
 
-/// The request that the bytes of a line spell, as `read_command` reads it; bytes that are not UTF-8 spell none. Answers 40
-/// as it does.
+/// The request that the bytes of a line spell, as `read_command` reads it; bytes that are not UTF-8 spell none. Answers
+/// 40 as it does.
 pub fn read_line(alloc: Global, line: &[u8]) -> Result<Request, Cause>
     ensures ok { IfOk result (λ request. spelled line.now ≡ Some request) }
     ensures days { IfOk result HasDayNumbers }

@@ -105,7 +105,8 @@ fn answer_request<S: Alter>(
     requires days { HasDayNumbers request.now }
     requires empty { room.items ≡ [] }
     requires room { MOST_PLAIN ≤ vec_capacity room }
-    ensures { RepliesOn S.Store treasury.old request.now result.body.items (λ reply. code_of result.status ≡ status_of reply) treasury.new }
+    ensures { RepliesOn S.Store treasury.old request.now result.body.items
+        (λ reply. code_of result.status ≡ status_of reply) treasury.new }
 {
     let mut body = Vec::new(alloc);
     match answer(alloc, request, treasury, &mut body) {
@@ -123,8 +124,8 @@ fn answer_request<S: Alter>(
     }
 }
 
-/// The reply to a call, in room for a plain line that was made before. Answers 40 where there is no memory to read what is
-/// asked; nothing has changed then.
+/// The reply to a call, in room for a plain line that was made before. Answers 40 where there is no memory to read what
+/// is asked; nothing has changed then.
 pub fn answer_call<S: Alter>(
     alloc: Global,
     call: Call,
@@ -133,7 +134,8 @@ pub fn answer_call<S: Alter>(
 ) -> Result<Reply, Cause>
     requires empty { room.items ≡ [] }
     requires room { MOST_PLAIN ≤ vec_capacity room }
-    ensures ok { IfOk result (λ reply. AnswersOn S.Store treasury.old call (code_of reply.status) reply.body.items treasury.new) }
+    ensures ok { IfOk result (λ reply.
+        AnswersOn S.Store treasury.old call (code_of reply.status) reply.body.items treasury.new) }
     ensures err { OnErr result (treasury.new ≡ treasury.old) }
     ensures memory { IsOkUnless result Cause.OutOfMemory }
 {

@@ -10,13 +10,16 @@ ghost use Rattle.treasury_api.specs.Web.{AnswersCall, AnsweredCall, AreServed};
 
 use treasury_core::headline_law;
 
-/// A law of connections: answered one after another, each by the state that the one before it left, their commands are a run of
-/// the machine of commands, and it keeps the books as the headline says. A reply of another status than 200 leaves the state.
-/// Costs nothing.
+/// A law of connections: answered one after another, each by the state that the one before it left, their commands are
+/// a run of the machine of commands, and it keeps the books as the headline says. A reply of another status than 200
+/// leaves the state. Costs nothing.
 pub fn calls_law()
-    ensures headline { (start : Standing) (calls : List AnsweredCall) (end : Standing) → IsGoodState start.now → AreServed start calls end
-        → (turns : List Turn) × IsRun start.now turns × (end.now ≡ state_after start.now turns) × KeepsBooks start.now turns }
-    ensures refused { (s : Standing) (call : Call) (status : ℕ) (body : List ℕ) (t : Standing) → AnswersCall s call status body t
+    ensures headline { (start : Standing) (calls : List AnsweredCall) (end : Standing) → IsGoodState start.now
+        → AreServed start calls end
+        → (turns : List Turn) × IsRun start.now turns × (end.now ≡ state_after start.now turns)
+        × KeepsBooks start.now turns }
+    ensures refused { (s : Standing) (call : Call) (status : ℕ) (body : List ℕ) (t : Standing)
+        → AnswersCall s call status body t
         → status ≢ 200 → t.now ≡ s.now }
 {
     headline_law();

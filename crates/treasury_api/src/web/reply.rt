@@ -23,7 +23,8 @@ pub struct Reply {
     pub body: Vec<u8>,
 }
 
-/// Appends the head of a reply whose body has that many bytes. It takes no memory where there is room for `MAX_REPLY_HEAD`.
+/// Appends the head of a reply whose body has that many bytes. It takes no memory where there is room for
+/// `MAX_REPLY_HEAD`.
 fn push_head(status: Status, size: usize, head: &mut Vec<u8>) -> Result<(), AllocError>
     ensures ok { OnOk result (head.new.items ≡ head.old.items ++ reply_head (code_of status) size) }
     ensures err { OnErr result (head.new.items ≡ head.old.items) }
@@ -48,14 +49,16 @@ fn push_head(status: Status, size: usize, head: &mut Vec<u8>) -> Result<(), Allo
     )
 }
 
-/// Writes a reply, with its head on an empty vector that has room for it. Where a write fails or takes nothing, it answers 46, and
-/// a first part was written.
+/// Writes a reply, with its head on an empty vector that has room for it. Where a write fails or takes nothing, it
+/// answers 46, and a first part was written.
 pub fn write_reply<W: Write>(reply: &Reply, room: Vec<u8>, writer: &mut W) -> Result<(), Cause>
     requires empty { room.items ≡ [] }
     requires room { MAX_REPLY_HEAD ≤ vec_capacity room }
-    ensures ok { OnOk result (Appends (W.contents writer.old) (W.contents writer.new) (whole_reply (code_of reply.now.status) reply.now.body.items)) }
+    ensures ok { OnOk result (Appends (W.contents writer.old) (W.contents writer.new)
+        (whole_reply (code_of reply.now.status) reply.now.body.items)) }
     ensures err { IfErr result (λ cause. (cause ≡ Cause.WriteFault) × ((taken : ℕ)
-        × Appends (W.contents writer.old) (W.contents writer.new) (take taken (whole_reply (code_of reply.now.status) reply.now.body.items)))) }
+        × Appends (W.contents writer.old) (W.contents writer.new)
+        (take taken (whole_reply (code_of reply.now.status) reply.now.body.items)))) }
 {
     let mut head = room;
     match push_head(reply.status, reply.body.len(), &mut head) {

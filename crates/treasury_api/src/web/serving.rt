@@ -15,17 +15,18 @@ use treasury_store::Treasury;
 /// Reads one request, answers it, and writes its reply.
 ///
 /// On `Ok` the whole reply is written, and the treasury is of the state after the request. 45 comes where a read fails,
-/// whatever its error, or the input ends before the request does, and 40 where there is no memory to read it or for the room
-/// of a reply, which is made before anything is done: nothing is written then, and nothing has changed. 46 comes where a write
-/// fails or takes nothing: the reply may be cut off, and what was asked stands. At most 16 KiB of a head and 8 MiB of a body
-/// are read.
+/// whatever its error, or the input ends before the request does, and 40 where there is no memory to read it or for the
+/// room of a reply, which is made before anything is done: nothing is written then, and nothing has changed. 46 comes
+/// where a write fails or takes nothing: the reply may be cut off, and what was asked stands. At most 16 KiB of a head
+/// and 8 MiB of a body are read.
 pub fn serve_one<R: Read, W: Write, S: Alter>(
     alloc: Global,
     reader: &mut R,
     writer: &mut W,
     treasury: &mut Treasury<S>,
 ) -> Result<(), Cause>
-    ensures { ServesOne result S.Store R.remaining reader.old reader.new W.contents writer.old writer.new treasury.old treasury.new }
+    ensures { ServesOne result S.Store R.remaining reader.old reader.new W.contents writer.old writer.new treasury.old
+        treasury.new }
 {
     let head = match Vec::with_capacity(alloc, MAX_REPLY_HEAD) {
         Ok(head) => head,

@@ -7,7 +7,8 @@ ghost use Rattle.money_core.specs.declared.day.Day.{Day as DayNumber};
 ghost use Rattle.treasury_core.specs.declared.rows.EntryRow.{EntryRow as Row};
 ghost use Rattle.treasury_core.specs.Federation.{Branch as FederationBranch};
 ghost use Rattle.treasury_core.specs.Good.{IsGoodRecord};
-ghost use Rattle.treasury_core.specs.Rows.{branch_row, branch_rows_from, entry_rows_from, entry_rows_in, IsShort, HasShortLock};
+ghost use Rattle.treasury_core.specs.Rows.{branch_row, branch_rows_from, entry_rows_from, entry_rows_in, IsShort};
+ghost use Rattle.treasury_core.specs.Rows.{HasShortLock};
 ghost use Rattle.treasury_core.specs.Drafted.{IsKeptReading};
 
 use super::entry_rows::read_records;
@@ -19,7 +20,8 @@ use std::alloc::Global;
 
 /// The day of a lock, if there is one.
 fn read_lock(locked: Option<i64>) -> Result<Option<Day>, Cause>
-    ensures { IsKeptReading (λ (o : Option DayNumber). IfSome o IsShort) (λ (o : Option DayNumber). option_map (λ (d : DayNumber). d.0) o ≡ locked) result }
+    ensures { IsKeptReading (λ (o : Option DayNumber). IfSome o IsShort)
+        (λ (o : Option DayNumber). option_map (λ (d : DayNumber). d.0) o ≡ locked) result }
 {
     match locked {
         Some(value) => {
@@ -33,7 +35,8 @@ fn read_lock(locked: Option<i64>) -> Result<Option<Day>, Cause>
 /// How many rows at the front are of that branch.
 fn count_own(rows: &[EntryRow], branch: usize) -> usize
     ensures bound { result ≤ length rows.now }
-    ensures value { (own rest : List Row) → AllByRecursion (λ (r : Row). r.branch ≡ pos branch) own → AllByRecursion (λ (r : Row). r.branch ≡ pos branch → ⊥) rest
+    ensures value { (own rest : List Row) → AllByRecursion (λ (r : Row). r.branch ≡ pos branch) own
+        → AllByRecursion (λ (r : Row). r.branch ≡ pos branch → ⊥) rest
         → rows.now ≡ own ++ rest → result ≡ length own }
 {
     let mut count = 0;
@@ -54,7 +57,8 @@ fn read_branch(
     row: &BranchRow,
     entries: &[EntryRow],
 ) -> Result<DraftBranch, Cause>
-    ensures reads { IsKeptReading HasShortLock (λ (b : FederationBranch). AllByRecursion (IsGoodRecord styles.now) b.records
+    ensures reads { IsKeptReading HasShortLock
+        (λ (b : FederationBranch). AllByRecursion (IsGoodRecord styles.now) b.records
         × ((branch_row nr b ≡ row.now) × (entry_rows_from styles.now nr 1 b.records ≡ entries.now))) result }
     ensures good { IfOk result (λ b. AllByRecursion (IsGoodRecord styles.now) b.records) }
 {
@@ -78,9 +82,12 @@ pub(super) fn read_branches(
     rows: &[BranchRow],
     entries: &[EntryRow],
 ) -> Result<Items<DraftBranch>, Cause>
-    ensures reads { IsKeptReading (AllByRecursion HasShortLock) (λ (bs : List FederationBranch). AllByRecursion (λ (b : FederationBranch). AllByRecursion (IsGoodRecord styles.now) b.records) bs
+    ensures reads { IsKeptReading (AllByRecursion HasShortLock)
+        (λ (bs : List FederationBranch).
+        AllByRecursion (λ (b : FederationBranch). AllByRecursion (IsGoodRecord styles.now) b.records) bs
         × ((branch_rows_from 0 bs ≡ rows.now) × (entry_rows_in styles.now 0 bs ≡ entries.now))) result }
-    ensures good { IfOk result (AllByRecursion (λ (b : FederationBranch). AllByRecursion (IsGoodRecord styles.now) b.records)) }
+    ensures good { IfOk result (AllByRecursion
+        (λ (b : FederationBranch). AllByRecursion (IsGoodRecord styles.now) b.records)) }
 {
     let mut list = Items::empty(alloc);
     let mut left = entries;

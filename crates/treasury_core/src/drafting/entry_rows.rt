@@ -44,7 +44,8 @@ fn read_txn(alloc: Global, styles: &Styles, text: &str) -> Result<Txn, Cause>
 
 /// The transaction of which the text is the canonical body.
 fn read_body(alloc: Global, styles: &Styles, text: &str) -> Result<Txn, Cause>
-    ensures reads { IsReading (λ (t : Transaction). IsPrintable styles.now t × ((t.mark ≡ None) × (body_text styles.now t ≡ text.now))) result }
+    ensures reads { IsReading (λ (t : Transaction).
+        IsPrintable styles.now t × ((t.mark ≡ None) × (body_text styles.now t ≡ text.now))) result }
     ensures body { IfOk result (λ t. (t.mark ≡ None) × (body_text styles.now t ≡ text.now)) }
 {
     styles.are_styles();
@@ -79,7 +80,8 @@ fn read_record(
     nr: usize,
     row: &EntryRow,
 ) -> Result<Record, Cause>
-    ensures reads { IsReading (λ (r : BranchRecord). IsGoodRecord styles.now r × (entry_row styles.now branch nr r ≡ row.now)) result }
+    ensures reads { IsReading (λ (r : BranchRecord).
+        IsGoodRecord styles.now r × (entry_row styles.now branch nr r ≡ row.now)) result }
     ensures good { IfOk result (IsGoodRecord styles.now) }
 {
     if !is_number(row.branch, branch) || !is_number(row.nr, nr) {
@@ -103,7 +105,8 @@ pub(super) fn read_records(
     branch: usize,
     rows: &[EntryRow],
 ) -> Result<Items<Record>, Cause>
-    ensures reads { IsReading (λ (rs : List BranchRecord). AllByRecursion (IsGoodRecord styles.now) rs × (entry_rows_from styles.now branch 1 rs ≡ rows.now)) result }
+    ensures reads { IsReading (λ (rs : List BranchRecord).
+        AllByRecursion (IsGoodRecord styles.now) rs × (entry_rows_from styles.now branch 1 rs ≡ rows.now)) result }
     ensures good { IfOk result (AllByRecursion (IsGoodRecord styles.now)) }
 {
     let mut list = Items::empty(alloc);

@@ -1,6 +1,7 @@
 //! Numbers and signs of rows.
 
-ghost use Rattle.std.specs.Prelude.{◌≡◌, ◌↔◌, ◌<◌, ◌≤◌, ◌^◌, ◌⊎◌, ℕ, ℤ, Bool, [], ◌∷◌, pos, List, length, take, drop, FitsSigned, IfOk, IsTrue};
+ghost use Rattle.std.specs.Prelude.{◌≡◌, ◌↔◌, ◌<◌, ◌≤◌, ◌^◌, ◌⊎◌, ℕ, ℤ, Bool, [], ◌∷◌, pos, List, length, take, drop};
+ghost use Rattle.std.specs.Prelude.{FitsSigned, IfOk, IsTrue};
 ghost use Rattle.std.specs.Int.{w32};
 ghost use Rattle.money_core.specs.declared.mark.Mark.{Mark as DecimalMark};
 ghost use Rattle.money_core.specs.declared.day.Day.{Day as DayNumber};
@@ -13,7 +14,8 @@ use money_core::{Cause, Day, Mark, Unit};
 
 /// Want of memory, or else damage.
 pub(super) fn damage(cause: Cause) -> Cause
-    ensures { ((cause ≡ Cause.OutOfMemory) × (result ≡ Cause.OutOfMemory)) ⊎ ((cause ≡ Cause.OutOfMemory → ⊥) × (result ≡ Cause.Damaged)) }
+    ensures { ((cause ≡ Cause.OutOfMemory) × (result ≡ Cause.OutOfMemory))
+        ⊎ ((cause ≡ Cause.OutOfMemory → ⊥) × (result ≡ Cause.Damaged)) }
 {
     match cause {
         Cause::OutOfMemory => cause,

@@ -21,7 +21,8 @@ use std::alloc::Global;
 
 /// The name of the branch at that place.
 fn name_at(branches: &[DraftBranch], place: usize) -> Result<Text, Cause>
-    ensures { IsReading (λ (name : List ℕ). (list_any (has_name name) branches.now ≡ true) × (name_place branches.now name ≡ place)) result }
+    ensures { IsReading (λ (name : List ℕ).
+        (list_any (has_name name) branches.now ≡ true) × (name_place branches.now name ≡ place)) result }
 {
     match branches.get(place) {
         Some(branch) => branch.name.copy(),
@@ -31,7 +32,8 @@ fn name_at(branches: &[DraftBranch], place: usize) -> Result<Text, Cause>
 
 /// The name of the branch of that number.
 fn read_name(branches: &[DraftBranch], value: i64) -> Result<Text, Cause>
-    ensures { IsReading (λ (name : List ℕ). (list_any (has_name name) branches.now ≡ true) × (pos (name_place branches.now name) ≡ value)) result }
+    ensures { IsReading (λ (name : List ℕ).
+        (list_any (has_name name) branches.now ≡ true) × (pos (name_place branches.now name) ≡ value)) result }
 {
     match read_place(value) {
         Ok(place) => name_at(branches, place),
@@ -42,7 +44,8 @@ fn read_name(branches: &[DraftBranch], value: i64) -> Result<Text, Cause>
 /// A receipt, if there is one.
 fn read_receipt(received: Option<i64>, payee: &Option<Text>) -> Result<Option<Receipt>, Cause>
     ensures { IsReading (λ (o : Option TransferReceipt). HasShortReceipt o
-        × ((option_map (λ (r : TransferReceipt). r.day.0) o ≡ received) × (option_map (λ (r : TransferReceipt). r.payee) o ≡ payee.now))) result }
+        × ((option_map (λ (r : TransferReceipt). r.day.0) o ≡ received)
+        × (option_map (λ (r : TransferReceipt). r.payee) o ≡ payee.now))) result }
 {
     match (received, payee) {
         (None, None) => Ok(None),
@@ -95,7 +98,8 @@ fn is_own(id: &Text, row: &PartRow) -> bool
 /// How many rows at the front are of the transfer of that ID.
 fn count_own(rows: &[PartRow], id: &Text) -> usize
     ensures bound { result ≤ length rows.now }
-    ensures value { (own rest : List Row) → AllByRecursion (λ (r : Row). r.transfer ≡ id.now) own → AllByRecursion (λ (r : Row). r.transfer ≡ id.now → ⊥) rest
+    ensures value { (own rest : List Row) → AllByRecursion (λ (r : Row). r.transfer ≡ id.now) own
+        → AllByRecursion (λ (r : Row). r.transfer ≡ id.now → ⊥) rest
         → rows.now ≡ own ++ rest → result ≡ length own }
 {
     let mut count = 0;
@@ -115,7 +119,9 @@ fn read_transfer(
     row: &TransferRow,
     own: &[PartRow],
 ) -> Result<Transfer, Cause>
-    ensures { IsReading (λ (t : FederationTransfer). IsNamed branches.now t × ((transfer_row branches.now t ≡ row.now) × (map (part_row row.now.id) t.parts ≡ own.now))) result }
+    ensures { IsReading (λ (t : FederationTransfer).
+        IsNamed branches.now t
+        × ((transfer_row branches.now t ≡ row.now) × (map (part_row row.now.id) t.parts ≡ own.now))) result }
 {
     let source = read_name(branches, row.source)?;
     let target = read_name(branches, row.target)?;

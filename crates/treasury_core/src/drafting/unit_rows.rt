@@ -43,7 +43,8 @@ fn read_style(nr: usize, row: &UnitRow) -> Result<Style, Cause>
 fn declare_next(styles: &mut Styles, style: Style) -> Result<(), Cause>
     requires { is_style style ≡ true }
     ensures ok { OnOk result (styles.new ≡ styles.old ++ style ∷ []) }
-    ensures err { IfErr result (λ e. (e ≡ Cause.OutOfMemory) ⊎ ((e ≡ Cause.Damaged) × (AreStyles (styles.old ++ style ∷ []) → ⊥))) }
+    ensures err { IfErr result (λ e.
+        (e ≡ Cause.OutOfMemory) ⊎ ((e ≡ Cause.Damaged) × (AreStyles (styles.old ++ style ∷ []) → ⊥))) }
 {
     match styles.declare(style) {
         Ok(Declared::New(_)) => Ok(()),

@@ -66,7 +66,8 @@ fn add_parts(
 fn add_rest(alloc: Global, transfer: &Transfer, rows: &mut Items<Record>) -> Result<(), Cause>
     requires parts { HasGoodParts transfer.now }
     requires small { unsigned_abs transfer.now.qty ≤ limit }
-    ensures ok { OnOk result (rows.new ≡ rows.old ++ map (receipt_record transfer.now) (of_rest transfer.now transfer.now.receipt)) }
+    ensures ok { OnOk result (rows.new
+        ≡ rows.old ++ map (receipt_record transfer.now) (of_rest transfer.now transfer.now.receipt)) }
     ensures memory { IsOkUnless result Cause.OutOfMemory }
 {
     match &transfer.receipt {
@@ -88,7 +89,8 @@ fn add_receipts(
 ) -> Result<(), Cause>
     requires parts { HasGoodParts transfer.now }
     requires small { unsigned_abs transfer.now.qty ≤ limit }
-    ensures ok { OnOk result (rows.new ≡ rows.old ++ in_records transfer.now (bytes_eq transfer.now.target name.now) (receipts_of transfer.now)) }
+    ensures ok { OnOk result (rows.new
+        ≡ rows.old ++ in_records transfer.now (bytes_eq transfer.now.target name.now) (receipts_of transfer.now)) }
     ensures memory { IsOkUnless result Cause.OutOfMemory }
 {
     if transfer.target.as_str() != name {
@@ -151,7 +153,8 @@ fn is_asked(rows: &[Record], index: &HashMap<String, usize>, row: &Record) -> bo
 /// Whether one of the rows has the mark of each record that is of a transfer.
 fn are_asked(rows: &[Record], index: &HashMap<String, usize>, records: &[Record]) -> bool
     requires { IsIndexOf index.now rows.now }
-    ensures { IsTrue result ↔ AllByRecursion (λ (r : Row). is_of_transfer r ≡ true → is_held rows.now r.mark ≡ true) records.now }
+    ensures { IsTrue result ↔ AllByRecursion (λ (r : Row). is_of_transfer r ≡ true → is_held rows.now r.mark ≡ true)
+        records.now }
 {
     for row in records {
         if is_of_transfer(row) && !is_asked(rows, index, row) {

@@ -16,7 +16,8 @@ pub(super) fn own_index(
     alloc: Global,
     rows: &[Record],
 ) -> Result<Option<HashMap<String, usize>>, Cause>
-    ensures value { IfOk result (λ o. MatchOption o (HaveOwnMarks rows.now → ⊥) (λ index. HaveOwnMarks rows.now × IsIndexOf index rows.now)) }
+    ensures value { IfOk result (λ o.
+        MatchOption o (HaveOwnMarks rows.now → ⊥) (λ index. HaveOwnMarks rows.now × IsIndexOf index rows.now)) }
     ensures memory { IsOkUnless result Cause.OutOfMemory }
 {
     let mut index = HashMap::new(alloc);

@@ -6,7 +6,8 @@ ghost use Rattle.money_core.specs.Amount.{limit};
 ghost use Rattle.treasury_core.specs.declared.transfer.Part.{Part as TransferPart};
 ghost use Rattle.treasury_core.specs.declared.transfer.Transfer.{Transfer as Moved};
 ghost use Rattle.treasury_core.specs.Transfer.{is_key, sum_of};
-ghost use Rattle.treasury_core.specs.Good.{AreAscending, AreKeyed, IsGoodPart, HasGoodParts, IsGoodRest, IsGoodTransfer};
+ghost use Rattle.treasury_core.specs.Good.{AreAscending, AreKeyed, IsGoodPart, HasGoodParts, IsGoodRest};
+ghost use Rattle.treasury_core.specs.Good.{IsGoodTransfer};
 ghost use Rattle.treasury_core.specs.Room.{is_before, is_key_before};
 
 use super::has_name;
@@ -88,7 +89,8 @@ fn are_good_parts(dispatched: Day, parts: &[Part]) -> bool
     true
 }
 
-/// Whether parts, each of a positive quantity, are together at most that quantity. No sum is formed, which may be large.
+/// Whether parts, each of a positive quantity, are together at most that quantity. No sum is formed, which may be
+/// large.
 fn are_within(qty: i64, parts: &[Part]) -> bool
     requires { AllByRecursion (λ (p : TransferPart). int_le (pos 1) p.qty ≡ true) parts.now }
     ensures { IsTrue result ↔ (int_le (sum_of parts.now) qty ≡ true) }

@@ -81,7 +81,8 @@ fn next_claim(changes: &[Change]) -> Option<(&ClaimRow, &[Change])>
 
 /// The first eight claims among the changes, if there are as many.
 fn next_eight_claims(changes: &[Change]) -> Option<Eight<'_, ClaimRow>>
-    ensures found { IfSome result (λ eight. filter is_claim changes.now ≡ all_of ClaimChange eight ++ filter is_claim eight.rest.now) }
+    ensures found { IfSome result (λ eight.
+        filter is_claim changes.now ≡ all_of ClaimChange eight ++ filter is_claim eight.rest.now) }
     ensures fewer { IfSome result (λ eight. length eight.rest.now < length changes.now) }
 {
     let (a, rest) = next_claim(changes)?;
@@ -108,9 +109,16 @@ fn next_eight_claims(changes: &[Change]) -> Option<Eight<'_, ClaimRow>>
 /// Inserts the claims among the changes, eight to a statement, and those that are left one by one.
 pub fn put_claims<S: Alter>(tx: &mut Transaction<'_, S>, changes: &[Change]) -> Result<(), Error>
     ensures same_reference { tx.new.conn.ghost_name ≡ tx.old.conn.ghost_name }
-    ensures rows { HasCleanDisk (state S.Store tx.new.conn.now) → OnOk result ((t : Tables) → Holds (state S.Store tx.old.conn.now).now t → Holds (state S.Store tx.new.conn.now).now (joined (filter is_claim changes.now) t)) }
-    ensures inside { HasCleanDisk (state S.Store tx.new.conn.now) → OnOk result (IsTrue (state S.Store tx.old.conn.now).in_transaction → IsTrue (state S.Store tx.new.conn.now).in_transaction) }
-    ensures kept { HasCleanDisk (state S.Store tx.new.conn.now) → KeepsCommit (state S.Store tx.old.conn.now) (state S.Store tx.new.conn.now) }
+    ensures rows { HasCleanDisk (state S.Store tx.new.conn.now)
+        → OnOk result
+        ((t : Tables) → Holds (state S.Store tx.old.conn.now).now t
+        → Holds (state S.Store tx.new.conn.now).now (joined (filter is_claim changes.now) t)) }
+    ensures inside { HasCleanDisk (state S.Store tx.new.conn.now)
+        → OnOk result
+        (IsTrue (state S.Store tx.old.conn.now).in_transaction
+        → IsTrue (state S.Store tx.new.conn.now).in_transaction) }
+    ensures kept { HasCleanDisk (state S.Store tx.new.conn.now)
+        → KeepsCommit (state S.Store tx.old.conn.now) (state S.Store tx.new.conn.now) }
     ensures survives { Survives (state S.Store tx.old.conn.now) (state S.Store tx.new.conn.now) (λ _. ⊥) }
 {
     let mut rest = changes;

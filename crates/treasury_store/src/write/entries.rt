@@ -80,7 +80,8 @@ fn next_entry(changes: &[Change]) -> Option<(&EntryRow, &[Change])>
 
 /// The first eight entries among the changes, if there are as many.
 fn next_eight_entries(changes: &[Change]) -> Option<Eight<'_, EntryRow>>
-    ensures found { IfSome result (λ eight. filter is_entry changes.now ≡ all_of EntryChange eight ++ filter is_entry eight.rest.now) }
+    ensures found { IfSome result (λ eight.
+        filter is_entry changes.now ≡ all_of EntryChange eight ++ filter is_entry eight.rest.now) }
     ensures fewer { IfSome result (λ eight. length eight.rest.now < length changes.now) }
 {
     let (a, rest) = next_entry(changes)?;
@@ -107,9 +108,16 @@ fn next_eight_entries(changes: &[Change]) -> Option<Eight<'_, EntryRow>>
 /// Inserts the entries among the changes, eight to a statement, and those that are left one by one.
 pub fn put_entries<S: Alter>(tx: &mut Transaction<'_, S>, changes: &[Change]) -> Result<(), Error>
     ensures same_reference { tx.new.conn.ghost_name ≡ tx.old.conn.ghost_name }
-    ensures rows { HasCleanDisk (state S.Store tx.new.conn.now) → OnOk result ((t : Tables) → Holds (state S.Store tx.old.conn.now).now t → Holds (state S.Store tx.new.conn.now).now (joined (filter is_entry changes.now) t)) }
-    ensures inside { HasCleanDisk (state S.Store tx.new.conn.now) → OnOk result (IsTrue (state S.Store tx.old.conn.now).in_transaction → IsTrue (state S.Store tx.new.conn.now).in_transaction) }
-    ensures kept { HasCleanDisk (state S.Store tx.new.conn.now) → KeepsCommit (state S.Store tx.old.conn.now) (state S.Store tx.new.conn.now) }
+    ensures rows { HasCleanDisk (state S.Store tx.new.conn.now)
+        → OnOk result
+        ((t : Tables) → Holds (state S.Store tx.old.conn.now).now t
+        → Holds (state S.Store tx.new.conn.now).now (joined (filter is_entry changes.now) t)) }
+    ensures inside { HasCleanDisk (state S.Store tx.new.conn.now)
+        → OnOk result
+        (IsTrue (state S.Store tx.old.conn.now).in_transaction
+        → IsTrue (state S.Store tx.new.conn.now).in_transaction) }
+    ensures kept { HasCleanDisk (state S.Store tx.new.conn.now)
+        → KeepsCommit (state S.Store tx.old.conn.now) (state S.Store tx.new.conn.now) }
     ensures survives { Survives (state S.Store tx.old.conn.now) (state S.Store tx.new.conn.now) (λ _. ⊥) }
 {
     let mut rest = changes;

@@ -11,9 +11,13 @@ loop-leg-preserved c =
     let name : c.as_bytes.result.now ≡ (c.leg-item.result).account = c.as_bytes.ensures.value ∙ c.as_str.ensures in
     record {
       kept = λ n h. c.list_fronts.ensures.kept n (c.loop-leg.invariant.kept n h);
-      listed = legs_more c.loop-leg.rows.items c.list_fronts.new.rows.items c.args.index.now c.args.legs.now c.loop-leg.leg-index c.leg-item.result c.loop-leg-test.true c.leg-item.is c.list_fronts.ensures.kept c.loop-leg.invariant.listed
-          (subst (λ (xs : List ℕ). (a : List ℕ) → is_inside a xs ≡ true → IsListed c.list_fronts.new.rows.items c.args.index.now a) name c.in_ok-list_fronts.ensures.listed);
+      listed = legs_more c.loop-leg.rows.items c.list_fronts.new.rows.items c.args.index.now c.args.legs.now
+          c.loop-leg.leg-index c.leg-item.result c.loop-leg-test.true c.leg-item.is c.list_fronts.ensures.kept
+          c.loop-leg.invariant.listed
+          (subst (λ (xs : List ℕ). (a : List ℕ) → is_inside a xs ≡ true
+          → IsListed c.list_fronts.new.rows.items c.args.index.now a) name c.in_ok-list_fronts.ensures.listed);
     }
 
 pub returns-clause-listed : goal.returns-clause-listed
-returns-clause-listed c = subst (λ (xs : List Leg). AreListed c.loop-leg.rows.items c.args.index.now xs) (take_all c.loop-leg.leg-index c.args.legs.now c.loop-leg-test.false) c.loop-leg.invariant.listed
+returns-clause-listed c = subst (λ (xs : List Leg). AreListed c.loop-leg.rows.items c.args.index.now xs)
+    (take_all c.loop-leg.leg-index c.args.legs.now c.loop-leg-test.false) c.loop-leg.invariant.listed

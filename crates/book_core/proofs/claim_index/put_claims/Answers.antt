@@ -10,11 +10,18 @@ pub returns-in_err-put_spot-clause-kept : goal.returns-in_err-put_spot-clause-ke
 returns-in_err-put_spot-clause-kept c a s h = c.put_spot.ensures.kept a s (c.loop-placed.invariant.kept a s h)
 
 pub loop-placed-preserved : goal.loop-placed-preserved
-loop-placed-preserved c = let blank : Placed = record { leg = 0; claim = record { kind = Exact; unit = record { 0 = 0 }; qty = pos 0 } } in let x = get_or c.items-placed-items.result.now c.loop-placed.placed-index blank in record {
-  kept = λ a s h. c.put_spot.ensures.kept a s (c.loop-placed.invariant.kept a s h);
-  put = found_more c.loop-placed.index c.put_spot.new.self c.args.entry.now.day c.args.number c.args.entry.now.legs c.items-placed-items.result.now c.loop-placed.placed-index blank c.as_bytes.result.now c.loop-placed-test.true c.put_spot.ensures.kept c.loop-placed.invariant.put
-      (c.as_bytes.ensures.value ∙ c.account_of-account.ensures ∙ ap (λ (ls : List Leg). account_at ls x.leg) c.items.ensures) c.in_ok-put_spot.ensures.put;
-}
+loop-placed-preserved c = let blank : Placed =
+    record { leg = 0; claim = record { kind = Exact; unit = record { 0 = 0 }; qty = pos 0 } } in let x =
+    get_or c.items-placed-items.result.now c.loop-placed.placed-index blank in record {
+      kept = λ a s h. c.put_spot.ensures.kept a s (c.loop-placed.invariant.kept a s h);
+      put = found_more c.loop-placed.index c.put_spot.new.self c.args.entry.now.day c.args.number c.args.entry.now.legs
+          c.items-placed-items.result.now c.loop-placed.placed-index blank c.as_bytes.result.now c.loop-placed-test.true
+          c.put_spot.ensures.kept c.loop-placed.invariant.put
+          (c.as_bytes.ensures.value ∙ c.account_of-account.ensures ∙ ap (λ (ls : List Leg). account_at ls x.leg)
+          c.items.ensures) c.in_ok-put_spot.ensures.put;
+    }
 
 pub returns-clause-put : goal.returns-clause-put
-returns-clause-put c = found_all c.loop-placed.index c.args.entry.now.day c.args.number c.args.entry.now.legs c.items-placed-items.result.now c.args.entry.now.claims c.loop-placed.placed-index c.items-placed-items.ensures c.loop-placed-test.false c.loop-placed.invariant.put
+returns-clause-put c = found_all c.loop-placed.index c.args.entry.now.day c.args.number c.args.entry.now.legs
+    c.items-placed-items.result.now c.args.entry.now.claims c.loop-placed.placed-index c.items-placed-items.ensures
+    c.loop-placed-test.false c.loop-placed.invariant.put

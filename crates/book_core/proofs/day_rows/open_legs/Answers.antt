@@ -12,9 +12,14 @@ loop-leg-preserved c =
     record {
       same = same_more c.args.rows.now c.loop-leg.rows now c.loop-leg.invariant.same c.in_ok-open_account.ensures.same;
       opened =
-          open_more reach now c.args.legs.now c.args.day c.args.number i x c.loop-leg-test.true c.leg-item.is (are_open_kept reach c.loop-leg.rows now (take i c.args.legs.now) c.args.day c.args.number c.in_ok-open_account.ensures.same.opened c.loop-leg.invariant.opened)
-          (subst (λ (a : List ℕ). IsOpen reach now a x.unit c.args.day c.args.number) (c.as_bytes.ensures.value ∙ c.as_str.ensures) c.in_ok-open_account.ensures.open);
+          open_more reach now c.args.legs.now c.args.day c.args.number i x c.loop-leg-test.true c.leg-item.is
+          (are_open_kept reach c.loop-leg.rows now (take i c.args.legs.now) c.args.day c.args.number
+          c.in_ok-open_account.ensures.same.opened c.loop-leg.invariant.opened)
+          (subst (λ (a : List ℕ). IsOpen reach now a x.unit c.args.day c.args.number)
+          (c.as_bytes.ensures.value ∙ c.as_str.ensures) c.in_ok-open_account.ensures.open);
     }
 
 pub returns-in_err-open_account-clause-same : goal.returns-in_err-open_account-clause-same
-returns-in_err-open_account-clause-same c = same_more c.args.rows.now c.loop-leg.rows c.open_account.new.rows c.loop-leg.invariant.same c.open_account.ensures.same
+returns-in_err-open_account-clause-same c =
+    same_more c.args.rows.now c.loop-leg.rows c.open_account.new.rows c.loop-leg.invariant.same
+    c.open_account.ensures.same

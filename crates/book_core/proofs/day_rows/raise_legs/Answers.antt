@@ -7,30 +7,47 @@ use Rattle.book_core.proofs.day_rows.raise_legs.Goals as goal
 
 pub raise_account-requires-clause-open : goal.raise_account-requires-clause-open
 raise_account-requires-clause-open c =
-    subst (λ (a : List ℕ). IsOpen c.args.reach c.loop-leg.rows a c.leg-item.result.unit c.args.day c.args.number) (sym (c.as_bytes.ensures.value ∙ c.as_str.ensures)) (open_at c.args.reach c.loop-leg.rows c.args.legs.now c.args.day c.args.number c.loop-leg.leg-index c.leg-item.result c.loop-leg.invariant.opened c.loop-leg-test.true c.leg-item.is)
+    subst (λ (a : List ℕ). IsOpen c.args.reach c.loop-leg.rows a c.leg-item.result.unit c.args.day c.args.number)
+    (sym (c.as_bytes.ensures.value ∙ c.as_str.ensures))
+    (open_at c.args.reach c.loop-leg.rows c.args.legs.now c.args.day c.args.number c.loop-leg.leg-index
+    c.leg-item.result c.loop-leg.invariant.opened c.loop-leg-test.true c.leg-item.is)
 
 pub raise_account-requires-clause-small : goal.raise_account-requires-clause-small
-raise_account-requires-clause-small c = λ a d. adding_small c.args.reach c.args.legs.now c.args.day c.args.number c.loop-leg.leg-index c.args.rows.now c.loop-leg.rows c.loop-leg.invariant.adding a c.leg-item.result.unit d
+raise_account-requires-clause-small c = λ a d.
+    adding_small c.args.reach c.args.legs.now c.args.day c.args.number c.loop-leg.leg-index c.args.rows.now
+    c.loop-leg.rows c.loop-leg.invariant.adding a c.leg-item.result.unit d
 
 pub raise_account-requires-clause-qty : goal.raise_account-requires-clause-qty
 raise_account-requires-clause-qty c =
-    let same : to_z w64 (of_z w64 c.leg-item.result.qty) ≡ c.leg-item.result.qty = to_z-of_z w64 c.leg-item.result.qty (search rules) in
-    subst IsSmall (sym same) (adding_qty c.args.reach c.args.legs.now c.args.day c.args.number c.loop-leg.leg-index c.leg-item.result c.args.rows.now c.loop-leg.rows c.loop-leg.invariant.adding c.loop-leg-test.true c.leg-item.is)
+    let same : to_z w64 (of_z w64 c.leg-item.result.qty) ≡ c.leg-item.result.qty =
+    to_z-of_z w64 c.leg-item.result.qty (search rules) in
+    subst IsSmall (sym same) (adding_qty c.args.reach c.args.legs.now c.args.day c.args.number c.loop-leg.leg-index
+    c.leg-item.result c.args.rows.now c.loop-leg.rows c.loop-leg.invariant.adding c.loop-leg-test.true
+    c.leg-item.is)
 
-given : (c : goal.After-raise_account) → Raised c.args.reach c.leg-item.result.account c.leg-item.result.unit c.args.day c.args.number c.leg-item.result.qty c.loop-leg.rows c.raise_account.new.rows
+given : (c : goal.After-raise_account)
+    → Raised c.args.reach c.leg-item.result.account c.leg-item.result.unit c.args.day c.args.number
+    c.leg-item.result.qty c.loop-leg.rows c.raise_account.new.rows
 given c =
-    let same : to_z w64 (of_z w64 c.leg-item.result.qty) ≡ c.leg-item.result.qty = to_z-of_z w64 c.leg-item.result.qty (search rules) in
-    subst (λ (z : ℤ). Raised c.args.reach c.leg-item.result.account c.leg-item.result.unit c.args.day c.args.number z c.loop-leg.rows c.raise_account.new.rows) same
-    (subst (λ (a : List ℕ). Raised c.args.reach a c.leg-item.result.unit c.args.day c.args.number (to_z w64 (of_z w64 c.leg-item.result.qty)) c.loop-leg.rows c.raise_account.new.rows) (c.as_bytes.ensures.value ∙ c.as_str.ensures) c.raise_account.ensures)
+    let same : to_z w64 (of_z w64 c.leg-item.result.qty) ≡ c.leg-item.result.qty =
+    to_z-of_z w64 c.leg-item.result.qty (search rules) in
+    subst (λ (z : ℤ). Raised c.args.reach c.leg-item.result.account c.leg-item.result.unit c.args.day c.args.number z
+    c.loop-leg.rows c.raise_account.new.rows) same
+    (subst (λ (a : List ℕ). Raised c.args.reach a c.leg-item.result.unit c.args.day c.args.number
+    (to_z w64 (of_z w64 c.leg-item.result.qty)) c.loop-leg.rows c.raise_account.new.rows)
+    (c.as_bytes.ensures.value ∙ c.as_str.ensures) c.raise_account.ensures)
 
 pub loop-leg-preserved : goal.loop-leg-preserved
 loop-leg-preserved c =
     let x = c.leg-item.result in
     let now = c.raise_account.new.rows in
     record {
-      opened = are_open_kept c.args.reach c.loop-leg.rows now c.args.legs.now c.args.day c.args.number c.raise_account.ensures.opened c.loop-leg.invariant.opened;
-      adding = adding_more c.args.reach c.args.legs.now c.args.day c.args.number c.loop-leg.leg-index x c.args.rows.now c.loop-leg.rows now c.loop-leg-test.true c.leg-item.is c.loop-leg.invariant.adding (given c);
+      opened = are_open_kept c.args.reach c.loop-leg.rows now c.args.legs.now c.args.day c.args.number
+          c.raise_account.ensures.opened c.loop-leg.invariant.opened;
+      adding = adding_more c.args.reach c.args.legs.now c.args.day c.args.number c.loop-leg.leg-index x c.args.rows.now
+          c.loop-leg.rows now c.loop-leg-test.true c.leg-item.is c.loop-leg.invariant.adding (given c);
     }
 
 pub returns : goal.returns
-returns c = adding_all c.args.reach c.args.legs.now c.args.day c.args.number c.loop-leg.leg-index c.args.rows.now c.loop-leg.rows c.loop-leg-test.false c.loop-leg.invariant.adding
+returns c = adding_all c.args.reach c.args.legs.now c.args.day c.args.number c.loop-leg.leg-index c.args.rows.now
+    c.loop-leg.rows c.loop-leg-test.false c.loop-leg.invariant.adding

@@ -9,4 +9,5 @@ returns-in-Through c =
 pub returns-in-At : goal.returns-in-At
 returns-in-At c =
     let q = c.args.query.now in
-    balance_behind c.args.count q.reach q.account.now q.unit q.limit c.in-At.place c.saturating_sub-entry.result c.in-At.is c.saturating_sub-entry.ensures
+    balance_behind c.args.count q.reach q.account.now q.unit q.limit c.in-At.place c.saturating_sub-entry.result
+    c.in-At.is c.saturating_sub-entry.ensures

@@ -11,6 +11,10 @@ loop-entry-preserved c =
     let es = c.args.entries.now in
     let i = c.loop-entry.entry-index in
     elim c.if-lt.branch [
-      | then-lt w ↦ rw w.first-is (first_more first es i entry entry.day.0 c.loop-entry-test.true c.entry-item.is (below_day entry.day.0 first.0 c.lt.result c.lt.ensures w.if-lt.true) (omega (arith, ints)) c.loop-entry.invariant)
-      | else-lt w ↦ rw w.first-is (first_more first es i entry first.0 c.loop-entry-test.true c.entry-item.is (omega (arith, ints)) (not_below_day entry.day.0 first.0 c.lt.result c.lt.ensures w.if-lt.false) c.loop-entry.invariant)
+      | then-lt w ↦ rw w.first-is (first_more first es i entry entry.day.0 c.loop-entry-test.true c.entry-item.is
+          (below_day entry.day.0 first.0 c.lt.result c.lt.ensures w.if-lt.true) (omega (arith, ints))
+          c.loop-entry.invariant)
+      | else-lt w ↦ rw w.first-is (first_more first es i entry first.0 c.loop-entry-test.true c.entry-item.is
+          (omega (arith, ints)) (not_below_day entry.day.0 first.0 c.lt.result c.lt.ensures w.if-lt.false)
+          c.loop-entry.invariant)
     ]

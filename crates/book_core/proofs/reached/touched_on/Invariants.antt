@@ -7,4 +7,7 @@ use Rattle.book_core.proofs.reached.touched_on.Given as goal
 
 abbrev pub invariant-loop-placed : goal.invariant-loop-placed
 invariant-loop-placed l =
-    list_any (touched_test l.leg (posted_from l.first l.new)) (asserted_claims l.entry.day l.number l.entry.legs (drop l.placed-index l.entry.claims)) ≡ list_any (touched_test l.leg (posted_from l.first l.new)) (asserted_claims l.entry.day l.number l.entry.legs l.entry.claims)
+    list_any (touched_test l.leg (posted_from l.first l.new))
+    (asserted_claims l.entry.day l.number l.entry.legs (drop l.placed-index l.entry.claims))
+    ≡ list_any (touched_test l.leg (posted_from l.first l.new))
+    (asserted_claims l.entry.day l.number l.entry.legs l.entry.claims)

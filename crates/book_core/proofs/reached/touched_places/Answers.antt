@@ -12,7 +12,8 @@ use Rattle.book_core.proofs.reached.touched_places.Goals as goal
 pub loop-row-preserved : goal.loop-row-preserved
 loop-row-preserved c = record {
   only = c.in_ok-push_touched.ensures.only;
-  all = λ n h. by_case n (Contains-push_cases (take i rows) (get_or rows i 0) n (subst (λ (ns : List ℕ). Contains ns n) (take_more rows i 0 c.loop-row-test.true) h));
+  all = λ n h. by_case n (Contains-push_cases (take i rows) (get_or rows i 0) n
+      (subst (λ (ns : List ℕ). Contains ns n) (take_more rows i 0 c.loop-row-test.true) h));
 }
   where
     rows : List ℕ
@@ -21,11 +22,22 @@ loop-row-preserved c = record {
     i : ℕ
     i = c.loop-row.row-index
 
-    by_case : (n : ℕ) → Contains (take c.loop-row.row-index c.deref-row-items.result.now) n ⊎ (get_or c.deref-row-items.result.now c.loop-row.row-index 0 ≡ n) → HasReached c.args.old.now c.args.new.now (filter (is_behind c.first_day-day.result) (spots_in c.args.index.now n)) c.push_touched.new.places.items
+    by_case : (n : ℕ) → Contains (take c.loop-row.row-index c.deref-row-items.result.now) n
+        ⊎ (get_or c.deref-row-items.result.now c.loop-row.row-index 0 ≡ n)
+        → HasReached c.args.old.now c.args.new.now
+        (filter (is_behind c.first_day-day.result) (spots_in c.args.index.now n)) c.push_touched.new.places.items
     by_case n (inl k) = λ x a t s. c.push_touched.ensures.kept x.place (c.loop-row.invariant.all n k x a t s)
-    by_case n (inr e) = subst (λ (m : ℕ). HasReached c.args.old.now c.args.new.now (filter (is_behind c.first_day-day.result) (spots_in c.args.index.now m)) c.push_touched.new.places.items) e (subst (λ (ss : List Spot). HasReached c.args.old.now c.args.new.now ss c.push_touched.new.places.items) c.spots_behind.ensures c.in_ok-push_touched.ensures.all)
+    by_case n (inr e) = subst (λ (m : ℕ).
+        HasReached c.args.old.now c.args.new.now
+        (filter (is_behind c.first_day-day.result) (spots_in c.args.index.now m)) c.push_touched.new.places.items) e
+        (subst (λ (ss : List Spot). HasReached c.args.old.now c.args.new.now ss c.push_touched.new.places.items)
+        c.spots_behind.ensures c.in_ok-push_touched.ensures.all)
 
 pub returns-clause-all : goal.returns-clause-all
 returns-clause-all c =
-    touched_place c.args.old.now c.args.new.now c.args.index.now c.in_ok-rows.rows.items c.first_day-day.result c.loop-row.places.items c.requires.index c.first_day-day.ensures c.in_ok-rows.ensures.listed
-    (λ n h. c.loop-row.invariant.all n (subst (λ (ns : List ℕ). Contains ns n) (sym (take_all c.loop-row.row-index c.deref-row-items.result.now c.loop-row-test.false)) (subst (λ (ns : List ℕ). Contains ns n) (sym c.deref-row-items.ensures.value) h)))
+    touched_place c.args.old.now c.args.new.now c.args.index.now c.in_ok-rows.rows.items c.first_day-day.result
+    c.loop-row.places.items c.requires.index c.first_day-day.ensures c.in_ok-rows.ensures.listed
+    (λ n h. c.loop-row.invariant.all n
+    (subst (λ (ns : List ℕ). Contains ns n)
+    (sym (take_all c.loop-row.row-index c.deref-row-items.result.now c.loop-row-test.false))
+    (subst (λ (ns : List ℕ). Contains ns n) (sym c.deref-row-items.ensures.value) h)))

@@ -11,4 +11,5 @@ raise_row-requires-clause-small c = λ p.
 pub returns : goal.returns
 returns c =
     let small : IsUpTo 32768 (to_z w64 (of_z w64 c.from.result)) = search rules in
-    raised_up_to c.args.limit 32768 _ _ _ _ _ _ _ small c.raise_row.ensures.raised (same_up_to c.args.limit _ _ c.open_row.ensures.same c.requires)
+    raised_up_to c.args.limit 32768 _ _ _ _ _ _ _ small c.raise_row.ensures.raised
+    (same_up_to c.args.limit _ _ c.open_row.ensures.same c.requires)

@@ -10,7 +10,8 @@ less_one : (at : ℤ) → IsUpTo 4294967296 at → to_z w64 (of_z w64 (to_z w64 
 less_one at small =
     let l = small.low in
     let h = small.high in
-    ap (λ (z : ℤ). to_z w64 (of_z w64 (z -ℤ pos 1))) (to_z-of_z w64 at (omega (arith, ints))) ∙ to_z-of_z w64 (at -ℤ pos 1) (omega (arith, ints))
+    ap (λ (z : ℤ). to_z w64 (of_z w64 (z -ℤ pos 1))) (to_z-of_z w64 at (omega (arith, ints))) ∙ to_z-of_z w64
+    (at -ℤ pos 1) (omega (arith, ints))
 
 pub returns-clause-value : goal.returns-clause-value
 returns-clause-value c =

@@ -11,7 +11,8 @@ returns-clause-value c =
     let i = c.halves.invariant in
     let a = to_z w64 (of_z w64 c.args.at) in
     let e : c.halves.low ≡ c.halves.high = omega arith in
-    sym (prefix_len_is (is_through a) c.args.points.now c.halves.low blank_point (omega arith) i.passes (λ l. ap (λ (k : ℕ). is_through a (get_or c.args.points.now k blank_point)) e ∙ i.stops (omega arith)))
+    sym (prefix_len_is (is_through a) c.args.points.now c.halves.low blank_point (omega arith) i.passes
+    (λ l. ap (λ (k : ℕ). is_through a (get_or c.args.points.now k blank_point)) e ∙ i.stops (omega arith)))
     ∙ ap (λ (b : ℤ). prefix_len (is_through b) c.args.points.now) (to_z-of_z w64 c.args.at (search rules))
 
 pub halves-preserved-then-points-middle : goal.halves-preserved-then-points-middle
@@ -20,6 +21,8 @@ halves-preserved-then-points-middle c =
     record {
       order = omega arith;
       bound = i.bound;
-      passes = λ k h. parted_through c.args.points.now _ c.requires k _ blank_point (let g : k ≤ c.halves.low + (c.halves.high - c.halves.low) / 2 = omega arith in g) (omega arith) (grind (arith, ints, c.if-points-middle.true));
+      passes = λ k h. parted_through c.args.points.now _ c.requires k _ blank_point
+          (let g : k ≤ c.halves.low + (c.halves.high - c.halves.low) / 2 = omega arith in g) (omega arith)
+          (grind (arith, ints, c.if-points-middle.true));
       stops = i.stops;
     }

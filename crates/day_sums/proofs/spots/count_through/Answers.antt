@@ -6,7 +6,8 @@ pub halves-preserved-then-is_through : goal.halves-preserved-then-is_through
 halves-preserved-then-is_through c = record {
   order = omega arith;
   bound = c.halves.invariant.bound;
-  through = through_middle c.args.spots.now c.args.day (c.halves.low + (c.halves.high - c.halves.low) / 2) _ c.is_through.result c.requires (omega arith) c.is_through.ensures c.if-is_through.true;
+  through = through_middle c.args.spots.now c.args.day (c.halves.low + (c.halves.high - c.halves.low) / 2) _
+      c.is_through.result c.requires (omega arith) c.is_through.ensures c.if-is_through.true;
   behind = c.halves.invariant.behind;
 }
 
@@ -15,5 +16,6 @@ halves-preserved c = record {
   order = omega arith;
   bound = omega arith;
   through = c.halves.invariant.through;
-  behind = behind_middle c.args.spots.now c.args.day (c.halves.low + (c.halves.high - c.halves.low) / 2) _ c.is_through.result c.requires (omega arith) c.is_through.ensures c.if-is_through.false;
+  behind = behind_middle c.args.spots.now c.args.day (c.halves.low + (c.halves.high - c.halves.low) / 2) _
+      c.is_through.result c.requires (omega arith) c.is_through.ensures c.if-is_through.false;
 }

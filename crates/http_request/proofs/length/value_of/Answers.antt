@@ -11,4 +11,5 @@ push_digit-value-requires-clause-digit c =
 pub loop-digit-preserved : goal.loop-digit-preserved
 loop-digit-preserved c =
     let inside : c.loop-digit.digit-index < length c.args.digits.now = omega arith in
-    c.push_digit-value.ensures ∙ value_more_decimal [] c.args.digits.now c.loop-digit.digit-index c.loop-digit.value _ 8_388_609 inside refl c.loop-digit.invariant
+    c.push_digit-value.ensures ∙ value_more_decimal [] c.args.digits.now c.loop-digit.digit-index c.loop-digit.value _
+    8_388_609 inside refl c.loop-digit.invariant

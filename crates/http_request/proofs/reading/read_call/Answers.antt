@@ -8,20 +8,32 @@ pub returns-in-Ok-None-call_for-clause-ok : goal.returns-in-Ok-None-call_for-cla
 returns-in-Ok-None-call_for-clause-ok g c =
     let h = rw c.in-Ok-Some.field-0-is at c.in-Ok-Some.ensures.found in
     let text = c.read_head.new.text.items in
-    let m : c.of.result.now ≡ span_bytes text c.in-Ok-Some.spans.method = c.of.ensures ∙ ap (λ (t : List ℕ). span_bytes t c.in-Ok-Some.spans.method) c.deref.ensures.value in
-    let p : c.of-2.result.now ≡ span_bytes text c.in-Ok-Some.spans.path = c.of-2.ensures ∙ ap (λ (t : List ℕ). span_bytes t c.in-Ok-Some.spans.path) c.deref-2.ensures.value in
+    let m : c.of.result.now ≡ span_bytes text c.in-Ok-Some.spans.method =
+    c.of.ensures ∙ ap (λ (t : List ℕ). span_bytes t c.in-Ok-Some.spans.method) c.deref.ensures.value in
+    let p : c.of-2.result.now ≡ span_bytes text c.in-Ok-Some.spans.path =
+    c.of-2.ensures ∙ ap (λ (t : List ℕ). span_bytes t c.in-Ok-Some.spans.path) c.deref-2.ensures.value in
     let told = rw c.in-Ok-None-call_for.field-0-is at c.in-Ok-None-call_for.ensures.calls in
     let leads = is_command _ _ (call_told None c.of.result.now _ c.of-2.result.now _ m p told) in
-    command_told _ _ text c.read_head.new.headers c.in-Ok-Some.spans h _ leads c.read_command.result _ _ (c.body_length-size.ensures ∙ ap (λ (t : List ℕ). body_length (map (header_bytes t) (take c.in-Ok-Some.spans.headers c.read_head.new.headers))) c.deref-in-Ok-None-call_for.ensures.value)
-    (whole_rest c.in-Ok-Some.spans.len c.deref-in-Ok-None-call_for-2.result.now ∙ ap (drop c.in-Ok-Some.spans.len) c.deref-in-Ok-None-call_for-2.ensures.value) c.read_command.ensures.calls
+    command_told _ _ text c.read_head.new.headers c.in-Ok-Some.spans h _ leads c.read_command.result _ _
+    (c.body_length-size.ensures ∙ ap
+    (λ (t : List ℕ). body_length (map (header_bytes t) (take c.in-Ok-Some.spans.headers c.read_head.new.headers)))
+    c.deref-in-Ok-None-call_for.ensures.value)
+    (whole_rest c.in-Ok-Some.spans.len c.deref-in-Ok-None-call_for-2.result.now ∙ ap (drop c.in-Ok-Some.spans.len)
+    c.deref-in-Ok-None-call_for-2.ensures.value) c.read_command.ensures.calls
 
 pub returns-in-Ok-None-call_for-clause-early : goal.returns-in-Ok-None-call_for-clause-early
 returns-in-Ok-None-call_for-clause-early g c e =
     let h = rw c.in-Ok-Some.field-0-is at c.in-Ok-Some.ensures.found in
     let text = c.read_head.new.text.items in
-    let m : c.of.result.now ≡ span_bytes text c.in-Ok-Some.spans.method = c.of.ensures ∙ ap (λ (t : List ℕ). span_bytes t c.in-Ok-Some.spans.method) c.deref.ensures.value in
-    let p : c.of-2.result.now ≡ span_bytes text c.in-Ok-Some.spans.path = c.of-2.ensures ∙ ap (λ (t : List ℕ). span_bytes t c.in-Ok-Some.spans.path) c.deref-2.ensures.value in
+    let m : c.of.result.now ≡ span_bytes text c.in-Ok-Some.spans.method =
+    c.of.ensures ∙ ap (λ (t : List ℕ). span_bytes t c.in-Ok-Some.spans.method) c.deref.ensures.value in
+    let p : c.of-2.result.now ≡ span_bytes text c.in-Ok-Some.spans.path =
+    c.of-2.ensures ∙ ap (λ (t : List ℕ). span_bytes t c.in-Ok-Some.spans.path) c.deref-2.ensures.value in
     let told = rw c.in-Ok-None-call_for.field-0-is at c.in-Ok-None-call_for.ensures.calls in
     let leads = is_command _ _ (call_told None c.of.result.now _ c.of-2.result.now _ m p told) in
-    stop_told _ _ text c.read_head.new.headers c.in-Ok-Some.spans h _ leads _ _ (c.body_length-size.ensures ∙ ap (λ (t : List ℕ). body_length (map (header_bytes t) (take c.in-Ok-Some.spans.headers c.read_head.new.headers))) c.deref-in-Ok-None-call_for.ensures.value)
-    (whole_rest c.in-Ok-Some.spans.len c.deref-in-Ok-None-call_for-2.result.now ∙ ap (drop c.in-Ok-Some.spans.len) c.deref-in-Ok-None-call_for-2.ensures.value) (c.read_command.ensures.early e)
+    stop_told _ _ text c.read_head.new.headers c.in-Ok-Some.spans h _ leads _ _
+    (c.body_length-size.ensures ∙ ap
+    (λ (t : List ℕ). body_length (map (header_bytes t) (take c.in-Ok-Some.spans.headers c.read_head.new.headers)))
+    c.deref-in-Ok-None-call_for.ensures.value)
+    (whole_rest c.in-Ok-Some.spans.len c.deref-in-Ok-None-call_for-2.result.now ∙ ap (drop c.in-Ok-Some.spans.len)
+    c.deref-in-Ok-None-call_for-2.ensures.value) (c.read_command.ensures.early e)

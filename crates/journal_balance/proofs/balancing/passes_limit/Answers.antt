@@ -11,7 +11,8 @@ postings-preserved c =
     let i = c.postings.posting-index in
     let rest : Bool = list_any is_large (legs_among s ps (drop (i + 1) ps)) in
     let first = sym c.takes_too_much.ensures ∙ c.if-takes_too_much.false in
-    sym (large-drop s ps ps i c.posting-item.result c.postings-test.true c.posting-item.is ∙ ap (λ (b : Bool). b || rest) first) ∙ c.postings.invariant
+    sym (large-drop s ps ps i c.posting-item.result c.postings-test.true c.posting-item.is ∙ ap
+    (λ (b : Bool). b || rest) first) ∙ c.postings.invariant
 
 pub returns-then-takes_too_much : goal.returns-then-takes_too_much
 returns-then-takes_too_much c =
@@ -20,4 +21,5 @@ returns-then-takes_too_much c =
     let i = c.postings.posting-index in
     let rest : Bool = list_any is_large (legs_among s ps (drop (i + 1) ps)) in
     let first = sym c.takes_too_much.ensures ∙ c.if-takes_too_much.true in
-    sym (large-drop s ps ps i c.posting-item.result c.postings-test.true c.posting-item.is ∙ ap (λ (b : Bool). b || rest) first) ∙ c.postings.invariant
+    sym (large-drop s ps ps i c.posting-item.result c.postings-test.true c.posting-item.is ∙ ap
+    (λ (b : Bool). b || rest) first) ∙ c.postings.invariant

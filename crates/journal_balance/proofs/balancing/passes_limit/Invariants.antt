@@ -5,4 +5,5 @@ use Rattle.journal_balance.proofs.balancing.passes_limit.Given as goal
 
 abbrev pub invariant-postings : goal.invariant-postings
 invariant-postings l =
-    list_any is_large (legs_among l.styles l.postings (drop l.posting-index l.postings)) ≡ list_any is_large (legs_among l.styles l.postings l.postings)
+    list_any is_large (legs_among l.styles l.postings (drop l.posting-index l.postings))
+    ≡ list_any is_large (legs_among l.styles l.postings l.postings)

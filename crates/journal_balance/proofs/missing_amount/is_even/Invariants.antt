@@ -7,4 +7,5 @@ use Rattle.journal_balance.proofs.missing_amount.is_even.Given as goal
 
 abbrev pub invariant-loop-number : goal.invariant-loop-number
 invariant-loop-number l =
-    list_all (λ (unit : Commodity). int_eq (sum_of l.styles unit l.postings) (pos 0)) (commodities l.number (length l.styles - l.number)) ≡ is_even l.styles l.postings
+    list_all (λ (unit : Commodity). int_eq (sum_of l.styles unit l.postings) (pos 0))
+    (commodities l.number (length l.styles - l.number)) ≡ is_even l.styles l.postings

@@ -14,20 +14,30 @@ pub loop-number-preserved : goal.loop-number-preserved
 loop-number-preserved c =
     let n = c.loop-number.number in
     let m = length c.args.styles.now in
-    let f : Commodity → List Leg = λ (unit : Commodity). rest_leg c.args.account.now unit (sum_of c.args.styles.now unit c.args.postings.now) in
+    let f : Commodity → List Leg = λ (unit : Commodity).
+    rest_leg c.args.account.now unit (sum_of c.args.styles.now unit c.args.postings.now) in
     let within : n < m = subst (λ (k : ℕ). n < k) c.len-number-end.ensures.count c.loop-number-test.true in
     let small =
     rest_large c.args.account.now (record { 0 = n }) (sum_of c.args.styles.now (record { 0 = n }) c.args.postings.now)
-    ∙ ap (λ (z : ℤ). nat_lt limit (unsigned_abs z)) (sym c.sum_of-sum.ensures ∙ sym (to_z-of_z w128 c.sum_of-sum.result (search rules))) ∙ sym c.is_over.ensures ∙ c.if-is_over.false in
-    sym (large_next f n m within ∙ ap (λ (b : Bool). b || list_any is_large (flat_map f (commodities (n + 1) (m - (n + 1))))) small) ∙ c.loop-number.invariant
+    ∙ ap (λ (z : ℤ). nat_lt limit (unsigned_abs z))
+    (sym c.sum_of-sum.ensures ∙ sym (to_z-of_z w128 c.sum_of-sum.result (search rules))) ∙ sym c.is_over.ensures ∙
+    c.if-is_over.false in
+    sym (large_next f n m within ∙ ap
+    (λ (b : Bool). b || list_any is_large (flat_map f (commodities (n + 1) (m - (n + 1))))) small) ∙
+    c.loop-number.invariant
 
 pub returns-then-is_over : goal.returns-then-is_over
 returns-then-is_over c =
     let n = c.loop-number.number in
     let m = length c.args.styles.now in
-    let f : Commodity → List Leg = λ (unit : Commodity). rest_leg c.args.account.now unit (sum_of c.args.styles.now unit c.args.postings.now) in
+    let f : Commodity → List Leg = λ (unit : Commodity).
+    rest_leg c.args.account.now unit (sum_of c.args.styles.now unit c.args.postings.now) in
     let within : n < m = subst (λ (k : ℕ). n < k) c.len-number-end.ensures.count c.loop-number-test.true in
     let large =
     rest_large c.args.account.now (record { 0 = n }) (sum_of c.args.styles.now (record { 0 = n }) c.args.postings.now)
-    ∙ ap (λ (z : ℤ). nat_lt limit (unsigned_abs z)) (sym c.sum_of-sum.ensures ∙ sym (to_z-of_z w128 c.sum_of-sum.result (search rules))) ∙ sym c.is_over.ensures ∙ c.if-is_over.true in
-    sym (large_next f n m within ∙ ap (λ (b : Bool). b || list_any is_large (flat_map f (commodities (n + 1) (m - (n + 1))))) large) ∙ c.loop-number.invariant
+    ∙ ap (λ (z : ℤ). nat_lt limit (unsigned_abs z))
+    (sym c.sum_of-sum.ensures ∙ sym (to_z-of_z w128 c.sum_of-sum.result (search rules))) ∙ sym c.is_over.ensures ∙
+    c.if-is_over.true in
+    sym (large_next f n m within ∙ ap
+    (λ (b : Bool). b || list_any is_large (flat_map f (commodities (n + 1) (m - (n + 1))))) large) ∙
+    c.loop-number.invariant

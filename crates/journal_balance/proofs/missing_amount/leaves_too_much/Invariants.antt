@@ -6,5 +6,6 @@ use Rattle.journal_balance.proofs.missing_amount.leaves_too_much.Given as goal
 
 abbrev pub invariant-loop-number : goal.invariant-loop-number
 invariant-loop-number l =
-    list_any is_large (flat_map (λ (unit : Commodity). rest_leg l.account unit (sum_of l.styles unit l.postings)) (commodities l.number (length l.styles - l.number)))
+    list_any is_large (flat_map (λ (unit : Commodity). rest_leg l.account unit (sum_of l.styles unit l.postings))
+    (commodities l.number (length l.styles - l.number)))
     ≡ list_any is_large (rest_legs l.styles l.account l.postings)

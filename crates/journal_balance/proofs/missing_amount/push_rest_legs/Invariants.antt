@@ -6,7 +6,9 @@ use Rattle.journal_balance.proofs.missing_amount.push_rest_legs.Given as goal
 
 abbrev pub invariant-loop-number : goal.invariant-loop-number
 invariant-loop-number l = record {
-  room : list_any is_large (flat_map (λ (unit : Commodity). rest_leg l.account unit (sum_of l.styles unit l.postings)) (commodities l.number (length l.styles - l.number))) ≡ false;
-  so_far : l.legs ++ flat_map (λ (unit : Commodity). rest_leg l.account unit (sum_of l.styles unit l.postings)) (commodities l.number (length l.styles - l.number))
+  room : list_any is_large (flat_map (λ (unit : Commodity). rest_leg l.account unit (sum_of l.styles unit l.postings))
+      (commodities l.number (length l.styles - l.number))) ≡ false;
+  so_far : l.legs ++ flat_map (λ (unit : Commodity). rest_leg l.account unit (sum_of l.styles unit l.postings))
+      (commodities l.number (length l.styles - l.number))
       ≡ l.fn.legs ++ rest_legs l.styles l.account l.postings;
 }

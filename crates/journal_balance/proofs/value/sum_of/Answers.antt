@@ -15,8 +15,10 @@ pub loop-posting-preserved : goal.loop-posting-preserved
 loop-posting-preserved c =
     let value = Within_fits c.value_of-value.result (search rules) in
     let i = c.loop-posting.invariant in
-    let sums : FitsSigned w128 (to_z w128 c.loop-posting.sum-bits +ℤ to_z w128 (of_z w128 c.from-sum.result)) = overflow_add-sum c in
-    let e = sum_of-drop c.args.styles.now c.args.unit c.args.postings.now c.loop-posting.posting-index c.posting-item.result c.loop-posting-test.true c.posting-item.is in
+    let sums : FitsSigned w128 (to_z w128 c.loop-posting.sum-bits +ℤ to_z w128 (of_z w128 c.from-sum.result)) =
+    overflow_add-sum c in
+    let e = sum_of-drop c.args.styles.now c.args.unit c.args.postings.now c.loop-posting.posting-index
+    c.posting-item.result c.loop-posting-test.true c.posting-item.is in
     let f = c.value_of-value.ensures in
     let g = c.from-sum.ensures in
     record { bound = record { low = omega (arith, ints); high = omega (arith, ints) }; sums = omega (arith, ints) }

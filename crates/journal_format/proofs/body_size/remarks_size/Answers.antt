@@ -8,6 +8,13 @@ returns-in-empty-clause-size c = empty_size c.args.comments.now c.in-empty.len_b
 
 pub returns-in-len1-up-clause-bound : goal.returns-in-len1-up-clause-bound
 returns-in-len1-up-clause-bound c =
-    let whole = only_one c.args.comments.now c.text-item.result c.in-len1-up.len_at_least c.requires.one c.text-item.is in
+    let whole =
+    only_one c.args.comments.now c.text-item.result c.in-len1-up.len_at_least c.requires.one c.text-item.is in
     let text = ap (λ (x : List ℕ). remarks_size (x ∷ [])) (c.as_bytes.ensures.value ∙ c.as_str.ensures) in
-    omega (arith, remarks_small c.args.comments.now c.requires.one c.requires.short, ap remarks_size whole, text, c.remark_size.ensures)
+    omega (
+      arith,
+      remarks_small c.args.comments.now c.requires.one c.requires.short,
+      ap remarks_size whole,
+      text,
+      c.remark_size.ensures,
+    )

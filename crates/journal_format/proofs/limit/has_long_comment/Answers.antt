@@ -8,4 +8,5 @@ use Rattle.journal_format.proofs.limit.has_long_comment.Goals as goal
 pub returns-else-line-gt-MAX_COMMENT : goal.returns-else-line-gt-MAX_COMMENT
 returns-else-line-gt-MAX_COMMENT c =
     let line = c.args.line.now in
-    le-ltb 900 (length line) c.if-line-gt-MAX_COMMENT.false ∙ sym (le-ltb 900 (length_of (comment_of line)) (omega (arith, comment_within line, c.if-line-gt-MAX_COMMENT.false)))
+    le-ltb 900 (length line) c.if-line-gt-MAX_COMMENT.false ∙ sym
+    (le-ltb 900 (length_of (comment_of line)) (omega (arith, comment_within line, c.if-line-gt-MAX_COMMENT.false)))

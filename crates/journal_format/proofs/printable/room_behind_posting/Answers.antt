@@ -17,7 +17,8 @@ returns-then-size-room c =
     let styles = c.args.styles.now in
     let p = c.args.posting.now in
     let both = length-append (whole_line (posting_line styles p)) (comments_part p.comments) in
-    sym (room_none c.args.room (length (posting_part styles p)) (omega (arith, c.if-size-room.true, c.line_size-size.ensures.size, line_is styles p, both)))
+    sym (room_none c.args.room (length (posting_part styles p))
+    (omega (arith, c.if-size-room.true, c.line_size-size.ensures.size, line_is styles p, both)))
 
 pub returns : goal.returns
 returns c =
@@ -30,4 +31,5 @@ returns c =
     c.room_behind_remarks.ensures
     ∙ (ap (λ (xs : List (List ℕ)). room_behind (c.args.room - size) (length (comments_part xs))) c.items.ensures
     ∙ (room_twice c.args.room size (length (comments_part p.comments)) (omega (arith, c.if-size-room.false))
-    ∙ ap (λ (k : ℕ). room_behind c.args.room k) (ap (λ (k : ℕ). k + length (comments_part p.comments)) same ∙ sym both)))
+    ∙ ap (λ (k : ℕ). room_behind c.args.room k)
+    (ap (λ (k : ℕ). k + length (comments_part p.comments)) same ∙ sym both)))

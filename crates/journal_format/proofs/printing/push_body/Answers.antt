@@ -6,5 +6,6 @@ pub returns-clause-ok : goal.returns-clause-ok
 returns-clause-ok c =
     let t = c.args.txn.now in
     let styles = c.args.styles.now in
-    ok_behind c.push_rest.result c.args.out.now.items c.push_header.new.out.items c.push_rest.new.out.items (header_part t) (rest_part styles t) _
+    ok_behind c.push_rest.result c.args.out.now.items c.push_header.new.out.items c.push_rest.new.out.items
+    (header_part t) (rest_part styles t) _
     c.in_ok-push_header.ensures.ok (body_parts styles t) c.push_rest.ensures.ok

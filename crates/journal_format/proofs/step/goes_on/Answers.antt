@@ -7,4 +7,11 @@ use Rattle.journal_format.proofs.step.goes_on.Goals as goal
 pub returns-in-Ok-clause-size : goal.returns-in-Ok-clause-size
 returns-in-Ok-clause-size c =
     let styles = c.args.styles.now in
-    omega (arith, c.requires.size, ap (λ (x : Context). size_of styles x) c.in-Entry.is, body_size styles c.in-Entry.txn, body_size styles c.in-Ok.txn, c.in-Ok.ensures.grown)
+    omega (
+      arith,
+      c.requires.size,
+      ap (λ (x : Context). size_of styles x) c.in-Entry.is,
+      body_size styles c.in-Entry.txn,
+      body_size styles c.in-Ok.txn,
+      c.in-Ok.ensures.grown,
+    )

@@ -8,5 +8,6 @@ use Rattle.journal_lines.proofs.account.all_parts.Goals as goal
 pub returns : goal.returns
 returns c =
     all_from_yields_List is_part _ _ c.all.result c.all.ensures.ran
-    (YieldsList-from_slice_split _ (λ b. b == 58) c.args.name.now c.split.ensures.rest c.split.ensures.done c.split.ensures.closure (λ x b q k. search (rules, tests)))
+    (YieldsList-from_slice_split _ (λ b. b == 58) c.args.name.now c.split.ensures.rest c.split.ensures.done
+    c.split.ensures.closure (λ x b q k. search (rules, tests)))
     (λ x b q k. search (rules, tests))

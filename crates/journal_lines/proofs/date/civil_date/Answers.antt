@@ -15,4 +15,5 @@ unreachable-requires c =
 pub returns-clause-year : goal.returns-clause-year
 returns-clause-year c =
     let number : epoch_day c.in-Ok.date ≡ c.args.day.0 = search rules in
-    year_is_positive c.in-Ok.date.year c.in-Ok.date.month c.in-Ok.date.day c.args.day (civil c.in-Ok.date) number c.requires
+    year_is_positive c.in-Ok.date.year c.in-Ok.date.month c.in-Ok.date.day c.args.day (civil c.in-Ok.date) number
+    c.requires

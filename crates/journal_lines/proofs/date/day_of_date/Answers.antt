@@ -16,10 +16,22 @@ whole : (text : List ℕ) (r : Option Day) (y m d : ℕ) → 4 < length text →
     → (is_short (day_part text) ≡ true) × (d ≡ number_of (day_part text))
     → SomeIff r (IsDay y m d) (record { 0 = days_from_civil (pos y) m d }) → SomeIff r (HasDateParts text) (day_of text)
 whole text r y m d long sep year month day h =
-    let parts : SomeIff r (IsDay (number_of (year_part text)) (number_of (month_part text)) (number_of (day_part text))) (day_of text) = rw (← year.1, ← month.1, ← day.1) h in
-    elim r as (λ s. SomeIff s (IsDay (number_of (year_part text)) (number_of (month_part text)) (number_of (day_part text))) (day_of text) → SomeIff s (HasDateParts text) (day_of text)) [
+    let parts : SomeIff r (IsDay (number_of (year_part text)) (number_of (month_part text)) (number_of (day_part text)))
+    (day_of text) = rw (← year.1, ← month.1, ← day.1) h in
+    elim r as (λ s. SomeIff s (IsDay (number_of (year_part text)) (number_of (month_part text))
+    (number_of (day_part text))) (day_of text) → SomeIff s (HasDateParts text) (day_of text)) [
       | None ↦ λ none is. none is.exists
-      | Some x ↦ λ some. (record { long = long; year = year.0; separated = sep; month = month.0; day = day.0; exists = some.0 }, some.1)
+      | Some x ↦ λ some. (
+        record {
+          long = long;
+          year = year.0;
+          separated = sep;
+          month = month.0;
+          day = day.0;
+          exists = some.0;
+        },
+        some.1,
+      )
     ] parts
 
 pub returns-in_err-month : goal.returns-in_err-month
@@ -36,4 +48,5 @@ pub returns : goal.returns
 returns c =
     let month = rw (c.before-2.ensures, whole_rest 5 c.args.text.now) at c.in_ok-month.ensures.value in
     let day = rw (c.behind.ensures, whole_rest 5 c.args.text.now) at c.in_ok-day.ensures.value in
-    whole c.args.text.now c.day_number.result _ _ _ (omega arith) (sym c.if-not-is_separator.ensures) c.in_ok-year.ensures.value month day c.day_number.ensures
+    whole c.args.text.now c.day_number.result _ _ _ (omega arith) (sym c.if-not-is_separator.ensures)
+    c.in_ok-year.ensures.value month day c.day_number.ensures

@@ -11,6 +11,7 @@ returns-then-day-geminus719162 c = (
 
 pub returns-else-day-geminus719162 : goal.returns-else-day-geminus719162
 returns-else-day-geminus719162 c = (
-  λ high. day_number_from c.args.day (omega (arith, ints, high)) (omega (arith, ints, high, c.if-day-geminus719162.false)),
+  λ high. day_number_from c.args.day (omega (arith, ints, high))
+      (omega (arith, ints, high, c.if-day-geminus719162.false)),
   λ is. let bounds = day_number_bounds c.args.day is in grind (arith, ints, bounds.0, bounds.1),
 )

@@ -10,7 +10,8 @@ use Rattle.journal_lines.proofs.date.number_of.Goals as goal
 value_of_digit : (c : ℕ) → is_ascii_digit c ≡ true → (digit_value c ≡ c - 48) × (c - 48 < 10)
 value_of_digit c h = (grind (arith, common_steps), grind (arith, common_steps))
 
-more : (xs : List ℕ) (i n d : ℕ) → i < length xs → is_ascii_digit (get_or xs i 0) ≡ true → d ≡ get_or xs i 0 - 48 → n ≡ number_of (take i xs) → n < 10 ^ i
+more : (xs : List ℕ) (i n d : ℕ) → i < length xs → is_ascii_digit (get_or xs i 0) ≡ true → d ≡ get_or xs i 0 - 48
+    → n ≡ number_of (take i xs) → n < 10 ^ i
     → (n * 10 + d ≡ number_of (take (i + 1) xs)) × (n * 10 + d < 10 ^ (i + 1))
 more xs i n d l h e v b =
     let digit = value_of_digit (get_or xs i 0) h in
@@ -20,5 +21,7 @@ more xs i n d l h e v b =
 pub loop-digit-preserved : goal.loop-digit-preserved
 loop-digit-preserved c =
     let xs = c.args.text.now in
-    let digit : is_ascii_digit (get_or xs c.loop-digit.digit-index 0) ≡ true = AllPass-from_list_all is_ascii_digit xs c.requires.digits c.loop-digit.digit-index 0 c.loop-digit-test.true in
-    more xs c.loop-digit.digit-index c.loop-digit.number c.from.result c.loop-digit-test.true digit c.from.ensures c.loop-digit.invariant.0 c.loop-digit.invariant.1
+    let digit : is_ascii_digit (get_or xs c.loop-digit.digit-index 0) ≡ true =
+    AllPass-from_list_all is_ascii_digit xs c.requires.digits c.loop-digit.digit-index 0 c.loop-digit-test.true in
+    more xs c.loop-digit.digit-index c.loop-digit.number c.from.result c.loop-digit-test.true digit c.from.ensures
+    c.loop-digit.invariant.0 c.loop-digit.invariant.1

@@ -9,4 +9,5 @@ returns-in-Some-clause-lines c =
     rw (whole_rest (c.in-Some.at + 1) text, c.without_return.ensures) step.0
 
 pub returns-in-None-clause-lines : goal.returns-in-None-clause-lines
-returns-in-None-clause-lines c = rw c.without_return-in-None.ensures (lines_last c.args.text.now c.requires c.in-None.ensures)
+returns-in-None-clause-lines c =
+    rw c.without_return-in-None.ensures (lines_last c.args.text.now c.requires c.in-None.ensures)

@@ -12,4 +12,5 @@ returns-clause-ok c =
     let sign = rw back at c.in_ok-push_minus.ensures.ok in
     let more = rw (c.unsigned_abs.ensures.value, back) at c.in_ok-print_number.ensures.ok in
     appended_twice c.args.out.now.items c.push_minus.new.out.items c.print_number.new.out.items
-    (minus c.args.quantity) (printed_number c.args.style.now.mark c.args.style.now.grouped c.args.decimals (unsigned_abs c.args.quantity)) sign more
+    (minus c.args.quantity) (printed_number c.args.style.now.mark c.args.style.now.grouped c.args.decimals
+    (unsigned_abs c.args.quantity)) sign more

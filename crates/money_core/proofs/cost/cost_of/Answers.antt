@@ -13,7 +13,8 @@ overflow_add-own c =
     let at = sym (rw c.unwrap-own.ensures at c.style.ensures) in
     let its = sym (rw (c.unwrap-style.ensures, c.unit-2.ensures) at c.style-2.ensures) in
     let few = (style_facts c.args.styles.now c.args.unit.0 own c.are_styles.ensures at).few in
-    let facts = price_facts c.args.styles.now c.args.price.now style c.in-Each.unit c.in-Each.digits c.in-Each.decimals c.requires.price c.in-Each.is its in
+    let facts = price_facts c.args.styles.now c.args.price.now style c.in-Each.unit c.in-Each.digits c.in-Each.decimals
+    c.requires.price c.in-Each.is its in
     omega (arith, few, facts.few)
 
 pub product-requires-clause-decimals : goal.product-requires-clause-decimals
@@ -23,7 +24,8 @@ product-requires-clause-decimals c =
     let at = sym (rw c.unwrap-own.ensures at c.style.ensures) in
     let its = sym (rw (c.unwrap-style.ensures, c.unit-2.ensures) at c.style-2.ensures) in
     let few = (style_facts c.args.styles.now c.args.unit.0 own c.are_styles.ensures at).few in
-    let facts = price_facts c.args.styles.now c.args.price.now style c.in-Each.unit c.in-Each.digits c.in-Each.decimals c.requires.price c.in-Each.is its in
+    let facts = price_facts c.args.styles.now c.args.price.now style c.in-Each.unit c.in-Each.digits c.in-Each.decimals
+    c.requires.price c.in-Each.is its in
     omega (arith, few, facts.few)
 
 pub returns-in-Each-clause-value : goal.returns-in-Each-clause-value
@@ -33,6 +35,8 @@ returns-in-Each-clause-value c =
     let at = sym (rw c.unwrap-own.ensures at c.style.ensures) in
     let its = sym (rw (c.unwrap-style.ensures, c.unit-2.ensures) at c.style-2.ensures) in
     let other = rw c.unit.ensures at (ne_eqb _ _ c.if-unit.false) in
-    let facts = price_facts c.args.styles.now c.args.price.now style c.in-Each.unit c.in-Each.digits c.in-Each.decimals c.requires.price c.in-Each.is its in
+    let facts = price_facts c.args.styles.now c.args.price.now style c.in-Each.unit c.in-Each.digits c.in-Each.decimals
+    c.requires.price c.in-Each.is its in
     let back = to_z-of_z w64 c.args.qty (search rules) in
-    (rw back at c.product.ensures.value) ∙ each_cost c.args.styles.now c.args.qty c.args.unit c.in-Each.unit c.args.price.now own style c.in-Each.digits c.in-Each.decimals c.in-Each.is other at its facts.declared
+    (rw back at c.product.ensures.value) ∙ each_cost c.args.styles.now c.args.qty c.args.unit c.in-Each.unit
+    c.args.price.now own style c.in-Each.digits c.in-Each.decimals c.in-Each.is other at its facts.declared

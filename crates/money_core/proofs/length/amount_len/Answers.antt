@@ -6,7 +6,8 @@ use Rattle.money_core.proofs.length.amount_len.Goals as goal
 use Rattle.money_core.proofs.length.amount_len.Goals.{After-unwrap-style}
 
 facts : (c : After-unwrap-style) → StyleFacts c.unwrap-style.result.now
-facts c = style_facts c.args.styles.now c.args.unit.0 c.unwrap-style.result.now c.are_styles.ensures (sym (rw c.unwrap-style.ensures at c.style.ensures))
+facts c = style_facts c.args.styles.now c.args.unit.0 c.unwrap-style.result.now c.are_styles.ensures
+    (sym (rw c.unwrap-style.ensures at c.style.ensures))
 
 pub amount_len_with-requires-clause-symbol : goal.amount_len_with-requires-clause-symbol
 amount_len_with-requires-clause-symbol c = (facts c).symbolic
@@ -22,4 +23,5 @@ returns-clause-value c =
     rw at (rw back at c.amount_len_with.ensures.value)
 
 pub returns-clause-short : goal.returns-clause-short
-returns-clause-short c = omega (arith, (facts (goal.at.returns-clause-short c).After-unwrap-style).few, c.amount_len_with.ensures.bound)
+returns-clause-short c =
+    omega (arith, (facts (goal.at.returns-clause-short c).After-unwrap-style).few, c.amount_len_with.ensures.bound)

@@ -6,7 +6,8 @@ use Rattle.money_core.proofs.length.price_len.Goals as goal
 use Rattle.money_core.proofs.length.price_len.Goals.{After-unwrap-style}
 
 facts : (c : After-unwrap-style) → StyleFacts c.unwrap-style.result.now
-facts c = style_facts c.args.styles.now c.unit.result.0 c.unwrap-style.result.now c.are_styles.ensures (sym (rw c.unwrap-style.ensures at c.style.ensures))
+facts c = style_facts c.args.styles.now c.unit.result.0 c.unwrap-style.result.now c.are_styles.ensures
+    (sym (rw c.unwrap-style.ensures at c.style.ensures))
 
 pub cost_len-requires-clause-symbol : goal.cost_len-requires-clause-symbol
 cost_len-requires-clause-symbol c = (facts c).symbolic

@@ -7,7 +7,9 @@ pub returns-clause-ok : goal.returns-clause-ok
 returns-clause-ok t c =
     let some : 0 < c.args.count = omega arith in
     rw (places_step c.args.count c.args.n some)
-    (appended_twice c.args.out.now.items c.push_places.new.out.items c.push.new.self.items (places (c.args.count - 1) (c.args.n / 10)) ((48 + c.args.n % 10) ∷ []) c.in_ok-push_places.ensures.ok c.in_ok-push.ensures.items)
+    (appended_twice c.args.out.now.items c.push_places.new.out.items c.push.new.self.items
+    (places (c.args.count - 1) (c.args.n / 10)) ((48 + c.args.n % 10) ∷ []) c.in_ok-push_places.ensures.ok
+    c.in_ok-push.ensures.items)
 
 pub returns-then-count-eq0-clause-ok : goal.returns-then-count-eq0-clause-ok
 returns-then-count-eq0-clause-ok t c =

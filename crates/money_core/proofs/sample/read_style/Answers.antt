@@ -2,7 +2,8 @@ use Rattle.std.proofs.Common.{◌≡◌, sym, refl, Some, None, Err}
 use Rattle.money_core.specs.declared.cause.Cause.TheVariants.{Amount}
 use Rattle.money_core.specs.Sampling.{style_of}
 use Rattle.money_core.specs.Views.{spelled_view}
-use Rattle.money_core.proofs.SampleLemmas.{found_utf8, found_ok, found_declarable, found_only, found_answer, found_none, lacks_all, lacks_answer, lacks_none}
+use Rattle.money_core.proofs.SampleLemmas.{found_utf8, found_ok, found_declarable, found_only, found_answer, found_none}
+use Rattle.money_core.proofs.SampleLemmas.{lacks_all, lacks_answer, lacks_none}
 use Rattle.money_core.proofs.sample.read_style.Goals as goal
 use Rattle.money_core.proofs.sample.read_style.Goals.{In-Some, In-None}
 
@@ -17,19 +18,29 @@ pub copied-requires : goal.copied-requires
 copied-requires c = found_utf8 c.args.text.now (spelled_view c.in-Some.spelled) (found c)
 
 pub returns-in-Some-clause-ok : goal.returns-in-Some-clause-ok
-returns-in-Some-clause-ok c = found_ok c.args.text.now (spelled_view c.in-Some.spelled) (found (goal.at.returns-in-Some-clause-ok c).In-Some) c.copied.result c.copied.ensures.equal
+returns-in-Some-clause-ok c = found_ok c.args.text.now (spelled_view c.in-Some.spelled)
+    (found (goal.at.returns-in-Some-clause-ok c).In-Some) c.copied.result c.copied.ensures.equal
 
 pub returns-in-Some-clause-declarable : goal.returns-in-Some-clause-declarable
-returns-in-Some-clause-declarable c = found_declarable c.args.text.now (spelled_view c.in-Some.spelled) (found (goal.at.returns-in-Some-clause-declarable c).In-Some) c.copied.result c.copied.ensures.equal
+returns-in-Some-clause-declarable c =
+    found_declarable c.args.text.now (spelled_view c.in-Some.spelled)
+    (found (goal.at.returns-in-Some-clause-declarable c).In-Some) c.copied.result c.copied.ensures.equal
 
 pub returns-in-Some-clause-only : goal.returns-in-Some-clause-only
-returns-in-Some-clause-only c = found_only c.args.text.now (spelled_view c.in-Some.spelled) (found (goal.at.returns-in-Some-clause-only c).In-Some) c.copied.result c.copied.ensures.equal c.copied.ensures.memory
+returns-in-Some-clause-only c =
+    found_only c.args.text.now (spelled_view c.in-Some.spelled) (found (goal.at.returns-in-Some-clause-only c).In-Some)
+    c.copied.result c.copied.ensures.equal c.copied.ensures.memory
 
 pub returns-in-Some-clause-answer : goal.returns-in-Some-clause-answer
-returns-in-Some-clause-answer c = found_answer c.args.text.now (spelled_view c.in-Some.spelled) (found (goal.at.returns-in-Some-clause-answer c).In-Some) c.copied.result c.copied.ensures.equal c.copied.ensures.memory
+returns-in-Some-clause-answer c =
+    found_answer c.args.text.now (spelled_view c.in-Some.spelled)
+    (found (goal.at.returns-in-Some-clause-answer c).In-Some) c.copied.result c.copied.ensures.equal
+    c.copied.ensures.memory
 
 pub returns-in-Some-clause-none : goal.returns-in-Some-clause-none
-returns-in-Some-clause-none c = found_none c.args.text.now (spelled_view c.in-Some.spelled) (found (goal.at.returns-in-Some-clause-none c).In-Some) c.copied.result c.copied.ensures.memory
+returns-in-Some-clause-none c =
+    found_none c.args.text.now (spelled_view c.in-Some.spelled) (found (goal.at.returns-in-Some-clause-none c).In-Some)
+    c.copied.result c.copied.ensures.memory
 
 pub returns-in-None-clause-only : goal.returns-in-None-clause-only
 returns-in-None-clause-only c = λ style h. absurd (lacks_all c.args.text.now (lacks c) style h)

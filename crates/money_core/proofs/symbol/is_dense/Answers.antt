@@ -6,8 +6,13 @@ use Rattle.money_core.proofs.symbol.is_dense.Goals as goal
 
 pub returns-in-Ok : goal.returns-in-Ok
 returns-in-Ok c =
-    rw (is_utf8-from_IsUtf8 c.args.bytes.now c.in-Ok.ensures.cases.1, c.has_white_space.ensures, c.in-Ok.ensures.cases.0) refl
+    rw (
+      is_utf8-from_IsUtf8 c.args.bytes.now c.in-Ok.ensures.cases.1,
+      c.has_white_space.ensures,
+      c.in-Ok.ensures.cases.0,
+    ) refl
 
 pub returns-in-Err : goal.returns-in-Err
 returns-in-Err c =
-    rw (false_from_ne_true (is_utf8 c.args.bytes.now) (λ e. c.in-Err.ensures.cases.0 (IsUtf8-from_is_utf8 c.args.bytes.now e))) refl
+    rw (false_from_ne_true (is_utf8 c.args.bytes.now)
+    (λ e. c.in-Err.ensures.cases.0 (IsUtf8-from_is_utf8 c.args.bytes.now e))) refl

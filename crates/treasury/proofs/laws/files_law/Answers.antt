@@ -15,7 +15,8 @@ pub returns-clause-holds : goal.returns-clause-holds
 returns-clause-holds g c = holds_of
 
 pub returns-clause-begun : goal.returns-clause-begun
-returns-clause-begun g c start left made next clean none may = found_closed _ start left next empty_state (made.closed, made.is_left, made.makes clean none) may
+returns-clause-begun g c start left made next clean none may =
+    found_closed _ start left next empty_state (made.closed, made.is_left, made.makes clean none) may
 
 pub returns-clause-answered : goal.returns-clause-answered
 returns-clause-answered g c = answers_file _
@@ -32,5 +33,9 @@ returns-clause-kept g c = keeps_file _
 pub returns-clause-headline : goal.returns-clause-headline
 returns-clause-headline g c start words end f holds told =
     ∥∥₁_map (keeps_file _ start words end f holds told) (λ kept.
-    let run = told_run f words kept.0 kept.1 in
-    (run.0, run.1, c.headline_law.ensures f run.0 holds.good run.1, subst (λ (state : Federation). HoldsOf end state) run.2 kept.2))
+    let run = told_run f words kept.0 kept.1 in (
+      run.0,
+      run.1,
+      c.headline_law.ensures f run.0 holds.good run.1,
+      subst (λ (state : Federation). HoldsOf end state) run.2 kept.2,
+    ))

@@ -12,59 +12,88 @@ use Rattle.treasury_api.specs.Report.{report_text, has_its_branch}
 use Rattle.treasury_api.specs.Serving.{OrMemory}
 use Rattle.treasury_api.specs.declared.asking.Asked.TheVariants.{Command, Report}
 use Rattle.treasury_api.proofs.ReplyLemmas.{state_is}
-use Rattle.treasury_api.proofs.AnswerLemmas.{unheld, held_unfailed, answered, meant, command_fits, refused_texts, reported, unreported, is_there}
-use Rattle.treasury_api.proofs.LeftLemmas.{left_same, left_command, open_unheld, open_done, open_then, fails_not, fails_unheld, fails_ruled, unread_state, refused_closed, ruled_texts, ruled_report}
+use Rattle.treasury_api.proofs.AnswerLemmas.{unheld, held_unfailed, answered, meant, command_fits, refused_texts}
+use Rattle.treasury_api.proofs.AnswerLemmas.{reported, unreported, is_there}
+use Rattle.treasury_api.proofs.LeftLemmas.{left_same, left_command, open_unheld, open_done, open_then, fails_not}
+use Rattle.treasury_api.proofs.LeftLemmas.{fails_unheld, fails_ruled, unread_state, refused_closed, ruled_texts}
+use Rattle.treasury_api.proofs.LeftLemmas.{ruled_report}
 use Rattle.treasury_api.proofs.answering.answer.Goals as goal
 
 pub answer_command-requires-clause-held : goal.answer_command-requires-clause-held
-answer_command-requires-clause-held g c =
-    (c.in-Some.state.now, (c.in-Some.ensures, (command_fits _ _ _ _ c.styles.ensures c.in-Ok-Command.field-0-is c.in-Ok-Command.ensures.ready, c.is_good.ensures)))
+answer_command-requires-clause-held g c = (
+  c.in-Some.state.now,
+  (
+    c.in-Some.ensures,
+    (
+      command_fits _ _ _ _ c.styles.ensures c.in-Ok-Command.field-0-is c.in-Ok-Command.ensures.ready,
+      c.is_good.ensures,
+    ),
+  ),
+)
 
 pub returns-in-Err-clause-replies : goal.returns-in-Err-clause-replies
 returns-in-Err-clause-replies g c clean f of =
-    unheld c.reading_law.ensures.some g.S.Store c.args.treasury.now.store.failed c.hold.new.self f c.args.request.now c.in-Err.cause c.hold.result _ _ _ c.in-Err.is refl
+    unheld c.reading_law.ensures.some g.S.Store c.args.treasury.now.store.failed c.hold.new.self f c.args.request.now
+    c.in-Err.cause c.hold.result _ _ _ c.in-Err.is refl
     (c.hold.ensures.of clean f of) (λ e. c.hold.ensures.damaged e clean f of) c.hold.ensures.answers
     (λ t. let k = c.hold.ensures.closed t in (k.0, ap (λ (x : Treasury _). x.store.failed) k.1)) refl
 
 pub returns-in-Ok-Command-clause-replies : goal.returns-in-Ok-Command-clause-replies
 returns-in-Ok-Command-clause-replies g c clean f of =
     let still_of = c.hold.ensures.of (c.answer_command.ensures.clean clean) f of in
-    let same : c.in-Some.state.now ≡ f = state_is g.S.Store c.hold.new.self c.in-Some.state.now f still_of c.in-Some.ensures in
-    answered g.S.Store c.args.treasury.now.store.failed c.answer_command.new.treasury f c.args.request.now (Ok (Command c.in-Ok-Command.command)) c.answer_command.result _ _
+    let same : c.in-Some.state.now ≡ f =
+    state_is g.S.Store c.hold.new.self c.in-Some.state.now f still_of c.in-Some.ensures in
+    answered g.S.Store c.args.treasury.now.store.failed c.answer_command.new.treasury f c.args.request.now
+    (Ok (Command c.in-Ok-Command.command)) c.answer_command.result _ _
     (held_unfailed _ c.in-Ok.field-0 c.hold.result c.in-Ok.is c.hold.ensures.closed)
-    (meant _ _ _ _ _ (c.styles.ensures ∙ ap (λ (x : Federation). x.styles) same) c.in-Ok-Command.field-0-is c.in-Ok-Command.ensures.asks)
+    (meant _ _ _ _ _ (c.styles.ensures ∙ ap (λ (x : Federation). x.styles) same) c.in-Ok-Command.field-0-is
+    c.in-Ok-Command.ensures.asks)
     (c.answer_command.ensures.replies clean f still_of)
 
 pub returns-in-Ok-push_report-clause-replies : goal.returns-in-Ok-push_report-clause-replies
 returns-in-Ok-push_report-clause-replies g c clean f of =
     let still_of = c.hold.ensures.of clean f of in
-    let same : c.in-Some.state.now ≡ f = state_is g.S.Store c.hold.new.self c.in-Some.state.now f still_of c.in-Some.ensures in
+    let same : c.in-Some.state.now ≡ f =
+    state_is g.S.Store c.hold.new.self c.in-Some.state.now f still_of c.in-Some.ensures in
     let was = held_unfailed _ c.in-Ok.field-0 c.hold.result c.in-Ok.is c.hold.ensures.closed in
-    let there = is_there _ c.in-Ok-push_report.field-0 c.push_report.result c.in-Ok-push_report.is c.push_report.ensures.unknown in
-    answered g.S.Store c.args.treasury.now.store.failed c.hold.new.self f c.args.request.now (Ok (Report c.in-Ok-Report.report)) _ _ _ was
-    (meant _ _ _ _ _ (c.styles.ensures ∙ ap (λ (x : Federation). x.styles) same) c.in-Ok-Report.field-0-is c.in-Ok-Report.ensures.asks)
-    (reported g.S.Store c.hold.new.self f c.in-Ok-Report.report _ _ _ still_of (ok_unfailed c.in-Ok.field-0 _ (c.in-Ok.ensures.answers was))
+    let there = is_there _ c.in-Ok-push_report.field-0 c.push_report.result c.in-Ok-push_report.is
+    c.push_report.ensures.unknown in
+    answered g.S.Store c.args.treasury.now.store.failed c.hold.new.self f c.args.request.now
+    (Ok (Report c.in-Ok-Report.report)) _ _ _ was
+    (meant _ _ _ _ _ (c.styles.ensures ∙ ap (λ (x : Federation). x.styles) same) c.in-Ok-Report.field-0-is
+    c.in-Ok-Report.ensures.asks)
+    (reported g.S.Store c.hold.new.self f c.in-Ok-Report.report _ _ _ still_of
+    (ok_unfailed c.in-Ok.field-0 _ (c.in-Ok.ensures.answers was))
     (subst (λ (x : Federation). has_its_branch x c.in-Ok-Report.report ≡ true) same there)
-    (subst (λ (x : Federation). c.push_report.new.out.items ≡ c.args.out.now.items ++ report_text x c.in-Ok-Report.report) same c.in-Ok-push_report.ensures.ok))
+    (subst (λ (x : Federation). c.push_report.new.out.items
+    ≡ c.args.out.now.items ++ report_text x c.in-Ok-Report.report) same c.in-Ok-push_report.ensures.ok))
 
 pub returns-in-Ok-Report-clause-replies : goal.returns-in-Ok-Report-clause-replies
 returns-in-Ok-Report-clause-replies g c clean f of =
     let still_of = c.hold.ensures.of clean f of in
-    let same : c.in-Some.state.now ≡ f = state_is g.S.Store c.hold.new.self c.in-Some.state.now f still_of c.in-Some.ensures in
+    let same : c.in-Some.state.now ≡ f =
+    state_is g.S.Store c.hold.new.self c.in-Some.state.now f still_of c.in-Some.ensures in
     let was = held_unfailed _ c.in-Ok.field-0 c.hold.result c.in-Ok.is c.hold.ensures.closed in
-    answered g.S.Store c.args.treasury.now.store.failed c.hold.new.self f c.args.request.now (Ok (Report c.in-Ok-Report.report)) _ _ _ was
-    (meant _ _ _ _ _ (c.styles.ensures ∙ ap (λ (x : Federation). x.styles) same) c.in-Ok-Report.field-0-is c.in-Ok-Report.ensures.asks)
-    (unreported g.S.Store c.hold.new.self f c.in-Ok-Report.report c.in-Err-push_report.cause c.push_report.result _ _ _ c.in-Err-push_report.is refl still_of (ok_unfailed c.in-Ok.field-0 _ (c.in-Ok.ensures.answers was))
-    (subst (λ (x : Federation). (c.push_report.result ≡ Err UnknownBranch) ↔ (has_its_branch x c.in-Ok-Report.report ≡ false)) same c.push_report.ensures.unknown)
+    answered g.S.Store c.args.treasury.now.store.failed c.hold.new.self f c.args.request.now
+    (Ok (Report c.in-Ok-Report.report)) _ _ _ was
+    (meant _ _ _ _ _ (c.styles.ensures ∙ ap (λ (x : Federation). x.styles) same) c.in-Ok-Report.field-0-is
+    c.in-Ok-Report.ensures.asks)
+    (unreported g.S.Store c.hold.new.self f c.in-Ok-Report.report c.in-Err-push_report.cause c.push_report.result _ _ _
+    c.in-Err-push_report.is refl still_of (ok_unfailed c.in-Ok.field-0 _ (c.in-Ok.ensures.answers was))
+    (subst (λ (x : Federation). (c.push_report.result ≡ Err UnknownBranch)
+    ↔ (has_its_branch x c.in-Ok-Report.report ≡ false)) same c.push_report.ensures.unknown)
     c.in-Err-push_report.ensures.causes c.in-Err-push_report.ensures.err)
 
 pub returns-clause-replies : goal.returns-clause-replies
 returns-clause-replies g c clean f of =
     let still_of = c.hold.ensures.of clean f of in
-    let same : c.in-Some.state.now ≡ f = state_is g.S.Store c.hold.new.self c.in-Some.state.now f still_of c.in-Some.ensures in
+    let same : c.in-Some.state.now ≡ f =
+    state_is g.S.Store c.hold.new.self c.in-Some.state.now f still_of c.in-Some.ensures in
     let was = held_unfailed _ c.in-Ok.field-0 c.hold.result c.in-Ok.is c.hold.ensures.closed in
-    refused_texts c.reading_law.ensures.some g.S.Store c.args.treasury.now.store.failed c.hold.new.self f c.args.request.now c.in-Err-asked_by.refusal _ _ _ was
-    (subst (λ (x : List Style). OrMemory (RequestAsks x c.args.request.now) (Err c.in-Err-asked_by.refusal)) (c.styles.ensures ∙ ap (λ (x : Federation). x.styles) same) c.in-Err-asked_by.ensures.asks)
+    refused_texts c.reading_law.ensures.some g.S.Store c.args.treasury.now.store.failed c.hold.new.self f
+    c.args.request.now c.in-Err-asked_by.refusal _ _ _ was
+    (subst (λ (x : List Style). OrMemory (RequestAsks x c.args.request.now) (Err c.in-Err-asked_by.refusal))
+    (c.styles.ensures ∙ ap (λ (x : Federation). x.styles) same) c.in-Err-asked_by.ensures.asks)
     refl still_of (ok_unfailed c.in-Ok.field-0 _ (c.in-Ok.ensures.answers was)) refl
 
 -- ---- where the state cannot be had
@@ -76,21 +105,26 @@ pub returns-in-Err-clause-fails : goal.returns-in-Err-clause-fails
 returns-in-Err-clause-fails g c unfailed = fails_unheld c.in-Err.cause _ (c.in-Err.ensures.answers unfailed)
 
 pub returns-in-Err-clause-closed : goal.returns-in-Err-clause-closed
-returns-in-Err-clause-closed g c failed = let k = c.in-Err.ensures.closed failed in (refused_closed c.in-Err.cause k.0, k.1)
+returns-in-Err-clause-closed g c failed =
+    let k = c.in-Err.ensures.closed failed in (refused_closed c.in-Err.cause k.0, k.1)
 
 pub returns-in-Err-clause-strange : goal.returns-in-Err-clause-strange
-returns-in-Err-clause-strange g c clean unfailed unheld none = (unread_state c.in-Err.cause _ (c.in-Err.ensures.answers unfailed), c.hold.ensures.unchanged clean)
+returns-in-Err-clause-strange g c clean unfailed unheld none =
+    (unread_state c.in-Err.cause _ (c.in-Err.ensures.answers unfailed), c.hold.ensures.unchanged clean)
 
 pub returns-in-Err-clause-open_but : goal.returns-in-Err-clause-open_but
 returns-in-Err-clause-open_but g c clean is_open f of =
-    open_unheld g.S.Store c.args.treasury.now c.hold.new.self c.in-Err.cause c.hold.result _ c.in-Err.is refl c.hold.ensures.answers c.hold.ensures.closed (λ e. c.hold.ensures.damaged e clean f of)
+    open_unheld g.S.Store c.args.treasury.now c.hold.new.self c.in-Err.cause c.hold.result _ c.in-Err.is refl
+    c.hold.ensures.answers c.hold.ensures.closed (λ e. c.hold.ensures.damaged e clean f of)
     (shuts_by g.S.Store c.args.treasury.now.store.conn c.hold.new.self.store.conn _ c.hold.ensures.crash) clean is_open
 
 pub returns-in-Err-clause-shuts : goal.returns-in-Err-clause-shuts
-returns-in-Err-clause-shuts g c = shuts_by g.S.Store c.args.treasury.now.store.conn c.hold.new.self.store.conn _ c.hold.ensures.crash
+returns-in-Err-clause-shuts g c =
+    shuts_by g.S.Store c.args.treasury.now.store.conn c.hold.new.self.store.conn _ c.hold.ensures.crash
 
 pub returns-in-Err-clause-left : goal.returns-in-Err-clause-left
-returns-in-Err-clause-left g c = left_same g.S.Store c.args.treasury.now c.hold.new.self c.args.request.now c.hold.ensures.left
+returns-in-Err-clause-left g c =
+    left_same g.S.Store c.args.treasury.now c.hold.new.self c.args.request.now c.hold.ensures.left
 
 -- ---- a command
 
@@ -104,43 +138,64 @@ pub returns-in-Ok-Command-clause-closed : goal.returns-in-Ok-Command-clause-clos
 returns-in-Ok-Command-clause-closed g c failed = absurd (let k = (c.in-Ok.ensures.closed failed).0 in cc)
 
 pub returns-in-Ok-Command-clause-strange : goal.returns-in-Ok-Command-clause-strange
-returns-in-Ok-Command-clause-strange g c clean unfailed unheld none = absurd (c.in-Ok.ensures.shown (c.answer_command.ensures.clean clean) unheld none)
+returns-in-Ok-Command-clause-strange g c clean unfailed unheld none =
+    absurd (c.in-Ok.ensures.shown (c.answer_command.ensures.clean clean) unheld none)
 
 pub returns-in-Ok-Command-clause-still_open : goal.returns-in-Ok-Command-clause-still_open
 returns-in-Ok-Command-clause-still_open g c clean is_open =
     open_done g.S.Store c.hold.new.self.store.conn c.answer_command.new.treasury.store.conn c.answer_command.result
-    (c.answer_command.ensures.still_open clean (c.in-Ok.ensures.still_open (c.answer_command.ensures.clean clean) is_open))
+    (c.answer_command.ensures.still_open clean
+    (c.in-Ok.ensures.still_open (c.answer_command.ensures.clean clean) is_open))
 
 pub returns-in-Ok-Command-clause-open_but : goal.returns-in-Ok-Command-clause-open_but
 returns-in-Ok-Command-clause-open_but g c clean is_open f of =
-    open_then g.S.Store c.args.treasury.now.store.conn c.hold.new.self.store.conn c.answer_command.new.treasury.store.conn c.answer_command.result c.hold.ensures.crash.counts
-    (c.answer_command.ensures.still_open clean (c.in-Ok.ensures.still_open (c.answer_command.ensures.clean clean) is_open))
+    open_then g.S.Store c.args.treasury.now.store.conn c.hold.new.self.store.conn
+    c.answer_command.new.treasury.store.conn c.answer_command.result c.hold.ensures.crash.counts
+    (c.answer_command.ensures.still_open clean
+    (c.in-Ok.ensures.still_open (c.answer_command.ensures.clean clean) is_open))
 
 pub returns-in-Ok-Command-clause-shuts : goal.returns-in-Ok-Command-clause-shuts
 returns-in-Ok-Command-clause-shuts g c =
-    shuts_then g.S.Store c.args.treasury.now.store.conn c.hold.new.self.store.conn c.answer_command.new.treasury.store.conn
-    (shuts_by g.S.Store c.args.treasury.now.store.conn c.hold.new.self.store.conn _ c.hold.ensures.crash) c.answer_command.ensures.shuts
+    shuts_then g.S.Store c.args.treasury.now.store.conn c.hold.new.self.store.conn
+    c.answer_command.new.treasury.store.conn
+    (shuts_by g.S.Store c.args.treasury.now.store.conn c.hold.new.self.store.conn _ c.hold.ensures.crash)
+    c.answer_command.ensures.shuts
 
 pub returns-in-Ok-Command-clause-left : goal.returns-in-Ok-Command-clause-left
 returns-in-Ok-Command-clause-left g c =
-    let means : (f : Federation) → IsTreasuryOf g.S.Store c.hold.new.self f → RequestAsks f.styles c.args.request.now (Ok (Command c.in-Ok-Command.command)) = λ f of.
-    let same : c.in-Some.state.now ≡ f = state_is g.S.Store c.hold.new.self c.in-Some.state.now f of c.in-Some.ensures in
-    meant _ _ _ _ _ (c.styles.ensures ∙ ap (λ (x : Federation). x.styles) same) c.in-Ok-Command.field-0-is c.in-Ok-Command.ensures.asks in
-    left_command g.S.Store c.args.treasury.now c.hold.new.self c.answer_command.new.treasury c.args.request.now c.in-Ok-Command.command
-    c.answer_command.ensures.clean c.in-Ok.ensures.still_open c.hold.ensures.of (held_unfailed _ c.in-Ok.field-0 c.hold.result c.in-Ok.is c.hold.ensures.closed)
-    (c.in-Some.state.now, (c.in-Some.ensures, (command_fits _ _ _ _ c.styles.ensures c.in-Ok-Command.field-0-is c.in-Ok-Command.ensures.ready, c.is_good.ensures)))
+    let means : (f : Federation) → IsTreasuryOf g.S.Store c.hold.new.self f
+    → RequestAsks f.styles c.args.request.now (Ok (Command c.in-Ok-Command.command)) = λ f of.
+    let same : c.in-Some.state.now ≡ f =
+    state_is g.S.Store c.hold.new.self c.in-Some.state.now f of c.in-Some.ensures in
+    meant _ _ _ _ _ (c.styles.ensures ∙ ap (λ (x : Federation). x.styles) same) c.in-Ok-Command.field-0-is
+    c.in-Ok-Command.ensures.asks in
+    left_command g.S.Store c.args.treasury.now c.hold.new.self c.answer_command.new.treasury c.args.request.now
+    c.in-Ok-Command.command
+    c.answer_command.ensures.clean c.in-Ok.ensures.still_open c.hold.ensures.of
+    (held_unfailed _ c.in-Ok.field-0 c.hold.result c.in-Ok.is c.hold.ensures.closed) (
+      c.in-Some.state.now,
+      (
+        c.in-Some.ensures,
+        (
+          command_fits _ _ _ _ c.styles.ensures c.in-Ok-Command.field-0-is c.in-Ok-Command.ensures.ready,
+          c.is_good.ensures,
+        ),
+      ),
+    )
     means c.answer_command.ensures.left
 
 -- ---- a report that is made
 
 pub returns-in-Ok-push_report-clause-fails : goal.returns-in-Ok-push_report-clause-fails
-returns-in-Ok-push_report-clause-fails g c unfailed = fails_not _ _ (ok_unfailed c.in-Ok.field-0 _ (c.in-Ok.ensures.answers unfailed)) (λ is. absurd cc)
+returns-in-Ok-push_report-clause-fails g c unfailed =
+    fails_not _ _ (ok_unfailed c.in-Ok.field-0 _ (c.in-Ok.ensures.answers unfailed)) (λ is. absurd cc)
 
 pub returns-in-Ok-push_report-clause-closed : goal.returns-in-Ok-push_report-clause-closed
 returns-in-Ok-push_report-clause-closed g c failed = absurd (let k = (c.in-Ok.ensures.closed failed).0 in cc)
 
 pub returns-in-Ok-push_report-clause-strange : goal.returns-in-Ok-push_report-clause-strange
-returns-in-Ok-push_report-clause-strange g c clean unfailed unheld none = absurd (c.in-Ok.ensures.shown clean unheld none)
+returns-in-Ok-push_report-clause-strange g c clean unfailed unheld none =
+    absurd (c.in-Ok.ensures.shown clean unheld none)
 
 pub returns-in-Ok-push_report-clause-still_open : goal.returns-in-Ok-push_report-clause-still_open
 returns-in-Ok-push_report-clause-still_open g c = c.in-Ok.ensures.still_open
@@ -149,19 +204,23 @@ pub returns-in-Ok-push_report-clause-open_but : goal.returns-in-Ok-push_report-c
 returns-in-Ok-push_report-clause-open_but g c clean is_open f of = inl (c.in-Ok.ensures.still_open clean is_open)
 
 pub returns-in-Ok-push_report-clause-shuts : goal.returns-in-Ok-push_report-clause-shuts
-returns-in-Ok-push_report-clause-shuts g c = shuts_by g.S.Store c.args.treasury.now.store.conn c.hold.new.self.store.conn _ c.hold.ensures.crash
+returns-in-Ok-push_report-clause-shuts g c =
+    shuts_by g.S.Store c.args.treasury.now.store.conn c.hold.new.self.store.conn _ c.hold.ensures.crash
 
 pub returns-in-Ok-push_report-clause-left : goal.returns-in-Ok-push_report-clause-left
-returns-in-Ok-push_report-clause-left g c = left_same g.S.Store c.args.treasury.now c.hold.new.self c.args.request.now c.hold.ensures.left
+returns-in-Ok-push_report-clause-left g c =
+    left_same g.S.Store c.args.treasury.now c.hold.new.self c.args.request.now c.hold.ensures.left
 
 -- ---- a report that is refused
 
 pub returns-in-Ok-Report-clause-listed : goal.returns-in-Ok-Report-clause-listed
-returns-in-Ok-Report-clause-listed g c unfailed = inl (ruled_report c.in-Err-push_report.cause c.in-Err-push_report.ensures.causes)
+returns-in-Ok-Report-clause-listed g c unfailed =
+    inl (ruled_report c.in-Err-push_report.cause c.in-Err-push_report.ensures.causes)
 
 pub returns-in-Ok-Report-clause-fails : goal.returns-in-Ok-Report-clause-fails
 returns-in-Ok-Report-clause-fails g c unfailed =
-    fails_ruled _ _ (ruled_report c.in-Err-push_report.cause c.in-Err-push_report.ensures.causes) (ok_unfailed c.in-Ok.field-0 _ (c.in-Ok.ensures.answers unfailed))
+    fails_ruled _ _ (ruled_report c.in-Err-push_report.cause c.in-Err-push_report.ensures.causes)
+    (ok_unfailed c.in-Ok.field-0 _ (c.in-Ok.ensures.answers unfailed))
 
 pub returns-in-Ok-Report-clause-closed : goal.returns-in-Ok-Report-clause-closed
 returns-in-Ok-Report-clause-closed g c failed = absurd (let k = (c.in-Ok.ensures.closed failed).0 in cc)
@@ -173,19 +232,23 @@ pub returns-in-Ok-Report-clause-open_but : goal.returns-in-Ok-Report-clause-open
 returns-in-Ok-Report-clause-open_but g c clean is_open f of = inl (c.in-Ok.ensures.still_open clean is_open)
 
 pub returns-in-Ok-Report-clause-shuts : goal.returns-in-Ok-Report-clause-shuts
-returns-in-Ok-Report-clause-shuts g c = shuts_by g.S.Store c.args.treasury.now.store.conn c.hold.new.self.store.conn _ c.hold.ensures.crash
+returns-in-Ok-Report-clause-shuts g c =
+    shuts_by g.S.Store c.args.treasury.now.store.conn c.hold.new.self.store.conn _ c.hold.ensures.crash
 
 pub returns-in-Ok-Report-clause-left : goal.returns-in-Ok-Report-clause-left
-returns-in-Ok-Report-clause-left g c = left_same g.S.Store c.args.treasury.now c.hold.new.self c.args.request.now c.hold.ensures.left
+returns-in-Ok-Report-clause-left g c =
+    left_same g.S.Store c.args.treasury.now c.hold.new.self c.args.request.now c.hold.ensures.left
 
 -- ---- a text that is refused
 
 pub returns-clause-listed : goal.returns-clause-listed
-returns-clause-listed g c unfailed = inl (ruled_texts _ c.args.request.now c.in-Err-asked_by.refusal c.in-Err-asked_by.ensures.asks)
+returns-clause-listed g c unfailed =
+    inl (ruled_texts _ c.args.request.now c.in-Err-asked_by.refusal c.in-Err-asked_by.ensures.asks)
 
 pub returns-clause-fails : goal.returns-clause-fails
 returns-clause-fails g c unfailed =
-    fails_ruled _ _ (ruled_texts _ c.args.request.now c.in-Err-asked_by.refusal c.in-Err-asked_by.ensures.asks) (ok_unfailed c.in-Ok.field-0 _ (c.in-Ok.ensures.answers unfailed))
+    fails_ruled _ _ (ruled_texts _ c.args.request.now c.in-Err-asked_by.refusal c.in-Err-asked_by.ensures.asks)
+    (ok_unfailed c.in-Ok.field-0 _ (c.in-Ok.ensures.answers unfailed))
 
 pub returns-clause-closed : goal.returns-clause-closed
 returns-clause-closed g c failed = absurd (let k = (c.in-Ok.ensures.closed failed).0 in cc)
@@ -197,7 +260,8 @@ pub returns-clause-open_but : goal.returns-clause-open_but
 returns-clause-open_but g c clean is_open f of = inl (c.in-Ok.ensures.still_open clean is_open)
 
 pub returns-clause-shuts : goal.returns-clause-shuts
-returns-clause-shuts g c = shuts_by g.S.Store c.args.treasury.now.store.conn c.hold.new.self.store.conn _ c.hold.ensures.crash
+returns-clause-shuts g c =
+    shuts_by g.S.Store c.args.treasury.now.store.conn c.hold.new.self.store.conn _ c.hold.ensures.crash
 
 pub returns-clause-left : goal.returns-clause-left
 returns-clause-left g c = left_same g.S.Store c.args.treasury.now c.hold.new.self c.args.request.now c.hold.ensures.left

@@ -7,23 +7,29 @@ use Rattle.treasury_api.proofs.answering.answer_command.Goals as goal
 
 pub returns-in-Err-perform-clause-replies : goal.returns-in-Err-perform-clause-replies
 returns-in-Err-perform-clause-replies g c clean f of =
-    performed g.S.Store c.perform.new.self f c.args.command c.perform.result _ c.args.out.now.items _ (c.perform.ensures.performs clean c.requires.unfailed f of (fits_of g.S.Store c.args.treasury.now f c.args.command of c.requires.held))
+    performed g.S.Store c.perform.new.self f c.args.command c.perform.result _ c.args.out.now.items _
+    (c.perform.ensures.performs clean c.requires.unfailed f
+    of (fits_of g.S.Store c.args.treasury.now f c.args.command of c.requires.held))
     (c.perform.ensures.fails c.requires.unfailed) (c.in-Err-perform.is, c.reserve.ensures.items)
 
 pub returns-in-Err-perform-clause-printable : goal.returns-in-Err-perform-clause-printable
 returns-in-Err-perform-clause-printable g c =
-    refusal_held c.args.treasury.now c.perform.new.self c.args.command c.perform.result c.in-Err-perform.refusal c.in-Err-perform.is c.requires.held
+    refusal_held c.args.treasury.now c.perform.new.self c.args.command c.perform.result c.in-Err-perform.refusal
+    c.in-Err-perform.is c.requires.held
     (c.perform.ensures.replies c.requires.unfailed) (c.perform.ensures.nothing c.requires.unfailed)
 
 pub returns-in-Err-perform-clause-clean : goal.returns-in-Err-perform-clause-clean
 returns-in-Err-perform-clause-clean g c = c.perform.ensures.clean
 
 pub unreachable-requires : goal.unreachable-requires
-unreachable-requires g c = absurd (let fits = c.in-Err-answer_line.ensures.room (search rules) (search (rules, arith)) in cc)
+unreachable-requires g c =
+    absurd (let fits = c.in-Err-answer_line.ensures.room (search rules) (search (rules, arith)) in cc)
 
 pub returns-clause-replies : goal.returns-clause-replies
 returns-clause-replies g c clean f of =
-    performed g.S.Store c.perform.new.self f c.args.command c.perform.result _ c.args.out.now.items _ (c.perform.ensures.performs clean c.requires.unfailed f of (fits_of g.S.Store c.args.treasury.now f c.args.command of c.requires.held))
+    performed g.S.Store c.perform.new.self f c.args.command c.perform.result _ c.args.out.now.items _
+    (c.perform.ensures.performs clean c.requires.unfailed f
+    of (fits_of g.S.Store c.args.treasury.now f c.args.command of c.requires.held))
     (c.perform.ensures.fails c.requires.unfailed) (c.in-Ok-perform.answer, (c.in-Ok-perform.is, search rules))
 
 pub returns-clause-clean : goal.returns-clause-clean
@@ -39,7 +45,8 @@ returns-in-Err-clause-shuts g c = shuts_same g.S.Store c.args.treasury.now.store
 
 pub returns-in-Err-clause-left : goal.returns-in-Err-clause-left
 returns-in-Err-clause-left g c is_open f of fits =
-    leaves_first g.S.Store c.args.treasury.now.store.conn (rows f) _ (c.left_law.ensures.rows c.args.treasury.now.store.conn (rows f) of.store.tables is_open)
+    leaves_first g.S.Store c.args.treasury.now.store.conn (rows f) _
+    (c.left_law.ensures.rows c.args.treasury.now.store.conn (rows f) of.store.tables is_open)
 
 -- ---- where it is refused
 
@@ -47,12 +54,15 @@ pub returns-in-Err-perform-clause-listed : goal.returns-in-Err-perform-clause-li
 returns-in-Err-perform-clause-listed g c = c.in-Err-perform.ensures.listed c.requires.unfailed
 
 pub returns-in-Err-perform-clause-fails : goal.returns-in-Err-perform-clause-fails
-returns-in-Err-perform-clause-fails g c = fails_refused c.in-Err-perform.refusal _ (c.in-Err-perform.ensures.fails c.requires.unfailed)
+returns-in-Err-perform-clause-fails g c =
+    fails_refused c.in-Err-perform.refusal _ (c.in-Err-perform.ensures.fails c.requires.unfailed)
 
 pub returns-in-Err-perform-clause-still_open : goal.returns-in-Err-perform-clause-still_open
 returns-in-Err-perform-clause-still_open g c =
-    open_refused g.S.Store c.args.treasury.now c.perform.new.self c.args.command c.perform.result c.in-Err-perform.refusal _ c.in-Err-perform.is refl c.requires.held
-    (c.perform.ensures.replies c.requires.unfailed) (c.perform.ensures.nothing c.requires.unfailed) c.perform.ensures.shuts
+    open_refused g.S.Store c.args.treasury.now c.perform.new.self c.args.command c.perform.result
+    c.in-Err-perform.refusal _ c.in-Err-perform.is refl c.requires.held
+    (c.perform.ensures.replies c.requires.unfailed) (c.perform.ensures.nothing c.requires.unfailed)
+    c.perform.ensures.shuts
 
 pub returns-in-Err-perform-clause-shuts : goal.returns-in-Err-perform-clause-shuts
 returns-in-Err-perform-clause-shuts g c = c.perform.ensures.shuts

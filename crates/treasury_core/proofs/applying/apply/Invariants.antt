@@ -8,7 +8,8 @@ use Rattle.treasury_core.proofs.applying.apply.Given as goal
 -- with the additions that are left, the state is the one that it was with all
 abbrev pub invariant-additions : goal.invariant-additions
 invariant-additions g l = record {
-  same : joined (federation_of l.styles l.branches.items l.transfers.items) l.addition-iterator.rest.items ≡ joined l.fn.state l.fn.delta;
+  same : joined (federation_of l.styles l.branches.items l.transfers.items) l.addition-iterator.rest.items
+      ≡ joined l.fn.state l.fn.delta;
   kept : AllByRecursion (IsKept g.L.Ledger.book) l.branches.items;
   places : ArePlacesOf l.places (branches_of l.branches.items);
 }

@@ -8,7 +8,8 @@ use Rattle.treasury_core.proofs.applying.place_of.Goals as goal
 pub returns-in-Some : goal.returns-in-Some
 returns-in-Some g c =
     let bs = branches_of c.args.branches.now in
-    ap (λ (o : Option ℕ). unwrap_or o (length bs)) (c.in-Some.ensures.value ∙ c.requires c.args.name.now) ∙ sym (place_is bs c.args.name.now)
+    ap (λ (o : Option ℕ). unwrap_or o (length bs)) (c.in-Some.ensures.value ∙ c.requires c.args.name.now) ∙ sym
+    (place_is bs c.args.name.now)
 
 pub returns-in-None : goal.returns-in-None
 returns-in-None g c =

@@ -18,23 +18,29 @@ pub returns-in_default : goal.returns-in_default
 returns-in_default g c =
     let f = c.args.state.now in
     let x = c.args.close.now in
-    let found : branch_at f.branches x.branch ≡ None = ap (branch_at f.branches) (sym c.as_str.ensures) ∙ c.in_default.ensures.found in
+    let found : branch_at f.branches x.branch ≡ None =
+    ap (branch_at f.branches) (sym c.as_str.ensures) ∙ c.in_default.ensures.found in
     inr (no_branch f x (missing f.branches x.branch found).none)
 
 pub judged-requires-clause-there : goal.judged-requires-clause-there
-judged-requires-clause-there g c = ap (branch_at c.args.state.now.branches) (sym c.as_str.ensures) ∙ c.in-Some.ensures.found
+judged-requires-clause-there g c =
+    ap (branch_at c.args.state.now.branches) (sym c.as_str.ensures) ∙ c.in-Some.ensures.found
 
 pub returns-in-None : goal.returns-in-None
 returns-in-None g c =
     let f = c.args.state.now in
     let x = c.args.close.now in
     let b = branch_of c.in-Some.branch.now in
-    let found : branch_at f.branches x.branch ≡ Some b = ap (branch_at f.branches) (sym c.as_str.ensures) ∙ c.in-Some.ensures.found in
+    let found : branch_at f.branches x.branch ≡ Some b =
+    ap (branch_at f.branches) (sym c.as_str.ensures) ∙ c.in-Some.ensures.found in
     let mark : c.as_str-2.result.now ≡ close_mark x.day = c.as_str-2.ensures ∙ c.in-Ok.ensures.value in
     let fresh : held b.records (close_mark x.day) ≡ None =
-    ap (held b.records) (sym mark) ∙ (ap (λ (rs : List Record). held rs c.as_str-2.result.now) (sym c.items.ensures) ∙ sym c.in-None.ensures) in
-    settles f (Close x) (added f (Close x)) (close_refusal b.locked b.records x (closing_in f x.branch x.day x.choice)) c.judged.result c.settled.result
-    (closes_now f x b (there f.branches x.branch b found) fresh) refl c.settled.ensures c.judged.ensures.value c.judged.ensures.passes c.judged.ensures.err
+    ap (held b.records) (sym mark) ∙
+    (ap (λ (rs : List Record). held rs c.as_str-2.result.now) (sym c.items.ensures) ∙ sym c.in-None.ensures) in
+    settles f (Close x) (added f (Close x)) (close_refusal b.locked b.records x (closing_in f x.branch x.day x.choice))
+    c.judged.result c.settled.result
+    (closes_now f x b (there f.branches x.branch b found) fresh) refl c.settled.ensures c.judged.ensures.value
+    c.judged.ensures.passes c.judged.ensures.err
 
 pub returns-in-Ok-true : goal.returns-in-Ok-true
 returns-in-Ok-true g c =
@@ -42,12 +48,17 @@ returns-in-Ok-true g c =
     let x = c.args.close.now in
     let b = branch_of c.in-Some.branch.now in
     let r = c.in-Some-find_mark.row.now in
-    let found : branch_at f.branches x.branch ≡ Some b = ap (branch_at f.branches) (sym c.as_str.ensures) ∙ c.in-Some.ensures.found in
+    let found : branch_at f.branches x.branch ≡ Some b =
+    ap (branch_at f.branches) (sym c.as_str.ensures) ∙ c.in-Some.ensures.found in
     let mark : c.as_str-2.result.now ≡ close_mark x.day = c.as_str-2.ensures ∙ c.in-Ok.ensures.value in
     let holder : held b.records (close_mark x.day) ≡ Some r =
-    ap (held b.records) (sym mark) ∙ (ap (λ (rs : List Record). held rs c.as_str-2.result.now) (sym c.items.ensures) ∙ sym c.in-Some-find_mark.ensures) in
-    let same : pointwise bytes_eq r.txn.comments (choice_comments x.choice) ≡ true = sym c.in-Ok-true.ensures.value ∙ c.in-Ok-true.field-0-test in
-    repeats f (Close x) c.repeated.result (closed_so f x b r (there f.branches x.branch b found) holder same) c.repeated.ensures
+    ap (held b.records) (sym mark) ∙
+    (ap (λ (rs : List Record). held rs c.as_str-2.result.now) (sym c.items.ensures) ∙ sym
+    c.in-Some-find_mark.ensures) in
+    let same : pointwise bytes_eq r.txn.comments (choice_comments x.choice) ≡ true =
+    sym c.in-Ok-true.ensures.value ∙ c.in-Ok-true.field-0-test in
+    repeats f (Close x) c.repeated.result (closed_so f x b r (there f.branches x.branch b found) holder same)
+    c.repeated.ensures
 
 pub returns-in-Ok-false : goal.returns-in-Ok-false
 returns-in-Ok-false g c =
@@ -55,9 +66,13 @@ returns-in-Ok-false g c =
     let x = c.args.close.now in
     let b = branch_of c.in-Some.branch.now in
     let r = c.in-Some-find_mark.row.now in
-    let found : branch_at f.branches x.branch ≡ Some b = ap (branch_at f.branches) (sym c.as_str.ensures) ∙ c.in-Some.ensures.found in
+    let found : branch_at f.branches x.branch ≡ Some b =
+    ap (branch_at f.branches) (sym c.as_str.ensures) ∙ c.in-Some.ensures.found in
     let mark : c.as_str-2.result.now ≡ close_mark x.day = c.as_str-2.ensures ∙ c.in-Ok.ensures.value in
     let holder : held b.records (close_mark x.day) ≡ Some r =
-    ap (held b.records) (sym mark) ∙ (ap (λ (rs : List Record). held rs c.as_str-2.result.now) (sym c.items.ensures) ∙ sym c.in-Some-find_mark.ensures) in
-    let other : pointwise bytes_eq r.txn.comments (choice_comments x.choice) ≡ false = sym c.in-Ok-false.ensures.value ∙ c.in-Ok-false.field-0-test in
+    ap (held b.records) (sym mark) ∙
+    (ap (λ (rs : List Record). held rs c.as_str-2.result.now) (sym c.items.ensures) ∙ sym
+    c.in-Some-find_mark.ensures) in
+    let other : pointwise bytes_eq r.txn.comments (choice_comments x.choice) ≡ false =
+    sym c.in-Ok-false.ensures.value ∙ c.in-Ok-false.field-0-test in
     inr (closed_other f x b r (there f.branches x.branch b found) holder other)

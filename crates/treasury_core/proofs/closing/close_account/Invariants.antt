@@ -6,5 +6,6 @@ use Rattle.treasury_core.proofs.closing.close_account.Given as goal
 -- the postings so far, and those of the rest of the commodities, are those of all behind the old ones
 abbrev pub invariant-units : goal.invariant-units
 invariant-units g l =
-    l.postings ++ closed_account (g.L.Ledger.book l.ledger) l.day (commodities l.number (length l.styles - l.number)) l.account
+    l.postings ++ closed_account (g.L.Ledger.book l.ledger) l.day (commodities l.number (length l.styles - l.number))
+    l.account
     ≡ l.fn.postings ++ closed_account (g.L.Ledger.book l.ledger) l.day (declared l.styles) l.account

@@ -13,10 +13,14 @@ accounts-preserved g c =
     let names = c.accounts-account-items.result.now in
     let one = closed_account (g.L.Ledger.book c.args.ledger.now) c.args.day (declared c.args.styles.now) in
     let passes : is_selected c.args.choice.now.accounts c.account-item.result ≡ true =
-    ap (is_selected c.args.choice.now.accounts) (sym c.as_str.ensures) ∙ (sym c.is_selected.ensures ∙ c.if-not-is_selected.false) in
+    ap (is_selected c.args.choice.now.accounts) (sym c.as_str.ensures) ∙
+    (sym c.is_selected.ensures ∙ c.if-not-is_selected.false) in
     let pushed : c.close_account.new.postings ≡ c.accounts.postings ++ one c.account-item.result =
-    c.in_ok-close_account.ensures.ok ∙ ap (λ (name : List ℕ). c.accounts.postings ++ one name) c.as_str-in-accounts.ensures in
-    next_account one (is_selected c.args.choice.now.accounts) c.accounts.postings c.close_account.new.postings (flat_map one (filter (is_selected c.args.choice.now.accounts) names)) names c.accounts.account-index c.account-item.result c.accounts-test.true
+    c.in_ok-close_account.ensures.ok ∙ ap (λ (name : List ℕ). c.accounts.postings ++ one name)
+    c.as_str-in-accounts.ensures in
+    next_account one (is_selected c.args.choice.now.accounts) c.accounts.postings c.close_account.new.postings
+    (flat_map one (filter (is_selected c.args.choice.now.accounts) names)) names c.accounts.account-index
+    c.account-item.result c.accounts-test.true
     c.account-item.is passes c.accounts.invariant pushed
 
 pub returns-clause-value : goal.returns-clause-value
@@ -24,5 +28,8 @@ returns-clause-value g c =
     let book = g.L.Ledger.book c.args.ledger.now in
     let names = c.accounts-account-items.result.now in
     let one = closed_account book c.args.day (declared c.args.styles.now) in
-    last_account one (is_selected c.args.choice.now.accounts) c.accounts.postings (flat_map one (filter (is_selected c.args.choice.now.accounts) names)) names c.accounts.account-index c.accounts-test.false c.accounts.invariant
-    ∙ ap (λ (xs : List (List ℕ)). flat_map one (filter (is_selected c.args.choice.now.accounts) xs)) (accounts_are_one book names c.accounts-account-items.ensures)
+    last_account one (is_selected c.args.choice.now.accounts) c.accounts.postings
+    (flat_map one (filter (is_selected c.args.choice.now.accounts) names)) names c.accounts.account-index
+    c.accounts-test.false c.accounts.invariant
+    ∙ ap (λ (xs : List (List ℕ)). flat_map one (filter (is_selected c.args.choice.now.accounts) xs))
+    (accounts_are_one book names c.accounts-account-items.ensures)

@@ -5,4 +5,7 @@ use Rattle.treasury_core.proofs.ClosingPrinted.{date_utf8}
 use Rattle.treasury_core.proofs.closing.close_mark.Goals as goal
 
 pub text_of-date-requires : goal.text_of-date-requires
-text_of-date-requires c = ap is_utf8 (c.deref.ensures.value ∙ (c.in_ok-print_date.ensures.ok ∙ ap (λ (xs : List ℕ). xs ++ printed_date c.args.day) c.new-bytes.ensures.items)) ∙ date_utf8 c.args.day c.requires
+text_of-date-requires c = ap is_utf8
+    (c.deref.ensures.value ∙
+    (c.in_ok-print_date.ensures.ok ∙ ap (λ (xs : List ℕ). xs ++ printed_date c.args.day) c.new-bytes.ensures.items)) ∙
+    date_utf8 c.args.day c.requires

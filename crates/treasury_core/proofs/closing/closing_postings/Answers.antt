@@ -16,17 +16,25 @@ pub gaining_account-requires : goal.gaining_account-requires
 gaining_account-requires g c =
     λ unit.
     let book = g.L.Ledger.book c.args.ledger.now in
-    subst (λ (ps : List Posting). moved unit (written_legs ps) ≤ most_turnover) (sym (c.items.ensures ∙ c.in_ok-closed.ensures.value))
-    (closed_small book c.args.day unit (length c.args.styles.now) (selected (is_selected c.args.choice.now.accounts) book) (selected_apart (is_selected c.args.choice.now.accounts) book) c.requires.within.small)
+    subst (λ (ps : List Posting). moved unit (written_legs ps) ≤ most_turnover)
+    (sym (c.items.ensures ∙ c.in_ok-closed.ensures.value))
+    (closed_small book c.args.day unit (length c.args.styles.now)
+    (selected (is_selected c.args.choice.now.accounts) book)
+    (selected_apart (is_selected c.args.choice.now.accounts) book) c.requires.within.small)
 
 pub returns-clause-value : goal.returns-clause-value
 returns-clause-value g c =
     let book = g.L.Ledger.book c.args.ledger.now in
     let closed = c.in_ok-closed.closed in
     let gains = c.in_ok-gaining.ensures.value
-    ∙ (ap (λ (name : List ℕ). spread name (λ (u : Commodity). pos 0 -ℤ value u (written_legs c.items.result.now)) (λ (u : Commodity). None) (declared c.args.styles.now)) c.target_of.ensures
-    ∙ ap (λ (ps : List Posting). spread (target_in c.args.choice.now.into) (λ (u : Commodity). pos 0 -ℤ value u (written_legs ps)) (λ (u : Commodity). None) (declared c.args.styles.now)) c.items.ensures) in
-    let joined = closing_joined book c.args.day (target_in c.args.choice.now.into) (length c.args.styles.now) (selected (is_selected c.args.choice.now.accounts) book) closed c.in_ok-gaining.gaining c.in_ok-closed.ensures.value gains in
+    ∙ (ap (λ (name : List ℕ). spread name (λ (u : Commodity). pos 0 -ℤ value u (written_legs c.items.result.now))
+    (λ (u : Commodity). None) (declared c.args.styles.now)) c.target_of.ensures
+    ∙ ap (λ (ps : List Posting). spread (target_in c.args.choice.now.into)
+    (λ (u : Commodity). pos 0 -ℤ value u (written_legs ps)) (λ (u : Commodity). None) (declared c.args.styles.now))
+    c.items.ensures) in
+    let joined = closing_joined book c.args.day (target_in c.args.choice.now.into) (length c.args.styles.now)
+    (selected (is_selected c.args.choice.now.accounts) book) closed c.in_ok-gaining.gaining
+    c.in_ok-closed.ensures.value gains in
     c.from_vec.ensures
     ∙ (c.in_ok-append.ensures.items
     ∙ (ap (λ (ps : List Posting). ps ++ c.into_vec-rest.result.items) c.into_vec-postings.ensures

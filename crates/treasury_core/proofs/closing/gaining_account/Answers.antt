@@ -1,4 +1,5 @@
-use Rattle.std.proofs.Common.{◌≡◌, ◌≤◌, ◌<◌, ◌++◌, ◌-ℤ◌, pos, ℤ, None, length, ◌∙◌, ap, arith, rules, FitsSigned, w64, to_z, of_z}
+use Rattle.std.proofs.Common.{◌≡◌, ◌≤◌, ◌<◌, ◌++◌, ◌-ℤ◌, pos, ℤ, None, length, ◌∙◌, ap, arith, rules, FitsSigned, w64}
+use Rattle.std.proofs.Common.{to_z, of_z}
 use Rattle.std.proofs.lemmas.Int.{ints, to_z-of_z}
 use Rattle.money_core.specs.declared.unit.Unit.{Unit as Commodity}
 use Rattle.book_core.specs.Balance.{value}
@@ -28,17 +29,26 @@ units-preserved c =
     let one = abs_value unit (written_legs closed) in
     let small = c.requires unit in
     let is = c.sum_in-lost.ensures in
-    let fine : FitsSigned w64 (pos 0 -ℤ to_z w64 (of_z w64 c.sum_in-lost.result)) = omega (arith, ints, back, one, small, is) in
-    let same = to_z-of_z w64 (pos 0 -ℤ to_z w64 (of_z w64 c.sum_in-lost.result)) fine ∙ ap (λ (q : ℤ). pos 0 -ℤ q) (back ∙ is) in
-    let pushed : c.push_posting.new.postings ≡ c.units.postings ++ posting_of c.args.into.now unit (pos 0 -ℤ value unit (written_legs closed)) None =
+    let fine : FitsSigned w64 (pos 0 -ℤ to_z w64 (of_z w64 c.sum_in-lost.result)) =
+    omega (arith, ints, back, one, small, is) in
+    let same = to_z-of_z w64 (pos 0 -ℤ to_z w64 (of_z w64 c.sum_in-lost.result)) fine ∙ ap (λ (q : ℤ). pos 0 -ℤ q)
+    (back ∙ is) in
+    let pushed : c.push_posting.new.postings
+    ≡ c.units.postings ++ posting_of c.args.into.now unit (pos 0 -ℤ value unit (written_legs closed)) None =
     c.in_ok-push_posting.ensures.ok ∙ ap (λ (q : ℤ). c.units.postings ++ posting_of c.args.into.now unit q None) same in
-    let known : c.units.number < length c.args.styles.now = omega (arith, c.units-test.true, c.len-number-end.ensures.count) in
-    next_unit (λ (u : Commodity). posting_of c.args.into.now u (pos 0 -ℤ value u (written_legs closed)) None) c.units.postings c.push_posting.new.postings
-    (spread c.args.into.now (λ (u : Commodity). pos 0 -ℤ value u (written_legs closed)) (λ (u : Commodity). None) (declared c.args.styles.now)) c.units.number (length c.args.styles.now) known c.units.invariant pushed
+    let known : c.units.number < length c.args.styles.now =
+    omega (arith, c.units-test.true, c.len-number-end.ensures.count) in
+    next_unit (λ (u : Commodity). posting_of c.args.into.now u (pos 0 -ℤ value u (written_legs closed)) None)
+    c.units.postings c.push_posting.new.postings
+    (spread c.args.into.now (λ (u : Commodity). pos 0 -ℤ value u (written_legs closed)) (λ (u : Commodity). None)
+    (declared c.args.styles.now)) c.units.number (length c.args.styles.now) known c.units.invariant pushed
 
 pub returns-clause-value : goal.returns-clause-value
 returns-clause-value c =
     let closed = c.args.closed.now in
-    let past : length c.args.styles.now ≤ c.units.number = omega (arith, c.units-test.false, c.len-number-end.ensures.count) in
-    last_unit (λ (u : Commodity). posting_of c.args.into.now u (pos 0 -ℤ value u (written_legs closed)) None) c.units.postings
-    (spread c.args.into.now (λ (u : Commodity). pos 0 -ℤ value u (written_legs closed)) (λ (u : Commodity). None) (declared c.args.styles.now)) c.units.number (length c.args.styles.now) past c.units.invariant
+    let past : length c.args.styles.now ≤ c.units.number =
+    omega (arith, c.units-test.false, c.len-number-end.ensures.count) in
+    last_unit (λ (u : Commodity). posting_of c.args.into.now u (pos 0 -ℤ value u (written_legs closed)) None)
+    c.units.postings
+    (spread c.args.into.now (λ (u : Commodity). pos 0 -ℤ value u (written_legs closed)) (λ (u : Commodity). None)
+    (declared c.args.styles.now)) c.units.number (length c.args.styles.now) past c.units.invariant

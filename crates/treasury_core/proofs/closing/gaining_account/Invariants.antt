@@ -9,5 +9,7 @@ use Rattle.treasury_core.proofs.closing.gaining_account.Given as goal
 -- the postings so far, and those of the rest of the commodities, are those of all
 abbrev pub invariant-units : goal.invariant-units
 invariant-units l =
-    l.postings ++ spread l.into (λ (unit : Commodity). pos 0 -ℤ value unit (written_legs l.closed)) (λ (unit : Commodity). None) (commodities l.number (length l.styles - l.number))
-    ≡ spread l.into (λ (unit : Commodity). pos 0 -ℤ value unit (written_legs l.closed)) (λ (unit : Commodity). None) (declared l.styles)
+    l.postings ++ spread l.into (λ (unit : Commodity). pos 0 -ℤ value unit (written_legs l.closed))
+    (λ (unit : Commodity). None) (commodities l.number (length l.styles - l.number))
+    ≡ spread l.into (λ (unit : Commodity). pos 0 -ℤ value unit (written_legs l.closed)) (λ (unit : Commodity). None)
+    (declared l.styles)

@@ -10,7 +10,8 @@ overflow_add-sum c =
     let x = c.posting-item.result in
     let fits : FitsSigned w64 c.amount_in-amount.result = search rules in
     let back = to_z-of_z w64 c.amount_in-amount.result fits in
-    let next = moved_next c.args.unit c.args.postings.now c.loop-posting.posting-index x c.loop-posting-test.true c.posting-item.is in
+    let next = moved_next c.args.unit c.args.postings.now c.loop-posting.posting-index x c.loop-posting-test.true
+    c.posting-item.is in
     let one = abs_value c.args.unit (written_leg x.account x.amount) in
     let small = c.loop-posting.invariant.small in
     let is = c.amount_in-amount.ensures in
@@ -21,12 +22,18 @@ loop-posting-preserved c =
     let x = c.posting-item.result in
     let fits : FitsSigned w64 c.amount_in-amount.result = search rules in
     let back = to_z-of_z w64 c.amount_in-amount.result fits in
-    let fine : FitsSigned w64 (to_z w64 c.loop-posting.sum-bits +ℤ to_z w64 (of_z w64 c.amount_in-amount.result)) = overflow_add-sum c in
+    let fine : FitsSigned w64 (to_z w64 c.loop-posting.sum-bits +ℤ to_z w64 (of_z w64 c.amount_in-amount.result)) =
+    overflow_add-sum c in
     let sum = to_z-of_z w64 (to_z w64 c.loop-posting.sum-bits +ℤ to_z w64 (of_z w64 c.amount_in-amount.result)) fine in
-    let more = value_next c.args.unit c.args.postings.now c.loop-posting.posting-index x c.loop-posting-test.true c.posting-item.is in
-    let next = moved_next c.args.unit c.args.postings.now c.loop-posting.posting-index x c.loop-posting-test.true c.posting-item.is in
+    let more = value_next c.args.unit c.args.postings.now c.loop-posting.posting-index x c.loop-posting-test.true
+    c.posting-item.is in
+    let next = moved_next c.args.unit c.args.postings.now c.loop-posting.posting-index x c.loop-posting-test.true
+    c.posting-item.is in
     let one = abs_value c.args.unit (written_leg x.account x.amount) in
     let sums = c.loop-posting.invariant.sums in
     let small = c.loop-posting.invariant.small in
     let is = c.amount_in-amount.ensures in
-    record { sums = omega (arith, ints, back, sum, more, sums, is); small = omega (arith, ints, back, sum, next, one, small, is) }
+    record {
+      sums = omega (arith, ints, back, sum, more, sums, is);
+      small = omega (arith, ints, back, sum, next, one, small, is);
+    }

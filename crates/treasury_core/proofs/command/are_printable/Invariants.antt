@@ -7,4 +7,5 @@ use Rattle.treasury_core.proofs.command.are_printable.Given as goal
 
 abbrev pub invariant-loop-located : goal.invariant-loop-located
 invariant-loop-located l =
-    AllByRecursion (λ (x : Located). IsPrintable l.styles x.txn) (drop l.located-index l.file) ↔ AllByRecursion (λ (x : Located). IsPrintable l.styles x.txn) l.file
+    AllByRecursion (λ (x : Located). IsPrintable l.styles x.txn) (drop l.located-index l.file)
+    ↔ AllByRecursion (λ (x : Located). IsPrintable l.styles x.txn) l.file

@@ -4,7 +4,8 @@ use Rattle.treasury_core.proofs.DecideLemmas.{same_book}
 use Rattle.treasury_core.proofs.decision.check.Goals as goal
 
 pub returns-then-is_empty : goal.returns-then-is_empty
-returns-then-is_empty g c = same_book (g.L.Ledger.book c.args.ledger.now) c.args.new.now (sym c.is_empty.ensures ∙ c.if-is_empty.true) c.requires.good
+returns-then-is_empty g c = same_book (g.L.Ledger.book c.args.ledger.now) c.args.new.now
+    (sym c.is_empty.ensures ∙ c.if-is_empty.true) c.requires.good
 
 pub check-requires-clause-hold : goal.check-requires-clause-hold
 check-requires-clause-hold g c = failure_good (g.L.Ledger.book c.args.ledger.now) c.requires.good

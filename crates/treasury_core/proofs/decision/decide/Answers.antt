@@ -5,4 +5,5 @@ pub returns-clause-joined : goal.returns-clause-joined
 returns-clause-joined g c = decided_joined c.args.state.now c.args.command.now _ c.decided.ensures
 
 pub returns-clause-good : goal.returns-clause-good
-returns-clause-good g c = decided_good c.args.state.now c.args.command.now _ c.is_good.ensures c.requires c.decided.ensures
+returns-clause-good g c =
+    decided_good c.args.state.now c.args.command.now _ c.is_good.ensures c.requires c.decided.ensures

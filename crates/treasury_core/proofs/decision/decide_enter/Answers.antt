@@ -24,12 +24,18 @@ new_records-requires-clause-good g c =
     let b = branch_of c.in-Some.branch.now in
     let found : branch_at f.branches name ≡ Some b =
     ap (branch_at f.branches) (sym c.as_str.ensures) ∙ c.in-Some.ensures.found in
-    subst (λ (ss : List Style). IsGoodBranch ss b) (sym c.styles.ensures) (found_holds (IsGoodBranch f.styles) f.branches name b found c.is_good.ensures.branches)
+    subst (λ (ss : List Style). IsGoodBranch ss b) (sym c.styles.ensures)
+    (found_holds (IsGoodBranch f.styles) f.branches name b found c.is_good.ensures.branches)
 
 pub entered-requires : goal.entered-requires
 entered-requires g c =
     let rows = records_in_file c.styles.result.now c.args.file.now in
-    omega (arith, ap length c.in-Ok.ensures.value, length-new c.in-Some.branch.now.records rows, length-records c.styles.result.now [] c.args.file.now)
+    omega (
+      arith,
+      ap length c.in-Ok.ensures.value,
+      length-new c.in-Some.branch.now.records rows,
+      length-records c.styles.result.now [] c.args.file.now,
+    )
 
 pub returns-in-Ok : goal.returns-in-Ok
 returns-in-Ok g c =
@@ -38,7 +44,8 @@ returns-in-Ok g c =
     let b = branch_of c.in-Some.branch.now in
     let found : branch_at f.branches name ≡ Some b =
     ap (branch_at f.branches) (sym c.as_str.ensures) ∙ c.in-Some.ensures.found in
-    enters_by f name c.args.file.now b c.in-Ok.new c.styles.result.now _ c.styles.ensures (there f.branches name b found) c.in-Ok.ensures.value c.in-Ok.ensures.passes c.entered.ensures
+    enters_by f name c.args.file.now b c.in-Ok.new c.styles.result.now _ c.styles.ensures
+    (there f.branches name b found) c.in-Ok.ensures.value c.in-Ok.ensures.passes c.entered.ensures
 
 pub returns-in-Err : goal.returns-in-Err
 returns-in-Err g c =
@@ -47,4 +54,5 @@ returns-in-Err g c =
     let b = branch_of c.in-Some.branch.now in
     let found : branch_at f.branches name ≡ Some b =
     ap (branch_at f.branches) (sym c.as_str.ensures) ∙ c.in-Some.ensures.found in
-    refuses_by f name c.args.file.now b c.styles.result.now c.in-Err.refusal c.styles.ensures (there f.branches name b found) c.in-Err.ensures.err
+    refuses_by f name c.args.file.now b c.styles.result.now c.in-Err.refusal c.styles.ensures
+    (there f.branches name b found) c.in-Err.ensures.err

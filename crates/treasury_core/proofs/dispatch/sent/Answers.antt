@@ -11,5 +11,9 @@ use Rattle.treasury_core.proofs.dispatch.sent.Goals as goal
 
 pub returns-clause-err : goal.returns-clause-err
 returns-clause-err g c =
-    let same : c.in-Ok-dispatch_record.row ≡ dispatch_record (transfer_of c.args.dispatch.now) = c.in-Ok-dispatch_record.ensures.value ∙ ap dispatch_record c.in-Ok.ensures.value in
-    subst (λ (r : Record). IfErr c.recorded.result (λ e. (e ≡ Plain OutOfMemory) ⊎ (verdict (g.L.Ledger.book c.args.source.now.ledger ++ entries (r ∷ [])) ≡ Some e))) same c.recorded.ensures.err
+    let same : c.in-Ok-dispatch_record.row ≡ dispatch_record (transfer_of c.args.dispatch.now) =
+    c.in-Ok-dispatch_record.ensures.value ∙ ap dispatch_record c.in-Ok.ensures.value in
+    subst (λ (r : Record). IfErr c.recorded.result
+    (λ e. (e ≡ Plain OutOfMemory)
+    ⊎ (verdict (g.L.Ledger.book c.args.source.now.ledger ++ entries (r ∷ [])) ≡ Some e))) same
+    c.recorded.ensures.err

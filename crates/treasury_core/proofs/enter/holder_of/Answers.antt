@@ -7,8 +7,11 @@ use Rattle.treasury_core.proofs.enter.holder_of.Goals as goal
 
 pub returns-in-Some : goal.returns-in-Some
 returns-in-Some c =
-    sym (find-append (has_mark c.args.mark.now) c.args.base.now c.args.new.now ∙ ap (λ (o : Option Record). option_or o (held c.args.new.now c.args.mark.now)) (sym c.in-Some.ensures))
+    sym (find-append (has_mark c.args.mark.now) c.args.base.now c.args.new.now ∙ ap
+    (λ (o : Option Record). option_or o (held c.args.new.now c.args.mark.now)) (sym c.in-Some.ensures))
 
 pub returns-in-None : goal.returns-in-None
 returns-in-None c =
-    c.find_mark-in-None.ensures ∙ sym (find-append (has_mark c.args.mark.now) c.args.base.now c.args.new.now ∙ ap (λ (o : Option Record). option_or o (held c.args.new.now c.args.mark.now)) (sym c.in-None.ensures))
+    c.find_mark-in-None.ensures ∙ sym
+    (find-append (has_mark c.args.mark.now) c.args.base.now c.args.new.now ∙ ap
+    (λ (o : Option Record). option_or o (held c.args.new.now c.args.mark.now)) (sym c.in-None.ensures))

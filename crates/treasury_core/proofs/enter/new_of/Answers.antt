@@ -9,7 +9,8 @@ use Rattle.treasury_core.specs.Step.{refused_in, new_in}
 use Rattle.treasury_core.specs.Good.{IsGoodRecord}
 use Rattle.treasury_core.specs.Judged.{judged}
 use Rattle.treasury_core.proofs.ChangeLemmas.{all_weaker}
-use Rattle.treasury_core.proofs.JudgedLemmas.{by_cause, held_all, taken, passed, next_refused, next_new, next_own, next_held}
+use Rattle.treasury_core.proofs.JudgedLemmas.{by_cause, held_all, taken, passed, next_refused, next_new, next_own}
+use Rattle.treasury_core.proofs.JudgedLemmas.{next_held}
 use Rattle.treasury_core.proofs.enter.new_of.Goals as goal
 
 pub is_new-requires-clause-holder : goal.is_new-requires-clause-holder
@@ -17,9 +18,12 @@ is_new-requires-clause-holder c =
     let styles = c.args.styles.now in
     let hs = c.args.base.now ++ c.rows.new in
     let found : option_copied c.holder_of-holder.result ≡ held hs c.in-Some.row.mark =
-    c.holder_of-holder.ensures ∙ ap (λ (ns : List Record). held (c.args.base.now ++ ns) c.as_str.result.now) c.items.ensures ∙ ap (held hs) c.as_str.ensures in
+    c.holder_of-holder.ensures ∙ ap (λ (ns : List Record). held (c.args.base.now ++ ns) c.as_str.result.now)
+    c.items.ensures ∙ ap (held hs) c.as_str.ensures in
     subst (λ (o : Option Record). IfSome o (λ (h : Record). IsPrintable styles h.txn)) (sym found)
-    (held_all (λ (h : Record). IsPrintable styles h.txn) hs c.in-Some.row.mark (all_weaker (IsGoodRecord styles) (λ (h : Record). IsPrintable styles h.txn) hs (λ r k. k.printable) c.rows.invariant.held))
+    (held_all (λ (h : Record). IsPrintable styles h.txn) hs c.in-Some.row.mark
+    (all_weaker (IsGoodRecord styles) (λ (h : Record). IsPrintable styles h.txn) hs (λ r k. k.printable)
+    c.rows.invariant.held))
 
 pub rows-preserved-in_default : goal.rows-preserved-in_default
 rows-preserved-in_default c =
@@ -29,18 +33,23 @@ rows-preserved-in_default c =
     let row = c.in-Some.row in
     let rest = c.next.new.self.rest.items in
     let found : option_copied c.holder_of-holder.result ≡ held (base ++ new) row.mark =
-    c.holder_of-holder.ensures ∙ ap (λ (ns : List Record). held (base ++ ns) c.as_str.result.now) c.items.ensures ∙ ap (held (base ++ new)) c.as_str.ensures in
+    c.holder_of-holder.ensures ∙ ap (λ (ns : List Record). held (base ++ ns) c.as_str.result.now) c.items.ensures ∙ ap
+    (held (base ++ new)) c.as_str.ensures in
     let is : judged styles c.args.lock row (held (base ++ new) row.mark) ≡ Ok true =
-    ap (judged styles c.args.lock row) (sym found) ∙ c.in-Ok-true.ensures.value ∙ ap (λ (b : Bool). let x : Result Bool Refusal = Ok b in x) c.in-Ok-true.field-0-test in
+    ap (judged styles c.args.lock row) (sym found) ∙ c.in-Ok-true.ensures.value ∙ ap
+    (λ (b : Bool). let x : Result Bool Refusal = Ok b in x) c.in-Ok-true.field-0-test in
     let split = c.in-Some.ensures.steps.0 in
     let t = taken styles c.args.lock (base ++ new) rest row is in
     let all = subst (AllByRecursion (IsGoodRecord styles)) split c.rows.invariant.rest in
     record {
-      refused = next_refused styles c.args.lock base new c.push_marked.new.records rest c.rows.row-iterator.rest.items row _ c.in_default.ensures.ok split t c.rows.invariant.refused;
-      all = next_new styles c.args.lock base new c.push_marked.new.records rest c.rows.row-iterator.rest.items row _ c.in_default.ensures.ok split t c.rows.invariant.all;
+      refused = next_refused styles c.args.lock base new c.push_marked.new.records rest c.rows.row-iterator.rest.items
+          row _ c.in_default.ensures.ok split t c.rows.invariant.refused;
+      all = next_new styles c.args.lock base new c.push_marked.new.records rest c.rows.row-iterator.rest.items row _
+          c.in_default.ensures.ok split t c.rows.invariant.all;
       found = c.in_default.ensures.found;
       own = next_own base new c.push_marked.new.records row c.in_default.ensures.ok c.rows.invariant.own t.absent;
-      held = next_held (IsGoodRecord styles) base new c.push_marked.new.records row c.in_default.ensures.ok c.rows.invariant.held all.0;
+      held = next_held (IsGoodRecord styles) base new c.push_marked.new.records row c.in_default.ensures.ok
+          c.rows.invariant.held all.0;
       rest = all.1;
     }
 
@@ -52,14 +61,17 @@ rows-preserved c =
     let row = c.in-Some.row in
     let rest = c.next.new.self.rest.items in
     let found : option_copied c.holder_of-holder.result ≡ held (base ++ new) row.mark =
-    c.holder_of-holder.ensures ∙ ap (λ (ns : List Record). held (base ++ ns) c.as_str.result.now) c.items.ensures ∙ ap (held (base ++ new)) c.as_str.ensures in
+    c.holder_of-holder.ensures ∙ ap (λ (ns : List Record). held (base ++ ns) c.as_str.result.now) c.items.ensures ∙ ap
+    (held (base ++ new)) c.as_str.ensures in
     let is : judged styles c.args.lock row (held (base ++ new) row.mark) ≡ Ok false =
-    ap (judged styles c.args.lock row) (sym found) ∙ c.in-Ok-false.ensures.value ∙ ap (λ (b : Bool). let x : Result Bool Refusal = Ok b in x) c.in-Ok-false.field-0-test in
+    ap (judged styles c.args.lock row) (sym found) ∙ c.in-Ok-false.ensures.value ∙ ap
+    (λ (b : Bool). let x : Result Bool Refusal = Ok b in x) c.in-Ok-false.field-0-test in
     let split = c.in-Some.ensures.steps.0 in
     let p = passed styles c.args.lock (base ++ new) rest row c.rows.invariant.own is in
     record {
       refused = sym p.refused ∙ ap (refused_in styles c.args.lock (base ++ new)) (sym split) ∙ c.rows.invariant.refused;
-      all = ap (λ (xs : List Record). new ++ xs) (sym p.new ∙ ap (new_in (base ++ new)) (sym split)) ∙ c.rows.invariant.all;
+      all = ap (λ (xs : List Record). new ++ xs) (sym p.new ∙ ap (new_in (base ++ new)) (sym split)) ∙
+          c.rows.invariant.all;
       found = c.rows.invariant.found;
       own = c.rows.invariant.own;
       held = c.rows.invariant.held;
@@ -74,5 +86,7 @@ returns-in-Err-clause-err c =
     let row = c.in-Some.row in
     let rest = c.next.new.self.rest.items in
     let found : option_copied c.holder_of-holder.result ≡ held (base ++ new) row.mark =
-    c.holder_of-holder.ensures ∙ ap (λ (ns : List Record). held (base ++ ns) c.as_str.result.now) c.items.ensures ∙ ap (held (base ++ new)) c.as_str.ensures in
-    by_cause styles base new row rest c.rows.row-iterator.rest.items c.args.lock c.in-Err.refusal _ found c.in-Some.ensures.steps.0 c.rows.invariant.own c.rows.invariant.refused c.in-Err.ensures.err
+    c.holder_of-holder.ensures ∙ ap (λ (ns : List Record). held (base ++ ns) c.as_str.result.now) c.items.ensures ∙ ap
+    (held (base ++ new)) c.as_str.ensures in
+    by_cause styles base new row rest c.rows.row-iterator.rest.items c.args.lock c.in-Err.refusal _ found
+    c.in-Some.ensures.steps.0 c.rows.invariant.own c.rows.invariant.refused c.in-Err.ensures.err

@@ -9,7 +9,8 @@ use Rattle.treasury_core.proofs.enter.new_of.Given as goal
 -- behind the old records and the new ones so far, the rest is refused and taken as all is behind the old ones
 abbrev pub invariant-rows : goal.invariant-rows
 invariant-rows l = record {
-  refused : refused_in l.styles l.lock (l.base ++ l.new) l.row-iterator.rest.items ≡ refused_in l.styles l.lock l.base l.fn.rows;
+  refused : refused_in l.styles l.lock (l.base ++ l.new) l.row-iterator.rest.items
+      ≡ refused_in l.styles l.lock l.base l.fn.rows;
   all : l.new ++ new_in (l.base ++ l.new) l.row-iterator.rest.items ≡ new_in l.base l.fn.rows;
   found : IsIndexOf l.marks l.new;
   own : HaveOwnMarks (l.base ++ l.new);

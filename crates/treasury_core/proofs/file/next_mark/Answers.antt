@@ -11,5 +11,6 @@ overflow_add-n c =
     let counts = c.args.counts.now in
     let same : c.in-Some.n.now ≡ count_of counts c.args.text =
     ap (λ (o : Option ℕ). unwrap_or o 0) c.in-Some.ensures.value
-    ∙ ap (λ (text : List ℕ). unwrap_or (get_by (λ (k : Vec ℕ). bytes_eq text k.items) counts) 0) c.as_slice.ensures.value in
+    ∙ ap (λ (text : List ℕ). unwrap_or (get_by (λ (k : Vec ℕ). bytes_eq text k.items) counts) 0)
+    c.as_slice.ensures.value in
     omega (arith, same, c.requires)

@@ -3,8 +3,12 @@ use Rattle.treasury_core.proofs.IndexLemmas.{found, absent, copied_get}
 use Rattle.treasury_core.proofs.index.find_mark.Goals as goal
 
 pub returns-in-None : goal.returns-in-None
-returns-in-None c = sym (absent c.args.records.now c.args.mark.now (sym (c.in-None.ensures.value ∙ c.requires c.args.mark.now)))
+returns-in-None c =
+    sym (absent c.args.records.now c.args.mark.now (sym (c.in-None.ensures.value ∙ c.requires c.args.mark.now)))
 
 pub returns-in-Some : goal.returns-in-Some
 returns-in-Some c =
-    copied_get c.get-in-Some.result c.args.records.now c.in-Some.place.now c.get-in-Some.ensures.lookup.0 c.get-in-Some.ensures.lookup.1 ∙ sym (found c.args.records.now c.args.mark.now c.in-Some.place.now (sym (c.in-Some.ensures.value ∙ c.requires c.args.mark.now)))
+    copied_get c.get-in-Some.result c.args.records.now c.in-Some.place.now c.get-in-Some.ensures.lookup.0
+    c.get-in-Some.ensures.lookup.1 ∙ sym
+    (found c.args.records.now c.args.mark.now c.in-Some.place.now
+    (sym (c.in-Some.ensures.value ∙ c.requires c.args.mark.now)))

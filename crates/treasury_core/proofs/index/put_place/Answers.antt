@@ -8,6 +8,9 @@ use Rattle.treasury_core.proofs.index.put_place.Goals as goal
 
 pub returns-clause-put : goal.returns-clause-put
 returns-clause-put c = λ other.
-    hash_map_updates_text (string_bytes c.in-Ok.key) c.args.index.now c.insert.new.self (Some c.args.place) c.in-Ok-insert.ensures.updates other
-    ∙ ap (λ (k : List ℕ). cond (bytes_eq k other) (Some c.args.place) (get_by_text c.args.index.now other)) c.in-Ok.ensures.ok
-    ∙ put_new (get_by_text c.args.index.now) c.args.text.now other c.args.place (sym c.contains_key.ensures ∙ c.if-contains_key.false)
+    hash_map_updates_text (string_bytes c.in-Ok.key) c.args.index.now c.insert.new.self (Some c.args.place)
+    c.in-Ok-insert.ensures.updates other
+    ∙ ap (λ (k : List ℕ). cond (bytes_eq k other) (Some c.args.place) (get_by_text c.args.index.now other))
+    c.in-Ok.ensures.ok
+    ∙ put_new (get_by_text c.args.index.now) c.args.text.now other c.args.place
+    (sym c.contains_key.ensures ∙ c.if-contains_key.false)

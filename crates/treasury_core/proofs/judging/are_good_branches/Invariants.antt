@@ -7,7 +7,9 @@ use Rattle.treasury_core.proofs.judging.are_good_branches.Given as goal
 
 abbrev pub invariant-loop-branch : goal.invariant-loop-branch
 invariant-loop-branch g l = record {
-  good : AllByRecursion (λ (b : Branch). IsGoodBranch l.styles b × IsCarried l.transfers b) (drop l.branch-index l.branches)
+  good : AllByRecursion (λ (b : Branch). IsGoodBranch l.styles b × IsCarried l.transfers b)
+      (drop l.branch-index l.branches)
       ↔ AllByRecursion (λ (b : Branch). IsGoodBranch l.styles b × IsCarried l.transfers b) l.branches;
-  records : AllByRecursion (λ (b : Branch). AllByRecursion (IsGoodRecord l.styles) b.records) (drop l.branch-index l.branches);
+  records : AllByRecursion (λ (b : Branch). AllByRecursion (IsGoodRecord l.styles) b.records)
+      (drop l.branch-index l.branches);
 }

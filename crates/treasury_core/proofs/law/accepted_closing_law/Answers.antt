@@ -1,4 +1,5 @@
-use Rattle.treasury_core.proofs.AcceptedClosing.{closing_adds_one, closing_locked, closing_apart, closing_zero, closing_stays, closing_untouched, closing_elsewhere}
+use Rattle.treasury_core.proofs.AcceptedClosing.{closing_adds_one, closing_locked, closing_apart, closing_zero}
+use Rattle.treasury_core.proofs.AcceptedClosing.{closing_stays, closing_untouched, closing_elsewhere}
 use Rattle.treasury_core.proofs.law.accepted_closing_law.Goals as goal
 
 pub returns-clause-adds : goal.returns-clause-adds

@@ -11,7 +11,8 @@ pub returns-clause-ok : goal.returns-clause-ok
 returns-clause-ok c =
     let ts = c.args.transfers.now.items in
     let x = c.args.transfer in
-    let place = c.place_of-place.ensures.value ∙ ap (λ (id : List ℕ). prefix_len (is_before id) c.deref.result.now) c.as_str.ensures ∙ ap (λ (xs : List Transfer). prefix_len (is_before x.id) xs) c.deref.ensures.value in
+    let place = c.place_of-place.ensures.value ∙ ap (λ (id : List ℕ). prefix_len (is_before id) c.deref.result.now)
+    c.as_str.ensures ∙ ap (λ (xs : List Transfer). prefix_len (is_before x.id) xs) c.deref.ensures.value in
     elim c.match-insert.branch [
       | in-Ok w ↦ rw w.result-is (w.in-Ok.ensures.items ∙ ap (λ (n : ℕ). insert ts n x) place ∙ inserted_at x ts)
       | in-Err w ↦ rw w.result-is tt

@@ -11,5 +11,9 @@ returns-in-Ok-clause-ok c =
     let ps = c.args.parts.now in
     let x = c.args.part in
     let i = c.place_of_key-place.result in
-    let place = c.place_of_key-place.ensures.value ∙ ap (λ (key : List ℕ). prefix_len (is_key_before key) c.items.result.now) c.as_str.ensures ∙ ap (prefix_len (is_key_before x.key)) c.items.ensures in
-    c.from_vec.ensures ∙ (c.in-Ok.ensures.items ∙ (ap (λ (xs : List Part). insert xs i x) (c.into_vec-list.ensures ∙ c.replace.ensures.value) ∙ (ap (λ (n : ℕ). insert ps n x) place ∙ part_put x ps)))
+    let place = c.place_of_key-place.ensures.value ∙ ap
+    (λ (key : List ℕ). prefix_len (is_key_before key) c.items.result.now) c.as_str.ensures ∙ ap
+    (prefix_len (is_key_before x.key)) c.items.ensures in
+    c.from_vec.ensures ∙ (c.in-Ok.ensures.items ∙
+    (ap (λ (xs : List Part). insert xs i x) (c.into_vec-list.ensures ∙ c.replace.ensures.value) ∙
+    (ap (λ (n : ℕ). insert ps n x) place ∙ part_put x ps)))

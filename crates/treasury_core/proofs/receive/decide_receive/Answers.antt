@@ -8,7 +8,11 @@ use Rattle.treasury_core.specs.Seen.{branch_of}
 use Rattle.treasury_core.specs.Kept.{branch_at}
 use Rattle.treasury_core.proofs.FindLemmas.{there, missing}
 use Rattle.treasury_core.proofs.DecideLemmas.{found_holds}
-use Rattle.treasury_core.proofs.TransferReplyLemmas.{IsClaimed, IsAimed, so_held, same_test, same_find, not_true, not_false, repeats, settles, no_branch, bad_receipt_id, bad_key, no_transfer, wrong_branch, received_so, received_other, received_all, received_new, receipt_adds, transfer_good, asked_small}
+use Rattle.treasury_core.proofs.TransferReplyLemmas.{IsClaimed, IsAimed, so_held, same_test, same_find, not_true}
+use Rattle.treasury_core.proofs.TransferReplyLemmas.{not_false, repeats, settles, no_branch, bad_receipt_id, bad_key}
+use Rattle.treasury_core.proofs.TransferReplyLemmas.{no_transfer, wrong_branch, received_so, received_other}
+use Rattle.treasury_core.proofs.TransferReplyLemmas.{received_all, received_new, receipt_adds, transfer_good}
+use Rattle.treasury_core.proofs.TransferReplyLemmas.{asked_small}
 use Rattle.treasury_core.proofs.receive.decide_receive.Goals as goal
 
 pub returns-in_default : goal.returns-in_default
@@ -27,7 +31,8 @@ returns-then-not-is_id g c =
     let found : branch_at f.branches r.branch ≡ Some b =
     ap (branch_at f.branches) (sym c.as_str.ensures) ∙ c.in-Some.ensures.found in
     let branch = (there f.branches r.branch b found).any in
-    inr (bad_receipt_id f r branch (ap is_id (sym (c.as_bytes.ensures.value ∙ c.as_str-2.ensures)) ∙ (sym c.is_id.ensures ∙ c.if-not-is_id.true)))
+    inr (bad_receipt_id f r branch (ap is_id (sym (c.as_bytes.ensures.value ∙ c.as_str-2.ensures)) ∙
+    (sym c.is_id.ensures ∙ c.if-not-is_id.true)))
 
 pub returns-then-has_bad_key : goal.returns-then-has_bad_key
 returns-then-has_bad_key g c =
@@ -37,7 +42,8 @@ returns-then-has_bad_key g c =
     let found : branch_at f.branches r.branch ≡ Some b =
     ap (branch_at f.branches) (sym c.as_str.ensures) ∙ c.in-Some.ensures.found in
     let branch = (there f.branches r.branch b found).any in
-    inr (bad_key f r branch (ap is_id (sym (c.as_bytes.ensures.value ∙ c.as_str-2.ensures)) ∙ (sym c.is_id.ensures ∙ c.if-not-is_id.false)) (sym c.has_bad_key.ensures ∙ c.if-has_bad_key.true))
+    inr (bad_key f r branch (ap is_id (sym (c.as_bytes.ensures.value ∙ c.as_str-2.ensures)) ∙
+    (sym c.is_id.ensures ∙ c.if-not-is_id.false)) (sym c.has_bad_key.ensures ∙ c.if-has_bad_key.true))
 
 pub returns-in_default-find_transfer : goal.returns-in_default-find_transfer
 returns-in_default-find_transfer g c =
@@ -47,8 +53,14 @@ returns-in_default-find_transfer g c =
     let found : branch_at f.branches r.branch ≡ Some b =
     ap (branch_at f.branches) (sym c.as_str.ensures) ∙ c.in-Some.ensures.found in
     let branch = (there f.branches r.branch b found).any in
-    let claimed : IsClaimed f r = record { branch = branch; id = ap is_id (sym (c.as_bytes.ensures.value ∙ c.as_str-2.ensures)) ∙ (sym c.is_id.ensures ∙ c.if-not-is_id.false); key = sym c.has_bad_key.ensures ∙ c.if-has_bad_key.false } in
-    inr (no_transfer f r claimed (same_find (sym c.as_str-3.ensures) (sym c.transfers.ensures) (sym c.in_default-find_transfer.ensures)))
+    let claimed : IsClaimed f r = record {
+      branch = branch;
+      id = ap is_id (sym (c.as_bytes.ensures.value ∙ c.as_str-2.ensures)) ∙
+          (sym c.is_id.ensures ∙ c.if-not-is_id.false);
+      key = sym c.has_bad_key.ensures ∙ c.if-has_bad_key.false;
+    } in
+    inr (no_transfer f r claimed (same_find (sym c.as_str-3.ensures) (sym c.transfers.ensures)
+    (sym c.in_default-find_transfer.ensures)))
 
 pub returns-then-ne : goal.returns-then-ne
 returns-then-ne g c =
@@ -58,10 +70,17 @@ returns-then-ne g c =
     let found : branch_at f.branches r.branch ≡ Some b =
     ap (branch_at f.branches) (sym c.as_str.ensures) ∙ c.in-Some.ensures.found in
     let branch = (there f.branches r.branch b found).any in
-    let claimed : IsClaimed f r = record { branch = branch; id = ap is_id (sym (c.as_bytes.ensures.value ∙ c.as_str-2.ensures)) ∙ (sym c.is_id.ensures ∙ c.if-not-is_id.false); key = sym c.has_bad_key.ensures ∙ c.if-has_bad_key.false } in
+    let claimed : IsClaimed f r = record {
+      branch = branch;
+      id = ap is_id (sym (c.as_bytes.ensures.value ∙ c.as_str-2.ensures)) ∙
+          (sym c.is_id.ensures ∙ c.if-not-is_id.false);
+      key = sym c.has_bad_key.ensures ∙ c.if-has_bad_key.false;
+    } in
     let t = c.in-Some-find_transfer.transfer.now in
-    let at : transfer_at f r.id ≡ Some t = same_find (sym c.as_str-3.ensures) (sym c.transfers.ensures) (sym c.in-Some-find_transfer.ensures) in
-    inr (wrong_branch f r t claimed at (same_test c.as_str-4.ensures c.as_str-5.ensures (not_true c.ne.ensures c.if-ne.true)))
+    let at : transfer_at f r.id ≡ Some t =
+    same_find (sym c.as_str-3.ensures) (sym c.transfers.ensures) (sym c.in-Some-find_transfer.ensures) in
+    inr (wrong_branch f r t claimed at
+    (same_test c.as_str-4.ensures c.as_str-5.ensures (not_true c.ne.ensures c.if-ne.true)))
 
 pub judged-requires-clause-good : goal.judged-requires-clause-good
 judged-requires-clause-good g c =
@@ -77,7 +96,8 @@ judged-requires-clause-parts g c =
     let f = c.args.state.now in
     let r = c.args.receive.now in
     let t = c.in-Some-find_transfer.transfer.now in
-    let at : transfer_at f r.id ≡ Some t = same_find (sym c.as_str-3.ensures) (sym c.transfers.ensures) (sym c.in-Some-find_transfer.ensures) in
+    let at : transfer_at f r.id ≡ Some t =
+    same_find (sym c.as_str-3.ensures) (sym c.transfers.ensures) (sym c.in-Some-find_transfer.ensures) in
     (transfer_good f r.id t c.is_good.ensures at).parts
 
 pub judged-requires-clause-small : goal.judged-requires-clause-small
@@ -85,7 +105,8 @@ judged-requires-clause-small g c =
     let f = c.args.state.now in
     let r = c.args.receive.now in
     let t = c.in-Some-find_transfer.transfer.now in
-    let at : transfer_at f r.id ≡ Some t = same_find (sym c.as_str-3.ensures) (sym c.transfers.ensures) (sym c.in-Some-find_transfer.ensures) in
+    let at : transfer_at f r.id ≡ Some t =
+    same_find (sym c.as_str-3.ensures) (sym c.transfers.ensures) (sym c.in-Some-find_transfer.ensures) in
     asked_small f r t c.is_good.ensures c.requires at
 
 pub held_so-requires-clause-parts : goal.held_so-requires-clause-parts
@@ -93,7 +114,8 @@ held_so-requires-clause-parts g c =
     let f = c.args.state.now in
     let r = c.args.receive.now in
     let t = c.in-Some-find_transfer.transfer.now in
-    let at : transfer_at f r.id ≡ Some t = same_find (sym c.as_str-3.ensures) (sym c.transfers.ensures) (sym c.in-Some-find_transfer.ensures) in
+    let at : transfer_at f r.id ≡ Some t =
+    same_find (sym c.as_str-3.ensures) (sym c.transfers.ensures) (sym c.in-Some-find_transfer.ensures) in
     (transfer_good f r.id t c.is_good.ensures at).parts
 
 pub has_nothing_left-requires : goal.has_nothing_left-requires
@@ -101,7 +123,8 @@ has_nothing_left-requires g c =
     let f = c.args.state.now in
     let r = c.args.receive.now in
     let t = c.in-Some-find_transfer.transfer.now in
-    let at : transfer_at f r.id ≡ Some t = same_find (sym c.as_str-3.ensures) (sym c.transfers.ensures) (sym c.in-Some-find_transfer.ensures) in
+    let at : transfer_at f r.id ≡ Some t =
+    same_find (sym c.as_str-3.ensures) (sym c.transfers.ensures) (sym c.in-Some-find_transfer.ensures) in
     (transfer_good f r.id t c.is_good.ensures at).parts
 
 pub returns-then-is_so : goal.returns-then-is_so
@@ -112,11 +135,23 @@ returns-then-is_so g c =
     let found : branch_at f.branches r.branch ≡ Some b =
     ap (branch_at f.branches) (sym c.as_str.ensures) ∙ c.in-Some.ensures.found in
     let branch = (there f.branches r.branch b found).any in
-    let claimed : IsClaimed f r = record { branch = branch; id = ap is_id (sym (c.as_bytes.ensures.value ∙ c.as_str-2.ensures)) ∙ (sym c.is_id.ensures ∙ c.if-not-is_id.false); key = sym c.has_bad_key.ensures ∙ c.if-has_bad_key.false } in
+    let claimed : IsClaimed f r = record {
+      branch = branch;
+      id = ap is_id (sym (c.as_bytes.ensures.value ∙ c.as_str-2.ensures)) ∙
+          (sym c.is_id.ensures ∙ c.if-not-is_id.false);
+      key = sym c.has_bad_key.ensures ∙ c.if-has_bad_key.false;
+    } in
     let t = c.in-Some-find_transfer.transfer.now in
-    let at : transfer_at f r.id ≡ Some t = same_find (sym c.as_str-3.ensures) (sym c.transfers.ensures) (sym c.in-Some-find_transfer.ensures) in
-    let aimed : IsAimed f r t = record { claimed = claimed; at = at; own = same_test c.as_str-4.ensures c.as_str-5.ensures (not_false c.ne.ensures c.if-ne.false) } in
-    let so : so_held t r ≡ Some true = sym c.held_so.ensures ∙ (c.in-Some-held_so.is ∙ ap (λ (b : Bool). let o : Option Bool = Some b in o) c.if-is_so.true) in
+    let at : transfer_at f r.id ≡ Some t =
+    same_find (sym c.as_str-3.ensures) (sym c.transfers.ensures) (sym c.in-Some-find_transfer.ensures) in
+    let aimed : IsAimed f r t = record {
+      claimed = claimed;
+      at = at;
+      own = same_test c.as_str-4.ensures c.as_str-5.ensures (not_false c.ne.ensures c.if-ne.false);
+    } in
+    let so : so_held t r ≡ Some true =
+    sym c.held_so.ensures ∙
+    (c.in-Some-held_so.is ∙ ap (λ (b : Bool). let o : Option Bool = Some b in o) c.if-is_so.true) in
     repeats f (Receive r) c.repeated.result (received_so f r t aimed so) c.repeated.ensures
 
 pub returns-in-Some-held_so : goal.returns-in-Some-held_so
@@ -127,11 +162,23 @@ returns-in-Some-held_so g c =
     let found : branch_at f.branches r.branch ≡ Some b =
     ap (branch_at f.branches) (sym c.as_str.ensures) ∙ c.in-Some.ensures.found in
     let branch = (there f.branches r.branch b found).any in
-    let claimed : IsClaimed f r = record { branch = branch; id = ap is_id (sym (c.as_bytes.ensures.value ∙ c.as_str-2.ensures)) ∙ (sym c.is_id.ensures ∙ c.if-not-is_id.false); key = sym c.has_bad_key.ensures ∙ c.if-has_bad_key.false } in
+    let claimed : IsClaimed f r = record {
+      branch = branch;
+      id = ap is_id (sym (c.as_bytes.ensures.value ∙ c.as_str-2.ensures)) ∙
+          (sym c.is_id.ensures ∙ c.if-not-is_id.false);
+      key = sym c.has_bad_key.ensures ∙ c.if-has_bad_key.false;
+    } in
     let t = c.in-Some-find_transfer.transfer.now in
-    let at : transfer_at f r.id ≡ Some t = same_find (sym c.as_str-3.ensures) (sym c.transfers.ensures) (sym c.in-Some-find_transfer.ensures) in
-    let aimed : IsAimed f r t = record { claimed = claimed; at = at; own = same_test c.as_str-4.ensures c.as_str-5.ensures (not_false c.ne.ensures c.if-ne.false) } in
-    let so : so_held t r ≡ Some false = sym c.held_so.ensures ∙ (c.in-Some-held_so.is ∙ ap (λ (b : Bool). let o : Option Bool = Some b in o) c.if-is_so.false) in
+    let at : transfer_at f r.id ≡ Some t =
+    same_find (sym c.as_str-3.ensures) (sym c.transfers.ensures) (sym c.in-Some-find_transfer.ensures) in
+    let aimed : IsAimed f r t = record {
+      claimed = claimed;
+      at = at;
+      own = same_test c.as_str-4.ensures c.as_str-5.ensures (not_false c.ne.ensures c.if-ne.false);
+    } in
+    let so : so_held t r ≡ Some false =
+    sym c.held_so.ensures ∙
+    (c.in-Some-held_so.is ∙ ap (λ (b : Bool). let o : Option Bool = Some b in o) c.if-is_so.false) in
     inr (received_other f r t aimed so)
 
 pub returns-then-has_nothing_left : goal.returns-then-has_nothing_left
@@ -142,10 +189,20 @@ returns-then-has_nothing_left g c =
     let found : branch_at f.branches r.branch ≡ Some b =
     ap (branch_at f.branches) (sym c.as_str.ensures) ∙ c.in-Some.ensures.found in
     let branch = (there f.branches r.branch b found).any in
-    let claimed : IsClaimed f r = record { branch = branch; id = ap is_id (sym (c.as_bytes.ensures.value ∙ c.as_str-2.ensures)) ∙ (sym c.is_id.ensures ∙ c.if-not-is_id.false); key = sym c.has_bad_key.ensures ∙ c.if-has_bad_key.false } in
+    let claimed : IsClaimed f r = record {
+      branch = branch;
+      id = ap is_id (sym (c.as_bytes.ensures.value ∙ c.as_str-2.ensures)) ∙
+          (sym c.is_id.ensures ∙ c.if-not-is_id.false);
+      key = sym c.has_bad_key.ensures ∙ c.if-has_bad_key.false;
+    } in
     let t = c.in-Some-find_transfer.transfer.now in
-    let at : transfer_at f r.id ≡ Some t = same_find (sym c.as_str-3.ensures) (sym c.transfers.ensures) (sym c.in-Some-find_transfer.ensures) in
-    let aimed : IsAimed f r t = record { claimed = claimed; at = at; own = same_test c.as_str-4.ensures c.as_str-5.ensures (not_false c.ne.ensures c.if-ne.false) } in
+    let at : transfer_at f r.id ≡ Some t =
+    same_find (sym c.as_str-3.ensures) (sym c.transfers.ensures) (sym c.in-Some-find_transfer.ensures) in
+    let aimed : IsAimed f r t = record {
+      claimed = claimed;
+      at = at;
+      own = same_test c.as_str-4.ensures c.as_str-5.ensures (not_false c.ne.ensures c.if-ne.false);
+    } in
     let none : so_held t r ≡ None = sym c.held_so.ensures ∙ c.in_default-held_so.is in
     inr (received_all f r t aimed none (sym c.has_nothing_left.ensures ∙ c.if-has_nothing_left.true))
 
@@ -157,11 +214,22 @@ returns g c =
     let found : branch_at f.branches r.branch ≡ Some b =
     ap (branch_at f.branches) (sym c.as_str.ensures) ∙ c.in-Some.ensures.found in
     let branch = (there f.branches r.branch b found).any in
-    let claimed : IsClaimed f r = record { branch = branch; id = ap is_id (sym (c.as_bytes.ensures.value ∙ c.as_str-2.ensures)) ∙ (sym c.is_id.ensures ∙ c.if-not-is_id.false); key = sym c.has_bad_key.ensures ∙ c.if-has_bad_key.false } in
+    let claimed : IsClaimed f r = record {
+      branch = branch;
+      id = ap is_id (sym (c.as_bytes.ensures.value ∙ c.as_str-2.ensures)) ∙
+          (sym c.is_id.ensures ∙ c.if-not-is_id.false);
+      key = sym c.has_bad_key.ensures ∙ c.if-has_bad_key.false;
+    } in
     let t = c.in-Some-find_transfer.transfer.now in
-    let at : transfer_at f r.id ≡ Some t = same_find (sym c.as_str-3.ensures) (sym c.transfers.ensures) (sym c.in-Some-find_transfer.ensures) in
-    let aimed : IsAimed f r t = record { claimed = claimed; at = at; own = same_test c.as_str-4.ensures c.as_str-5.ensures (not_false c.ne.ensures c.if-ne.false) } in
+    let at : transfer_at f r.id ≡ Some t =
+    same_find (sym c.as_str-3.ensures) (sym c.transfers.ensures) (sym c.in-Some-find_transfer.ensures) in
+    let aimed : IsAimed f r t = record {
+      claimed = claimed;
+      at = at;
+      own = same_test c.as_str-4.ensures c.as_str-5.ensures (not_false c.ne.ensures c.if-ne.false);
+    } in
     let none : so_held t r ≡ None = sym c.held_so.ensures ∙ c.in_default-held_so.is in
     settles f (Receive r) _ (receipt_refusal b.locked b.records t r) c.judged.result c.settled.result
-    (received_new f r t b aimed none (sym c.has_nothing_left.ensures ∙ c.if-has_nothing_left.false) (there f.branches r.branch b found)) (receipt_adds f r t at)
+    (received_new f r t b aimed none (sym c.has_nothing_left.ensures ∙ c.if-has_nothing_left.false)
+    (there f.branches r.branch b found)) (receipt_adds f r t at)
     c.settled.ensures c.judged.ensures.value c.judged.ensures.passes c.judged.ensures.err

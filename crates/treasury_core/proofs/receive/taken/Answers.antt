@@ -11,5 +11,10 @@ use Rattle.treasury_core.proofs.receive.taken.Goals as goal
 
 pub returns-clause-err : goal.returns-clause-err
 returns-clause-err g c =
-    let same : c.in-Ok-receipt_record.row ≡ receipt_record c.args.transfer.now (receipt_of c.args.transfer.now c.args.receive.now) = c.in-Ok-receipt_record.ensures.value ∙ ap (receipt_record c.args.transfer.now) c.in-Ok.ensures.value in
-    subst (λ (r : Record). IfErr c.recorded.result (λ e. (e ≡ Plain OutOfMemory) ⊎ (verdict (g.L.Ledger.book c.args.target.now.ledger ++ entries (r ∷ [])) ≡ Some e))) same c.recorded.ensures.err
+    let same : c.in-Ok-receipt_record.row
+    ≡ receipt_record c.args.transfer.now (receipt_of c.args.transfer.now c.args.receive.now) =
+    c.in-Ok-receipt_record.ensures.value ∙ ap (receipt_record c.args.transfer.now) c.in-Ok.ensures.value in
+    subst (λ (r : Record). IfErr c.recorded.result
+    (λ e. (e ≡ Plain OutOfMemory)
+    ⊎ (verdict (g.L.Ledger.book c.args.target.now.ledger ++ entries (r ∷ [])) ≡ Some e))) same
+    c.recorded.ensures.err

@@ -21,8 +21,11 @@ returns-then-not-is_claim_row c =
     let g = claim_row c.args.branch c.args.entry in
     let lt : i < length ys = omega arith in
     says_no (map g xs ≡ ys)
-    (λ e. walk_stop (λ (k : ℕ). g) 0 i i xs ys (get_or xs i no_claim) (get_or ys i no_row) c.loop-i-test.true (same_at xs i no_claim (get_or xs i no_claim) c.loop-i-test.true) lt (same_at ys i no_row (get_or ys i no_row) lt)
-    (λ h. let k : true ≡ false = sym (c.is_claim_row.ensures.1 h) ∙ c.if-not-is_claim_row.true in cc) c.loop-i.invariant (unnumbered g 0 xs ∙ e))
+    (λ e. walk_stop (λ (k : ℕ). g) 0 i i xs ys (get_or xs i no_claim) (get_or ys i no_row) c.loop-i-test.true
+    (same_at xs i no_claim (get_or xs i no_claim) c.loop-i-test.true) lt
+    (same_at ys i no_row (get_or ys i no_row) lt)
+    (λ h. let k : true ≡ false = sym (c.is_claim_row.ensures.1 h) ∙ c.if-not-is_claim_row.true in cc) c.loop-i.invariant
+    (unnumbered g 0 xs ∙ e))
 
 pub loop-i-preserved : goal.loop-i-preserved
 loop-i-preserved c =
@@ -31,11 +34,14 @@ loop-i-preserved c =
     let ys = c.args.list.now in
     let g = claim_row c.args.branch c.args.entry in
     let lt : i < length ys = omega arith in
-    walk_next (λ (k : ℕ). g) 0 i i xs ys (get_or xs i no_claim) (get_or ys i no_row) c.loop-i-test.true (same_at xs i no_claim (get_or xs i no_claim) c.loop-i-test.true) lt (same_at ys i no_row (get_or ys i no_row) lt)
+    walk_next (λ (k : ℕ). g) 0 i i xs ys (get_or xs i no_claim) (get_or ys i no_row) c.loop-i-test.true
+    (same_at xs i no_claim (get_or xs i no_claim) c.loop-i-test.true) lt
+    (same_at ys i no_row (get_or ys i no_row) lt)
     (c.is_claim_row.ensures.0 c.if-not-is_claim_row.false) c.loop-i.invariant
 
 pub returns : goal.returns
 returns c =
     let g = claim_row c.args.branch c.args.entry in
     says_yes (map g c.args.claims.now ≡ c.args.list.now)
-    (sym (unnumbered g 0 c.args.claims.now) ∙ walk_end (λ (k : ℕ). g) 0 c.loop-i.i c.loop-i.i c.args.claims.now c.args.list.now (omega arith) (omega arith) c.loop-i.invariant)
+    (sym (unnumbered g 0 c.args.claims.now) ∙ walk_end (λ (k : ℕ). g) 0 c.loop-i.i c.loop-i.i c.args.claims.now
+    c.args.list.now (omega arith) (omega arith) c.loop-i.invariant)

@@ -2,7 +2,8 @@ use Rattle.std.proofs.Common.{◌≡◌, ◌∙◌, true, false, ap, sym, subst,
 use Rattle.treasury_core.specs.declared.rows.PartRow.{PartRow}
 use Rattle.treasury_core.specs.declared.transfer.Part.{Part}
 use Rattle.treasury_core.specs.Rows.{part_row, part_rows}
-use Rattle.treasury_core.proofs.SameRowLemmas.{says_no, PartsLeft, parts_start, parts_next, parts_other, parts_short, parts_end}
+use Rattle.treasury_core.proofs.SameRowLemmas.{says_no, PartsLeft, parts_start, parts_next, parts_other, parts_short}
+use Rattle.treasury_core.proofs.SameRowLemmas.{parts_end}
 use Rattle.treasury_core.proofs.same_rows.are_part_rows.Goals as goal
 
 pub transfer-init : goal.transfer-init

@@ -13,6 +13,8 @@ pub branch-preserved : goal.branch-preserved
 branch-preserved g c =
     let rows = g.T.RecordRow.rows c.args.styles.now in
     let split = MatchOption-at_some _ _ c.in-Some.rest c.in-Some.is c.in_ok-rest.ensures.value in
-    whole_next rows c.branch.i c.branch.i c.args.branches.now c.args.list.now c.branch.left.now c.in-Some.rest.now c.index-branches-i.result c.branch-test.true c.index-branches-i.is
+    whole_next rows c.branch.i c.branch.i c.args.branches.now c.args.list.now c.branch.left.now c.in-Some.rest.now
+    c.index-branches-i.result c.branch-test.true c.index-branches-i.is
     (split ∙ ap (λ (rs : List Record). record_rows_from (rows c.branch.i) 1 rs ++ c.in-Some.rest.now) c.items.ensures
-    ∙ ap (λ (b : Branch). record_rows_from (rows c.branch.i) 1 b.records ++ c.in-Some.rest.now) c.branch-in-branch.view_is) c.branch.invariant
+    ∙ ap (λ (b : Branch). record_rows_from (rows c.branch.i) 1 b.records ++ c.in-Some.rest.now)
+    c.branch-in-branch.view_is) c.branch.invariant

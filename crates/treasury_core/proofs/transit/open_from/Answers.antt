@@ -1,9 +1,11 @@
-use Rattle.std.proofs.Common.{◌≡◌, ◌-ℤ◌, ◌≤ℤ◌, ℤ, pos, arith, rules, ap, sym, true, false, ◌∙◌, FitsSigned, w64, to_z, of_z}
+use Rattle.std.proofs.Common.{◌≡◌, ◌-ℤ◌, ◌≤ℤ◌, ℤ, pos, arith, rules, ap, sym, true, false, ◌∙◌, FitsSigned, w64, to_z}
+use Rattle.std.proofs.Common.{of_z}
 use Rattle.std.specs.Prelude.{int_le}
 use Rattle.std.proofs.lemmas.Int.{ints, to_z-of_z}
 use Rattle.treasury_core.specs.declared.transfer.Part.{Part}
 use Rattle.treasury_core.specs.Transfer.{sum_of, received_by}
-use Rattle.treasury_core.proofs.PartLemmas.{le_from, all_positive, sum_low, received_low, received_high, open_without, open_with}
+use Rattle.treasury_core.proofs.PartLemmas.{le_from, all_positive, sum_low, received_low, received_high, open_without}
+use Rattle.treasury_core.proofs.PartLemmas.{open_with}
 use Rattle.treasury_core.proofs.transit.open_from.Goals as goal
 
 pub overflow_sub-open : goal.overflow_sub-open
@@ -13,7 +15,8 @@ overflow_sub-open c =
     let low = received_low t.parts c.args.day each in
     let high = received_high t.parts c.args.day each in
     let within = le_from (sum_of t.parts) t.qty c.requires.fair.marked.parts.within in
-    let by : c.received_by.result ≡ received_by t.parts c.args.day = c.received_by.ensures ∙ ap (λ ps. received_by ps c.args.day) c.items.ensures in
+    let by : c.received_by.result ≡ received_by t.parts c.args.day =
+    c.received_by.ensures ∙ ap (λ ps. received_by ps c.args.day) c.items.ensures in
     let qty = to_z-of_z w64 t.qty (search rules) in
     omega (arith, ints)
 
@@ -32,11 +35,14 @@ overflow_sub-result c =
     let high = received_high t.parts c.args.day each in
     let some = sum_low t.parts each in
     let within = le_from (sum_of t.parts) t.qty c.requires.fair.marked.parts.within in
-    let by : c.received_by.result ≡ received_by t.parts c.args.day = c.received_by.ensures ∙ ap (λ ps. received_by ps c.args.day) c.items.ensures in
+    let by : c.received_by.result ≡ received_by t.parts c.args.day =
+    c.received_by.ensures ∙ ap (λ ps. received_by ps c.args.day) c.items.ensures in
     let rest = c.rest_of.ensures in
     let qty = to_z-of_z w64 t.qty (search rules) in
-    let gap = to_z-of_z w64 (t.qty -ℤ c.received_by.result) (fits_less t.qty c.received_by.result (search rules) (omega (arith, ints)) (omega (arith, ints))) in
-    let less = fits_twice t.qty c.received_by.result c.rest_of.result (search rules) (omega (arith, ints)) (omega (arith, ints)) (omega (arith, ints)) (omega (arith, ints)) in
+    let gap = to_z-of_z w64 (t.qty -ℤ c.received_by.result)
+    (fits_less t.qty c.received_by.result (search rules) (omega (arith, ints)) (omega (arith, ints))) in
+    let less = fits_twice t.qty c.received_by.result c.rest_of.result (search rules) (omega (arith, ints))
+    (omega (arith, ints)) (omega (arith, ints)) (omega (arith, ints)) in
     omega (arith, ints)
 
 pub returns-in-None : goal.returns-in-None
@@ -46,8 +52,10 @@ returns-in-None c =
     let low = received_low t.parts c.args.day each in
     let high = received_high t.parts c.args.day each in
     let within = le_from (sum_of t.parts) t.qty c.requires.fair.marked.parts.within in
-    let by : c.received_by.result ≡ received_by t.parts c.args.day = c.received_by.ensures ∙ ap (λ ps. received_by ps c.args.day) c.items.ensures in
-    let gap = to_z-of_z w64 (t.qty -ℤ c.received_by.result) (fits_less t.qty c.received_by.result (search rules) (omega (arith, ints)) (omega (arith, ints))) in
+    let by : c.received_by.result ≡ received_by t.parts c.args.day =
+    c.received_by.ensures ∙ ap (λ ps. received_by ps c.args.day) c.items.ensures in
+    let gap = to_z-of_z w64 (t.qty -ℤ c.received_by.result)
+    (fits_less t.qty c.received_by.result (search rules) (omega (arith, ints)) (omega (arith, ints))) in
     let is = open_without t c.args.day c.requires.sent c.in-None.is in
     omega (arith, ints)
 
@@ -58,8 +66,10 @@ returns-else-receipt-day c =
     let low = received_low t.parts c.args.day each in
     let high = received_high t.parts c.args.day each in
     let within = le_from (sum_of t.parts) t.qty c.requires.fair.marked.parts.within in
-    let by : c.received_by.result ≡ received_by t.parts c.args.day = c.received_by.ensures ∙ ap (λ ps. received_by ps c.args.day) c.items.ensures in
-    let gap = to_z-of_z w64 (t.qty -ℤ c.received_by.result) (fits_less t.qty c.received_by.result (search rules) (omega (arith, ints)) (omega (arith, ints))) in
+    let by : c.received_by.result ≡ received_by t.parts c.args.day =
+    c.received_by.ensures ∙ ap (λ ps. received_by ps c.args.day) c.items.ensures in
+    let gap = to_z-of_z w64 (t.qty -ℤ c.received_by.result)
+    (fits_less t.qty c.received_by.result (search rules) (omega (arith, ints)) (omega (arith, ints))) in
     let h = c.if-receipt-day.false in
     let e : int_le c.in-Some.receipt.day.0 c.args.day.0 ≡ false = grind (arith, ints) in
     let is = open_with t c.args.day c.in-Some.receipt false c.requires.sent c.in-Some.is e in
@@ -73,10 +83,14 @@ returns-then-receipt-day c =
     let high = received_high t.parts c.args.day each in
     let some = sum_low t.parts each in
     let within = le_from (sum_of t.parts) t.qty c.requires.fair.marked.parts.within in
-    let by : c.received_by.result ≡ received_by t.parts c.args.day = c.received_by.ensures ∙ ap (λ ps. received_by ps c.args.day) c.items.ensures in
+    let by : c.received_by.result ≡ received_by t.parts c.args.day =
+    c.received_by.ensures ∙ ap (λ ps. received_by ps c.args.day) c.items.ensures in
     let rest = c.rest_of.ensures in
-    let gap = to_z-of_z w64 (t.qty -ℤ c.received_by.result) (fits_less t.qty c.received_by.result (search rules) (omega (arith, ints)) (omega (arith, ints))) in
-    let less = to_z-of_z w64 ((t.qty -ℤ c.received_by.result) -ℤ c.rest_of.result) (fits_twice t.qty c.received_by.result c.rest_of.result (search rules) (omega (arith, ints)) (omega (arith, ints)) (omega (arith, ints)) (omega (arith, ints))) in
+    let gap = to_z-of_z w64 (t.qty -ℤ c.received_by.result)
+    (fits_less t.qty c.received_by.result (search rules) (omega (arith, ints)) (omega (arith, ints))) in
+    let less = to_z-of_z w64 ((t.qty -ℤ c.received_by.result) -ℤ c.rest_of.result)
+    (fits_twice t.qty c.received_by.result c.rest_of.result (search rules) (omega (arith, ints))
+    (omega (arith, ints)) (omega (arith, ints)) (omega (arith, ints))) in
     let h = c.if-receipt-day.true in
     let e : int_le c.in-Some.receipt.day.0 c.args.day.0 ≡ true = grind (arith, ints) in
     let is = open_with t c.args.day c.in-Some.receipt true c.requires.sent c.in-Some.is e in

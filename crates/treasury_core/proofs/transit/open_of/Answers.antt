@@ -10,4 +10,5 @@ returns-then-day-transfer c =
     let t = c.args.transfer.now in
     let h = c.if-day-transfer.true in
     let e : int_le t.day.0 c.args.day.0 ≡ false = grind (arith, ints) in
-    sym (if_zero (is_between c.args.from.now c.args.to.now c.args.unit t) (open_of t c.args.day) (open_before t c.args.day c.requires e))
+    sym (if_zero (is_between c.args.from.now c.args.to.now c.args.unit t) (open_of t c.args.day)
+    (open_before t c.args.day c.requires e))

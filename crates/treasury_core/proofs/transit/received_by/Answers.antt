@@ -34,7 +34,8 @@ part-preserved c =
     let low = share_low (int_le p.day.0 c.args.day.0) p.qty each.0 in
     let high = share_high (int_le p.day.0 c.args.day.0) p.qty each.0 in
     let share = c.part_by-share.ensures in
-    let fits : FitsSigned w64 (to_z w64 c.part.sum-bits +ℤ to_z w64 (of_z w64 c.part_by-share.result)) = overflow_add-sum c in
+    let fits : FitsSigned w64 (to_z w64 c.part.sum-bits +ℤ to_z w64 (of_z w64 c.part_by-share.result)) =
+    overflow_add-sum c in
     let w = c.part.invariant.whole in
     let h = c.part.invariant.high in
     let l = c.part.invariant.low in

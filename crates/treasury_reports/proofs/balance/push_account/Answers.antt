@@ -8,11 +8,14 @@ use Rattle.treasury_reports.proofs.balance.push_account.Goals as goal
 pub units-preserved : goal.units-preserved
 units-preserved g c =
     let styles = c.args.styles.now in
-    let known : c.units.number < length styles = below_from_found styles c.units.number c.style.result c.style.ensures c.units-test.ensures in
+    let known : c.units.number < length styles =
+    below_from_found styles c.units.number c.style.result c.style.ensures c.units-test.ensures in
     record {
       few = c.units.invariant.few;
       declared = omega arith;
-      lines = flat_map_next (balance_line styles (g.L.Ledger.book c.args.ledger.now) c.args.day c.args.account.now) c.args.out.now.items c.units.out.items c.push_balance.new.out.items (first_units c.units.number) (first_units (c.units.number + 1)) (record { 0 = c.units.number })
+      lines = flat_map_next (balance_line styles (g.L.Ledger.book c.args.ledger.now) c.args.day c.args.account.now)
+          c.args.out.now.items c.units.out.items c.push_balance.new.out.items (first_units c.units.number)
+          (first_units (c.units.number + 1)) (record { 0 = c.units.number })
           c.units.invariant.lines c.in-Ok.ensures.ok (ap first_units (add-one c.units.number));
     }
 

@@ -7,7 +7,8 @@ abbrev pub invariant-units : goal.invariant-units
 invariant-units g l = record {
   few : length l.styles ≤ 16;
   declared : l.number ≤ length l.styles;
-  lines : l.out.items ≡ l.fn.out.items ++ flat_map (balance_line l.styles (g.L.Ledger.book l.ledger) l.day l.account) (first_units l.number);
+  lines : l.out.items ≡ l.fn.out.items
+      ++ flat_map (balance_line l.styles (g.L.Ledger.book l.ledger) l.day l.account) (first_units l.number);
 }
 
 abbrev pub decreases-units : goal.decreases-units

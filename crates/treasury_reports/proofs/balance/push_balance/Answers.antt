@@ -6,5 +6,6 @@ use Rattle.treasury_reports.proofs.balance.push_balance.Goals as goal
 pub amount_line-requires : goal.amount_line-requires
 amount_line-requires g c =
     let back = to_z-of_z w64 c.balance-qty.result (search rules) in
-    let declared = balance_is_declared c.args.styles.now (g.L.Ledger.book c.args.ledger.now) c.args.account.now c.args.unit c.args.day c.requires.known c.requires.room in
+    let declared = balance_is_declared c.args.styles.now (g.L.Ledger.book c.args.ledger.now) c.args.account.now
+    c.args.unit c.args.day c.requires.known c.requires.room in
     rw (back, c.balance-qty.ensures) declared

@@ -12,10 +12,13 @@ branches-init g c = none_in_order c.new-names.result.items c.new-names.ensures.i
 pub branches-preserved : goal.branches-preserved
 branches-preserved g c =
     let all = names_of (branches_of (take c.branches.branch-index c.args.branches.now)) in
-    one_more c.branches.names.items c.put_name.new.names.items all _ c.in_ok-name.name c.branches.invariant c.in_ok-put_name.ensures.sorted c.in_ok-put_name.ensures.exact
-    (names_more c.args.branches.now c.branches.branch-index c.branch-item.result c.branches-test.true c.branch-item.is ∙ ap (λ (name : List ℕ). all ++ name ∷ []) (sym c.in_ok-name.ensures.equal))
+    one_more c.branches.names.items c.put_name.new.names.items all _ c.in_ok-name.name c.branches.invariant
+    c.in_ok-put_name.ensures.sorted c.in_ok-put_name.ensures.exact
+    (names_more c.args.branches.now c.branches.branch-index c.branch-item.result c.branches-test.true c.branch-item.is ∙
+    ap (λ (name : List ℕ). all ++ name ∷ []) (sym c.in_ok-name.ensures.equal))
 
 pub returns-clause-value : goal.returns-clause-value
 returns-clause-value g c =
     let past : length c.args.branches.now ≤ c.branches.branch-index = omega arith in
-    all_in_order c.branches.names.items _ c.branches.invariant ∙ ap (λ xs. ordered_names (names_of (branches_of xs))) (take_all c.branches.branch-index c.args.branches.now past)
+    all_in_order c.branches.names.items _ c.branches.invariant ∙ ap (λ xs. ordered_names (names_of (branches_of xs)))
+    (take_all c.branches.branch-index c.args.branches.now past)

@@ -1,4 +1,5 @@
-use Rattle.std.proofs.Common.{◌≡◌, ◌++◌, ◌∷◌, ◌∙◌, ◌+◌, ◌<◌, ◌≤◌, [], List, ℕ, ℤ, ◌+ℤ◌, length, take, ap, sym, subst, rules, w64, FitsSigned}
+use Rattle.std.proofs.Common.{◌≡◌, ◌++◌, ◌∷◌, ◌∙◌, ◌+◌, ◌<◌, ◌≤◌, [], List, ℕ, ℤ, ◌+ℤ◌, length, take, ap, sym, subst}
+use Rattle.std.proofs.Common.{rules, w64, FitsSigned}
 use Rattle.std.specs.Prelude.{unsigned_abs}
 use Rattle.std.specs.List.{AllByRecursion}
 use Rattle.std.proofs.lemmas.Int.{to_z-of_z}
@@ -8,7 +9,8 @@ use Rattle.book_core.specs.Balance.{value}
 use Rattle.treasury_reports.specs.declared.listed.Listed.{Listed}
 use Rattle.treasury_reports.specs.RegisterReport.{legs_in}
 use Rattle.treasury_reports.specs.Lent.{IsListable, AreSums, sum_at}
-use Rattle.treasury_reports.proofs.RegisterLemmas.{sum_next, sum_within, within_abs, sums_next, lines_next, took, listed_at}
+use Rattle.treasury_reports.proofs.RegisterLemmas.{sum_next, sum_within, within_abs, sums_next, lines_next, took}
+use Rattle.treasury_reports.proofs.RegisterLemmas.{listed_at}
 use Rattle.treasury_reports.proofs.register.lines_of.Goals as goal
 
 pub add_to-sum-requires-clause-small : goal.add_to-sum-requires-clause-small
@@ -18,8 +20,10 @@ add_to-sum-requires-clause-small c =
     let i = c.lines.one-index in
     let one = listed_at (IsListable c.args.styles.now) all i x c.lines-test.true c.one-item.is c.requires.listable in
     let back = to_z-of_z w64 x.leg.qty (search rules) in
-    let is = ap (λ (q : ℤ). sum_at c.lines.sums.items x.leg.unit +ℤ q) back ∙ sum_next (take i all) x (sum_at c.lines.sums.items x.leg.unit) (c.lines.invariant.sums x.leg.unit one.amount.known) in
-    subst (λ (z : ℤ). unsigned_abs z ≤ limit) (sym is) (within_abs _ (sum_within all i x c.requires.room c.lines-test.true c.one-item.is))
+    let is = ap (λ (q : ℤ). sum_at c.lines.sums.items x.leg.unit +ℤ q) back ∙ sum_next (take i all) x
+    (sum_at c.lines.sums.items x.leg.unit) (c.lines.invariant.sums x.leg.unit one.amount.known) in
+    subst (λ (z : ℤ). unsigned_abs z ≤ limit) (sym is)
+    (within_abs _ (sum_within all i x c.requires.room c.lines-test.true c.one-item.is))
 
 pub push_line-requires-clause-sum : goal.push_line-requires-clause-sum
 push_line-requires-clause-sum c =
@@ -28,9 +32,14 @@ push_line-requires-clause-sum c =
     let i = c.lines.one-index in
     let one = listed_at (IsListable c.args.styles.now) all i x c.lines-test.true c.one-item.is c.requires.listable in
     let back = to_z-of_z w64 x.leg.qty (search rules) in
-    let is = ap (λ (q : ℤ). sum_at c.lines.sums.items x.leg.unit +ℤ q) back ∙ sum_next (take i all) x (sum_at c.lines.sums.items x.leg.unit) (c.lines.invariant.sums x.leg.unit one.amount.known) in
+    let is = ap (λ (q : ℤ). sum_at c.lines.sums.items x.leg.unit +ℤ q) back ∙ sum_next (take i all) x
+    (sum_at c.lines.sums.items x.leg.unit) (c.lines.invariant.sums x.leg.unit one.amount.known) in
     let sum = to_z-of_z w64 c.add_to-sum.result (search rules) ∙ c.add_to-sum.ensures.sum ∙ is in
-    record { known = one.amount.known; size = subst (λ (z : ℤ). unsigned_abs z ≤ limit) (sym sum) (within_abs _ (sum_within all i x c.requires.room c.lines-test.true c.one-item.is)) }
+    record {
+      known = one.amount.known;
+      size = subst (λ (z : ℤ). unsigned_abs z ≤ limit) (sym sum)
+          (within_abs _ (sum_within all i x c.requires.room c.lines-test.true c.one-item.is));
+    }
 
 pub lines-preserved : goal.lines-preserved
 lines-preserved c =
@@ -40,11 +49,15 @@ lines-preserved c =
     let styles = c.args.styles.now in
     let one = listed_at (IsListable styles) all i x c.lines-test.true c.one-item.is c.requires.listable in
     let back = to_z-of_z w64 x.leg.qty (search rules) in
-    let is = ap (λ (q : ℤ). sum_at c.lines.sums.items x.leg.unit +ℤ q) back ∙ sum_next (take i all) x (sum_at c.lines.sums.items x.leg.unit) (c.lines.invariant.sums x.leg.unit one.amount.known) in
+    let is = ap (λ (q : ℤ). sum_at c.lines.sums.items x.leg.unit +ℤ q) back ∙ sum_next (take i all) x
+    (sum_at c.lines.sums.items x.leg.unit) (c.lines.invariant.sums x.leg.unit one.amount.known) in
     let sum = to_z-of_z w64 c.add_to-sum.result (search rules) ∙ c.add_to-sum.ensures.sum ∙ is in
     record {
-      wide = ap (λ (l : List ℤ). length l) c.add_to-sum.ensures.sums ∙ length-set c.lines.sums.items x.leg.unit.0 _ ∙ c.lines.invariant.wide;
+      wide = ap (λ (l : List ℤ). length l) c.add_to-sum.ensures.sums ∙ length-set c.lines.sums.items x.leg.unit.0 _ ∙
+          c.lines.invariant.wide;
       sums = subst (AreSums styles c.add_to-sum.new.sums.items) (sym (took all i x c.lines-test.true c.one-item.is))
-          (sums_next styles c.lines.sums.items c.add_to-sum.new.sums.items (take i all) x _ c.add_to-sum.ensures.sums c.lines.invariant.wide one.amount.known is c.lines.invariant.sums);
-      text = lines_next styles all i x _ c.lines.text.items c.push_line.new.out.items c.lines-test.true c.one-item.is sum c.in_ok-push_line.ensures.ok c.lines.invariant.text;
+          (sums_next styles c.lines.sums.items c.add_to-sum.new.sums.items (take i all) x _ c.add_to-sum.ensures.sums
+          c.lines.invariant.wide one.amount.known is c.lines.invariant.sums);
+      text = lines_next styles all i x _ c.lines.text.items c.push_line.new.out.items c.lines-test.true c.one-item.is
+          sum c.in_ok-push_line.ensures.ok c.lines.invariant.text;
     }

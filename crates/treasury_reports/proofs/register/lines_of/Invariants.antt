@@ -7,5 +7,6 @@ abbrev pub invariant-lines : goal.invariant-lines
 invariant-lines l = record {
   wide : length l.sums.items ≡ length l.styles;
   sums : AreSums l.styles l.sums.items (take l.one-index l.all);
-  text : l.text.items ++ register_lines l.styles (take l.one-index l.all) (drop l.one-index l.all) ≡ register_lines l.styles [] l.all;
+  text : l.text.items ++ register_lines l.styles (take l.one-index l.all) (drop l.one-index l.all)
+      ≡ register_lines l.styles [] l.all;
 }

@@ -6,7 +6,8 @@ use Rattle.treasury_reports.proofs.RegisterLemmas.{good_records, room_of}
 use Rattle.treasury_reports.proofs.register.register_report.Goals as goal
 
 pub text_of-requires-clause-good : goal.text_of-requires-clause-good
-text_of-requires-clause-good g c = rw (c.styles.ensures, c.in-Some.ensures.1) (good_records c.args.state.now c.args.branch.now c.is_good.ensures)
+text_of-requires-clause-good g c =
+    rw (c.styles.ensures, c.in-Some.ensures.1) (good_records c.args.state.now c.args.branch.now c.is_good.ensures)
 
 pub text_of-requires-clause-room : goal.text_of-requires-clause-room
 text_of-requires-clause-room g c = rw c.in-Some.ensures.1 (room_of c.args.state.now c.args.branch.now c.is_good.ensures)
@@ -14,6 +15,10 @@ text_of-requires-clause-room g c = rw c.in-Some.ensures.1 (room_of c.args.state.
 pub returns-in-Ok-extend_from_slice-clause-ok : goal.returns-in-Ok-extend_from_slice-clause-ok
 unfolding register_text
 returns-in-Ok-extend_from_slice-clause-ok g c =
-    let text = c.deref.ensures.value ∙ c.in-Ok.ensures.ok ∙ ap (λ (styles : List Style). register_lines styles [] (by_day (listed_from c.args.account.now (option_copied c.args.tag) 1 c.in-Some.records.now))) c.styles.ensures
-    ∙ ap (λ (rs : List Record). register_lines c.args.state.now.styles [] (by_day (listed_from c.args.account.now (option_copied c.args.tag) 1 rs))) c.in-Some.ensures.1 in
+    let text = c.deref.ensures.value ∙ c.in-Ok.ensures.ok ∙ ap
+    (λ (styles : List Style).
+    register_lines styles []
+    (by_day (listed_from c.args.account.now (option_copied c.args.tag) 1 c.in-Some.records.now))) c.styles.ensures
+    ∙ ap (λ (rs : List Record). register_lines c.args.state.now.styles []
+    (by_day (listed_from c.args.account.now (option_copied c.args.tag) 1 rs))) c.in-Some.ensures.1 in
     c.in-Ok-extend_from_slice.ensures.items ∙ ap (λ (t : List ℕ). c.args.out.now.items ++ t) text

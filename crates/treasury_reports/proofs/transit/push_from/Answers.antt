@@ -12,6 +12,9 @@ pub push_way-requires : goal.push_way-requires
 push_way-requires g c =
     let ts = c.args.state.now.transfers in
     let from = c.args.from.now in
-    let sent = ap (λ (xs : List (Bor Transfer)). lent xs) c.deref.ensures.value ∙ c.in_ok-sent.ensures.value ∙ ap (filter (is_from from c.args.day)) c.transfers.ensures in
-    ap (λ (xs : List (Bor Transfer)). lent xs) c.deref-in-targets.ensures.value ∙ c.in_ok-part.ensures.value ∙ ap (filter (λ (t : Transfer). bytes_eq t.target c.as_str.result.now)) sent ∙ filter-filter (is_from from c.args.day) (λ (t : Transfer). bytes_eq t.target c.as_str.result.now) ts
+    let sent = ap (λ (xs : List (Bor Transfer)). lent xs) c.deref.ensures.value ∙ c.in_ok-sent.ensures.value ∙ ap
+    (filter (is_from from c.args.day)) c.transfers.ensures in
+    ap (λ (xs : List (Bor Transfer)). lent xs) c.deref-in-targets.ensures.value ∙ c.in_ok-part.ensures.value ∙ ap
+    (filter (λ (t : Transfer). bytes_eq t.target c.as_str.result.now)) sent ∙ filter-filter
+    (is_from from c.args.day) (λ (t : Transfer). bytes_eq t.target c.as_str.result.now) ts
     ∙ ap (λ (to : List ℕ). filter (is_way from to c.args.day) ts) (c.as_str.ensures ∙ sym c.as_str-in-targets.ensures)

@@ -10,12 +10,15 @@ use Rattle.treasury_reports.proofs.transit.push_way.Goals as goal
 pub units-preserved : goal.units-preserved
 units-preserved g c =
     let styles = c.styles-styles.result.now in
-    let known : c.units.number < length styles = below_from_found styles c.units.number c.style.result c.style.ensures c.units-test.ensures in
+    let known : c.units.number < length styles =
+    below_from_found styles c.units.number c.style.result c.style.ensures c.units-test.ensures in
     record {
       same = c.units.invariant.same;
       few = c.units.invariant.few;
       declared = omega arith;
-      lines = flat_map_next (transit_line c.args.state.now c.args.day c.args.from.now c.args.to.now) c.args.text.now.items c.units.text.items c.push_unit.new.text.items (first_units c.units.number) (first_units (c.units.number + 1)) (record { 0 = c.units.number })
+      lines = flat_map_next (transit_line c.args.state.now c.args.day c.args.from.now c.args.to.now)
+          c.args.text.now.items c.units.text.items c.push_unit.new.text.items (first_units c.units.number)
+          (first_units (c.units.number + 1)) (record { 0 = c.units.number })
           c.units.invariant.lines c.in-Ok.ensures.ok (ap first_units (add-one c.units.number));
     }
 
@@ -25,4 +28,5 @@ returns-clause-ok g c =
     let past = above_from_missed styles c.units.number c.style.result c.style.ensures c.units-test.ensures in
     let all : c.units.number ≡ length styles = omega (arith, past, c.units.invariant.declared) in
     let lines = transit_line c.args.state.now c.args.day c.args.from.now c.args.to.now in
-    c.units.invariant.lines ∙ ap (λ (n : ℕ). c.args.text.now.items ++ flat_map lines (first_units n)) (all ∙ ap (λ (xs : List Style). length xs) c.styles-styles.ensures)
+    c.units.invariant.lines ∙ ap (λ (n : ℕ). c.args.text.now.items ++ flat_map lines (first_units n))
+    (all ∙ ap (λ (xs : List Style). length xs) c.styles-styles.ensures)

@@ -11,7 +11,8 @@ pub returns-clause-ok : goal.returns-clause-ok
 unfolding transit_text
 returns-clause-ok g c =
     let f = c.args.state.now in
-    let named : c.in_ok-names.names.items ≡ branch_names f = c.in_ok-names.ensures.value ∙ ap (λ (bs : List Branch). ordered_names (names_of bs)) c.branches.ensures.value in
+    let named : c.in_ok-names.names.items ≡ branch_names f =
+    c.in_ok-names.ensures.value ∙ ap (λ (bs : List Branch). ordered_names (names_of bs)) c.branches.ensures.value in
     let many = ap (λ (xs : List (List ℕ)). length xs) named in
     let past : length (branch_names f) ≤ c.sources.from-index = omega (arith, many) in
     c.sources.invariant ∙ ap (flat_map (lines_from f c.args.day)) (take_all c.sources.from-index (branch_names f) past)

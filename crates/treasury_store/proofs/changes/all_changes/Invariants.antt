@@ -6,6 +6,8 @@ use Rattle.treasury_store.proofs.changes.all_changes.Given as goal
 abbrev pub invariant-addition : goal.invariant-addition
 invariant-addition l = record {
   fit : CanWriteFrom l.styles l.names l.counts (drop l.addition-index l.additions);
-  changes : l.changes ++ changes_from l.styles l.names l.counts (drop l.addition-index l.additions) ≡ changes_from l.styles l.names l.fn.counts l.additions;
-  counts : counted_all l.names l.counts (drop l.addition-index l.additions) ≡ counted_all l.names l.fn.counts l.additions;
+  changes : l.changes ++ changes_from l.styles l.names l.counts (drop l.addition-index l.additions)
+      ≡ changes_from l.styles l.names l.fn.counts l.additions;
+  counts : counted_all l.names l.counts (drop l.addition-index l.additions)
+      ≡ counted_all l.names l.fn.counts l.additions;
 }

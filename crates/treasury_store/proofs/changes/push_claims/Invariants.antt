@@ -9,5 +9,6 @@ use Rattle.treasury_store.proofs.changes.push_claims.Given as goal
 abbrev pub invariant-claim : goal.invariant-claim
 invariant-claim l = record {
   on_legs : AllByRecursion (λ (x : Placed). x.leg ≤ length l.legs) (drop l.claim-index l.claims);
-  all : l.changes ++ map ClaimChange (map (claim_row l.branch l.nr) (drop l.claim-index l.claims)) ≡ l.fn.changes ++ map ClaimChange (map (claim_row l.branch l.nr) l.claims);
+  all : l.changes ++ map ClaimChange (map (claim_row l.branch l.nr) (drop l.claim-index l.claims))
+      ≡ l.fn.changes ++ map ClaimChange (map (claim_row l.branch l.nr) l.claims);
 }

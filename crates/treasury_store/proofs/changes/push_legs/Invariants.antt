@@ -9,5 +9,8 @@ use Rattle.treasury_store.proofs.changes.push_legs.Given as goal
 abbrev pub invariant-leg : goal.invariant-leg
 invariant-leg l = record {
   count : l.place ≡ l.leg-index;
-  all : l.changes ++ map LegChange (map (λ (p : ℕ × Leg). leg_row l.branch l.nr p.0 p.1) (enumerate_from (l.place + 1) (drop l.leg-index l.kept.entry.legs))) ≡ l.fn.changes ++ map LegChange (leg_rows l.branch l.nr l.kept);
+  all : l.changes ++ map LegChange
+      (map (λ (p : ℕ × Leg). leg_row l.branch l.nr p.0 p.1)
+      (enumerate_from (l.place + 1) (drop l.leg-index l.kept.entry.legs)))
+      ≡ l.fn.changes ++ map LegChange (leg_rows l.branch l.nr l.kept);
 }

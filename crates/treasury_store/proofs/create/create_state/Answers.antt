@@ -22,6 +22,9 @@ returns-clause-makes g c clean =
     let clean_m : HasCleanDisk m = omega (arith, c.create_entry.ensures.creates.survives.clean, clean_d) in
     let clean_b : HasCleanDisk b = omega (arith, c.create_branch.ensures.creates.survives.clean, clean_m) in
     on_ok_weaker c.create_receipt.result
-    (λ seven none. makes_state a.now b.now m.now d.now e.now f.now h.now i.now none (c.in_ok-create_unit.ensures.creates.makes clean_b) (c.in_ok-create_branch.ensures.creates.makes clean_m) (c.in_ok-create_entry.ensures.creates.makes clean_d)
-    (c.in_ok-create_leg.ensures.creates.makes clean_e) (c.in_ok-create_claim.ensures.creates.makes clean_f) (c.in_ok-create_transfer.ensures.creates.makes clean_h) seven)
+    (λ seven none. makes_state a.now b.now m.now d.now e.now f.now h.now i.now none
+    (c.in_ok-create_unit.ensures.creates.makes clean_b) (c.in_ok-create_branch.ensures.creates.makes clean_m)
+    (c.in_ok-create_entry.ensures.creates.makes clean_d)
+    (c.in_ok-create_leg.ensures.creates.makes clean_e) (c.in_ok-create_claim.ensures.creates.makes clean_f)
+    (c.in_ok-create_transfer.ensures.creates.makes clean_h) seven)
     (c.create_receipt.ensures.creates.makes clean)

@@ -20,4 +20,5 @@ returns-clause-gives g c clean =
     let new = state g.S.Store c.execute.new.self.conn.now in
     let is : bound (c.to_sql-version.result ∷ []) ≡ format_row = rw c.to_sql-version.ensures in
     ran g.S.Store _ _ _ _ _ _ c.execute.ensures.ended (c.execute.ensures.runs clean) _
-    (λ count h s has free bare. gives_row s old new count has free bare (subst (λ ps. Executes add_format_text ps old new (Ok count)) is h))
+    (λ count h s has free bare. gives_row s old new count has free bare
+    (subst (λ ps. Executes add_format_text ps old new (Ok count)) is h))

@@ -6,7 +6,12 @@ pub returns-in-Some-clause-place : goal.returns-in-Some-clause-place
 returns-in-Some-clause-place c = placed_some c.args.names.now c.args.name.now c.in-Some.place c.in-Some.ensures
 
 pub returns-in-Some-clause-within : goal.returns-in-Some-clause-within
-returns-in-Some-clause-within c = omega (arith, place_bound c.args.names.now c.args.name.now, placed_some c.args.names.now c.args.name.now c.in-Some.place c.in-Some.ensures)
+returns-in-Some-clause-within c =
+    omega (
+      arith,
+      place_bound c.args.names.now c.args.name.now,
+      placed_some c.args.names.now c.args.name.now c.in-Some.place c.in-Some.ensures,
+    )
 
 pub returns-in-None-clause-place : goal.returns-in-None-clause-place
 returns-in-None-clause-place c = placed_none c.args.names.now c.args.name.now c.in-None.ensures

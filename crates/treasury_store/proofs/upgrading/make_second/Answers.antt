@@ -23,5 +23,6 @@ returns-clause-makes g c clean =
     let made = c.in_ok-create_receipt.ensures.creates.makes clean_b (ap has_counter has) in
     let rows = row_stays a.now b.now has made in
     upgraded a.now b.now d.now has made
-    (sets (made.schema ∙ ap (λ s. created s receipt) has) (ap (map (λ r. column r 1)) rows ∙ first.0.version) (subst (IsShaped shape.Table) (sym rows) first.1)))
+    (sets (made.schema ∙ ap (λ s. created s receipt) has) (ap (map (λ r. column r 1)) rows ∙ first.0.version)
+    (subst (IsShaped shape.Table) (sym rows) first.1)))
     (c.set_version.ensures.sets clean)

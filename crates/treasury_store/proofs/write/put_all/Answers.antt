@@ -12,9 +12,13 @@ then (Err e) h f = tt
 pub returns-clause-rows : goal.returns-clause-rows
 returns-clause-rows g c clean =
     let xs = c.args.changes.now in
-    let claims : HasCleanDisk (state g.S.Store c.put_claims.new.tx.conn.now) = omega (arith, c.put_singles.ensures.survives.clean, clean) in
-    let legs : HasCleanDisk (state g.S.Store c.put_legs.new.tx.conn.now) = omega (arith, c.put_claims.ensures.survives.clean, claims) in
-    let entries : HasCleanDisk (state g.S.Store c.put_entries.new.tx.conn.now) = omega (arith, c.put_legs.ensures.survives.clean, legs) in
+    let claims : HasCleanDisk (state g.S.Store c.put_claims.new.tx.conn.now) =
+    omega (arith, c.put_singles.ensures.survives.clean, clean) in
+    let legs : HasCleanDisk (state g.S.Store c.put_legs.new.tx.conn.now) =
+    omega (arith, c.put_claims.ensures.survives.clean, claims) in
+    let entries : HasCleanDisk (state g.S.Store c.put_entries.new.tx.conn.now) =
+    omega (arith, c.put_legs.ensures.survives.clean, legs) in
     then c.put_singles.result (c.put_singles.ensures.rows clean)
     (λ singles t holds. subst (Holds (state g.S.Store c.put_singles.new.tx.conn.now).now) (sym (by_parts xs t))
-    (singles _ (c.in_ok-put_claims.ensures.rows claims _ (c.in_ok-put_legs.ensures.rows legs _ (c.in_ok-put_entries.ensures.rows entries t holds)))))
+    (singles _ (c.in_ok-put_claims.ensures.rows claims _
+    (c.in_ok-put_legs.ensures.rows legs _ (c.in_ok-put_entries.ensures.rows entries t holds)))))

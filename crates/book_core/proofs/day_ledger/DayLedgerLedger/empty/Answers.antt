@@ -13,7 +13,8 @@ invariant_of-result c = (
   record {
     kept = kept_none c.new.result.items c.new-2.result.items c.new.ensures.items c.new-2.ensures.items;
     fit = subst (AllByRecursion IsFit) (sym c.new.ensures.items) tt;
-    found = subst (λ (es : List Entry). AreFound c.empty.result (asserted_from 1 es)) (sym c.new.ensures.items) (λ x h. absurd (omega (arith, h.1)));
+    found = subst (λ (es : List Entry). AreFound c.empty.result (asserted_from 1 es)) (sym c.new.ensures.items)
+        (λ x h. absurd (omega (arith, h.1)));
   },
   subst (AreSumsOf c.empty-2.result) (sym c.new.ensures.items) c.empty-2.ensures,
 )

@@ -8,4 +8,6 @@ use Rattle.book_core.proofs.new_entries.NewEntries.next_unit.Goals as goal
 
 pub returns-in-None : goal.returns-in-None
 returns-in-None c =
-    next_of_legs (legs_of c.args.self.now) c.args.unit c.tally_entries.result.next (c.tally_entries.ensures.next ∙ ap (λ (es : List Entry). least_unit (λ (v : Commodity). nat_lt c.args.unit.0 v.0) (legs_of es)) c.self.view_is)
+    next_of_legs (legs_of c.args.self.now) c.args.unit c.tally_entries.result.next
+    (c.tally_entries.ensures.next ∙ ap
+    (λ (es : List Entry). least_unit (λ (v : Commodity). nat_lt c.args.unit.0 v.0) (legs_of es)) c.self.view_is)

@@ -10,26 +10,40 @@ use Rattle.day_sums.proofs.points.Points.raise.Goals as goal
 
 pub raise_from-requires-clause-sums : goal.raise_from-requires-clause-sums
 raise_from-requires-clause-sums c =
-    subst (λ (ps : List Point). AllByRecursion (λ (p : Point). IsUpTo 40000000000000000 p.sum) ps) (sym c.deref_mut.ensures.value)
-    (small_points 40000000000000000 (pos 0) c.self.inside.points.items c.self.invariant (λ d. subst (λ (ps : List Point). IsUpTo 40000000000000000 (sum_at (pos 0) ps d)) (sym c.self.view_is) (c.requires.sums d)))
+    subst (λ (ps : List Point). AllByRecursion (λ (p : Point). IsUpTo 40000000000000000 p.sum) ps)
+    (sym c.deref_mut.ensures.value)
+    (small_points 40000000000000000 (pos 0) c.self.inside.points.items c.self.invariant
+    (λ d. subst (λ (ps : List Point). IsUpTo 40000000000000000 (sum_at (pos 0) ps d)) (sym c.self.view_is)
+    (c.requires.sums d)))
 
 -- the points as they are left
 now : (c : goal.After-self-1) → c.raise_from.new.points ≡ raised c.args.at c.args.qty c.self.inside.points.items
 now c =
     let ps = c.self.inside.points.items in
     c.raise_from.ensures
-    ∙ ap (λ (q : ℤ). raised_from c.count_before-start.result q c.deref_mut.result.now) (to_z-of_z w64 c.args.qty (search rules))
+    ∙ ap (λ (q : ℤ). raised_from c.count_before-start.result q c.deref_mut.result.now)
+    (to_z-of_z w64 c.args.qty (search rules))
     ∙ ap (λ (qs : List Point). raised_from c.count_before-start.result c.args.qty qs) c.deref_mut.ensures.value
-    ∙ ap (λ (n : ℕ). raised_from n c.args.qty ps) (c.count_before-start.ensures.value ∙ ap (λ (a : ℤ). prefix_len (is_before a) c.deref.result.now) (to_z-of_z w64 c.args.at (search rules)) ∙ ap (λ (qs : List Point). prefix_len (is_before c.args.at) qs) c.deref.ensures.value)
+    ∙ ap (λ (n : ℕ). raised_from n c.args.qty ps)
+    (c.count_before-start.ensures.value ∙ ap (λ (a : ℤ). prefix_len (is_before a) c.deref.result.now)
+    (to_z-of_z w64 c.args.at (search rules)) ∙ ap (λ (qs : List Point). prefix_len (is_before c.args.at) qs)
+    c.deref.ensures.value)
 
-items : (c : goal.After-self-1) → (with_items c.self.inside.points c.raise_from.new.points).items ≡ raised c.args.at c.args.qty c.self.inside.points.items
-items c = with_items_is c.self.inside.points c.raise_from.new.points (ap (λ (qs : List Point). length qs) (now c) ∙ length-raised _ c.args.qty c.self.inside.points.items ∙ ap (λ (qs : List Point). length qs) (sym c.deref_mut.ensures.value) ∙ c.deref_mut.ensures.len) ∙ now c
+items : (c : goal.After-self-1)
+    → (with_items c.self.inside.points c.raise_from.new.points).items
+    ≡ raised c.args.at c.args.qty c.self.inside.points.items
+items c = with_items_is c.self.inside.points c.raise_from.new.points
+    (ap (λ (qs : List Point). length qs) (now c) ∙ length-raised _ c.args.qty c.self.inside.points.items ∙ ap
+    (λ (qs : List Point). length qs) (sym c.deref_mut.ensures.value) ∙ c.deref_mut.ensures.len) ∙ now c
 
 pub invariant_of-self : goal.invariant_of-self
-invariant_of-self c = subst Ascends (sym (items c)) (ascends_raised _ c.args.qty c.self.inside.points.items c.self.invariant)
+invariant_of-self c =
+    subst Ascends (sym (items c)) (ascends_raised _ c.args.qty c.self.inside.points.items c.self.invariant)
 
 pub returns : goal.returns
 returns c =
     subst (RaisedPoints c.args.at c.args.qty c.args.self.now) (sym (items c))
-    (subst (λ (qs : List Point). RaisedPoints c.args.at c.args.qty qs (raised c.args.at c.args.qty c.self.inside.points.items)) c.self.view_is
-    (same_raised c.args.at c.args.qty c.self.inside.points.items (subst (λ (qs : List Point). has c.args.at qs ≡ _) (sym c.self.view_is) c.requires.open) c.self.invariant))
+    (subst (λ (qs : List Point). RaisedPoints c.args.at c.args.qty qs
+    (raised c.args.at c.args.qty c.self.inside.points.items)) c.self.view_is
+    (same_raised c.args.at c.args.qty c.self.inside.points.items
+    (subst (λ (qs : List Point). has c.args.at qs ≡ _) (sym c.self.view_is) c.requires.open) c.self.invariant))

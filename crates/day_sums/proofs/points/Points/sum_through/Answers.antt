@@ -13,6 +13,8 @@ returns c =
     to_z-of_z w64 c.sum_before.result (search rules)
     ∙ c.sum_before.ensures
     ∙ ap (λ (qs : List Point). base_at (pos 0) qs n) c.deref-2.ensures.value
-    ∙ ap (base_at (pos 0) ps) (c.count_through-count.ensures.value ∙ ap (λ (a : ℤ). prefix_len (is_through a) c.deref.result.now) (to_z-of_z w64 c.args.at (search rules)) ∙ ap (λ (qs : List Point). prefix_len (is_through c.args.at) qs) c.deref.ensures.value)
+    ∙ ap (base_at (pos 0) ps) (c.count_through-count.ensures.value ∙ ap
+    (λ (a : ℤ). prefix_len (is_through a) c.deref.result.now) (to_z-of_z w64 c.args.at (search rules)) ∙ ap
+    (λ (qs : List Point). prefix_len (is_through c.args.at) qs) c.deref.ensures.value)
     ∙ sym (sum_at-prefix (pos 0) ps c.args.at blank_point)
     ∙ ap (λ (qs : List Point). sum_at (pos 0) qs c.args.at) c.self.view_is

@@ -10,13 +10,20 @@ use Rattle.day_sums.proofs.sums.DaySums.open_row.Goals as goal
 pub returns-in-Some-clause-same : goal.returns-in-Some-clause-same
 returns-in-Some-clause-same c =
     let now = c.open_name.new.names in
-    let was : (a : List ℕ) → row_at c.in-Some.names.now a ≡ rows_of c.args.self.now c.args.unit.0 a = λ a. ap (in_names a) c.in-Some.ensures.value in
-    same_sums c.args.unit.0 c.args.self.now _ now ((c.get_mut.follows.holds now).3 (search rules)) (λ a. subst (λ (r : Kept). SameRow r (row_at now a)) (was a) (c.open_name.ensures.same a))
+    let was : (a : List ℕ) → row_at c.in-Some.names.now a ≡ rows_of c.args.self.now c.args.unit.0 a = λ a.
+    ap (in_names a) c.in-Some.ensures.value in
+    same_sums c.args.unit.0 c.args.self.now _ now ((c.get_mut.follows.holds now).3 (search rules))
+    (λ a. subst (λ (r : Kept). SameRow r (row_at now a)) (was a) (c.open_name.ensures.same a))
 
 pub returns-clause-same : goal.returns-clause-same
 returns-clause-same c =
     let now = c.open_name-2.new.names in
-    let none : (a : List ℕ) → ([], []) ≡ rows_of c.args.self.now c.args.unit.0 a = λ a. ap (in_names a) c.in_default.ensures.value in
-    let blank : (a : List ℕ) → row_at c.new-names.result a ≡ ([], []) = λ a. ap (λ (es : List (Vec ℕ Global × Kept)). unwrap_or (lookup (λ (k : Vec ℕ Global). bytes_eq a k.items) es) ([], [])) c.new-names.ensures.empty in
-    let put : Puts c.args.unit.0 c.args.self.now (record { alloc = c.args.self.now.alloc; units = c.insert.new.self }) now = search rules in
-    same_sums c.args.unit.0 c.args.self.now _ now put (λ a. subst (λ (r : Kept). SameRow r (row_at now a)) (blank a ∙ none a) (c.in_ok-open_name.ensures.same a))
+    let none : (a : List ℕ) → ([], []) ≡ rows_of c.args.self.now c.args.unit.0 a = λ a.
+    ap (in_names a) c.in_default.ensures.value in
+    let blank : (a : List ℕ) → row_at c.new-names.result a ≡ ([], []) = λ a.
+    ap (λ (es : List (Vec ℕ Global × Kept)).
+    unwrap_or (lookup (λ (k : Vec ℕ Global). bytes_eq a k.items) es) ([], [])) c.new-names.ensures.empty in
+    let put : Puts c.args.unit.0 c.args.self.now (record { alloc = c.args.self.now.alloc; units = c.insert.new.self })
+    now = search rules in
+    same_sums c.args.unit.0 c.args.self.now _ now put
+    (λ a. subst (λ (r : Kept). SameRow r (row_at now a)) (blank a ∙ none a) (c.in_ok-open_name.ensures.same a))

@@ -13,7 +13,8 @@ returns-in-Some c =
     let place = c.in-Some.place in
     let found : place_of styles c.args.style.now.symbol ≡ Some place = cc in
     let held : slice_get styles place ≡ Some c.index.result.now =
-    slice_get-get_or styles place c.index.result.now (place_of-bound styles c.args.style.now.symbol place found) ∙ ap Some (sym c.index.ensures) in
+    slice_get-get_or styles place c.index.result.now (place_of-bound styles c.args.style.now.symbol place found) ∙ ap
+    Some (sym c.index.ensures) in
     let answer = declared-held styles c.args.style.now c.index.result.now place found held in
     (c.declared_with.ensures ∙ (sym answer ∙ ap (λ now. declared now c.args.style.now) c.self.view_is))
 
@@ -21,7 +22,8 @@ pub returns-then-count-ge-MAX_COMMODITIES : goal.returns-then-count-ge-MAX_COMMO
 returns-then-count-ge-MAX_COMMODITIES c =
     let styles = c.self.inside.list.items in
     let free : place_of styles c.args.style.now.symbol ≡ None = cc in
-    (sym (declared-full styles c.args.style.now free (omega arith)) ∙ ap (λ now. declared now c.args.style.now) c.self.view_is)
+    (sym (declared-full styles c.args.style.now free (omega arith)) ∙ ap (λ now. declared now c.args.style.now)
+    c.self.view_is)
 
 pub returns-else-count-ge-MAX_COMMODITIES : goal.returns-else-count-ge-MAX_COMMODITIES
 returns-else-count-ge-MAX_COMMODITIES c =

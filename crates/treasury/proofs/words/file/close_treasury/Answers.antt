@@ -4,4 +4,6 @@ use Rattle.treasury.proofs.OverFileLemmas.{closed_alike}
 
 pub returns : goal.returns
 returns g c =
-    closed_alike _ c.close.result c.into_connection.result c.args.treasury.store.conn (c.into_connection.ensures ∙ ap (λ s. s.conn) c.into_store.ensures) c.close.ensures.live c.close.ensures.closed c.close.ensures.shut
+    closed_alike _ c.close.result c.into_connection.result c.args.treasury.store.conn
+    (c.into_connection.ensures ∙ ap (λ s. s.conn) c.into_store.ensures) c.close.ensures.live c.close.ensures.closed
+    c.close.ensures.shut

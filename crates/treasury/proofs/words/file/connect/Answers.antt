@@ -19,7 +19,12 @@ returns-in-Ok-clause-opened g c = record { found = c.in-Ok.ensures.found; serves
 
 pub returns-in-Err-clause-refused : goal.returns-in-Err-clause-refused
 returns-in-Err-clause-refused g c =
-    keeps_unopened_as _ _ c.in-Err.left c.left_unopened.result c.left_unopened.ensures (some_weaker c.in-Err.left (λ rest failed.
+    keeps_unopened_as _ _ c.in-Err.left c.left_unopened.result c.left_unopened.ensures
+    (some_weaker c.in-Err.left (λ rest failed.
     let log = failed.1 in
-    let db = failed.2 in
-    (failed.0, ap₂ image (ap₂ (seen g.S.Start.log g.S.Start.db) log.0 log.1) (ap₂ (seen g.S.Start.log g.S.Start.db) db.0 db.1), λ clean. (failed.3 clean).1)) c.in-Err.ensures.cause)
+    let db = failed.2 in (
+      failed.0,
+      ap₂ image (ap₂ (seen g.S.Start.log g.S.Start.db) log.0 log.1)
+          (ap₂ (seen g.S.Start.log g.S.Start.db) db.0 db.1),
+      λ clean. (failed.3 clean).1,
+    )) c.in-Err.ensures.cause)

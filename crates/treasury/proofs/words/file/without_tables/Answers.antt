@@ -4,6 +4,10 @@ use Rattle.treasury.proofs.words.file.without_tables.Goals as goal
 pub returns : goal.returns
 returns g c = (
   c.unopened_tables-why.new.conn,
-  record { same = c.unopened_tables-why.ensures.same; clean = λ clean. omega (arith, c.unopened_tables-why.ensures.clean, clean) },
+  record {
+    same = c.unopened_tables-why.ensures.same;
+    clean = λ clean.
+        omega (arith, c.unopened_tables-why.ensures.clean, clean);
+  },
   c.left_refused.ensures,
 )

@@ -7,4 +7,7 @@ pub returns-in-Ok : goal.returns-in-Ok
 returns-in-Ok g c = inr (c.in-Ok.ensures, c.done.ensures)
 
 pub returns-in-Err : goal.returns-in-Err
-returns-in-Err g c = inl (c.refused_by.ensures.refused, subst (λ left. KeepsFile _ (image_at g.S.Start) left) (sym c.refused_by.ensures.left) c.in-Err.ensures)
+returns-in-Err g c = inl (
+  c.refused_by.ensures.refused,
+  subst (λ left. KeepsFile _ (image_at g.S.Start) left) (sym c.refused_by.ensures.left) c.in-Err.ensures,
+)

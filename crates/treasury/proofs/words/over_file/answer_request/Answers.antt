@@ -10,5 +10,6 @@ returns-in-Ok g c = c.answer_on_file.ensures.says (image_at g.S.Start) c.in-Ok.e
 
 pub returns-in-Err : goal.returns-in-Err
 returns-in-Err g c =
-    says_refused _ (image_at g.S.Start) c.args.request.now (spoken c.refused_by.result.said) c.refused_by.result.left c.refused_by.ensures.refused
+    says_refused _ (image_at g.S.Start) c.args.request.now (spoken c.refused_by.result.said) c.refused_by.result.left
+    c.refused_by.ensures.refused
     (subst (λ left. KeepsFile _ (image_at g.S.Start) left) (sym c.refused_by.ensures.left) c.in-Err.ensures)

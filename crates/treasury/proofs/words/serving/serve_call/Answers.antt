@@ -3,4 +3,5 @@ use Rattle.treasury.proofs.words.serving.serve_call.Goals as goal
 
 pub returns : goal.returns
 returns g c =
-    has_served_one c.serve_one.result g.S.Store g.R.Read.remaining _ _ g.W.Write.contents _ _ c.args.treasury.now c.serve_one.new.treasury c.serve_one.ensures
+    has_served_one c.serve_one.result g.S.Store g.R.Read.remaining _ _ g.W.Write.contents _ _ c.args.treasury.now
+    c.serve_one.new.treasury c.serve_one.ensures

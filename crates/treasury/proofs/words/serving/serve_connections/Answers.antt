@@ -2,4 +2,5 @@ use Rattle.treasury_api.proofs.WebLemmas.{has_served_more}
 use Rattle.treasury.proofs.words.serving.serve_connections.Goals as goal
 
 pub serving-preserved : goal.serving-preserved
-serving-preserved g c = has_served_more g.S.Store c.args.treasury.now c.serving.treasury c.serve_connection.new.treasury c.serving.invariant c.serve_connection.ensures
+serving-preserved g c = has_served_more g.S.Store c.args.treasury.now c.serving.treasury c.serve_connection.new.treasury
+    c.serving.invariant c.serve_connection.ensures

@@ -4,7 +4,11 @@ use Rattle.treasury.proofs.words.serving.serve_on_file.Goals as goal
 
 pub returns-in-Ok-clause-says : goal.returns-in-Ok-clause-says
 returns-in-Ok-clause-says g c = λ image values started.
-    inr (serves_over _ image c.args.treasury c.serve_port-ending.new.treasury c.in-Ok.files started c.serve_port-ending.ensures.served c.in-Ok.ensures, c.said_at_end.ensures)
+    inr (
+      serves_over _ image c.args.treasury c.serve_port-ending.new.treasury c.in-Ok.files started
+          c.serve_port-ending.ensures.served c.in-Ok.ensures,
+      c.said_at_end.ensures,
+    )
 
 pub returns-in-Err-clause-says : goal.returns-in-Err-clause-says
 returns-in-Err-clause-says g c = λ image values started. inl c.refused_file.ensures

@@ -6,7 +6,8 @@ use Rattle.treasury_api.proofs.lines.run.feed.Given as goal
 abbrev pub invariant-feeding : goal.invariant-feeding
 invariant-feeding g l =
     (seen : List ℕ)
-    × (AnswersWhole g.M.Machine.step (g.W.Write.contents l.initial.writer) (g.W.Write.contents l.writer) l.initial.machine seen l.line.items l.machine
+    × (AnswersWhole g.M.Machine.step (g.W.Write.contents l.initial.writer) (g.W.Write.contents l.writer)
+    l.initial.machine seen l.line.items l.machine
     × (l.initial.line.items ++ l.initial.bytes ≡ seen ++ l.rest))
 
 abbrev pub decreases-feeding : goal.decreases-feeding

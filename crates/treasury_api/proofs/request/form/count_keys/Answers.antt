@@ -3,4 +3,5 @@ use Rattle.treasury_api.proofs.RequestLemmas.{count-members_view, key_count-obje
 use Rattle.treasury_api.proofs.request.form.count_keys.Goals as goal
 
 pub returns-in-Some : goal.returns-in-Some
-returns-in-Some c = c.len.ensures.len ∙ sym (key_count-object _ _ (sym c.in-Some.ensures) ∙ count-members_view c.in-Some.map.now.entries)
+returns-in-Some c = c.len.ensures.len ∙ sym
+    (key_count-object _ _ (sym c.in-Some.ensures) ∙ count-members_view c.in-Some.map.now.entries)

@@ -5,23 +5,55 @@ use Rattle.treasury_api.proofs.running.TreasuryMachine.answer.Goals as goal
 
 pub returns-in-Err-read_within_memory-clause-ok : goal.returns-in-Err-read_within_memory-clause-ok
 returns-in-Err-read_within_memory-clause-ok g c =
-    unread c.reading_law.ensures.some g.S.Store c.left_law.ensures.rows c.args.self.now c.args.line.now _ c.in-Err-read_within_memory.cause c.read_within_memory.result c.in-Err-read_within_memory.is c.read_within_memory.ensures.refused
+    unread c.reading_law.ensures.some g.S.Store c.left_law.ensures.rows c.args.self.now c.args.line.now _
+    c.in-Err-read_within_memory.cause c.read_within_memory.result c.in-Err-read_within_memory.is
+    c.read_within_memory.ensures.refused
     c.in-Err-read_within_memory.ensures.causes c.refuse.ensures
 
 pub returns-in-Ok-end_report-clause-ok : goal.returns-in-Ok-end_report-clause-ok
 returns-in-Ok-end_report-clause-ok g c =
-    served g.S.Store c.args.self.now c.answer.new.treasury c.args.line.now c.answer.new.out.items _ c.in-Ok-read_within_memory.request c.answer.result c.in-Ok-answer.field-0 c.in-Ok-read_within_memory.ensures.ok c.in-Ok-answer.is (record { shuts = c.answer.ensures.shuts; closed = c.answer.ensures.closed; open_but = c.answer.ensures.open_but; left = c.answer.ensures.left })
-    (λ k f of. subst (λ (xs : List ℕ). IsAnswered g.S.Store c.args.self.now.store.failed c.answer.new.treasury f c.in-Ok-read_within_memory.request c.answer.result xs c.answer.new.out.items) c.new-text.ensures.items (c.answer.ensures.replies k f of))
+    served g.S.Store c.args.self.now c.answer.new.treasury c.args.line.now c.answer.new.out.items _
+    c.in-Ok-read_within_memory.request c.answer.result c.in-Ok-answer.field-0 c.in-Ok-read_within_memory.ensures.ok
+    c.in-Ok-answer.is
+    (record {
+      shuts = c.answer.ensures.shuts;
+      closed = c.answer.ensures.closed;
+      open_but = c.answer.ensures.open_but;
+      left = c.answer.ensures.left;
+    })
+    (λ k f of. subst (λ (xs : List ℕ).
+    IsAnswered g.S.Store c.args.self.now.store.failed c.answer.new.treasury f c.in-Ok-read_within_memory.request
+    c.answer.result xs c.answer.new.out.items) c.new-text.ensures.items (c.answer.ensures.replies k f of))
     c.in-Ok-end_report.ensures.ok
 
 pub returns-in-Err-end_report-clause-ok : goal.returns-in-Err-end_report-clause-ok
 returns-in-Err-end_report-clause-ok g c =
-    served_memory g.S.Store c.args.self.now c.answer.new.treasury c.args.line.now c.answer.new.out.items _ c.in-Ok-read_within_memory.request c.answer.result c.in-Ok-answer.field-0 c.in-Ok-read_within_memory.ensures.ok c.in-Ok-answer.is (record { shuts = c.answer.ensures.shuts; closed = c.answer.ensures.closed; open_but = c.answer.ensures.open_but; left = c.answer.ensures.left })
-    (λ k f of. subst (λ (xs : List ℕ). IsAnswered g.S.Store c.args.self.now.store.failed c.answer.new.treasury f c.in-Ok-read_within_memory.request c.answer.result xs c.answer.new.out.items) c.new-text.ensures.items (c.answer.ensures.replies k f of))
+    served_memory g.S.Store c.args.self.now c.answer.new.treasury c.args.line.now c.answer.new.out.items _
+    c.in-Ok-read_within_memory.request c.answer.result c.in-Ok-answer.field-0 c.in-Ok-read_within_memory.ensures.ok
+    c.in-Ok-answer.is
+    (record {
+      shuts = c.answer.ensures.shuts;
+      closed = c.answer.ensures.closed;
+      open_but = c.answer.ensures.open_but;
+      left = c.answer.ensures.left;
+    })
+    (λ k f of. subst (λ (xs : List ℕ).
+    IsAnswered g.S.Store c.args.self.now.store.failed c.answer.new.treasury f c.in-Ok-read_within_memory.request
+    c.answer.result xs c.answer.new.out.items) c.new-text.ensures.items (c.answer.ensures.replies k f of))
     c.in-Err-end_report.ensures.err c.refuse-in-Err-end_report.ensures
 
 pub returns-in-Err-answer-clause-ok : goal.returns-in-Err-answer-clause-ok
 returns-in-Err-answer-clause-ok g c =
-    served_refusal g.S.Store c.args.self.now c.answer.new.treasury c.args.line.now c.answer.new.out.items _ c.in-Ok-read_within_memory.request c.answer.result c.in-Err-answer.refusal c.in-Ok-read_within_memory.ensures.ok c.in-Err-answer.is (record { shuts = c.answer.ensures.shuts; closed = c.answer.ensures.closed; open_but = c.answer.ensures.open_but; left = c.answer.ensures.left })
-    (λ k f of. subst (λ (xs : List ℕ). IsAnswered g.S.Store c.args.self.now.store.failed c.answer.new.treasury f c.in-Ok-read_within_memory.request c.answer.result xs c.answer.new.out.items) c.new-text.ensures.items (c.answer.ensures.replies k f of))
+    served_refusal g.S.Store c.args.self.now c.answer.new.treasury c.args.line.now c.answer.new.out.items _
+    c.in-Ok-read_within_memory.request c.answer.result c.in-Err-answer.refusal c.in-Ok-read_within_memory.ensures.ok
+    c.in-Err-answer.is
+    (record {
+      shuts = c.answer.ensures.shuts;
+      closed = c.answer.ensures.closed;
+      open_but = c.answer.ensures.open_but;
+      left = c.answer.ensures.left;
+    })
+    (λ k f of. subst (λ (xs : List ℕ).
+    IsAnswered g.S.Store c.args.self.now.store.failed c.answer.new.treasury f c.in-Ok-read_within_memory.request
+    c.answer.result xs c.answer.new.out.items) c.new-text.ensures.items (c.answer.ensures.replies k f of))
     c.refuse-in-Err-answer.ensures

@@ -5,7 +5,8 @@ use Rattle.treasury_api.proofs.web.answering.answer_call.Goals as goal
 pub returns-in-Ok-Some : goal.returns-in-Ok-Some
 returns-in-Ok-Some g c = record {
   ok =
-      request_answered g.S.Store c.args.treasury.now c.answer_request.new.treasury c.args.call c.in-Ok-Some.request (code_of c.answer_request.result.status) c.answer_request.result.body.items
+      request_answered g.S.Store c.args.treasury.now c.answer_request.new.treasury c.args.call c.in-Ok-Some.request
+      (code_of c.answer_request.result.status) c.answer_request.result.body.items
       (rw c.in-Ok-Some.field-0-is at c.in-Ok-Some.ensures.asked) c.answer_request.ensures;
   err = tt;
   memory = tt;

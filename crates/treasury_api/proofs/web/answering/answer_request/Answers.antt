@@ -11,12 +11,21 @@ use Rattle.treasury_api.proofs.web.answering.answer_request.Goals as goal
 
 pub returns-in-Ok : goal.returns-in-Ok
 returns-in-Ok g c =
-    said_done g.S.Store c.args.treasury.now c.answer.new.treasury c.answer.new.out.items c.args.request.now (λ (reply : Result Answer Refusal). 200 ≡ status_of reply) c.answer.result c.in-Ok.field-0 c.in-Ok.is c.requires.days c.answer.ensures.clean
-    (λ k f of. subst (λ (xs : List ℕ). IsAnswered g.S.Store c.args.treasury.now.store.failed c.answer.new.treasury f c.args.request.now c.answer.result xs c.answer.new.out.items) c.new-body.ensures.items (c.answer.ensures.replies k f of))
+    said_done g.S.Store c.args.treasury.now c.answer.new.treasury c.answer.new.out.items c.args.request.now
+    (λ (reply : Result Answer Refusal). 200 ≡ status_of reply) c.answer.result c.in-Ok.field-0 c.in-Ok.is
+    c.requires.days c.answer.ensures.clean
+    (λ k f of. subst (λ (xs : List ℕ).
+    IsAnswered g.S.Store c.args.treasury.now.store.failed c.answer.new.treasury f c.args.request.now c.answer.result
+    xs c.answer.new.out.items) c.new-body.ensures.items (c.answer.ensures.replies k f of))
     (λ answer. refl)
 
 pub returns-in-Err : goal.returns-in-Err
 returns-in-Err g c =
-    said_as g.S.Store c.args.treasury.now c.answer.new.treasury c.answer.new.out.items _ c.args.request.now (λ (reply : Result Answer Refusal). code_of c.status_of.result ≡ status_of reply) c.answer.result c.in-Err.refusal c.in-Err.is c.requires.days c.answer.ensures.clean
-    (λ k f of. subst (λ (xs : List ℕ). IsAnswered g.S.Store c.args.treasury.now.store.failed c.answer.new.treasury f c.args.request.now c.answer.result xs c.answer.new.out.items) c.new-body.ensures.items (c.answer.ensures.replies k f of))
-    (λ f of. told_as g.S.Store c.answer.new.treasury f c.in-Err.refusal c.refuse_by-line.result.cause _ c.refuse_by-line.result.text.items of c.refuse_by-line.ensures c.status_of.ensures)
+    said_as g.S.Store c.args.treasury.now c.answer.new.treasury c.answer.new.out.items _ c.args.request.now
+    (λ (reply : Result Answer Refusal). code_of c.status_of.result ≡ status_of reply) c.answer.result
+    c.in-Err.refusal c.in-Err.is c.requires.days c.answer.ensures.clean
+    (λ k f of. subst (λ (xs : List ℕ).
+    IsAnswered g.S.Store c.args.treasury.now.store.failed c.answer.new.treasury f c.args.request.now c.answer.result
+    xs c.answer.new.out.items) c.new-body.ensures.items (c.answer.ensures.replies k f of))
+    (λ f of. told_as g.S.Store c.answer.new.treasury f c.in-Err.refusal c.refuse_by-line.result.cause _
+    c.refuse_by-line.result.text.items of c.refuse_by-line.ensures c.status_of.ensures)

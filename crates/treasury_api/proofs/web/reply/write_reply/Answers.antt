@@ -9,16 +9,25 @@ returns-in-Err-write_whole-clause-err g c =
     let code = code_of c.args.reply.now.status in
     let body = c.args.reply.now.body.items in
     let is : c.as_slice.result.now ≡ reply_head code (length body) =
-    c.as_slice.ensures.value ∙ (c.in-Ok.ensures.ok ∙ (ap (λ (t : List ℕ). t ++ reply_head code c.len.result) c.requires.empty ∙ ap (reply_head code) (c.len.ensures ∙ c.args.reply.now.body.ok.0))) in
-    (refl, head_torn code body (g.W.Write.contents c.args.writer.now) (g.W.Write.contents c.write_whole.new.writer) c.in-Err-write_whole.ensures.err.0 c.as_slice.result.now is c.in-Err-write_whole.ensures.err.2)
+    c.as_slice.ensures.value ∙ (c.in-Ok.ensures.ok ∙
+    (ap (λ (t : List ℕ). t ++ reply_head code c.len.result) c.requires.empty ∙ ap (reply_head code)
+    (c.len.ensures ∙ c.args.reply.now.body.ok.0))) in (
+      refl,
+      head_torn code body (g.W.Write.contents c.args.writer.now) (g.W.Write.contents c.write_whole.new.writer)
+          c.in-Err-write_whole.ensures.err.0 c.as_slice.result.now is c.in-Err-write_whole.ensures.err.2,
+    )
 
 pub returns-in-Ok-write_whole-2-clause-ok : goal.returns-in-Ok-write_whole-2-clause-ok
 returns-in-Ok-write_whole-2-clause-ok g c =
     let code = code_of c.args.reply.now.status in
     let body = c.args.reply.now.body.items in
     let is : c.as_slice.result.now ≡ reply_head code (length body) =
-    c.as_slice.ensures.value ∙ (c.in-Ok.ensures.ok ∙ (ap (λ (t : List ℕ). t ++ reply_head code c.len.result) c.requires.empty ∙ ap (reply_head code) (c.len.ensures ∙ c.args.reply.now.body.ok.0))) in
-    both_written code body (g.W.Write.contents c.args.writer.now) (g.W.Write.contents c.write_whole.new.writer) (g.W.Write.contents c.write_whole-2.new.writer) c.as_slice.result.now c.as_slice-2.result.now is c.as_slice-2.ensures.value
+    c.as_slice.ensures.value ∙ (c.in-Ok.ensures.ok ∙
+    (ap (λ (t : List ℕ). t ++ reply_head code c.len.result) c.requires.empty ∙ ap (reply_head code)
+    (c.len.ensures ∙ c.args.reply.now.body.ok.0))) in
+    both_written code body (g.W.Write.contents c.args.writer.now) (g.W.Write.contents c.write_whole.new.writer)
+    (g.W.Write.contents c.write_whole-2.new.writer) c.as_slice.result.now c.as_slice-2.result.now is
+    c.as_slice-2.ensures.value
     c.in-Ok-write_whole.ensures.ok c.in-Ok-write_whole-2.ensures.ok
 
 pub returns-clause-err : goal.returns-clause-err
@@ -26,8 +35,12 @@ returns-clause-err g c =
     let code = code_of c.args.reply.now.status in
     let body = c.args.reply.now.body.items in
     let is : c.as_slice.result.now ≡ reply_head code (length body) =
-    c.as_slice.ensures.value ∙ (c.in-Ok.ensures.ok ∙ (ap (λ (t : List ℕ). t ++ reply_head code c.len.result) c.requires.empty ∙ ap (reply_head code) (c.len.ensures ∙ c.args.reply.now.body.ok.0))) in (
+    c.as_slice.ensures.value ∙ (c.in-Ok.ensures.ok ∙
+    (ap (λ (t : List ℕ). t ++ reply_head code c.len.result) c.requires.empty ∙ ap (reply_head code)
+    (c.len.ensures ∙ c.args.reply.now.body.ok.0))) in (
       refl,
-      body_torn code body (g.W.Write.contents c.args.writer.now) (g.W.Write.contents c.write_whole.new.writer) (g.W.Write.contents c.write_whole-2.new.writer) c.in-Err-write_whole-2.ensures.err.0 c.as_slice.result.now c.as_slice-2.result.now is c.as_slice-2.ensures.value
+      body_torn code body (g.W.Write.contents c.args.writer.now) (g.W.Write.contents c.write_whole.new.writer)
+          (g.W.Write.contents c.write_whole-2.new.writer) c.in-Err-write_whole-2.ensures.err.0 c.as_slice.result.now
+          c.as_slice-2.result.now is c.as_slice-2.ensures.value
           c.in-Ok-write_whole.ensures.ok c.in-Err-write_whole-2.ensures.err.2,
     )

@@ -5,4 +5,7 @@ use Rattle.treasury_core.proofs.drafting.branch_rows.count_own.Given as goal
 
 -- the rows so far are of the branch
 abbrev pub invariant-entry : goal.invariant-entry
-invariant-entry l = record { count : l.count ≡ l.row-index; own : AllByRecursion (λ (r : EntryRow). r.branch ≡ pos l.branch) (take l.row-index l.rows) }
+invariant-entry l = record {
+  count : l.count ≡ l.row-index;
+  own : AllByRecursion (λ (r : EntryRow). r.branch ≡ pos l.branch) (take l.row-index l.rows);
+}

@@ -12,14 +12,16 @@ use Rattle.treasury_core.proofs.drafting.branch_rows.read_branch.Goals as goal
 pub returns-in_err-locked-clause-reads : goal.returns-in_err-locked-clause-reads
 returns-in_err-locked-clause-reads c =
     exit _ _ c.from_residual.result _ c.from_residual.ensures.1
-    (fault_of (λ (b : Branch). HasShortLock b × HasRow c.args.styles.now c.args.nr c.args.row.now c.args.entries.now b) _ _
+    (fault_of (λ (b : Branch). HasShortLock b × HasRow c.args.styles.now c.args.nr c.args.row.now c.args.entries.now b)
+    _ _
     (λ b p. (b.locked, (p.0, ap (λ (r : BranchRow). r.locked) p.1.1.0))) c.in_err-locked.ensures)
 
 pub returns-in_err-records-clause-reads : goal.returns-in_err-records-clause-reads
 returns-in_err-records-clause-reads c =
     exit _ _ c.from_residual-in_err-records.result _ c.from_residual-in_err-records.ensures.1
     (fault_of (λ (b : Branch). HasShortLock b × HasRow c.args.styles.now c.args.nr c.args.row.now c.args.entries.now b)
-    (λ (rs : List Record). AllByRecursion (IsGoodRecord c.args.styles.now) rs × (entry_rows_from c.args.styles.now c.args.nr 1 rs ≡ c.args.entries.now)) _
+    (λ (rs : List Record). AllByRecursion (IsGoodRecord c.args.styles.now) rs
+    × (entry_rows_from c.args.styles.now c.args.nr 1 rs ≡ c.args.entries.now)) _
     (λ b p. (b.records, (p.1.0, p.1.1.1))) c.in_err-records.ensures.reads)
 
 pub returns-clause-reads : goal.returns-clause-reads

@@ -2,7 +2,8 @@ use Rattle.std.proofs.Common.{◌≡◌, length}
 use Rattle.treasury_core.proofs.BranchRowLemmas.{AreGood, IsBranchFront}
 use Rattle.treasury_core.proofs.drafting.branch_rows.read_branches.Given as goal
 
--- the branches so far are good, and the front of any with these rows, and the rest has the rows and entries that are left
+-- the branches so far are good, and the front of any with these rows, and the rest has the rows and entries that are
+-- left
 abbrev pub invariant-branch : goal.invariant-branch
 invariant-branch l = record {
   count : length l.list ≡ l.row-index;

@@ -10,5 +10,6 @@ abbrev pub invariant-entry : goal.invariant-entry
 invariant-entry l = record {
   count : length l.list ≡ l.row-index;
   good : AllByRecursion (IsGoodRecord l.styles) l.list;
-  front : IsFront (entry_row l.styles l.branch) (AllByRecursion (IsGoodRecord l.styles)) 1 l.rows (l.row-index + 1) l.row-index l.list;
+  front : IsFront (entry_row l.styles l.branch) (AllByRecursion (IsGoodRecord l.styles)) 1 l.rows (l.row-index + 1)
+      l.row-index l.list;
 }

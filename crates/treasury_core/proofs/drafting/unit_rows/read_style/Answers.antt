@@ -5,7 +5,9 @@ use Rattle.treasury_core.proofs.UnitRowLemmas.{decimals_fault, style_only, style
 use Rattle.treasury_core.proofs.drafting.unit_rows.read_style.Goals as goal
 
 pub returns-in_err-decimals-clause-reads : goal.returns-in_err-decimals-clause-reads
-returns-in_err-decimals-clause-reads c = exit _ _ c.from_residual.result _ c.from_residual.ensures.1 (decimals_fault c.args.nr c.args.row.now _ (search rules) c.in_err-decimals.ensures)
+returns-in_err-decimals-clause-reads c =
+    exit _ _ c.from_residual.result _ c.from_residual.ensures.1
+    (decimals_fault c.args.nr c.args.row.now _ (search rules) c.in_err-decimals.ensures)
 
 pub returns-then-not-is_style-clause-reads : goal.returns-then-not-is_style-clause-reads
 returns-then-not-is_style-clause-reads c =

@@ -8,6 +8,7 @@ use Rattle.treasury_core.proofs.judging.carried.add_parts.Given as goal
 
 abbrev pub invariant-part : goal.invariant-part
 invariant-part l = record {
-  all : l.rows ++ map (receipt_record l.transfer) (drop l.part-index l.parts) ≡ l.initial.rows ++ map (receipt_record l.transfer) l.parts;
+  all : l.rows ++ map (receipt_record l.transfer) (drop l.part-index l.parts)
+      ≡ l.initial.rows ++ map (receipt_record l.transfer) l.parts;
   small : AllByRecursion (λ (p : Part). unsigned_abs p.qty ≤ limit) (drop l.part-index l.parts);
 }

@@ -8,4 +8,5 @@ use Rattle.treasury_core.proofs.judging.carried.add_receipts.Goals as goal
 
 pub add_parts-requires : goal.add_parts-requires
 add_parts-requires c =
-    subst (λ (ps : List Part). AllByRecursion (λ (p : Part). unsigned_abs p.qty ≤ limit) ps) (sym c.items.ensures) (all_parts_small c.args.transfer.now c.requires.parts c.requires.small)
+    subst (λ (ps : List Part). AllByRecursion (λ (p : Part). unsigned_abs p.qty ≤ limit) ps) (sym c.items.ensures)
+    (all_parts_small c.args.transfer.now c.requires.parts c.requires.small)

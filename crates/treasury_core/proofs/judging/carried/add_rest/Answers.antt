@@ -8,12 +8,15 @@ use Rattle.treasury_core.proofs.PartLemmas.{rest_small}
 use Rattle.treasury_core.proofs.judging.carried.add_rest.Goals as goal
 
 pub receipt_record-requires : goal.receipt_record-requires
-receipt_record-requires c = rest_small c.args.transfer.now c.in_ok-part-in-Some.part.qty c.requires.parts (ap (λ (p : Part). p.qty) c.in_ok-part-in-Some.ensures.value) c.requires.small
+receipt_record-requires c = rest_small c.args.transfer.now c.in_ok-part-in-Some.part.qty c.requires.parts
+    (ap (λ (p : Part). p.qty) c.in_ok-part-in-Some.ensures.value) c.requires.small
 
 pub returns-in_ok-row-in-Some-clause-ok : goal.returns-in_ok-row-in-Some-clause-ok
 returns-in_ok-row-in-Some-clause-ok c =
     let t = c.args.transfer.now in
     let rows = c.args.rows.now in
     on_ok_weaker c.push.result
-    (λ e. e ∙ (ap (λ (r : Record). rows ++ r ∷ []) (c.in_ok-row-in-Some.ensures.value ∙ ap (receipt_record t) c.in_ok-part-in-Some.ensures.value) ∙ sym (ap (λ (o : Option Receipt). rows ++ map (receipt_record t) (of_rest t o)) c.in-Some.is)))
+    (λ e. e ∙ (ap (λ (r : Record). rows ++ r ∷ [])
+    (c.in_ok-row-in-Some.ensures.value ∙ ap (receipt_record t) c.in_ok-part-in-Some.ensures.value) ∙ sym
+    (ap (λ (o : Option Receipt). rows ++ map (receipt_record t) (of_rest t o)) c.in-Some.is)))
     c.push.ensures.ok

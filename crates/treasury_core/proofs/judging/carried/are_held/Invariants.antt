@@ -7,4 +7,5 @@ use Rattle.treasury_core.proofs.judging.carried.are_held.Given as goal
 
 abbrev pub invariant-loop-row : goal.invariant-loop-row
 invariant-loop-row l =
-    AllByRecursion (λ (r : Record). held l.records r.mark ≡ Some r) (drop l.row-index l.rows) ↔ AllByRecursion (λ (r : Record). held l.records r.mark ≡ Some r) l.rows
+    AllByRecursion (λ (r : Record). held l.records r.mark ≡ Some r) (drop l.row-index l.rows)
+    ↔ AllByRecursion (λ (r : Record). held l.records r.mark ≡ Some r) l.rows

@@ -6,7 +6,8 @@ use Rattle.treasury_core.proofs.judging.carried.is_asked.Goals as goal
 pub returns-in-Some : goal.returns-in-Some
 returns-in-Some c =
     let rows = c.args.rows.now in
-    sym (holding rows c.args.row.now.mark c.in-Some.field-0.now (ap (held rows) (sym c.as_str.ensures) ∙ sym c.in-Some.ensures))
+    sym (holding rows c.args.row.now.mark c.in-Some.field-0.now
+    (ap (held rows) (sym c.as_str.ensures) ∙ sym c.in-Some.ensures))
 
 pub returns-in-None : goal.returns-in-None
 returns-in-None c =

@@ -8,6 +8,7 @@ use Rattle.treasury_core.proofs.judging.closings.are_closings.Given as goal
 
 abbrev pub invariant-loop-row : goal.invariant-loop-row
 invariant-loop-row l = record {
-  closings : AllByRecursion (IsWithinLock l.lock) (drop l.row-index l.rows) ↔ AllByRecursion (IsWithinLock l.lock) l.rows;
+  closings : AllByRecursion (IsWithinLock l.lock) (drop l.row-index l.rows)
+      ↔ AllByRecursion (IsWithinLock l.lock) l.rows;
   days : AllByRecursion (λ (r : Record). IsDayNumber r.entry.day) (drop l.row-index l.rows);
 }

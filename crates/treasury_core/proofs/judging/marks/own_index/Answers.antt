@@ -1,4 +1,5 @@
-use Rattle.std.proofs.Common.{◌≡◌, ◌<◌, ◌∙◌, ap, sym, subst, ℕ, List, true, false, cond, length, take, arith, Some, None}
+use Rattle.std.proofs.Common.{◌≡◌, ◌<◌, ◌∙◌, ap, sym, subst, ℕ, List, true, false, cond, length, take, arith, Some}
+use Rattle.std.proofs.Common.{None}
 use Rattle.std.specs.Prelude.{is_some}
 use Rattle.std.specs.Option.{option_or}
 use Rattle.std.specs.Str.{bytes_eq}
@@ -17,7 +18,9 @@ returns-then-contains_key-clause-value c = λ own.
     let r = c.index-rows-place.result in
     let none : mark_place (take i rs) r.mark ≡ None = own_place rs i r (omega arith) c.index-rows-place.is own in
     let k : true ≡ false =
-    sym c.if-contains_key.true ∙ (c.contains_key.ensures ∙ ap is_some (c.loop-place.invariant.found c.as_str-mark.result.now ∙ (ap (mark_place (take i rs)) c.as_str-mark.ensures ∙ none))) in
+    sym c.if-contains_key.true ∙ (c.contains_key.ensures ∙ ap is_some
+    (c.loop-place.invariant.found c.as_str-mark.result.now ∙
+    (ap (mark_place (take i rs)) c.as_str-mark.ensures ∙ none))) in
     cc
 
 pub loop-place-preserved : goal.loop-place-preserved
@@ -28,12 +31,17 @@ loop-place-preserved c =
     let old = c.loop-place.index in
     let within : i < length rs = omega arith in
     let looked : is_some (mark_place (take i rs) r.mark) ≡ false =
-    ap is_some (sym (c.loop-place.invariant.found c.as_str-mark.result.now ∙ ap (mark_place (take i rs)) c.as_str-mark.ensures)) ∙ (sym c.contains_key.ensures ∙ c.if-contains_key.false) in
-    let put : (k : List ℕ) → get_by_text c.put_place.new.index k ≡ option_or (get_by_text old k) (cond (bytes_eq r.mark k) (Some (length (take i rs))) None) = λ k.
+    ap is_some (sym (c.loop-place.invariant.found c.as_str-mark.result.now ∙ ap (mark_place (take i rs))
+    c.as_str-mark.ensures)) ∙ (sym c.contains_key.ensures ∙ c.if-contains_key.false) in
+    let put : (k : List ℕ) → get_by_text c.put_place.new.index k
+    ≡ option_or (get_by_text old k) (cond (bytes_eq r.mark k) (Some (length (take i rs))) None) = λ k.
     c.in_ok-put_place.ensures.put k
     ∙ ap (λ (m : List ℕ). option_or (get_by_text old k) (cond (bytes_eq m k) (Some i) None)) c.as_str-mark.ensures
-    ∙ ap (λ (n : ℕ). option_or (get_by_text old k) (cond (bytes_eq r.mark k) (Some n) None)) (sym (length-take-le i rs (omega arith))) in
+    ∙ ap (λ (n : ℕ). option_or (get_by_text old k) (cond (bytes_eq r.mark k) (Some n) None))
+    (sym (length-take-le i rs (omega arith))) in
     record {
-      own = own_more rs i r within c.index-rows-place.is c.loop-place.invariant.own (absent (take i rs) r.mark (is_none (mark_place (take i rs) r.mark) looked));
-      found = subst (IsIndexOf c.put_place.new.index) (sym (front_is rs i r within c.index-rows-place.is)) (pushed (λ (x : Record). x.mark) old c.put_place.new.index (take i rs) r c.loop-place.invariant.found put);
+      own = own_more rs i r within c.index-rows-place.is c.loop-place.invariant.own
+          (absent (take i rs) r.mark (is_none (mark_place (take i rs) r.mark) looked));
+      found = subst (IsIndexOf c.put_place.new.index) (sym (front_is rs i r within c.index-rows-place.is))
+          (pushed (λ (x : Record). x.mark) old c.put_place.new.index (take i rs) r c.loop-place.invariant.found put);
     }

@@ -4,4 +4,5 @@ use Rattle.treasury_core.specs.Kept.{IsIndexOf}
 use Rattle.treasury_core.proofs.judging.marks.own_index.Given as goal
 
 abbrev pub invariant-loop-place : goal.invariant-loop-place
-invariant-loop-place l = record { own : HaveOwnMarks (take l.place l.rows); found : IsIndexOf l.index (take l.place l.rows) }
+invariant-loop-place l =
+    record { own : HaveOwnMarks (take l.place l.rows); found : IsIndexOf l.index (take l.place l.rows) }

@@ -9,7 +9,8 @@ loop-i-preserved c =
     let a = c.index-transfers-i.result in
     let b = c.index-transfers-i-in-loop-i.result in
     let before : is_before b.id a ≡ true = sym c.is_before.ensures ∙ c.if-not-is_before.false in
-    ascends_next ts c.loop-i.i a b (omega arith) (omega arith) c.index-transfers-i.is c.index-transfers-i-in-loop-i.is before c.loop-i.invariant
+    ascends_next ts c.loop-i.i a b (omega arith) (omega arith) c.index-transfers-i.is c.index-transfers-i-in-loop-i.is
+    before c.loop-i.invariant
 
 pub returns : goal.returns
 returns c =

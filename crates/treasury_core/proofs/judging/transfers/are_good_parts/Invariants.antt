@@ -5,4 +5,5 @@ use Rattle.treasury_core.specs.Good.{IsGoodPart}
 use Rattle.treasury_core.proofs.judging.transfers.are_good_parts.Given as goal
 
 abbrev pub invariant-loop-part : goal.invariant-loop-part
-invariant-loop-part l = AllByRecursion (IsGoodPart l.dispatched) (drop l.part-index l.parts) ↔ AllByRecursion (IsGoodPart l.dispatched) l.parts
+invariant-loop-part l = AllByRecursion (IsGoodPart l.dispatched) (drop l.part-index l.parts)
+    ↔ AllByRecursion (IsGoodPart l.dispatched) l.parts

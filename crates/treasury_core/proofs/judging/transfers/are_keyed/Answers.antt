@@ -9,7 +9,8 @@ loop-i-preserved c =
     let a = c.index-parts-i.result in
     let b = c.index-parts-i-in-loop-i.result in
     let before : is_key_before b.key a ≡ true = sym c.is_key_before.ensures ∙ c.if-not-is_key_before.false in
-    keys_ascend_next ts c.loop-i.i a b (omega arith) (omega arith) c.index-parts-i.is c.index-parts-i-in-loop-i.is before c.loop-i.invariant
+    keys_ascend_next ts c.loop-i.i a b (omega arith) (omega arith) c.index-parts-i.is c.index-parts-i-in-loop-i.is
+    before c.loop-i.invariant
 
 pub returns : goal.returns
 returns c =

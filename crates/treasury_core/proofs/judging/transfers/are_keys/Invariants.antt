@@ -6,4 +6,5 @@ use Rattle.treasury_core.specs.Transfer.{is_key}
 use Rattle.treasury_core.proofs.judging.transfers.are_keys.Given as goal
 
 abbrev pub invariant-loop-part : goal.invariant-loop-part
-invariant-loop-part l = AllByRecursion (λ (p : Part). is_key p.key ≡ true) (drop l.part-index l.parts) ↔ AllByRecursion (λ (p : Part). is_key p.key ≡ true) l.parts
+invariant-loop-part l = AllByRecursion (λ (p : Part). is_key p.key ≡ true) (drop l.part-index l.parts)
+    ↔ AllByRecursion (λ (p : Part). is_key p.key ≡ true) l.parts

@@ -7,4 +7,5 @@ use Rattle.treasury_core.proofs.judging.transfers.are_small.Given as goal
 
 abbrev pub invariant-loop-transfer : goal.invariant-loop-transfer
 invariant-loop-transfer l =
-    AllByRecursion (λ (t : Transfer). unsigned_abs t.qty ≤ limit) (drop l.transfer-index l.transfers) ↔ AllByRecursion (λ (t : Transfer). unsigned_abs t.qty ≤ limit) l.transfers
+    AllByRecursion (λ (t : Transfer). unsigned_abs t.qty ≤ limit) (drop l.transfer-index l.transfers)
+    ↔ AllByRecursion (λ (t : Transfer). unsigned_abs t.qty ≤ limit) l.transfers

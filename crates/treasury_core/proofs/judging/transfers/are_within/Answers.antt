@@ -16,7 +16,8 @@ returns-then-part-left c =
     let rest = sum_low (drop (i + 1) ps) each.1 in
     let less = c.part.invariant.less in
     let more = c.if-part-left.true in
-    says_no (int_le (sum_of ps) c.args.qty ≡ true) (λ e. let within = le_from (sum_of ps) c.args.qty e in omega (arith, ints))
+    says_no (int_le (sum_of ps) c.args.qty ≡ true)
+    (λ e. let within = le_from (sum_of ps) c.args.qty e in omega (arith, ints))
 
 pub part-preserved : goal.part-preserved
 part-preserved c =

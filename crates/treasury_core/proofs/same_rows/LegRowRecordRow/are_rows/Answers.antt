@@ -7,4 +7,6 @@ use Rattle.treasury_core.proofs.same_rows.LegRowRecordRow.are_rows.Goals as goal
 
 pub returns-clause-value : goal.returns-clause-value
 returns-clause-value c =
-    subst (λ (xs : List Leg). IsTrue c.are_leg_rows.result ↔ (map (λ p. leg_row c.args.branch c.args.nr p.0 p.1) (enumerate_from 1 xs) ≡ c.args.list.now)) c.items.ensures c.are_leg_rows.ensures
+    subst (λ (xs : List Leg). IsTrue c.are_leg_rows.result
+    ↔ (map (λ p. leg_row c.args.branch c.args.nr p.0 p.1) (enumerate_from 1 xs) ≡ c.args.list.now)) c.items.ensures
+    c.are_leg_rows.ensures

@@ -6,29 +6,40 @@ use Rattle.treasury_store.proofs.StateLoadLemmas.{any_err, failed_of, read_of, l
 use Rattle.treasury_store.proofs.store.Store.load.Goals as goal
 
 pub returns-in-Err-SqliteFailure-OutOfMemory-clause-err : goal.returns-in-Err-SqliteFailure-OutOfMemory-clause-err
-returns-in-Err-SqliteFailure-OutOfMemory-clause-err g c f of = failed_of g.S.Store c.args.self.now _ f _ c.in-Err-SqliteFailure-OutOfMemory.ensures.queries refl of
+returns-in-Err-SqliteFailure-OutOfMemory-clause-err g c f of =
+    failed_of g.S.Store c.args.self.now _ f _ c.in-Err-SqliteFailure-OutOfMemory.ensures.queries refl of
 
 pub returns-in-Err-clause-err : goal.returns-in-Err-clause-err
 returns-in-Err-clause-err g c f of = failed_of g.S.Store c.args.self.now _ f _ c.in-Err.ensures.queries refl of
 
 pub returns-in_err-now-clause-err : goal.returns-in_err-now-clause-err
-returns-in_err-now-clause-err g c = any_err c.from_residual.result _ (λ f of. read_of g.S.Store c.args.self.now _ f _ c.in-Ok.ensures.queries c.in-Ok.ensures.same refl of)
+returns-in_err-now-clause-err g c =
+    any_err c.from_residual.result _
+    (λ f of. read_of g.S.Store c.args.self.now _ f _ c.in-Ok.ensures.queries c.in-Ok.ensures.same refl of)
 
 pub returns-in_err-now-clause-damaged : goal.returns-in_err-now-clause-damaged
 returns-in_err-now-clause-damaged g c damaged clean f good short are =
-    none_damaged g.S.Store c.args.self.now (record c.args.self.now { conn = c.load_parts.new.conn }) f _ c.in-Ok.ensures.queries c.in-Ok.ensures.same c.in-Ok.parts c.in-Ok.ensures.parts good are c.from_residual.result _ c.from_residual.ensures.1 c.in_err-now.ensures.err damaged short clean
+    none_damaged g.S.Store c.args.self.now (record c.args.self.now { conn = c.load_parts.new.conn }) f _
+    c.in-Ok.ensures.queries c.in-Ok.ensures.same c.in-Ok.parts c.in-Ok.ensures.parts good are c.from_residual.result
+    _ c.from_residual.ensures.1 c.in_err-now.ensures.err damaged short clean
 
 pub returns-in_err-now-clause-unfit : goal.returns-in_err-now-clause-unfit
 returns-in_err-now-clause-unfit g c damaged clean =
-    none_shown (state g.S.Store c.args.self.now.conn).now c.in-Ok.parts (c.in-Ok.ensures.parts clean) c.from_residual.result _ c.from_residual.ensures.1 c.in_err-now.ensures.err damaged
+    none_shown (state g.S.Store c.args.self.now.conn).now c.in-Ok.parts (c.in-Ok.ensures.parts clean)
+    c.from_residual.result _ c.from_residual.ensures.1 c.in_err-now.ensures.err damaged
 
 pub returns-in_err-numbers-clause-err : goal.returns-in_err-numbers-clause-err
-returns-in_err-numbers-clause-err g c = any_err c.from_residual-in_err-numbers.result _ (λ f of. read_of g.S.Store c.args.self.now _ f _ c.in-Ok.ensures.queries c.in-Ok.ensures.same refl of)
+returns-in_err-numbers-clause-err g c =
+    any_err c.from_residual-in_err-numbers.result _
+    (λ f of. read_of g.S.Store c.args.self.now _ f _ c.in-Ok.ensures.queries c.in-Ok.ensures.same refl of)
 
 pub returns-clause-ok : goal.returns-clause-ok
 returns-clause-ok g c f good are =
-    loaded_of g.S.Store c.args.self.now _ f _ c.in-Ok.ensures.queries c.in-Ok.ensures.same c.in-Ok.parts c.in-Ok.ensures.parts good are c.in_ok-now.now c.is_good.ensures c.in_ok-now.ensures.built
+    loaded_of g.S.Store c.args.self.now _ f _ c.in-Ok.ensures.queries c.in-Ok.ensures.same c.in-Ok.parts
+    c.in-Ok.ensures.parts good are c.in_ok-now.now c.is_good.ensures c.in_ok-now.ensures.built
     (ap (λ (n : Numbering). Some n) c.in_ok-numbers.ensures.equal)
 
 pub returns-clause-shown : goal.returns-clause-shown
-returns-clause-shown g c clean has = subst (ShowsTables (state g.S.Store c.args.self.now.conn).now) (sym c.in_ok-now.ensures.built) (c.in-Ok.ensures.shown clean has)
+returns-clause-shown g c clean has =
+    subst (ShowsTables (state g.S.Store c.args.self.now.conn).now) (sym c.in_ok-now.ensures.built)
+    (c.in-Ok.ensures.shown clean has)

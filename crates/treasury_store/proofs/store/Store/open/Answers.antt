@@ -4,7 +4,8 @@ use Rattle.treasury_store.proofs.UpgradeLemmas.{opened_holds}
 use Rattle.treasury_store.proofs.store.Store.open.Goals as goal
 
 pub returns-in-Ok-true-clause-opened : goal.returns-in-Ok-true-clause-opened
-returns-in-Ok-true-clause-opened g c = opened_holds g.S.Store c.args.conn c.open_tables.new.conn c.in-Ok-true.ensures.first c.in-Ok-true.ensures.same
+returns-in-Ok-true-clause-opened g c =
+    opened_holds g.S.Store c.args.conn c.open_tables.new.conn c.in-Ok-true.ensures.first c.in-Ok-true.ensures.same
 
 -- what was not told is not so
 not_so : {P : Type 0} (told : Bool) → IsTrue told ↔ P → told ≡ false → P → ⊥
@@ -16,19 +17,25 @@ returns-in-Ok-false-clause-damaged g c why clean =
     (λ ours. not_so _ (c.in-Ok-false.ensures.there clean ours) (search rules), stays.0, stays.1)
 
 pub returns-in-Ok-true-clause-left : goal.returns-in-Ok-true-clause-left
-returns-in-Ok-true-clause-left g c = leaves_opened g.S.Store g.met.S.Store.settled c.args.conn c.open_tables.new.conn c.open_tables.ensures.crash
+returns-in-Ok-true-clause-left g c =
+    leaves_opened g.S.Store g.met.S.Store.settled c.args.conn c.open_tables.new.conn c.open_tables.ensures.crash
 
 pub returns-in-Ok-false-clause-left : goal.returns-in-Ok-false-clause-left
-returns-in-Ok-false-clause-left g c = leaves_opened g.S.Store g.met.S.Store.settled c.args.conn c.open_tables.new.conn c.open_tables.ensures.crash
+returns-in-Ok-false-clause-left g c =
+    leaves_opened g.S.Store g.met.S.Store.settled c.args.conn c.open_tables.new.conn c.open_tables.ensures.crash
 
 pub returns-in-Err-clause-left : goal.returns-in-Err-clause-left
-returns-in-Err-clause-left g c = leaves_opened g.S.Store g.met.S.Store.settled c.args.conn c.open_tables.new.conn c.open_tables.ensures.crash
+returns-in-Err-clause-left g c =
+    leaves_opened g.S.Store g.met.S.Store.settled c.args.conn c.open_tables.new.conn c.open_tables.ensures.crash
 
 pub returns-in-Ok-true-clause-left_first : goal.returns-in-Ok-true-clause-left_first
-returns-in-Ok-true-clause-left_first g c = leaves_either_version g.S.Store g.met.S.Store.settled c.args.conn c.open_tables.new.conn c.open_tables.ensures.crash
+returns-in-Ok-true-clause-left_first g c =
+    leaves_either_version g.S.Store g.met.S.Store.settled c.args.conn c.open_tables.new.conn c.open_tables.ensures.crash
 
 pub returns-in-Ok-false-clause-left_first : goal.returns-in-Ok-false-clause-left_first
-returns-in-Ok-false-clause-left_first g c = leaves_either_version g.S.Store g.met.S.Store.settled c.args.conn c.open_tables.new.conn c.open_tables.ensures.crash
+returns-in-Ok-false-clause-left_first g c =
+    leaves_either_version g.S.Store g.met.S.Store.settled c.args.conn c.open_tables.new.conn c.open_tables.ensures.crash
 
 pub returns-in-Err-clause-left_first : goal.returns-in-Err-clause-left_first
-returns-in-Err-clause-left_first g c = leaves_either_version g.S.Store g.met.S.Store.settled c.args.conn c.open_tables.new.conn c.open_tables.ensures.crash
+returns-in-Err-clause-left_first g c =
+    leaves_either_version g.S.Store g.met.S.Store.settled c.args.conn c.open_tables.new.conn c.open_tables.ensures.crash

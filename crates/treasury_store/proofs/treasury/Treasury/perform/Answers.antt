@@ -12,15 +12,19 @@ use Rattle.treasury_store.specs.Rows.{Holds}
 use Rattle.treasury_store.specs.Kept.{KeepsTables}
 use Rattle.treasury_store.specs.Store.{IsOf}
 use Rattle.treasury_store.specs.Treasury.{Treasury, IsTreasuryOf}
-use Rattle.treasury_store.proofs.TreasuryLemmas.{fits_held, fits_of, performs_held, ok_unfailed, performs_unheld, headline_of, SurvivesChange, survives_load, survives_settle, unfit_unheld}
+use Rattle.treasury_store.proofs.TreasuryLemmas.{fits_held, fits_of, performs_held, ok_unfailed, performs_unheld}
+use Rattle.treasury_store.proofs.TreasuryLemmas.{headline_of, SurvivesChange, survives_load, survives_settle}
+use Rattle.treasury_store.proofs.TreasuryLemmas.{unfit_unheld}
 use Rattle.treasury_store.proofs.LeftLemmas.{leaves_step, shuts_by}
 use Rattle.treasury_store.proofs.OwnRefusalLemmas.{listed_reply, listed_unheld}
-use Rattle.treasury_store.proofs.treasury.Treasury.perform.Goals.{else-not-was_held-via-then-not-was_held+else-not-fits, else-not-was_held-via-else-not-was_held}
+use Rattle.treasury_store.proofs.treasury.Treasury.perform.Goals.{else-not-was_held-via-then-not-was_held+else-not-fits}
+use Rattle.treasury_store.proofs.treasury.Treasury.perform.Goals.{else-not-was_held-via-else-not-was_held}
 use Rattle.treasury_store.proofs.treasury.Treasury.perform.Goals as goal
 
 pub settle-requires-clause-fits : goal.settle-requires-clause-fits
 settle-requires-clause-fits g c = elim c.else-not-was_held.branch [
-  | else-not-was_held-via-then-not-was_held+else-not-fits w ↦ subst (λ (styles : List Style). Fits styles c.args.command) w.styles.ensures (w.fits.ensures.0 (search rules))
+  | else-not-was_held-via-then-not-was_held+else-not-fits w ↦ subst
+      (λ (styles : List Style). Fits styles c.args.command) w.styles.ensures (w.fits.ensures.0 (search rules))
   | else-not-was_held-via-else-not-was_held w ↦
       let was : IsSome c.args.self.now.held = search rules in
       let kept : c.hold.new.self ≡ c.args.self.now = (c.in-Ok.ensures.same was).0 in
@@ -36,11 +40,16 @@ returns-clause-performs g c clean unfailed f was fits =
       | else-not-was_held-via-else-not-was_held w ↦ ap (λ (t : Treasury _). t.store) w.self-is
     ] in
     let back = sym c.self-2.view_is in
-    let clean_there = subst (λ (s : Store _). HasCleanDisk (state g.S.Store s.conn)) here (c.settle.ensures.clean clean) in
-    let of = subst (λ (t : Treasury _). HasCleanDisk (state g.S.Store t.store.conn) → IsTreasuryOf g.S.Store t f) back (λ k. c.in-Ok.ensures.of k f was) clean_there in
-    let still = subst (λ (t : Treasury _). t.store.failed ≡ false) back (ok_unfailed c.in-Ok.field-0 _ (c.in-Ok.ensures.answers unfailed)) in
-    performs_held g.S.Store (record { store = c.self-2.inside.store; held = c.self-2.inside.held }) c.settle.new.self c.in-Some.now f c.args.command c.settle.result (search rules) of
-    (λ store short. c.settle.ensures.performs (subst (λ (s : Store _). IsOf g.S.Store s c.in-Some.now) (sym here) store) short (ap (λ (s : Store _). s.failed) here ∙ still))
+    let clean_there =
+    subst (λ (s : Store _). HasCleanDisk (state g.S.Store s.conn)) here (c.settle.ensures.clean clean) in
+    let of = subst (λ (t : Treasury _). HasCleanDisk (state g.S.Store t.store.conn) → IsTreasuryOf g.S.Store t f) back
+    (λ k. c.in-Ok.ensures.of k f was) clean_there in
+    let still = subst (λ (t : Treasury _). t.store.failed ≡ false) back
+    (ok_unfailed c.in-Ok.field-0 _ (c.in-Ok.ensures.answers unfailed)) in
+    performs_held g.S.Store (record { store = c.self-2.inside.store; held = c.self-2.inside.held }) c.settle.new.self
+    c.in-Some.now f c.args.command c.settle.result (search rules) of
+    (λ store short. c.settle.ensures.performs (subst (λ (s : Store _). IsOf g.S.Store s c.in-Some.now) (sym here) store)
+    short (ap (λ (s : Store _). s.failed) here ∙ still))
 
 pub returns-clause-unfit : goal.returns-clause-unfit
 returns-clause-unfit g c clean unfailed f was unfit =
@@ -48,21 +57,27 @@ returns-clause-unfit g c clean unfailed f was unfit =
       | else-not-was_held-via-then-not-was_held+else-not-fits w ↦ ap (λ (t : Treasury _). t.store) w.self-is
       | else-not-was_held-via-else-not-was_held w ↦ ap (λ (t : Treasury _). t.store) w.self-is
     ] in
-    let clean_there = subst (λ (s : Store _). HasCleanDisk (state g.S.Store s.conn)) here (c.settle.ensures.clean clean) in
-    let of = subst (λ (t : Treasury _). HasCleanDisk (state g.S.Store t.store.conn) → IsTreasuryOf g.S.Store t f) (sym c.self-2.view_is) (λ k. c.in-Ok.ensures.of k f was) clean_there in
-    absurd (unfit (fits_of g.S.Store (record { store = c.self-2.inside.store; held = c.self-2.inside.held }) c.in-Some.now f c.args.command (search rules) of (settle-requires-clause-fits g c.before.before)))
+    let clean_there =
+    subst (λ (s : Store _). HasCleanDisk (state g.S.Store s.conn)) here (c.settle.ensures.clean clean) in
+    let of = subst (λ (t : Treasury _). HasCleanDisk (state g.S.Store t.store.conn) → IsTreasuryOf g.S.Store t f)
+    (sym c.self-2.view_is) (λ k. c.in-Ok.ensures.of k f was) clean_there in
+    absurd (unfit (fits_of g.S.Store (record { store = c.self-2.inside.store; held = c.self-2.inside.held })
+    c.in-Some.now f c.args.command (search rules) of (settle-requires-clause-fits g c.before.before)))
 
 pub returns-clause-headline : goal.returns-clause-headline
 returns-clause-headline g c clean unfailed f was fits =
-    headline_of g.S.Store c.settle.new.self f c.args.command c.settle.result was.store.good fits (returns-clause-performs g c clean unfailed f was fits)
+    headline_of g.S.Store c.settle.new.self f c.args.command c.settle.result was.store.good fits
+    (returns-clause-performs g c clean unfailed f was fits)
 
 pub returns-in-Err-clause-headline : goal.returns-in-Err-clause-headline
 returns-in-Err-clause-headline g c clean unfailed f was fits =
     headline_of g.S.Store c.hold.new.self f c.args.command (Err (Plain c.in-Err.cause)) was.store.good fits
-    (performs_unheld g.S.Store c.hold.new.self f c.args.command c.in-Err.cause _ (c.in-Err.ensures.answers unfailed) (λ damaged. c.in-Err.ensures.damaged damaged clean f was) (c.in-Err.ensures.of clean f was))
+    (performs_unheld g.S.Store c.hold.new.self f c.args.command c.in-Err.cause _ (c.in-Err.ensures.answers unfailed)
+    (λ damaged. c.in-Err.ensures.damaged damaged clean f was) (c.in-Err.ensures.of clean f was))
 
 pub returns-in-Err-clause-crash : goal.returns-in-Err-clause-crash
-returns-in-Err-clause-crash g c = survives_load g.S.Store c.args.self.now c.hold.new.self c.args.command c.hold.ensures.crash
+returns-in-Err-clause-crash g c =
+    survives_load g.S.Store c.args.self.now c.hold.new.self c.args.command c.hold.ensures.crash
 
 pub returns-clause-crash : goal.returns-clause-crash
 returns-clause-crash g c =
@@ -71,25 +86,36 @@ returns-clause-crash g c =
       | else-not-was_held-via-else-not-was_held w ↦ ap (λ (t : Treasury _). t.store) w.self-is
     ] in
     let back = sym c.self-2.view_is in
-    survives_settle g.S.Store c.args.self.now c.settle.new.self c.args.command (record { store = c.self-2.inside.store; held = c.self-2.inside.held }) c.in-Some.now
+    survives_settle g.S.Store c.args.self.now c.settle.new.self c.args.command
+    (record { store = c.self-2.inside.store; held = c.self-2.inside.held }) c.in-Some.now
     (λ clean. subst (λ (s : Store _). HasCleanDisk (state g.S.Store s.conn)) here (c.settle.ensures.clean clean))
-    (subst (λ (t : Treasury _). KeepsTables g.S.Store c.args.self.now.store.conn t.store.conn) back c.hold.ensures.crash)
-    (subst (λ (t : Treasury _). HasCleanDisk (state g.S.Store t.store.conn) → (f : Federation) → IsTreasuryOf g.S.Store c.args.self.now f → IsTreasuryOf g.S.Store t f) back c.in-Ok.ensures.of)
-    (subst (λ (t : Treasury _). HasCleanDisk (state g.S.Store t.store.conn) → (f : Federation) → IsTreasuryOf g.S.Store c.args.self.now f → Holds (state g.S.Store c.args.self.now.store.conn).now (rows f) → Holds (state g.S.Store t.store.conn).now (rows f)) back c.in-Ok.ensures.rows)
+    (subst (λ (t : Treasury _). KeepsTables g.S.Store c.args.self.now.store.conn t.store.conn) back
+    c.hold.ensures.crash)
+    (subst (λ (t : Treasury _). HasCleanDisk (state g.S.Store t.store.conn) → (f : Federation)
+    → IsTreasuryOf g.S.Store c.args.self.now f → IsTreasuryOf g.S.Store t f) back c.in-Ok.ensures.of)
+    (subst (λ (t : Treasury _). HasCleanDisk (state g.S.Store t.store.conn) → (f : Federation)
+    → IsTreasuryOf g.S.Store c.args.self.now f → Holds (state g.S.Store c.args.self.now.store.conn).now (rows f)
+    → Holds (state g.S.Store t.store.conn).now (rows f)) back c.in-Ok.ensures.rows)
     (search rules)
-    (subst (λ (s : Store _). SurvivesChange g.S.Store s c.settle.new.self.store.conn c.in-Some.now (step c.in-Some.now c.args.command).next) here c.settle.ensures.crash)
+    (subst (λ (s : Store _). SurvivesChange g.S.Store s c.settle.new.self.store.conn c.in-Some.now
+    (step c.in-Some.now c.args.command).next) here c.settle.ensures.crash)
 
 pub returns-in-Err-clause-left : goal.returns-in-Err-clause-left
-returns-in-Err-clause-left g c = leaves_step g.S.Store g.met.S.Store.settled c.args.self.now c.hold.new.self c.args.command (returns-in-Err-clause-crash g c)
+returns-in-Err-clause-left g c =
+    leaves_step g.S.Store g.met.S.Store.settled c.args.self.now c.hold.new.self c.args.command
+    (returns-in-Err-clause-crash g c)
 
 pub returns-clause-left : goal.returns-clause-left
-returns-clause-left g c = leaves_step g.S.Store g.met.S.Store.settled c.args.self.now c.settle.new.self c.args.command (returns-clause-crash g c)
+returns-clause-left g c = leaves_step g.S.Store g.met.S.Store.settled c.args.self.now c.settle.new.self c.args.command
+    (returns-clause-crash g c)
 
 pub returns-in-Err-clause-shuts : goal.returns-in-Err-clause-shuts
-returns-in-Err-clause-shuts g c = shuts_by g.S.Store c.args.self.now.store.conn c.hold.new.self.store.conn _ c.hold.ensures.crash
+returns-in-Err-clause-shuts g c =
+    shuts_by g.S.Store c.args.self.now.store.conn c.hold.new.self.store.conn _ c.hold.ensures.crash
 
 pub returns-clause-shuts : goal.returns-clause-shuts
-returns-clause-shuts g c = shuts_by g.S.Store c.args.self.now.store.conn c.settle.new.self.store.conn _ (returns-clause-crash g c)
+returns-clause-shuts g c =
+    shuts_by g.S.Store c.args.self.now.store.conn c.settle.new.self.store.conn _ (returns-clause-crash g c)
 
 pub returns-in-Err-clause-listed : goal.returns-in-Err-clause-listed
 returns-in-Err-clause-listed g c unfailed = listed_unheld c.in-Err.cause _ (c.in-Err.ensures.answers unfailed)
@@ -100,11 +126,14 @@ returns-clause-listed g c unfailed =
       | else-not-was_held-via-then-not-was_held+else-not-fits w ↦ ap (λ (t : Treasury _). t.store) w.self-is
       | else-not-was_held-via-else-not-was_held w ↦ ap (λ (t : Treasury _). t.store) w.self-is
     ] in
-    let still = subst (λ (t : Treasury _). t.store.failed ≡ false) (sym c.self-2.view_is) (ok_unfailed c.in-Ok.field-0 _ (c.in-Ok.ensures.answers unfailed)) in
-    listed_reply c.in-Some.now c.args.command c.settle.result (c.settle.ensures.replies (ap (λ (s : Store _). s.failed) here ∙ still))
+    let still = subst (λ (t : Treasury _). t.store.failed ≡ false) (sym c.self-2.view_is)
+    (ok_unfailed c.in-Ok.field-0 _ (c.in-Ok.ensures.answers unfailed)) in
+    listed_reply c.in-Some.now c.args.command c.settle.result
+    (c.settle.ensures.replies (ap (λ (s : Store _). s.failed) here ∙ still))
 
 pub returns-in-Err-clause-strange : goal.returns-in-Err-clause-strange
-returns-in-Err-clause-strange g c clean unfailed unheld none = (unfit_unheld c.in-Err.cause _ (c.in-Err.ensures.answers unfailed), c.hold.ensures.unchanged clean)
+returns-in-Err-clause-strange g c clean unfailed unheld none =
+    (unfit_unheld c.in-Err.cause _ (c.in-Err.ensures.answers unfailed), c.hold.ensures.unchanged clean)
 
 pub returns-clause-strange : goal.returns-clause-strange
 returns-clause-strange g c clean unfailed unheld none =
@@ -112,5 +141,6 @@ returns-clause-strange g c clean unfailed unheld none =
       | else-not-was_held-via-then-not-was_held+else-not-fits w ↦ ap (λ (t : Treasury _). t.store) w.self-is
       | else-not-was_held-via-else-not-was_held w ↦ ap (λ (t : Treasury _). t.store) w.self-is
     ] in
-    let at_hold = subst (λ (t : Treasury _). HasCleanDisk (state g.S.Store t.store.conn)) c.self-2.view_is (subst (λ (s : Store _). HasCleanDisk (state g.S.Store s.conn)) here (c.settle.ensures.clean clean)) in
+    let at_hold = subst (λ (t : Treasury _). HasCleanDisk (state g.S.Store t.store.conn)) c.self-2.view_is
+    (subst (λ (s : Store _). HasCleanDisk (state g.S.Store s.conn)) here (c.settle.ensures.clean clean)) in
     absurd (c.in-Ok.ensures.shown at_hold unheld none)

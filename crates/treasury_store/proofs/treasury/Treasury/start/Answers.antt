@@ -7,7 +7,11 @@ use Rattle.treasury_store.proofs.treasury.Treasury.start.Goals as goal
 pub returns-in-Ok-clause-of : goal.returns-in-Ok-clause-of
 returns-in-Ok-clause-of g c clean f good short are =
     let loaded = c.in-Ok.ensures.ok f good are in
-    record { store = subst (λ (x : Federation). IsOf g.S.Store c.load.new.self x) (loaded.1 clean) loaded.0; short = short; held = loaded.1 clean }
+    record {
+      store = subst (λ (x : Federation). IsOf g.S.Store c.load.new.self x) (loaded.1 clean) loaded.0;
+      short = short;
+      held = loaded.1 clean;
+    }
 
 pub returns-in-Err-clause-causes : goal.returns-in-Err-clause-causes
 returns-in-Err-clause-causes g c unfailed = fails_as c.in-Err.cause _ (c.in-Err.ensures.answers unfailed)

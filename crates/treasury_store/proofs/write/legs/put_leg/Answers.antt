@@ -12,5 +12,7 @@ returns-clause-writes g c =
     let row = c.args.row.now in
     let old = state g.S.Store c.args.tx.now.conn.now in
     let new = state g.S.Store c.execute.new.self.conn.now in
-    writes g.S.Store _ _ _ _ _ _ c.execute.ensures.ended c.execute.ensures.runs c.execute.ensures.survives (with_leg row)
-    (λ count t holds h. adds_leg row old new t count holds (subst (λ ps. Executes add_leg_text ps old new (Ok count)) c.leg_values-values.ensures h))
+    writes g.S.Store _ _ _ _ _ _ c.execute.ensures.ended c.execute.ensures.runs c.execute.ensures.survives
+    (with_leg row)
+    (λ count t holds h. adds_leg row old new t count holds
+    (subst (λ ps. Executes add_leg_text ps old new (Ok count)) c.leg_values-values.ensures h))

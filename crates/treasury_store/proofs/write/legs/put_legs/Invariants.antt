@@ -11,7 +11,8 @@ invariant-eights g l =
     let now = state g.S.Store l.tx.conn.now in
     (l.tx.conn.ghost_name ≡ l.initial.tx.conn.ghost_name) × Survives old now (λ _. ⊥)
     × (HasCleanDisk now → KeepsCommit old now × (IsTrue old.in_transaction → IsTrue now.in_transaction)
-    × ((t : Tables) → Holds old.now t → (u : Tables) × Holds now.now u × (joined (filter is_leg l.rest) u ≡ joined (filter is_leg l.changes) t)))
+    × ((t : Tables) → Holds old.now t
+    → (u : Tables) × Holds now.now u × (joined (filter is_leg l.rest) u ≡ joined (filter is_leg l.changes) t)))
 
 abbrev pub decreases-eights : goal.decreases-eights
 decreases-eights g l = length l.rest
@@ -22,7 +23,8 @@ invariant-ones g l =
     let now = state g.S.Store l.tx.conn.now in
     (l.tx.conn.ghost_name ≡ l.initial.tx.conn.ghost_name) × Survives old now (λ _. ⊥)
     × (HasCleanDisk now → KeepsCommit old now × (IsTrue old.in_transaction → IsTrue now.in_transaction)
-    × ((t : Tables) → Holds old.now t → (u : Tables) × Holds now.now u × (joined (filter is_leg l.rest) u ≡ joined (filter is_leg l.changes) t)))
+    × ((t : Tables) → Holds old.now t
+    → (u : Tables) × Holds now.now u × (joined (filter is_leg l.rest) u ≡ joined (filter is_leg l.changes) t)))
 
 abbrev pub decreases-ones : goal.decreases-ones
 decreases-ones g l = length l.rest
