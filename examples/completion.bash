@@ -34,7 +34,7 @@ _treasury() {
     else
         case $before in
         --branch | --id | --from | --to | --day | --amount | --account | --tag | --accounts | --into) ;;
-        --port | --requests) ;;
+        --part | --port | --requests) ;;
         *) mapfile -t COMPREPLY < <(compgen -f -- "$at") ;;
         esac
     fi
