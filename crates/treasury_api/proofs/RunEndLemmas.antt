@@ -18,10 +18,10 @@ use Rattle.treasury_store.proofs.LeftLemmas.{shuts_same, shuts_then}
 use Rattle.treasury_api.specs.Step.{Standing, Answers, is_failure}
 use Rattle.treasury_api.specs.Transcript.{requests_in, AnswersInTurn, IsTranscript}
 use Rattle.treasury_api.specs.RunEnd.{most_input, EndsBy, Ends}
-use Rattle.treasury_api.specs.History.{Turn, after_turn, AreTurns, end_of, texts_of, commands_of}
+use Rattle.treasury_api.specs.History.{Turn, turn_of, after_turn, AreTurns, end_of, texts_of, IsRun, commands_of}
 use Rattle.treasury_api.specs.Left.{LeavesAsked, IsOpenBut, FailedAt, LostAt, LeavesRun}
 use Rattle.treasury_api.specs.Replied.{standing, Serves}
-use Rattle.treasury_api.specs.Kept.{Runs}
+use Rattle.treasury_api.specs.Kept.{AreTurnsOf, Runs}
 use Rattle.treasury_api.proofs.HistoryLemmas.{IsRunOf, transcript_of, failure_is, commands_run, commands_end}
 use Rattle.treasury_api.proofs.HistoryLemmas.{turns_leave, lines_leave}
 use Rattle.treasury_api.proofs.LeftLemmas.{LeavesShown}
@@ -262,14 +262,42 @@ serve_all {S = S} g old new (request ∷ requests) output (mid, answer, rest, (s
       ),
     )
 
+-- they are a run
+as_run : {S : Type 0} (g : Ghosts S) (old new : Treasury S) (start : Standing) (input output : List ℕ)
+    (end : Federation) (turns : List Turn) → AreServed g old new start (requests_in input) output end turns
+    → IsRun start input output (standing new end) turns
+as_run g old new start input output end turns served =
+    let run = served.run in
+    record { requests = run.requests; follow = run.follow; written = run.written; left = run.left }
+
 -- their transcript
 told : {S : Type 0} (g : Ghosts S) (old new : Treasury S) (start : Standing) (input output : List ℕ) (end : Federation)
     (turns : List Turn) → AreServed g old new start (requests_in input) output end turns
     → IsTranscript Answers start input output (standing new end)
 told g old new start input output end turns served =
-    let run = served.run in
     transcript_of start input output (standing new end) turns
-    (record { requests = run.requests; follow = run.follow; written = run.written; left = run.left })
+    (as_run g old new start input output end turns served)
+
+-- ---- the turns of a run that is cut off
+
+-- they follow one another, and lead to its end
+turns_lead : (cause : Cause) (r0 r1 w0 w1 : Option (List ℕ)) (start end : Standing)
+    (ends : EndsBy cause Answers most_input r0 r1 w0 w1 start end) (turns : List Turn)
+    → AreTurnsOf cause r0 r1 w0 w1 start end ends turns → AreTurns start turns × (end ≡ end_of start turns)
+turns_lead OutOfMemory r0 r1 w0 w1 start end ends turns run = (run.follow, run.left)
+turns_lead ReadFault r0 r1 w0 w1 start end ends turns run = (run.follow, run.left)
+turns_lead WriteFault r0 r1 w0 w1 start end ends turns (front, run, split) =
+    let torn = ends.stops in
+    let a = torn.last in
+    let turn : Turn = turn_of a in
+    let at = run.left in
+    let follow : AreTurns torn.mid (turn ∷ []) = (a.asks, a.replies, tt) in (
+      subst (AreTurns start) (sym split) (turns_then start front (turn ∷ []) run.follow
+          (subst (λ (s : Standing). AreTurns s (turn ∷ [])) at follow)),
+      a.left ∙ (ap (λ (s : Standing). end_of s (turn ∷ [])) at ∙ (sym (end_then start front (turn ∷ [])) ∙ ap
+          (end_of start) (sym split))),
+    )
+turns_lead _ r0 r1 w0 w1 start end ends turns run = absurd run
 
 -- ---- runs
 
@@ -277,8 +305,7 @@ told g old new start input output end turns served =
 record IsLed {S : Type 0} (g : Ghosts S) (cause : Cause) (r0 r1 w0 w1 : Option (List ℕ)) (old new : Treasury S)
     (start : Standing) (end : Federation) (turns : List Turn) : Type 0 where
   ends : EndsBy cause Answers most_input r0 r1 w0 w1 start (standing new end)
-  follow : AreTurns start turns
-  last : standing new end ≡ end_of start turns
+  run : AreTurnsOf cause r0 r1 w0 w1 start (standing new end) ends turns
   leaving : LeavingIf g old new start turns
 
 led_where_cut_off : {S : Type 0} (g : Ghosts S) (cause : Cause) (r0 r1 w0 w1 : Option (List ℕ)) (old new : Treasury S)
@@ -310,8 +337,7 @@ led_where_cut_off g OutOfMemory r0 r1 w0 w1 old new ends clean f of =
                 appended = stops.appended;
               };
             };
-            follow = served.run.follow;
-            last = served.run.left;
+            run = as_run g old new (standing old f) stops.whole stops.written all.0 all.1.1.0 served;
             leaving = served.leaving;
           },
         ),
@@ -344,8 +370,7 @@ led_where_cut_off g ReadFault r0 r1 w0 w1 old new ends clean f of =
                 appended = answered.appended;
               };
             };
-            follow = served.run.follow;
-            last = served.run.left;
+            run = as_run g old new (standing old f) answered.whole answered.written all.0 all.1.1.0 served;
             leaving = served.leaving;
           },
         ),
@@ -362,8 +387,7 @@ led_where_cut_off g WriteFault r0 r1 w0 w1 old new ends clean f of =
     let then = step.answers clean all.0 all.1.0 in
     let a = then.1.1.0 in
     let turn : Turn = record { line = stops.request; asked = a.asked; reply = a.reply } in
-    let at = served.run.left in
-    let follow : AreTurns (standing mid all.0) (turn ∷ []) = (a.asks, a.replies, tt) in (
+    let at = served.run.left in (
       then.0,
       (
         then.1.0,
@@ -390,10 +414,11 @@ led_where_cut_off g WriteFault r0 r1 w0 w1 old new ends clean f of =
                 appended = stops.appended;
               };
             };
-            follow = turns_then (standing old f) turns (turn ∷ []) served.run.follow
-                (subst (λ (s : Standing). AreTurns s (turn ∷ [])) at follow);
-            last = a.left ∙ (ap (λ (s : Standing). end_of s (turn ∷ [])) at ∙ sym
-                (end_then (standing old f) turns (turn ∷ [])));
+            run = (
+              turns,
+              as_run g old mid (standing old f) stops.whole stops.written all.0 turns served,
+              refl,
+            );
             leaving = λ is_open unfailed.
                 leaving_last g old mid new (shuts_along g old mid (requests_in stops.whole) stops.written
                 stops.transcript).counts step.shuts.counts step.closed (standing old f) all.0 then.0 turns turn at
@@ -452,7 +477,7 @@ kept g shown (Ok x) remaining r0 r1 contents w0 w1 old new finished clean f of =
               transcript = told g old new start finished.seen finished.written all.0 turns served;
               appended = finished.appended;
             };
-            run = record { requests = run.requests; follow = run.follow; written = run.written; left = run.left };
+            run = as_run g old new start finished.seen finished.written all.0 turns served;
             commands = commanded;
             left = left_by start turns (standing new all.0) run.left;
             headline = keeps_books f (commands_of turns) of.store.good commanded;
@@ -469,7 +494,9 @@ kept g shown (Err cause) remaining r0 r1 contents w0 w1 old new ends clean f of 
     led_where_cut_off g cause (remaining r0) (remaining r1) (contents w0) (contents w1) old new ends clean f of in
     let turns = all.1.1.0 in
     let led = all.1.1.1 in
-    let commanded = commands_run start turns led.follow in (
+    let lead = turns_lead cause (remaining r0) (remaining r1) (contents w0) (contents w1) start (standing new all.0)
+    led.ends turns led.run in
+    let commanded = commands_run start turns lead.0 in (
       all.0,
       (
         all.1.0,
@@ -477,10 +504,9 @@ kept g shown (Err cause) remaining r0 r1 contents w0 w1 old new ends clean f of 
           record {
             ends = led.ends;
             turns = turns;
-            follow = led.follow;
-            last = led.last;
+            run = led.run;
             commands = commanded;
-            left = left_by start turns (standing new all.0) led.last;
+            left = left_by start turns (standing new all.0) lead.1;
             headline = keeps_books f (commands_of turns) of.store.good commanded;
             refusals = turns_leave start turns;
           },

@@ -7,7 +7,7 @@ use Rattle.treasury_core.specs.History.{Turn as CommandTurn, IsRefusedOrRepeated
 use Rattle.treasury_api.specs.declared.asking.Asked.{Asked}
 use Rattle.treasury_api.specs.declared.asking.Asked.TheVariants.{Command, Report}
 use Rattle.treasury_api.specs.Asked.{Asks}
-use Rattle.treasury_api.specs.Step.{Standing, next, is_failure, reply_text, Replies}
+use Rattle.treasury_api.specs.Step.{Standing, Answers, next, is_failure, reply_text, Replies}
 use Rattle.treasury_api.specs.Transcript.{requests_in}
 
 -- a request: its line, what it asks, and what was replied
@@ -15,6 +15,10 @@ pub record Turn : Type 0 where
   pub line : List ℕ
   pub asked : Result Asked Refusal
   pub reply : Result Answer Refusal
+
+-- the turn of a line that is answered so
+abbrev pub turn_of : {s : Standing} {line answer : List ℕ} {t : Standing} → Answers s line answer t → Turn
+turn_of {line = line} a = record { line = line; asked = a.asked; reply = a.reply }
 
 -- where a run stands after a turn
 abbrev pub after_turn : Standing → Turn → Standing

@@ -1,13 +1,14 @@
 -- What a run did and what it left, from whichever state it began on (own rules; docs/RULES.md, "Books", "Runs").
-use Rattle.std.specs.Prelude.{◌≡◌, ℕ, List, Option, Result, MatchResult}
+use Rattle.std.specs.Prelude.{◌≡◌, ℕ, List, [], ◌∷◌, ◌++◌, Option, Result, MatchResult}
 use Rattle.sqlite.specs.Store.{Ghosts}
 use Rattle.money_core.specs.declared.cause.Cause.{Cause}
+use Rattle.money_core.specs.declared.cause.Cause.TheVariants.{OutOfMemory, ReadFault, WriteFault}
 use Rattle.treasury_core.specs.History.{IsRun as IsCommandRun, state_after}
 use Rattle.treasury_core.specs.Headline.{KeepsBooks}
 use Rattle.treasury_store.specs.Treasury.{Treasury}
 use Rattle.treasury_api.specs.RunEnd.{most_input, Finished, EndsBy}
 use Rattle.treasury_api.specs.Step.{Standing, Answers}
-use Rattle.treasury_api.specs.History.{Turn, AreTurns, end_of, IsRun, commands_of, RefusalsLeave, RefusedLinesLeave}
+use Rattle.treasury_api.specs.History.{Turn, turn_of, IsRun, commands_of, RefusalsLeave, RefusedLinesLeave}
 use Rattle.treasury_api.specs.Left.{LeavesRun}
 
 -- All of the input is answered, at most 64 MiB of it: by turns, one for each request. Their commands are a run of the
@@ -24,14 +25,24 @@ pub record AnswersAll {R W : Type 0} (remaining : R → Option (List ℕ)) (r0 r
   pub refusals : RefusalsLeave start turns
   pub lines : RefusedLinesLeave start turns
 
--- A run is cut off by this cause: memory, its input or its output. It ends by turns too, and of their commands the
--- headline holds.
+-- The turns of a run that is cut off are those of the complete lines that were answered; where a write failed, also
+-- that of the request behind them, whose answer is torn.
+abbrev pub AreTurnsOf : (cause : Cause) (r0 r1 w0 w1 : Option (List ℕ)) (start end : Standing)
+    → EndsBy cause Answers most_input r0 r1 w0 w1 start end → List Turn → Type 0
+AreTurnsOf OutOfMemory r0 r1 w0 w1 start end ends turns = IsRun start ends.stops.whole ends.stops.written end turns
+AreTurnsOf ReadFault r0 r1 w0 w1 start end ends turns = IsRun start ends.answered.whole ends.answered.written end turns
+AreTurnsOf WriteFault r0 r1 w0 w1 start end ends turns =
+    (front : List Turn) × IsRun start ends.stops.whole ends.stops.written ends.stops.mid front
+    × (turns ≡ front ++ turn_of ends.stops.last ∷ [])
+AreTurnsOf _ r0 r1 w0 w1 start end ends turns = ⊥
+
+-- A run is cut off by this cause: memory, its input or its output. It ends by turns too, those of what was answered,
+-- and of their commands the headline holds.
 pub record IsCutOffBy {R W : Type 0} (cause : Cause) (remaining : R → Option (List ℕ)) (r0 r1 : R)
     (contents : W → Option (List ℕ)) (w0 w1 : W) (start end : Standing) : Type 0 where
   pub ends : EndsBy cause Answers most_input (remaining r0) (remaining r1) (contents w0) (contents w1) start end
   pub turns : List Turn
-  pub follow : AreTurns start turns
-  pub last : end ≡ end_of start turns
+  pub run : AreTurnsOf cause (remaining r0) (remaining r1) (contents w0) (contents w1) start end ends turns
   pub commands : IsCommandRun start.now (commands_of turns)
   pub left : end.now ≡ state_after start.now (commands_of turns)
   pub headline : KeepsBooks start.now (commands_of turns)
