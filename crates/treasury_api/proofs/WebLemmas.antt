@@ -1,31 +1,36 @@
 -- A call is answered on a treasury, and a connection served.
 use Rattle.std.proofs.Common.{◌≡◌, ◌≢◌, ◌⊎◌, ◌++◌, ℕ, List, [], ◌∷◌, Bool, true, false, Option, Some, None, Result, Ok}
-use Rattle.std.proofs.Common.{Err, take, codes, refl, ap, ◌∙◌, sym, subst, inl, inr}
+use Rattle.std.proofs.Common.{Err, IsTrue, MatchOption, take, codes, refl, ap, ◌∙◌, sym, subst, inl, inr}
 use Rattle.std.specs.Io.KnownBytes.{Appends}
 use Rattle.sqlite.specs.Store.{Ghosts}
+use Rattle.sqlite.specs.Held.{Held, state}
 use Rattle.http_request.specs.declared.call.Call.{Call}
 use Rattle.http_request.specs.declared.call.Call.TheVariants.{Unreadable, Nowhere, Command, Balance, Journal, Transit}
 use Rattle.http_request.specs.Call.{IsStopped}
 use Rattle.money_core.specs.declared.cause.Cause.{Cause}
 use Rattle.money_core.specs.declared.cause.Cause.TheVariants.{OutOfMemory, ReadFault, WriteFault, Request as NoRequest}
+use Rattle.money_core.specs.declared.cause.Cause.TheVariants.{Store as Failed}
 use Rattle.money_core.specs.Cause.{number_of}
 use Rattle.book_core.specs.declared.refusal.Refusal.{Refusal}
 use Rattle.book_core.specs.declared.refusal.Refusal.TheVariants.{Plain, Text, ClaimFailed}
 use Rattle.treasury_core.specs.declared.command.Answer.{Answer}
 use Rattle.treasury_core.specs.Federation.{Federation}
 use Rattle.treasury_core.specs.History.{Turn}
+use Rattle.treasury_store.specs.Kept.{ShutsByFault}
 use Rattle.treasury_store.specs.Treasury.{Treasury, IsTreasuryOf}
+use Rattle.treasury_store.proofs.LeftLemmas.{shuts_same}
 use Rattle.treasury_api.specs.declared.request.Request.{Request}
 use Rattle.treasury_api.specs.declared.asking.Asked.{Asked}
 use Rattle.treasury_api.specs.Answer.{answer_text}
 use Rattle.treasury_api.specs.Step.{Standing, after}
+use Rattle.treasury_api.specs.Left.{IsOpenBut, LeavesRequest}
 use Rattle.treasury_api.specs.Replied.{standing}
 use Rattle.treasury_api.specs.OneRequest.{AnswersRequest, RepliesOn, is_refusal}
 use Rattle.treasury_api.specs.WebReply.{status_of, status_of_number, whole_reply}
-use Rattle.treasury_api.specs.Web.{asked_by, IsNoAnswer, AnswersCall, AnswersOn, AnswersRead, FailsBy, ServesOne}
-use Rattle.treasury_api.specs.Web.{AnsweredCall, AreServed, HasServed}
+use Rattle.treasury_api.specs.Web.{asked_by, IsNoAnswer, AnswersCall, IsOpenBut503, AnswersOn, AnswersRead, FailsBy}
+use Rattle.treasury_api.specs.Web.{ServesOne, AnsweredCall, AreServed, HasServed}
 use Rattle.treasury_api.specs.WebServing.{IsToldBy}
-use Rattle.treasury_api.proofs.ReplyLemmas.{state_is}
+use Rattle.treasury_api.proofs.ReplyLemmas.{state_is, refusal_is}
 use Rattle.treasury_api.proofs.ServeLemmas.{plain_line}
 use Rattle.treasury_api.proofs.OneRequestLemmas.{IsToldAs, IsRunTo, request_run, request_leaves}
 
@@ -53,13 +58,43 @@ told_as g new f (ClaimFailed failure) cause status text of (s, (held, inr (said,
       code ∙ ap (λ (c : Cause). status_of_number (number_of c)) is,
     )
 
+-- ---- whether the database is open behind a refusal
+
+-- the status of a plain refusal
+plain_status : {S : Type 0} (new : Treasury S) (refusal : Refusal) (because cause : Cause) (status : ℕ) (text : List ℕ)
+    → IsToldBy new refusal cause text → status ≡ status_of_number (number_of cause) → refusal ≡ Plain because
+    → status ≡ status_of_number (number_of because)
+plain_status new refusal because cause status text told code is =
+    code ∙ ap (λ (c : Cause). status_of_number (number_of c))
+    (subst (λ (r : Refusal). IsToldBy new r cause text) is told).1
+
+-- by 40 and 41 it is 503
+pub open_but_503 : {S T : Type 0} (g : Ghosts S) (old : Held S) (new : Treasury S) (result : Result T Refusal)
+    (refusal : Refusal) (cause : Cause) (status : ℕ) (text : List ℕ) → result ≡ Err refusal
+    → IsToldBy new refusal cause text → status ≡ status_of_number (number_of cause)
+    → IsOpenBut g old new.store.conn result → IsTrue (state g new.store.conn).is_open ⊎ (status ≡ 503)
+open_but_503 g old new result refusal cause status text is told code (inl still) = inl still
+open_but_503 g old new result refusal cause status text is told code (inr (inl failed)) =
+    inr (plain_status new refusal Failed cause status text told code (refusal_is result refusal (Plain Failed) is
+    failed))
+open_but_503 g old new result refusal cause status text is told code (inr (inr (memory, more))) =
+    inr (plain_status new refusal OutOfMemory cause status text told code (refusal_is result refusal (Plain OutOfMemory)
+    is memory))
+
 -- ---- a call
 
 -- one that has no route
 pub nowhere_answered : {S : Type 0} (g : Ghosts S) (t : Treasury S) (status : ℕ) (body : List ℕ) → status ≡ 404
     → body ≡ codes "not found\n" → AnswersOn g t Nowhere status body t
 nowhere_answered g t status body is said =
-    record { clean = λ k. k; answers = λ k f of. (f, (of, inl (refl, (is, said), refl))) }
+    record {
+      clean = λ k. k;
+      answers = λ k f of. (f, (of, inl (refl, (is, said), refl)));
+      left = refl;
+      open_but = λ k is_open f of. inl is_open;
+      shuts = shuts_same g t.store.conn;
+      closed = λ failed. refl;
+    }
 
 no_answer : (call : Call) (status : ℕ) (body : List ℕ) → call ≢ Nowhere → status ≡ 400
     → body ≡ answer_text [] (Err (Plain NoRequest)) → IsNoAnswer call status body
@@ -79,16 +114,25 @@ nothing_answered g t call status body other none is said =
       clean = λ k. k;
       answers = λ k f of.
           (f, (of, inl (sym none, no_answer call status body other is said, refl)));
+      left = subst (λ (o : Option Request). MatchOption o (t ≡ t) (LeavesRequest g t t)) none refl;
+      open_but = λ k is_open f of. inl is_open;
+      shuts = shuts_same g t.store.conn;
+      closed = λ failed. refl;
     }
 
 -- one that asks for a request
 pub request_answered : {S : Type 0} (g : Ghosts S) (old new : Treasury S) (call : Call) (request : Request) (status : ℕ)
     (body : List ℕ) → Some request ≡ asked_by call
     → RepliesOn g old request body (λ (reply : Result Answer Refusal). status ≡ status_of reply) new
-    → AnswersOn g old call status body new
-request_answered g old new call request status body asks replies = record {
+    → LeavesRequest g old new request → IsOpenBut503 g old status new → ShutsByFault g old.store.conn new.store.conn
+    → (IsTrue old.store.failed → new ≡ old) → AnswersOn g old call status body new
+request_answered g old new call request status body asks replies left open_but shuts closed = record {
   clean = replies.clean;
   answers = λ k f of. let r = replies.answers k f of in (r.0, (r.1.0, inr (request, sym asks, r.1.1)));
+  left = subst (λ (o : Option Request). MatchOption o (new ≡ old) (LeavesRequest g old new)) asks left;
+  open_but = open_but;
+  shuts = shuts;
+  closed = closed;
 }
 
 -- ---- calls one after another

@@ -1,7 +1,7 @@
 -- HTTP over a treasury: what a call asks, what it is answered, and how a connection ends (own rules; docs/FORMATS.md,
 -- "HTTP"). What the bytes of a connection call for, `http_request` says.
 use Rattle.std.specs.Prelude.{◌≡◌, ◌⊎◌, ℕ, List, [], ◌∷◌, take, Option, Some, None, option_map, Result, Err}
-use Rattle.std.specs.Prelude.{MatchResult, codes}
+use Rattle.std.specs.Prelude.{MatchOption, MatchResult, IsTrue, codes}
 use Rattle.std.specs.Io.KnownBytes.{Appends}
 use Rattle.sqlite.specs.Store.{Ghosts}
 use Rattle.sqlite.specs.State.{HasCleanDisk}
@@ -16,12 +16,14 @@ use Rattle.book_core.specs.declared.refusal.Refusal.{Refusal}
 use Rattle.book_core.specs.declared.refusal.Refusal.TheVariants.{Plain}
 use Rattle.treasury_core.specs.declared.command.Answer.{Answer}
 use Rattle.treasury_core.specs.Federation.{Federation}
+use Rattle.treasury_store.specs.Kept.{ShutsByFault}
 use Rattle.treasury_store.specs.Treasury.{Treasury, IsTreasuryOf}
 use Rattle.treasury_api.specs.declared.request.Request.{Request}
 use Rattle.treasury_api.specs.declared.request.Request.TheVariants as asking
 use Rattle.treasury_api.specs.Request.{spelled}
 use Rattle.treasury_api.specs.Answer.{answer_text}
 use Rattle.treasury_api.specs.Step.{Standing}
+use Rattle.treasury_api.specs.Left.{LeavesRequest}
 use Rattle.treasury_api.specs.Replied.{standing}
 use Rattle.treasury_api.specs.OneRequest.{AnswersRequest}
 use Rattle.treasury_api.specs.WebReply.{status_of, whole_reply}
@@ -47,13 +49,25 @@ AnswersCall s call status body t =
     ⊎ ((request : Request) × (asked_by call ≡ Some request)
     × ((reply : Result Answer Refusal) × (AnswersRequest s request body reply t × (status ≡ status_of reply))))
 
+-- A database that was open under a treasury of a state is open behind each reply but 503.
+abbrev pub IsOpenBut503 : {S : Type 0} → Ghosts S → Treasury S → ℕ → Treasury S → Type 0
+IsOpenBut503 g old status new =
+    HasCleanDisk (state g new.store.conn) → IsTrue (state g old.store.conn).is_open → (f : Federation)
+    → IsTreasuryOf g old f → IsTrue (state g new.store.conn).is_open ⊎ (status ≡ 503)
+
 -- What a call makes of a treasury: of whichever state it is, while the disk returns what was written, the call is
--- answered, and the treasury is of the state where that leads.
+-- answered, and the treasury is of the state where that leads. Whatever is left, also behind 41, are the rows of the
+-- state before its request, or of the one after it; a call that asks nothing changes nothing. Only a fault of the disk
+-- shuts the database, and behind a call of the database that failed nothing changes.
 pub record AnswersOn {S : Type 0} (g : Ghosts S) (old : Treasury S) (call : Call) (status : ℕ) (body : List ℕ)
     (new : Treasury S) : Type 0 where
   pub clean : HasCleanDisk (state g new.store.conn) → HasCleanDisk (state g old.store.conn)
   pub answers : HasCleanDisk (state g new.store.conn) → (f : Federation) → IsTreasuryOf g old f
       → (end : Federation) × (IsTreasuryOf g new end × AnswersCall (standing old f) call status body (standing new end))
+  pub left : MatchOption (asked_by call) (new ≡ old) (LeavesRequest g old new)
+  pub open_but : IsOpenBut503 g old status new
+  pub shuts : ShutsByFault g old.store.conn new.store.conn
+  pub closed : IsTrue old.store.failed → new ≡ old
 
 -- what a reader gave calls for something, and that is answered
 pub record AnswersRead {S : Type 0} (g : Ghosts S) (r0 r1 : Option (List ℕ)) (old : Treasury S) (status : ℕ)

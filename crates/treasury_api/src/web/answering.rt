@@ -1,13 +1,15 @@
 //! What a treasury replies to a call.
 
-ghost use Rattle.std.specs.Prelude.{◌≡◌, ◌≤◌, [], Ok, Err, IfOk, OnErr, codes, vec_capacity};
+ghost use Rattle.std.specs.Prelude.{◌≡◌, ◌≤◌, [], Ok, Err, IfOk, OnErr, IsTrue, codes, vec_capacity};
 ghost use Rattle.std.specs.Result.{IsOkUnless};
 ghost use Rattle.book_core.specs.declared.refusal.Refusal.{Refusal as Refused};
+ghost use Rattle.treasury_store.specs.Kept.{ShutsByFault};
 ghost use Rattle.treasury_api.specs.Request.{HasDayNumbers};
 ghost use Rattle.treasury_api.specs.Answer.{answer_text};
+ghost use Rattle.treasury_api.specs.Left.{LeavesRequest};
 ghost use Rattle.treasury_api.specs.OneRequest.{RepliesOn};
 ghost use Rattle.treasury_api.specs.WebReply.{status_of};
-ghost use Rattle.treasury_api.specs.Web.{asked_by, AnswersOn};
+ghost use Rattle.treasury_api.specs.Web.{asked_by, IsOpenBut503, AnswersOn};
 ghost use Rattle.treasury_api.specs.WebServing.{code_of, HasDays};
 
 use crate::answering::answer;
@@ -105,8 +107,12 @@ fn answer_request<S: Alter>(
     requires days { HasDayNumbers request.now }
     requires empty { room.items ≡ [] }
     requires room { MOST_PLAIN ≤ vec_capacity room }
-    ensures { RepliesOn S.Store treasury.old request.now result.body.items
+    ensures replies { RepliesOn S.Store treasury.old request.now result.body.items
         (λ reply. code_of result.status ≡ status_of reply) treasury.new }
+    ensures left { LeavesRequest S.Store treasury.old treasury.new request.now }
+    ensures open_but { IsOpenBut503 S.Store treasury.old (code_of result.status) treasury.new }
+    ensures shuts { ShutsByFault S.Store treasury.old.store.conn treasury.new.store.conn }
+    ensures closed { IsTrue treasury.old.store.failed → treasury.new ≡ treasury.old }
 {
     let mut body = Vec::new(alloc);
     match answer(alloc, request, treasury, &mut body) {

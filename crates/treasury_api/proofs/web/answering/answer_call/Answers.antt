@@ -7,7 +7,9 @@ returns-in-Ok-Some g c = record {
   ok =
       request_answered g.S.Store c.args.treasury.now c.answer_request.new.treasury c.args.call c.in-Ok-Some.request
       (code_of c.answer_request.result.status) c.answer_request.result.body.items
-      (rw c.in-Ok-Some.field-0-is at c.in-Ok-Some.ensures.asked) c.answer_request.ensures;
+      (rw c.in-Ok-Some.field-0-is at c.in-Ok-Some.ensures.asked) c.answer_request.ensures.replies
+      c.answer_request.ensures.left c.answer_request.ensures.open_but c.answer_request.ensures.shuts
+      c.answer_request.ensures.closed;
   err = tt;
   memory = tt;
 }
