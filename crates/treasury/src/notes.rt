@@ -5,15 +5,17 @@ mod accounts;
 mod again;
 mod amounts;
 mod places;
+mod samples;
 
 use crate::explain::pieces::{push_day, push_number, push_shown};
 use crate::explain::standing::branch_named;
-use crate::notes::accounts::{has_new_account, push_accounts};
+use crate::notes::accounts::{has_new_account, push_account, push_accounts, push_unknown};
 use crate::notes::again::{Again, find_again, push_again};
 use crate::notes::amounts::{has_odd_amount, push_odd_amount, push_odd_amounts};
 use crate::notes::places::new_lines;
+use crate::notes::samples::push_sample_note;
 use book_core::Ledger;
-use money_core::{Cause, Day};
+use money_core::{Cause, Day, Text};
 use sqlite::Alter;
 use std::alloc::Global;
 use treasury_api::Request;
@@ -23,12 +25,20 @@ use treasury_store::Treasury;
 /// The most notes of one kind; of more, a count is given.
 pub const MOST: usize = 5;
 
-/// What the branch of a request held before it was answered.
+/// What a branch held before a request was answered.
 #[derive(Clone, Copy)]
-pub struct HeldBefore {
+struct BranchBefore {
     entries: usize,
     accounts: usize,
     locked: Option<Day>,
+}
+
+/// What was held before a request was answered: how many commodities were declared, and what the branch of the request
+/// held, if it is on one.
+#[derive(Clone, Copy)]
+pub struct HeldBefore {
+    commodities: usize,
+    branch: Option<BranchBefore>,
 }
 
 /// The branch to whose book a request may add.
@@ -36,15 +46,17 @@ fn branch_of<'a, L: Ledger>(state: &'a State<L>, request: &Request) -> Option<&'
     match request {
         Request::Import { branch, .. } => branch_named(state, branch.as_str()),
         Request::Dispatch { from, .. } => branch_named(state, from.as_str()),
+        Request::Receive { branch, .. } => branch_named(state, branch.as_str()),
         Request::Lock { branch, .. } => branch_named(state, branch.as_str()),
+        Request::Close { branch, .. } => branch_named(state, branch.as_str()),
         _ => None,
     }
 }
 
 /// What the branch of a request holds.
-fn held_of<L: Ledger>(state: &State<L>, request: &Request) -> Option<HeldBefore> {
+fn held_of<L: Ledger>(state: &State<L>, request: &Request) -> Option<BranchBefore> {
     match branch_of(state, request) {
-        Some(branch) => Some(HeldBefore {
+        Some(branch) => Some(BranchBefore {
             entries: branch.records.items().len(),
             accounts: branch.ledger.accounts().len(),
             locked: branch.locked,
@@ -53,10 +65,13 @@ fn held_of<L: Ledger>(state: &State<L>, request: &Request) -> Option<HeldBefore>
     }
 }
 
-/// What the branch of a request holds before it is answered.
+/// What is held before a request is answered.
 pub fn held_before<S: Alter>(treasury: &Treasury<S>, request: &Request) -> Option<HeldBefore> {
     match treasury.state() {
-        Some(state) => held_of(state, request),
+        Some(state) => Some(HeldBefore {
+            commodities: state.styles().len(),
+            branch: held_of(state, request),
+        }),
         None => None,
     }
 }
@@ -118,7 +133,7 @@ fn note_import<L: Ledger>(
     state: &State<L>,
     branch: &Branch<L>,
     import: &Import<'_>,
-    before: HeldBefore,
+    before: BranchBefore,
     out: &mut Vec<u8>,
 ) -> Result<(), Cause> {
     if import.new.is_empty() {
@@ -154,7 +169,7 @@ fn note_lock<L: Ledger>(
     alloc: Global,
     branch: &Branch<L>,
     day: Day,
-    before: HeldBefore,
+    before: BranchBefore,
     out: &mut Vec<u8>,
 ) -> Result<(), Cause> {
     let Some(last) = last_day(branch.records.items()) else {
@@ -173,6 +188,71 @@ fn note_lock<L: Ledger>(
     Ok(())
 }
 
+/// Appends the notes of a closing that a branch with these records got: of the accounts that are listed, and of its
+/// target.
+fn note_close(
+    branch: &str,
+    held: &[Record],
+    accounts: Option<&Text>,
+    into: Option<&Text>,
+    out: &mut Vec<u8>,
+) -> Result<(), Cause> {
+    if let Some(list) = accounts {
+        push_unknown(list.as_str(), branch, held, out)?;
+    }
+    match into {
+        Some(account) => push_account(b"--into", account.as_str(), branch, held, out),
+        None => Ok(()),
+    }
+}
+
+/// Appends the notes of a request that was answered, and no refusal, on a branch.
+fn push_notes_on<L: Ledger>(
+    alloc: Global,
+    state: &State<L>,
+    branch: &Branch<L>,
+    request: &Request,
+    source: &str,
+    before: BranchBefore,
+    out: &mut Vec<u8>,
+) -> Result<(), Cause> {
+    let name = branch.name.as_str();
+    let records = branch.records.items();
+    let (held, new) = records.split_at(before.entries.min(records.len()));
+    match request {
+        Request::Import { journal, .. } => {
+            let import = Import {
+                source,
+                text: journal.as_bytes(),
+                branch: name,
+                held,
+                new,
+            };
+            note_import(alloc, state, branch, &import, before, out)
+        }
+        Request::Lock { day, .. } => note_lock(alloc, branch, *day, before, out),
+        _ if new.is_empty() => Ok(()),
+        Request::Dispatch {
+            amount,
+            account,
+            ..
+        } => {
+            push_odd_amount(alloc, state.styles(), amount.as_str(), out)?;
+            push_account(b"--account", account.as_str(), name, held, out)
+        }
+        Request::Receive { part, account, .. } => {
+            if let Some(part) = part {
+                push_odd_amount(alloc, state.styles(), part.amount.as_str(), out)?;
+            }
+            push_account(b"--account", account.as_str(), name, held, out)
+        }
+        Request::Close { accounts, into, .. } => {
+            note_close(name, held, accounts.as_ref(), into.as_ref(), out)
+        }
+        _ => Ok(()),
+    }
+}
+
 /// Appends the notes of a request that was answered, and no refusal.
 fn push_notes<L: Ledger>(
     alloc: Global,
@@ -182,29 +262,15 @@ fn push_notes<L: Ledger>(
     before: HeldBefore,
     out: &mut Vec<u8>,
 ) -> Result<(), Cause> {
-    let Some(branch) = branch_of(state, request) else {
-        return Ok(());
-    };
-    let records = branch.records.items();
-    let (held, new) = records.split_at(before.entries.min(records.len()));
-    match request {
-        Request::Import { journal, .. } => {
-            let import = Import {
-                source,
-                text: journal.as_bytes(),
-                branch: branch.name.as_str(),
-                held,
-                new,
-            };
-            note_import(alloc, state, branch, &import, before, out)
+    if let Request::Commodity { sample } = request {
+        if state.styles().len() > before.commodities {
+            return push_sample_note(sample.as_str(), out);
         }
-        Request::Dispatch { amount, .. } => {
-            if new.is_empty() {
-                return Ok(());
-            }
-            push_odd_amount(alloc, state.styles(), amount.as_str(), out)
+    }
+    match (branch_of(state, request), before.branch) {
+        (Some(branch), Some(before)) => {
+            push_notes_on(alloc, state, branch, request, source, before, out)
         }
-        Request::Lock { day, .. } => note_lock(alloc, branch, *day, before, out),
         _ => Ok(()),
     }
 }

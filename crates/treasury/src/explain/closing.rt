@@ -77,6 +77,15 @@ fn push_long(accounts: Option<&str>, out: &mut Vec<u8>) -> Result<(), Cause> {
     }
 }
 
+/// Appends the list of a closing that selects no account with a balance.
+fn push_list(list: &str, out: &mut Vec<u8>) -> Result<(), Cause> {
+    push_named(b"accounts", list.as_bytes(), out)?;
+    push_line(
+        b"names are joined by `;`, and compared letter by letter",
+        out,
+    )
+}
+
 /// Appends what was asked for of a closing that is held.
 fn push_asked(alloc: Global, txn: &Txn, out: &mut Vec<u8>) -> Result<(), Cause> {
     out.extend_from_slice(b"  held: ")?;
@@ -90,7 +99,7 @@ fn push_asked(alloc: Global, txn: &Txn, out: &mut Vec<u8>) -> Result<(), Cause> 
         push_shown(comment.as_str().as_bytes(), out)?;
     }
     out.extend_from_slice(b"\n")?;
-    Ok(())
+    push_line(b"a branch is closed once at a day", out)
 }
 
 /// Appends the closing that the branch has of that day.
@@ -132,7 +141,7 @@ pub fn push_closing<L: Ledger>(
         Cause::ReservedAccount => push_reserved(accounts, into, out),
         Cause::Limit => push_long(accounts, out),
         Cause::NothingToClose => match accounts {
-            Some(list) => push_named(b"accounts", list.as_bytes(), out),
+            Some(list) => push_list(list, out),
             None => Ok(()),
         },
         Cause::MarkClash => match branch_named(state, branch.as_str()) {

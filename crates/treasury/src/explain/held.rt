@@ -20,6 +20,10 @@ pub const ACCOUNT_FORM: &[u8] =
 /// Said of an account on which no other entry may be.
 pub const TRANSFERS_ONLY: &[u8] = b"only transfers post there";
 
+/// Said where there is no transfer with an ID.
+const REGISTERED: &[u8] =
+    b"treasury register --account assets:transit shows a branch's transfers with their IDs";
+
 /// Said where a branch is closed at a day that is locked.
 const CLOSE_FIRST: &[u8] =
     b"a branch cannot be closed at a day that is locked: close first, which also locks it";
@@ -103,7 +107,7 @@ fn push_style<L: Ledger>(
         Some(unit) => {
             out.extend_from_slice(b"  held: ")?;
             push_sample(alloc, styles, unit, out)?;
-            out.extend_from_slice(b"\n")?;
+            out.extend_from_slice(b", which cannot be changed\n")?;
             Ok(())
         }
         None => Ok(()),
@@ -189,6 +193,7 @@ pub fn push_held<L: Ledger>(
             push_samples(alloc, state.styles(), b"declared", out)
         }
         Cause::CommodityExists => push_style(alloc, state, request, out),
+        Cause::UnknownTransfer => push_line(REGISTERED, out),
         Cause::Full => push_count(state, request, out),
         Cause::Locked | Cause::LockBack => push_lock(alloc, state, request, out),
         Cause::MarkClash

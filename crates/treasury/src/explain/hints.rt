@@ -120,7 +120,10 @@ fn push_directive(journal: &[u8], line: usize, out: &mut Vec<u8>) -> Result<(), 
             out,
         )
     } else {
-        Ok(())
+        push_line(
+            b"`hledger print -x` writes a journal's transactions without directives",
+            out,
+        )
     }
 }
 
@@ -162,14 +165,27 @@ pub fn push_fault_hint(
     out: &mut Vec<u8>,
 ) -> Result<(), Cause> {
     match fault.cause {
+        Cause::Utf8 => push_line(b"save the file as UTF-8, without control characters", out),
         Cause::TooLong => push_limit(journal, fault.line, out),
         Cause::Date => push_line(DATE_FORM, out),
         Cause::Directive => push_directive(journal, fault.line, out),
+        Cause::StrayLine => push_line(
+            b"a blank line, or a comment in the first column, ends a transaction",
+            out,
+        ),
         Cause::Amount => push_line_form(alloc, styles, journal, fault.line, out),
         Cause::UnknownCommodity | Cause::Decimals | Cause::CommodityStyle => {
             push_samples(alloc, styles, b"declared", out)
         }
         Cause::CostNotExact => push_product(alloc, styles, journal, fault.line, out),
+        Cause::Assignment => push_line(
+            b"to assert a balance alone, write a zero amount before it: 0.00 EUR = 5.00 EUR",
+            out,
+        ),
+        Cause::Virtual => push_line(
+            b"write the account without brackets, or leave the posting out",
+            out,
+        ),
         Cause::TwoBlanks => push_blanks(journal, fault.line, out),
         Cause::Unbalanced => push_left_over(alloc, styles, journal, fault.line, out),
         _ => Ok(()),

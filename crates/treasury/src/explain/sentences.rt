@@ -47,7 +47,7 @@ pub fn sentence(cause: Cause) -> &'static str {
         Cause::UnknownTransfer => "there is no transfer with that ID",
         Cause::WrongBranch => "the transfer goes to another branch",
         Cause::AlreadyReceived =>
-            "the key is already held with another day, account or amount; or nothing is left and no part is given",
+            "the transfer or its part was received before with another day, account or amount; or nothing is left and no part is given",
         Cause::TooEarly => "the receipt is dated before the dispatch",
         Cause::LockBack => "the branch is locked through a later day",
         Cause::NothingToClose => "no selected account has a balance",

@@ -4,7 +4,7 @@ use crate::explain::pieces::{
     push_amount, push_day, push_line, push_named, push_named_amount, push_shown,
 };
 use book_core::Ledger;
-use money_core::{Cause, Day, Styles, Text};
+use money_core::{Cause, Day, Styles, Text, read_amount};
 use std::alloc::Global;
 use treasury_api::{Request, WrittenPart};
 use treasury_core::{Part, State, Transfer};
@@ -137,6 +137,21 @@ fn push_key(
     }
 }
 
+/// Appends how the amount of a part was read, that is more than what is left, and what is left.
+fn push_asked(
+    alloc: Global,
+    styles: &Styles,
+    transfer: &Transfer,
+    request: &Request,
+    out: &mut Vec<u8>,
+) -> Result<(), Cause> {
+    if let Some(part) = part_of(request) {
+        let (unit, qty) = read_amount(part.amount.as_str(), styles)?;
+        push_named_amount(alloc, styles, b"asked", unit, qty, out)?;
+    }
+    push_left(alloc, styles, transfer, out)
+}
+
 /// The transfer that a request is on.
 fn transfer_of<'a, L: Ledger>(state: &'a State<L>, request: &Request) -> Option<&'a Transfer> {
     let id = id_of(request)?;
@@ -149,7 +164,7 @@ fn transfer_of<'a, L: Ledger>(state: &'a State<L>, request: &Request) -> Option<
 }
 
 /// Appends what is held of the transfer that a request is on; by the cause also what is held under its key, or what is
-/// left.
+/// asked and what is left.
 pub fn push_transfer_of<L: Ledger>(
     alloc: Global,
     state: &State<L>,
@@ -164,7 +179,7 @@ pub fn push_transfer_of<L: Ledger>(
     push_transfer(alloc, styles, transfer, out)?;
     match cause {
         Cause::AlreadyReceived => push_key(alloc, styles, transfer, request, out),
-        Cause::TooMuch => push_left(alloc, styles, transfer, out),
+        Cause::TooMuch => push_asked(alloc, styles, transfer, request, out),
         _ => Ok(()),
     }
 }

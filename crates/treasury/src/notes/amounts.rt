@@ -260,7 +260,7 @@ pub fn push_odd_amounts(
     push_more(count, out)
 }
 
-/// Appends the note of the amount of a dispatch.
+/// Appends the note of the amount of a dispatch, or of a part that is received.
 pub fn push_odd_amount(
     alloc: Global,
     styles: &Styles,

@@ -43,14 +43,14 @@ const NO_VERSION: &str = "its table format has no row, more than one, or no numb
 
 /// Said of rows that are no state.
 pub const OTHER_ROWS: &str =
-    "the rows of its tables are not those of a treasury; they were changed by other hands, or are damaged";
+    "the rows of its tables are not those of a treasury: another program changed them, or they are damaged";
 
 /// Said where tables are to be made that are there.
-const MADE_ALREADY: &str = "the database has tables of a treasury already";
+const MADE_ALREADY: &str = "the database already has a table with the name of a treasury's";
 
 /// Said where the log cannot be copied into the file.
 pub const UNCLOSED: &str =
-    "the file could not be closed: what was answered before stands in its log, beside it; ask again";
+    "the file could not be closed, and its log stays beside it: the command may have been done, so give it again";
 
 /// A treasury on a database file.
 pub type FileTreasury<S> = Treasury<FileStore<FileFrom<S>>>;

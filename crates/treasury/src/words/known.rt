@@ -12,7 +12,7 @@ use clap::{Arg, Command, value_parser};
 use std::alloc::{AllocError, Global};
 
 /// The version that `--version` shows.
-const VERSION: &str = "0.4.0";
+const VERSION: &str = "0.4.1";
 
 /// What the program is for.
 const ABOUT: &str = "Keeps the books of a federation of branches in a database file.";
@@ -29,7 +29,8 @@ The answer is written to standard output: ok, repeated, refused with a number an
 says why a command was refused, and notes what may have been meant otherwise. DAY is a date such as 2024-12-31, FILE
 the database.
 
-Exit status 0: done, repeated or reported. 1: refused, or cut off. 2: the arguments were not understood."#;
+Exit status 0: done, repeated or reported, also of run and serve where requests were refused. 1: refused, or cut off.
+2: the arguments were not understood."#;
 
 /// What each word does, in the order of a treasurer's year, with an example that works.
 const ABOUT_INIT: &str = "Makes the tables of a new treasury in FILE";
@@ -49,11 +50,12 @@ const ABOUT_IMPORT: &str = "Enters a journal's new transactions into a branch's 
 
 const EXAMPLE_IMPORT: &str = r#"Examples:
   treasury import --db books.db --branch north north.journal
-  hledger -f bank.csv print | treasury import --db books.db --branch north /dev/stdin
+  hledger -f bank.csv print -c '1,000.00 EUR' | treasury import --db books.db --branch north /dev/stdin
 
 A transaction that the branch has already is a repeat: it is counted and not entered again, so a journal may grow.
 One without a mark is known by its whole text: once edited, it is a new transaction.
-One with a mark, a comment line '; bookid:MARK' below its header, is known by the mark: with another text it is refused."#;
+One with a mark, a comment line '; bookid:MARK' below its header, is known by the mark: with another text it is
+refused. MARK is 1 to 100 letters, digits or -._: (with anything else the line is an ordinary comment)."#;
 
 const ABOUT_BALANCE: &str = "Reports a branch's balances through a day";
 
@@ -96,11 +98,12 @@ const ABOUT_CLOSE: &str =
 
 const EXAMPLE_CLOSE: &str = r#"Examples:
   cp books.db before-closing.db
+  treasury close --db books.db --branch north --day 2024-06-30 --accounts 'income:fair;expenses:fair' --into equity:fair
   treasury close --db books.db --branch north --day 2024-12-31
-  treasury close --db books.db --branch north --day 2024-12-31 --accounts 'income:fair;expenses:fair' --into equity:fair
 
 A closing cannot be undone: its entry stays, and the branch is locked through that day for good. A copy of FILE from
-before is the only way back."#;
+before is the only way back. A branch is closed once at a day: do not close a list at the end of a year that is still
+to be closed. Accounts are compared letter by letter; one that the branch does not have closes nothing."#;
 
 const ABOUT_JOURNAL: &str = "Reports a branch's book as a journal in hledger's format";
 
@@ -157,22 +160,24 @@ Example:
 /// What stands beside the values in the help of each word.
 const NAME_HELP: &str = "A lower-case letter, then at most 31 lower-case letters, digits or -";
 
-const SAMPLE_HELP: &str = "An amount in the commodity's style, with its decimal mark";
+const SAMPLE_HELP: &str =
+    "An amount that shows the style; the last . or , in it is the decimal mark, and cannot be changed later";
 
 const JOURNAL_HELP: &str = "The journal's file, at most 1 MiB; /dev/stdin for standard input";
 
 const TAG_HELP: &str = "Only transactions that have the tag: NAME, or NAME=VALUE";
 
 const ACCOUNTS_HELP: &str =
-    "The accounts that are closed, with their subaccounts, joined by `;`; without it revenues and expenses";
+    "The accounts to close, with their subaccounts, joined by `;` (otherwise revenues and expenses)";
 
-const INTO_HELP: &str = "The account that gets their balances; without it equity:retained earnings";
+const INTO_HELP: &str = "The account that gets their balances (otherwise equity:retained earnings)";
 
 const PORT_HELP: &str = "The port, 0 to 65535; 0 has the system choose one";
 
-const REQUESTS_HELP: &str = "After how many connections it ends, at most 4294967295";
+const REQUESTS_HELP: &str = "How many connections to answer, at most 4294967295";
 
-const ID_HELP: &str = "The transfer: 1 to 64 letters, digits or -._";
+const ID_HELP: &str =
+    "The transfer: 1 to 64 letters, digits or -._ (one that begins with - as --id=-t7)";
 
 const PART_HELP: &str =
     "A part and its key: 1 to 32 letters, digits or -._; without it everything that is left";

@@ -80,9 +80,15 @@ fn refused_version(alloc: Global, room: Vec<u8>, path: &str, version: i64) -> Sa
     requires { IsRoom room }
     ensures { IsRefusedBy Cause.Damaged (spoken result) }
 {
-    match format!(in alloc;
-        "the tables name version {version}; only version 1 without a table receipt and version 2 with it are opened"
-    ) {
+    let reason = match version {
+        1 | 2 => format!(in alloc;
+            "the tables name version {version}, and are not those of that version"
+        ),
+        _ => format!(in alloc;
+            "the tables name version {version}, and this program opens versions 1 and 2"
+        ),
+    };
+    match reason {
         Ok(reason) => refused(alloc, room, Cause::Damaged, path, reason.as_str()),
         Err(_) => refused(
             alloc,

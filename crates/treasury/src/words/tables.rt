@@ -144,7 +144,7 @@ fn say_missing(
     } else {
         told.extend_from_slice(b"the database has no tables of a treasury")?;
         if is_alone {
-            told.extend_from_slice(b"; treasury init makes them")?;
+            told.extend_from_slice(b"; if it is the right file, treasury init adds them")?;
         }
     }
     Ok(told)
@@ -204,7 +204,7 @@ fn find_strange(alloc: Global, schema: &Schema, is_alone: bool) -> Result<Option
 }
 
 /// Looks at the tables of a database: 43 where they have not the names and the columns of a treasury's. That `init`
-/// makes them is only said where no log stands beside the file, which is alone then.
+/// adds them is only said where no log stands beside the file, which is alone then.
 pub fn check_tables(alloc: Global, schema: &Schema, is_alone: bool) -> Result<(), Unopened> {
     match find_strange(alloc, schema, is_alone) {
         Ok(None) => Ok(()),
