@@ -181,14 +181,9 @@ fn asked_by_choice(
     into: Option<Text>,
 ) -> Result<Asked, Refusal>
     requires { IsDayNumber day }
-    ensures asks { OrMemory (λ asked.
-        asked ≡ Ok (Asked.Command
-        (Command.Close
-        (record {
-          branch = branch;
-          day = day;
-          choice = record { accounts = option_map cut_list accounts; into = into };
-        })))) result }
+    ensures asks { OrMemory (λ asked. asked ≡ Ok (Asked.Command (Command.Close
+        (record { branch = branch; day = day; choice = record { accounts = option_map cut_list accounts; into = into } }
+        )))) result }
     ensures ready { (styles : List Style) → IsReady styles result }
 {
     match cut_if_given(alloc, accounts) {
