@@ -238,7 +238,8 @@ serve_all {S = S} g old new (request ∷ requests) output (mid, answer, rest, (s
     let a = first.1.1.0 in
     let turn : Turn = record { line = request; asked = a.asked; reply = a.reply } in
     let then = serve_all g mid new requests rest more clean first.0 first.1.0 in
-    let from : (turns : List Turn) × AreServed g mid new (after_turn (standing old f) turn) requests rest then.0 turns =
+    let from : (turns : List Turn)
+    × AreServed g mid new (after_turn (standing old f) turn) requests rest then.0 turns =
     subst (λ (s : Standing). (turns : List Turn) × AreServed g mid new s requests rest then.0 turns) a.left then.1.1 in (
       then.0,
       (
