@@ -1,6 +1,7 @@
 -- A word over a database file: its treasury is started, answers and is closed.
 use Rattle.std.proofs.Common.{◌≡◌, ◌≤◌, ◌<◌, ◌⊎◌, ℕ, Bool, true, false, List, [], length, Option, Result, Ok, Err, IfOk}
-use Rattle.std.proofs.Common.{IfErr, MatchResult, IsTrue, codes, refl, sym, ap, ◌∙◌, subst, inl, inr, arith}
+use Rattle.std.proofs.Common.{None, Some, IsSome, IfSome, IfErr, MatchResult, IsTrue, codes, refl, sym, ap, ◌∙◌, subst}
+use Rattle.std.proofs.Common.{inl, inr, arith}
 use Rattle.std.proofs.KnownBytes.{Appends-nil}
 use Rattle.std.specs.Fmt.{digits}
 use Rattle.std.specs.Io.KnownBytes.{Appends}
@@ -27,11 +28,15 @@ use Rattle.treasury_core.specs.Good.{IsGoodState}
 use Rattle.treasury_core.specs.Rows.{rows, HasShortLocks}
 use Rattle.treasury_store.specs.Rows.{Tables, Holds, HoldsEither}
 use Rattle.treasury_store.specs.Kept.{KeepsTables, StaysAsIs}
-use Rattle.treasury_store.specs.Tables.{no_schema}
-use Rattle.treasury_store.specs.Creating.{has_one}
+use Rattle.treasury_store.specs.Tables.{no_schema, store_schema}
+use Rattle.treasury_store.specs.Creating.{has_one, has_all, has_receipt}
+use Rattle.treasury_store.specs.Opening.{AreOurs, IsFirst, IsFirstNumbered, IsSecond}
+use Rattle.treasury_store.specs.Upgrading.{Upgrades}
+use Rattle.treasury_store.specs.Shown.{ShowsTables}
 use Rattle.treasury_store.specs.declared.store.Store.{Store}
 use Rattle.treasury_store.specs.Store.{TablesAre, IsOf, empty_state}
 use Rattle.treasury_store.specs.Treasury.{Treasury, IsTreasuryOf}
+use Rattle.treasury_store.proofs.OpenLemmas.{ours_second, not_first, second_more}
 use Rattle.treasury_api.specs.declared.request.Request.{Request}
 use Rattle.treasury_api.specs.Answer.{answer_text}
 use Rattle.treasury_api.specs.Asked.{AsksOf}
@@ -47,6 +52,7 @@ use Rattle.treasury.specs.Word.{AnswersWord, SaysTo}
 use Rattle.treasury.specs.Left.{HoldsOf, HaveRows, KeepsFile}
 use Rattle.treasury.specs.OverFile.{Spoken, IsRefusedBy, IsFileRefused, ShowsState, LeavesState, AnswersOver, MakesOver}
 use Rattle.treasury.specs.OverFile.{HaveRowsBehind, MayHaveDone, Tells, SaysOver, SaysToJournal, SaysToWord, IsTold}
+use Rattle.treasury.specs.OverFile.{ShowsGoodRows, HasTreasury}
 use Rattle.treasury.specs.declared.words.said.Said.{Said}
 use Rattle.treasury.specs.declared.words.over_file.Answered.{Answered}
 use Rattle.treasury.specs.Started.{spoken, refusal_of, IsOpenedOn, StartsOn, IsStarted, IsClosedAs, IsUnclosed}
@@ -71,6 +77,12 @@ tells_nothing {W} contents w0 w1 status same one =
       one,
     )
 
+-- what holds of a state that is held is held of one
+held_by : {P : Federation → Type 0} (held : Option Federation) → IsSome held → IfSome held P
+    → (f : Federation) × P f
+held_by None none holds = absurd cc
+held_by (Some f) some holds = (f, holds)
+
 no_more : (n m : ℕ) → n ≤ m → m ≡ 0 → n ≡ 0
 no_more n m within none = le-zero (subst (λ k. n ≤ k) none within)
 
@@ -83,6 +95,40 @@ file_refused (why.OtherVersion version) said refused = inr (inr refused)
 file_refused (why.Strange told) said refused = inr (inr refused)
 
 module _ {D : Type 0} (g : disk.Ghosts D) where
+  -- a database on which a treasury was started had one
+  pub had_treasury : (opened : Held (FileStore D g)) (s : Store (FileStore D g)) (t : Treasury (FileStore D g))
+      → IsTrue (has_all (file_state opened).now.schema)
+      → (HasCleanDisk (file_state s.conn) → AreOurs (file_state opened).now.schema
+      → IsFirst (file_state opened).now ⊎ IsSecond (file_state opened).now)
+      → (HasCleanDisk (file_state s.conn) → IsFirstNumbered (file_state opened).now
+      → Upgrades (file_state opened).now (file_state s.conn).now
+      × ((file_state s.conn).committed ≡ (file_state s.conn).now))
+      → (HasCleanDisk (file_state s.conn) → AreOurs (file_state opened).now.schema
+      → (IsFirst (file_state opened).now → ⊥)
+      → ((file_state s.conn).now ≡ (file_state opened).now)
+      × ((file_state s.conn).committed ≡ (file_state opened).committed))
+      → KeepsTables over_files s.conn t.store.conn
+      → IsSome t.held
+      → (HasCleanDisk (file_state t.store.conn) → (file_state s.conn).now.schema ≡ store_schema
+      → IfSome t.held (λ f. IsGoodState f × ShowsTables (file_state s.conn).now (rows f)))
+      → HasCleanDisk (file_state t.store.conn) → HasTreasury (file_state opened).now
+  had_treasury opened s t named there first same keeps held shown k = record {
+    named = named;
+    version = there middle;
+    second = λ second.
+        let kept = same middle (ours_second (file_state opened).now.schema second.schema)
+        (λ is. not_first (file_state opened).now (ap has_receipt second.schema ∙ second_more) is) in
+        subst (λ (d : Database). ShowsGoodRows d) kept.0
+        (good (ap (λ (d : Database). d.schema) kept.0 ∙ second.schema));
+    first = λ numbered. let up = first middle numbered in ((file_state s.conn).now, up.0, good up.0.schema);
+  }
+    where
+      middle : HasCleanDisk (file_state s.conn)
+      middle = no_more _ _ keeps.clean k
+
+      good : (file_state s.conn).now.schema ≡ store_schema → ShowsGoodRows (file_state s.conn).now
+      good ours = let one = held_by t.held held (shown k ours) in (one.0, one.1.0, one.1.1)
+
   -- a treasury is started on a store that was opened on a connection
   pub starts_on : (opened : Held (FileStore D g)) (s : Store (FileStore D g)) (t : Treasury (FileStore D g))
       → ((file_state opened).committed ≡ (file_state opened).now → (rows : Tables)
@@ -95,12 +141,14 @@ module _ {D : Type 0} (g : disk.Ghosts D) where
       → KeepsTables over_files s.conn t.store.conn
       → (HasCleanDisk (file_state t.store.conn) → IsTrue (file_state t.store.conn).is_open)
       → (HasCleanDisk (file_state t.store.conn) → StaysAsIs (file_state s.conn) (file_state t.store.conn))
+      → (HasCleanDisk (file_state t.store.conn) → HasTreasury (file_state opened).now)
       → StartsOn g opened t
-  starts_on opened s t upgraded first is_open treasury unfailed keeps still_open kept = record {
+  starts_on opened s t upgraded first is_open treasury unfailed keeps still_open kept has = record {
     clean = λ k. no_more _ _ first (middle k);
     is_open = still_open;
     tables = tables;
     of = λ k same f shows. treasury k f shows.good shows.short (upgraded same (rows f) shows.holds);
+    has = has;
     unfailed = unfailed;
   }
     where
@@ -170,6 +218,7 @@ module _ {D : Type 0} (g : disk.Ghosts D) where
     is_left = refl;
     found = λ k. started.on.found (at_first k);
     serves = λ k. started.on.serves (at_first k);
+    has = λ k. started.starts.has (says.clean (closes.copied k).was_clean);
     answers = answers;
   }
     where

@@ -113,6 +113,7 @@ module _ {D : Type 0} (g : disk.Ghosts D) where
     is_left = refl;
     found = λ k. started.on.found (at_first k);
     serves = λ k. started.on.serves (at_first k);
+    has = λ k. started.starts.has (served.clean (closes.copied k).was_clean);
     answers = answers;
   }
     where

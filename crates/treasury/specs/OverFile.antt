@@ -2,7 +2,7 @@
 -- program"), while the disk returns what was written. An image is what the files, the database and its log, hold; that
 -- of a word, when they were opened.
 use Rattle.std.specs.Prelude.{◌≡◌, ◌≢◌, ◌<◌, ◌⊎◌, ℕ, Bool, true, false, if◌then◌else◌, List, [], ◌∷◌, take, length}
-use Rattle.std.specs.Prelude.{Option, None, Some, IfSome, Ok, Err, codes}
+use Rattle.std.specs.Prelude.{Option, None, Some, IfSome, Ok, Err, codes, IsTrue}
 use Rattle.std.specs.Io.KnownBytes.{Appends}
 use Rattle.clap.specs.Walk.{Row, first_of}
 use Rattle.sqlite_disk.specs.declared.Disk as disk
@@ -27,7 +27,10 @@ use Rattle.treasury_core.specs.Rows.{rows, HasShortLocks}
 use Rattle.treasury_store.specs.Rows.{Holds, HoldsEither, AreTreesOf}
 use Rattle.treasury_store.specs.Store.{empty_state}
 use Rattle.treasury_store.specs.Tables.{no_schema}
-use Rattle.treasury_store.specs.Creating.{has_one}
+use Rattle.treasury_store.specs.Creating.{has_one, has_all}
+use Rattle.treasury_store.specs.Opening.{AreOurs, IsFirst, IsFirstNumbered, IsSecond}
+use Rattle.treasury_store.specs.Upgrading.{Upgrades}
+use Rattle.treasury_store.specs.Shown.{ShowsTables}
 use Rattle.treasury_api.specs.declared.request.Request.{Request}
 use Rattle.treasury_api.specs.declared.request.Request.TheVariants.{Import}
 use Rattle.treasury_api.specs.Answer.{answer_text}
@@ -87,6 +90,19 @@ pub record HoldsState (image : Image) (f : Federation) : Type 0 where
   pub tables : Holds db (rows f)
   pub alone : HoldsAlone image db.trees
 
+-- the tables of a database are the rows of a good state, as a query reads them
+abbrev pub ShowsGoodRows : Database → Type 0
+ShowsGoodRows db = (f : Federation) × IsGoodState f × ShowsTables db (rows f)
+
+-- A database has a treasury: tables with our names. If our statements made them, and it has no others, they are those
+-- of version 2, with the rows of a good state, or those of version 1, whose version 2 has such rows, where the rowid of
+-- the row of `format` is an integer, as SQLite has no others.
+pub record HasTreasury (db : Database) : Type 0 where
+  pub named : IsTrue (has_all db.schema)
+  pub version : AreOurs db.schema → IsFirst db ⊎ IsSecond db
+  pub second : IsSecond db → ShowsGoodRows db
+  pub first : IsFirstNumbered db → (next : Database) × Upgrades db next × ShowsGoodRows next
+
 module _ {D : Type 0} (g : disk.Ghosts D) where
   -- a connection shows tables, of version 2 or of version 1, that are the rows of a good state, with lock days that a
   -- table takes
@@ -100,14 +116,15 @@ module _ {D : Type 0} (g : disk.Ghosts D) where
   LeavesState closed f = (left : Image) → IsImageOf g closed.log closed.db left → HoldsState left f
 
   -- A file was opened and closed, and that is what is left. What its connection showed first is what the image holds,
-  -- and of whichever state these are the rows: the request is answered as by that state, and the file that is closed
-  -- holds the rows of the state where the answer leads.
+  -- and that has a treasury. Of whichever state these are the rows: the request is answered as by that state, and the
+  -- file that is closed holds the rows of the state where the answer leads.
   pub record AnswersOver (image : Image) (request : Request) (said : Spoken) (left : Left D g) : Type 0 where
     pub opened : Held (FileStore D g)
     pub closed : Files D
     pub is_left : left ≡ Closed closed
     pub found : AreClean g closed.log closed.db → FindsIn image (file_state opened)
     pub serves : AreClean g closed.log closed.db → IsOpened opened
+    pub has : AreClean g closed.log closed.db → HasTreasury (file_state opened).now
     pub answers : AreClean g closed.log closed.db → (f : Federation) → ShowsState opened f
         → (end : Standing) × AnswersWord (record { now = f; failed = false }) request said.text said.refused end
         × LeavesState closed end.now

@@ -22,6 +22,7 @@ use Rattle.treasury.specs.declared.words.left.Left.{Left}
 use Rattle.treasury.specs.declared.words.left.Left.TheVariants.{Closed}
 use Rattle.treasury.specs.Left.{KeepsFile}
 use Rattle.treasury.specs.OverFile.{Spoken, IsRefusedBy, IsFileRefused, IsRefusedBefore, LeavesState, ShowsState}
+use Rattle.treasury.specs.OverFile.{HasTreasury}
 
 -- ---- its values
 
@@ -63,14 +64,16 @@ TellsServing contents w0 w1 status said =
 
 module _ {D : Type 0} (g : disk.Ghosts D) where
   -- A file was opened and closed, and that is what is left; calls were answered in between. What its connection showed
-  -- first is what the image holds, and of whichever state these are the rows: each call is answered by the state that
-  -- the one before it left, and the file that is closed holds the rows of the state where the last one leads.
+  -- first is what the image holds, and that has a treasury. Of whichever state these are the rows: each call is
+  -- answered by the state that the one before it left, and the file that is closed holds the rows of the state where
+  -- the last one leads.
   pub record ServesOver (image : Image) (left : Left D g) : Type 0 where
     pub opened : Held (FileStore D g)
     pub closed : Files D
     pub is_left : left ≡ Closed closed
     pub found : AreClean g closed.log closed.db → FindsIn image (file_state opened)
     pub serves : AreClean g closed.log closed.db → IsOpened opened
+    pub has : AreClean g closed.log closed.db → HasTreasury (file_state opened).now
     pub answers : AreClean g closed.log closed.db → (f : Federation) → ShowsState g opened f
         → (calls : List AnsweredCall) × (end : Standing) × AreServed (record { now = f; failed = false }) calls end
         × LeavesState g closed end.now

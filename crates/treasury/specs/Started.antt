@@ -27,7 +27,7 @@ use Rattle.treasury.specs.declared.words.file.Unopened.{Unopened as Why}
 use Rattle.treasury.specs.declared.words.file.Unopened.TheVariants as why
 use Rattle.treasury.specs.declared.words.left.Left.{Left}
 use Rattle.treasury.specs.declared.words.left.Left.TheVariants.{Untouched, Closed, Open, Shut, Unopened}
-use Rattle.treasury.specs.OverFile.{Spoken, ShowsState}
+use Rattle.treasury.specs.OverFile.{Spoken, ShowsState, HasTreasury}
 
 -- what is said to a word, less the reason
 abbrev pub spoken : Said → Spoken
@@ -105,6 +105,7 @@ module _ {D : Type 0} (g : disk.Ghosts D) where
         → (rows : Tables) → HoldsEither (file_state opened).now rows → TablesAre over_files t.store.conn rows
     pub of : HasCleanDisk (file_state t.store.conn) → (file_state opened).committed ≡ (file_state opened).now
         → (f : Federation) → ShowsState g opened f → IsTreasuryOf over_files t f
+    pub has : HasCleanDisk (file_state t.store.conn) → HasTreasury (file_state opened).now
     pub unfailed : t.store.failed ≡ false
 
   -- a treasury was started on a file that was opened

@@ -3,7 +3,7 @@ use Rattle.sqlite.specs.Held.{Held}
 use Rattle.treasury_store.specs.Creating.{has_receipt}
 use Rattle.treasury.specs.Started.{IsLeftOpen, IsLeftClosed}
 use Rattle.treasury.proofs.LeftLemmas.{keeps_unasked, keeps_refused, keeps_unstarted}
-use Rattle.treasury.proofs.OverFileLemmas.{starts_on}
+use Rattle.treasury.proofs.OverFileLemmas.{starts_on, had_treasury}
 use Rattle.treasury.proofs.words.file.start_on.Goals as goal
 
 not_false : (r b : Bool) → r ≡ b → (not r ≡ false → b ≡ true) × (b ≡ true → not r ≡ false)
@@ -19,6 +19,9 @@ returns-in-Ok-start g c =
     c.in-Ok-open.ensures.clean c.in-Ok-open.ensures.still_open
     c.in-Ok-start.ensures.of c.in-Ok-start.ensures.open c.in-Ok-start.ensures.crash c.in-Ok-start.ensures.still_open
     c.in-Ok-start.ensures.kept
+    (had_treasury _ c.args.conn c.in-Ok-open.store c.in-Ok-start.treasury c.in-Ok-open.ensures.tables
+    c.in-Ok-open.ensures.there c.in-Ok-open.ensures.first c.in-Ok-open.ensures.same c.in-Ok-start.ensures.crash
+    c.in-Ok-start.ensures.held c.in-Ok-start.ensures.shown)
 
 pub returns-in-Err-open : goal.returns-in-Err-open
 returns-in-Err-open g c = λ image on.
