@@ -1,7 +1,10 @@
 -- `serve`: its treasury is started, serves connections and is closed; what is told of it.
-use Rattle.std.proofs.Common.{◌≡◌, ◌≢◌, ◌⊎◌, ℕ, zero, suc, Bool, true, false, Err, List, [], ◌∷◌, ◌++◌, take, Option}
+use Rattle.std.proofs.Common.{◌≡◌, ◌≢◌, ◌<◌, ◌⊎◌, ℕ, ◌+◌, Bool, true, false, Err, List, [], ◌++◌, take, length, Option}
 use Rattle.std.proofs.Common.{None, Some, Result, arith, slice_index, codes, refl, sym, ap, subst, ◌∙◌, inl, inr}
+use Rattle.std.proofs.lemmas.List.{length-append, take-append-le}
+use Rattle.std.proofs.Math.Seq.{take-append_seam, take-append-add}
 use Rattle.std.proofs.KnownBytes.{Appends-trans}
+use Rattle.std.specs.Fmt.{digits}
 use Rattle.std.specs.Io.KnownBytes.{Appends}
 use Rattle.clap.specs.Walk.{Row, rows_of, one_of}
 use Rattle.clap.specs.Matches.{one_text, ReadsOne}
@@ -14,7 +17,7 @@ use Rattle.sqlite_wal.specs.Reads.{AreClean}
 use Rattle.sqlite_store.specs.declared.store.FileStore.{FileStore}
 use Rattle.sqlite.specs.State.{HasCleanDisk}
 use Rattle.sqlite.specs.Files.{file_state, over_files}
-use Rattle.money_core.specs.declared.cause.Cause.TheVariants.{OutOfMemory}
+use Rattle.money_core.specs.declared.cause.Cause.TheVariants.{OutOfMemory, Store as Failed}
 use Rattle.book_core.specs.declared.refusal.Refusal.TheVariants.{Plain}
 use Rattle.treasury_core.specs.Federation.{Federation}
 use Rattle.treasury_store.specs.Treasury.{Treasury}
@@ -25,10 +28,10 @@ use Rattle.treasury_api.specs.Web.{AnsweredCall, AreServed, HasServed}
 use Rattle.treasury.specs.declared.words.left.Left.{Left}
 use Rattle.treasury.specs.declared.words.left.Left.TheVariants.{Untouched, Closed}
 use Rattle.treasury.specs.OverFile.{Spoken, ShowsState, LeavesState, Tells}
-use Rattle.treasury.specs.Serving.{IsNumber, LacksNumber, listening, after_listening, TellsServing, ServesOver}
-use Rattle.treasury.specs.Serving.{IsServed}
+use Rattle.treasury.specs.Left.{KeepsFile}
+use Rattle.treasury.specs.Serving.{IsNumber, LacksNumber, listening, after_listening, ServesOver, IsServed}
 use Rattle.treasury.specs.Started.{IsStarted, IsClosedAs}
-use Rattle.treasury.specs.ServingParts.{ends_unwritten, IsAnnounced, SaysServing}
+use Rattle.treasury.specs.ServingParts.{ends_unwritten, IsAnnounced, SaysServing, ServesIfHeard, KeepsUnheard}
 use Rattle.treasury.specs.declared.words.serving.Ending.{Ending}
 use Rattle.treasury.specs.declared.words.serving.Ending.TheVariants.{Unbound, Unwritten, Unaccepted, Finished}
 use Rattle.treasury.proofs.OverFileLemmas.{left_behind, committed_in, line_of_40, tells_nothing}
@@ -56,50 +59,69 @@ serve_is_not_run same = apart (slice_index (codes "serve") 0) (slice_index (code
 
 -- ---- what is told
 
--- a first part of a text is one of a longer text
-take_within : (n : ℕ) (xs ys : List ℕ) → (m : ℕ) × (take m (xs ++ ys) ≡ take n xs)
-take_within zero xs ys = (0, refl)
-take_within (suc n) [] ys = (0, refl)
-take_within (suc n) (x ∷ xs) ys = let more = take_within n xs ys in (suc more.0, ap (λ (zs : List ℕ). x ∷ zs) more.1)
+-- the line of 41 is no empty one
+line_of_41 : codes "refused 41 Store\n" ≡ answer_text [] (Err (Plain Failed))
+unfolding answer_text digits
+line_of_41 = refl
 
--- a text and a first part of what follows are one of both
-take_past : (n : ℕ) (xs ys : List ℕ) → (m : ℕ) × (take m (xs ++ ys) ≡ xs ++ take n ys)
-take_past n [] ys = (n, refl)
-take_past n (x ∷ xs) ys = let more = take_past n xs ys in (suc more.0, ap (λ (zs : List ℕ). x ∷ zs) more.1)
+some_41 : 0 < length (answer_text [] (Err (Plain Failed)))
+some_41 = subst (λ (text : List ℕ). 0 < length text) line_of_41 (omega arith)
 
--- what is told of a word is told of `serve`
-pub tells_serving : {W : Type 0} (contents : W → Option (List ℕ)) (w0 w1 : W) (status : ℕ) (said : Spoken)
-    → Tells contents w0 w1 status said → TellsServing contents w0 w1 status said
-tells_serving contents w0 w1 status said (inl whole) = inl whole
-tells_serving contents w0 w1 status said (inr (taken, within, part, one)) = inr (taken, part, one)
+-- a part of a text is one of a longer text, and so is all of it; and a part of what follows is one of both
+part_within : (n : ℕ) (xs ys : List ℕ) → n < length xs → n < length (xs ++ ys)
+part_within n xs ys within = let long = length-append xs ys in omega (arith, within, long)
+
+whole_within : (xs ys : List ℕ) → 0 < length ys → length xs < length (xs ++ ys)
+whole_within xs ys more = let long = length-append xs ys in omega (arith, more, long)
+
+part_past : (n : ℕ) (xs ys : List ℕ) → n < length ys → length xs + n < length (xs ++ ys)
+part_past n xs ys within = let long = length-append xs ys in omega (arith, within, long)
 
 -- `listening` is told, and then what is said
 tells_after : {W : Type 0} (contents : W → Option (List ℕ)) (w0 w1 w2 : W) (status : ℕ) (said : Spoken)
     → Appends (contents w0) (contents w1) listening → Tells contents w1 w2 status said
-    → TellsServing contents w0 w2 status (after_listening said)
+    → Tells contents w0 w2 status (after_listening said)
 tells_after contents w0 w1 w2 status said first (inl (then, is)) =
     inl (Appends-trans (contents w0) (contents w1) (contents w2) listening said.text first then, is)
 tells_after contents w0 w1 w2 status said first (inr (taken, within, then, one)) =
-    let part = take_past taken listening said.text in
     inr (
-      part.0,
-      subst (λ (bytes : List ℕ). Appends (contents w0) (contents w2) bytes) (sym part.1)
+      length listening + taken,
+      part_past taken listening said.text within,
+      subst (λ (bytes : List ℕ). Appends (contents w0) (contents w2) bytes)
+          (sym (take-append-add listening said.text taken))
           (Appends-trans (contents w0) (contents w1) (contents w2) listening (take taken said.text) first then),
       one,
     )
 
 -- or a first part of it
 tells_part : {W : Type 0} (contents : W → Option (List ℕ)) (w0 w1 : W) (status taken : ℕ) (said : Spoken)
-    → Appends (contents w0) (contents w1) (take taken listening) → status ≡ 1
-    → TellsServing contents w0 w1 status (after_listening said)
-tells_part contents w0 w1 status taken said written one =
-    let part = take_within taken listening said.text in
-    inr (part.0, subst (λ (bytes : List ℕ). Appends (contents w0) (contents w1) bytes) (sym part.1) written, one)
+    → taken < length listening → Appends (contents w0) (contents w1) (take taken listening) → status ≡ 1
+    → Tells contents w0 w1 status (after_listening said)
+tells_part contents w0 w1 status taken said within written one =
+    inr (
+      taken,
+      part_within taken listening said.text within,
+      subst (λ (bytes : List ℕ). Appends (contents w0) (contents w1) bytes)
+          (sym (take-append-le taken listening said.text (omega (arith, within)))) written,
+      one,
+    )
+
+-- or no more than that, where something is said
+tells_no_more : {W : Type 0} (contents : W → Option (List ℕ)) (w0 w1 : W) (status : ℕ) (said : Spoken)
+    → 0 < length said.text → Appends (contents w0) (contents w1) listening → status ≡ 1
+    → Tells contents w0 w1 status (after_listening said)
+tells_no_more contents w0 w1 status said some written one =
+    inr (
+      length listening,
+      whole_within listening said.text some,
+      subst (λ (bytes : List ℕ). Appends (contents w0) (contents w1) bytes)
+          (sym (take-append_seam listening said.text)) written,
+      one,
+    )
 
 tells_alone : {W : Type 0} (contents : W → Option (List ℕ)) (w0 w1 w2 : W) (status : ℕ) (said : Spoken)
-    → w1 ≡ w0 → Tells contents w1 w2 status said → TellsServing contents w0 w2 status said
-tells_alone contents w0 w1 w2 status said same tells =
-    subst (λ w. TellsServing contents w w2 status said) same (tells_serving contents w1 w2 status said tells)
+    → w1 ≡ w0 → Tells contents w1 w2 status said → Tells contents w0 w2 status said
+tells_alone contents w0 w1 w2 status said same tells = subst (λ w. Tells contents w w2 status said) same tells
 
 -- ---- over a file
 
@@ -135,6 +157,14 @@ module _ {D : Type 0} (g : disk.Ghosts D) where
                 r.1.0.store.tables,
           )
 
+  -- where nothing was served, the file holds what it held
+  pub keeps_unheard : {S : Type 0} (image : Image) (ending : Ending) (old new : Treasury S) (left : Left D g)
+      → ServesIfHeard ending old new → (new ≡ old → KeepsFile g image left) → KeepsUnheard g image ending left
+  keeps_unheard image (Unbound reason) old new left heard keeps = tt
+  keeps_unheard image Unwritten old new left same keeps = keeps same
+  keeps_unheard image Unaccepted old new left heard keeps = tt
+  keeps_unheard image Finished old new left heard keeps = tt
+
   -- what is said to it is told
   pub told_served : {W : Type 0} (image : Image) (contents : W → Option (List ℕ)) (w0 w1 w2 : W) (status : ℕ)
       (values : List Row) (ending : Option Ending) (said : Spoken) (left : Left D g)
@@ -142,35 +172,38 @@ module _ {D : Type 0} (g : disk.Ghosts D) where
       → Tells contents w1 w2 status said
       → IsServed g image contents w0 w2 status values left
   told_served image contents w0 w1 w2 status values None said left same (inl lacks) other tells =
-      (said, tells_alone contents w0 w1 w2 status said same tells, inr (inl lacks))
+      inl (said, tells_alone contents w0 w1 w2 status said same tells, inr (inl lacks))
   told_served image contents w0 w1 w2 status values None said left same (inr file) other tells =
-      (said, tells_alone contents w0 w1 w2 status said same tells, inr (inr (inl file)))
-  told_served image contents w0 w1 w2 status values (Some (Unbound reason)) said left same (inl file) other tells =
-      (said, tells_alone contents w0 w1 w2 status said same tells, inr (inr (inr (inr (inl file)))))
-  told_served image contents w0 w1 w2 status values (Some (Unbound reason)) said left same (inr port) other tells =
-      (said, tells_alone contents w0 w1 w2 status said same tells, inr (inr (inr (inl port))))
+      inl (said, tells_alone contents w0 w1 w2 status said same tells, inr (inr (inl file)))
+  told_served image contents w0 w1 w2 status values (Some (Unbound reason)) said left same (inl file, keeps) other
+      tells = inl (said, tells_alone contents w0 w1 w2 status said same tells, inr (inr (inr (inr (inl file)))))
+  told_served image contents w0 w1 w2 status values (Some (Unbound reason)) said left same (inr port, keeps) other
+      tells = inl (said, tells_alone contents w0 w1 w2 status said same tells, inr (inr (inr (inl port))))
   told_served image contents w0 w1 w2 status values (Some Unwritten) said left first says other tells = absurd cc
-  told_served image contents w0 w1 w2 status values (Some Unaccepted) said left first (inl file) other tells = (
-    after_listening said,
-    tells_after contents w0 w1 w2 status said first tells,
-    inr (inr (inr (inr (inr (said, refl, inr file))))),
-  )
-  told_served image contents w0 w1 w2 status values (Some Unaccepted) said left first (inr (serves, refused)) other
-      tells = (
+  told_served image contents w0 w1 w2 status values (Some Unaccepted) said left first (inl file, keeps) other tells =
+      inl (
+        after_listening said,
+        tells_after contents w0 w1 w2 status said first tells,
+        inr (inr (inr (inr (inr (said, refl, inr file))))),
+      )
+  told_served image contents w0 w1 w2 status values (Some Unaccepted) said left first (inr (serves, refused), keeps)
+      other tells = inl (
         after_listening said,
         tells_after contents w0 w1 w2 status said first tells,
         inr (inr (inr (inr (inr (said, refl, inl (serves, inr refused)))))),
       )
-  told_served image contents w0 w1 w2 status values (Some Finished) said left first (inl file) other tells = (
-    after_listening said,
-    tells_after contents w0 w1 w2 status said first tells,
-    inr (inr (inr (inr (inr (said, refl, inr file))))),
-  )
-  told_served image contents w0 w1 w2 status values (Some Finished) said left first (inr (serves, is)) other tells = (
-    after_listening said,
-    tells_after contents w0 w1 w2 status said first tells,
-    inr (inr (inr (inr (inr (said, refl, inl (serves, inl is)))))),
-  )
+  told_served image contents w0 w1 w2 status values (Some Finished) said left first (inl file, keeps) other tells =
+      inl (
+        after_listening said,
+        tells_after contents w0 w1 w2 status said first tells,
+        inr (inr (inr (inr (inr (said, refl, inr file))))),
+      )
+  told_served image contents w0 w1 w2 status values (Some Finished) said left first (inr (serves, is), keeps) other
+      tells = inl (
+        after_listening said,
+        tells_after contents w0 w1 w2 status said first tells,
+        inr (inr (inr (inr (inr (said, refl, inl (serves, inl is)))))),
+      )
 
   -- and a first part where `listening` cannot be written
   pub told_unwritten : {W : Type 0} (image : Image) (contents : W → Option (List ℕ)) (w0 w1 : W) (status : ℕ)
@@ -178,17 +211,27 @@ module _ {D : Type 0} (g : disk.Ghosts D) where
       → IsAnnounced contents w0 w1 ending → SaysServing g image values ending said left → ends_unwritten ending ≡ true
       → status ≡ 1
       → IsServed g image contents w0 w1 status values left
-  told_unwritten image contents w0 w1 status values (Some Unwritten) said left (taken, written) (inl file) is one = (
-    after_listening said,
-    tells_part contents w0 w1 status taken said written one,
-    inr (inr (inr (inr (inr (said, refl, inr file))))),
-  )
-  told_unwritten image contents w0 w1 status values (Some Unwritten) said left (taken, written) (inr (serves, silence))
-      is one = (
+  told_unwritten image contents w0 w1 status values (Some Unwritten) said left (inl (taken, within, written))
+      (inl file, keeps) is one = inl (
         after_listening said,
-        tells_part contents w0 w1 status taken said written one,
+        tells_part contents w0 w1 status taken said within written one,
+        inr (inr (inr (inr (inr (said, refl, inr file))))),
+      )
+  told_unwritten image contents w0 w1 status values (Some Unwritten) said left (inl (taken, within, written))
+      (inr (serves, silence), keeps) is one = inl (
+        after_listening said,
+        tells_part contents w0 w1 status taken said within written one,
         inr (inr (inr (inr (inr (said, refl, inl (serves, inl silence)))))),
       )
+  told_unwritten image contents w0 w1 status values (Some Unwritten) said left (inr written) (inl file, keeps) is one =
+      inl (
+        after_listening said,
+        tells_no_more contents w0 w1 status said
+            (subst (λ (text : List ℕ). 0 < length text) (sym file.0) some_41) written one,
+        inr (inr (inr (inr (inr (said, refl, inr file))))),
+      )
+  told_unwritten image contents w0 w1 status values (Some Unwritten) said left (inr written)
+      (inr (serves, silence), keeps) is one = inr (written, one, serves, keeps)
   told_unwritten image contents w0 w1 status values None said left first says is one = absurd cc
   told_unwritten image contents w0 w1 status values (Some (Unbound reason)) said left first says is one = absurd cc
   told_unwritten image contents w0 w1 status values (Some Unaccepted) said left first says is one = absurd cc
@@ -200,10 +243,9 @@ module _ {D : Type 0} (g : disk.Ghosts D) where
       → left ≡ Untouched → Tells contents w0 w1 status
       (record { text = codes "refused 40 OutOfMemory\n"; refused = true })
       → IsServed g image contents w0 w1 status values left
-  told_served_40 image contents w0 w1 status values left none tells = (
+  told_served_40 image contents w0 w1 status values left none tells = inl (
     record { text = codes "refused 40 OutOfMemory\n"; refused = true },
-    tells_serving contents w0 w1 status (record { text = codes "refused 40 OutOfMemory\n"; refused = true })
-        tells,
+    tells,
     inl ((line_of_40, refl), none),
   )
 
@@ -211,10 +253,9 @@ module _ {D : Type 0} (g : disk.Ghosts D) where
   pub served_nothing : {W : Type 0} (image : Image) (contents : W → Option (List ℕ)) (w0 w1 : W) (status : ℕ)
       (values : List Row) (left : Left D g)
       → left ≡ Untouched → w1 ≡ w0 → status ≡ 1 → IsServed g image contents w0 w1 status values left
-  served_nothing image contents w0 w1 status values left none same one = (
+  served_nothing image contents w0 w1 status values left none same one = inl (
     record { text = answer_text [] (Err (Plain OutOfMemory)); refused = true },
-    tells_serving contents w0 w1 status (record { text = answer_text [] (Err (Plain OutOfMemory)); refused = true })
-        (tells_nothing contents w0 w1 status same one),
+    tells_nothing contents w0 w1 status same one,
     inl ((refl, refl), none),
   )
 

@@ -1,8 +1,7 @@
 -- What `serve` says and does over a database file (own rules; docs/RULES.md, "The program"), while the disk returns
 -- what was written. Of what a socket gives or takes nothing is said: whichever calls come, they are answered one after
 -- another.
-use Rattle.std.specs.Prelude.{◌≡◌, ◌<◌, ◌⊎◌, ◌^◌, ℕ, false, if◌then◌else◌, List, [], ◌++◌, take, Option, None, Some}
-use Rattle.std.specs.Prelude.{codes}
+use Rattle.std.specs.Prelude.{◌≡◌, ◌<◌, ◌⊎◌, ◌^◌, ℕ, false, List, [], ◌++◌, Option, None, Some, codes}
 use Rattle.std.specs.Io.KnownBytes.{Appends}
 use Rattle.std.specs.Str.Parse.{IsNumeral, without_leading_plus, digits_value}
 use Rattle.clap.specs.Walk.{Row, first_of, one_of}
@@ -22,7 +21,7 @@ use Rattle.treasury.specs.declared.words.left.Left.{Left}
 use Rattle.treasury.specs.declared.words.left.Left.TheVariants.{Closed}
 use Rattle.treasury.specs.Left.{KeepsFile}
 use Rattle.treasury.specs.OverFile.{Spoken, IsRefusedBy, IsFileRefused, IsRefusedBefore, LeavesState, ShowsState}
-use Rattle.treasury.specs.OverFile.{HasTreasury}
+use Rattle.treasury.specs.OverFile.{HasTreasury, Tells}
 
 -- ---- its values
 
@@ -54,13 +53,6 @@ silent = record { text = []; refused = false }
 -- `listening`, and then something, or nothing
 abbrev pub after_listening : Spoken → Spoken
 after_listening said = record said { text = listening ++ said.text }
-
--- All of the text is written, and the status is 1 where it ends as a refusal, else 0; or the output takes no more
--- behind a part of it, or does not hand on what it took, and it is 1.
-abbrev pub TellsServing : {W : Type 0} → (W → Option (List ℕ)) → W → W → ℕ → Spoken → Type 0
-TellsServing contents w0 w1 status said =
-    (Appends (contents w0) (contents w1) said.text × (status ≡ (if said.refused then 1 else 0)))
-    ⊎ ((taken : ℕ) × Appends (contents w0) (contents w1) (take taken said.text) × (status ≡ 1))
 
 module _ {D : Type 0} (g : disk.Ghosts D) where
   -- A file was opened and closed, and that is what is left; calls were answered in between. What its connection showed
@@ -94,8 +86,14 @@ module _ {D : Type 0} (g : disk.Ghosts D) where
       ⊎ (IsRefusedBy Store said
       ⊎ ((rest : Spoken) × (said ≡ after_listening rest) × EndsServing image rest left))))
 
-  -- `serve` is told what is said to it; or 40, and no file was opened
+  -- `listening` is written and not handed on: the status is 1, and the file that was opened holds what it held
+  abbrev pub IsUnheard : {W : Type 0} → Image → (W → Option (List ℕ)) → W → W → ℕ → Left D g → Type 0
+  IsUnheard image contents w0 w1 status left =
+      Appends (contents w0) (contents w1) listening × (status ≡ 1) × ServesOver image left × KeepsFile g image left
+
+  -- `serve` is told what is said to it; or 40, and no file was opened; or nobody hears that it listens
   abbrev pub IsServed : {W : Type 0} → Image → (W → Option (List ℕ)) → W → W → ℕ → List Row → Left D g → Type 0
   IsServed image contents w0 w1 status values left =
-      (said : Spoken) × TellsServing contents w0 w1 status said
-      × (IsRefusedBefore g OutOfMemory said left ⊎ SaysToServe image values said left)
+      ((said : Spoken) × Tells contents w0 w1 status said
+      × (IsRefusedBefore g OutOfMemory said left ⊎ SaysToServe image values said left))
+      ⊎ IsUnheard image contents w0 w1 status left

@@ -1,10 +1,11 @@
 -- Mirrors code: how `serve` is done, part by part.
-use Rattle.std.specs.Prelude.{◌≡◌, ◌⊎◌, ℕ, Bool, true, false, List, take, Option, None, Some}
+use Rattle.std.specs.Prelude.{◌≡◌, ◌<◌, ◌⊎◌, ℕ, Bool, true, false, List, take, length, Option, None, Some, ⊤}
 use Rattle.std.specs.Io.KnownBytes.{Appends}
 use Rattle.clap.specs.Walk.{Row}
 use Rattle.sqlite_disk.specs.declared.Disk as disk
 use Rattle.sqlite_wal.specs.Recovery.{Image}
 use Rattle.money_core.specs.declared.cause.Cause.TheVariants.{Store, Request as NoRequest, ReadFault}
+use Rattle.treasury_store.specs.Treasury.{Treasury}
 use Rattle.treasury.specs.declared.words.serving.Ending.{Ending}
 use Rattle.treasury.specs.declared.words.serving.Ending.TheVariants.{Unbound, Unwritten, Unaccepted, Finished}
 use Rattle.treasury.specs.declared.words.left.Left.{Left}
@@ -12,16 +13,27 @@ use Rattle.treasury.specs.Left.{KeepsFile}
 use Rattle.treasury.specs.OverFile.{Spoken, IsRefusedBy, IsFileRefused, IsRefusedBefore}
 use Rattle.treasury.specs.Serving.{ServesOver, LacksValue, listening, silent}
 
--- `listening` is written once connections can be made, or a first part of it where the output takes no more
+-- the output takes no more behind a first part of `listening`, or does not hand on what it took
+abbrev pub IsUnannounced : {W : Type 0} → (W → Option (List ℕ)) → W → W → Type 0
+IsUnannounced contents w0 w1 =
+    ((taken : ℕ) × (taken < length listening) × Appends (contents w0) (contents w1) (take taken listening))
+    ⊎ Appends (contents w0) (contents w1) listening
+
+-- `listening` is written once connections can be made, where it can be
 abbrev pub IsAnnouncedBy : {W : Type 0} → (W → Option (List ℕ)) → W → W → Ending → Type 0
 IsAnnouncedBy contents w0 w1 (Unbound reason) = w1 ≡ w0
-IsAnnouncedBy contents w0 w1 Unwritten = (taken : ℕ) × Appends (contents w0) (contents w1) (take taken listening)
+IsAnnouncedBy contents w0 w1 Unwritten = IsUnannounced contents w0 w1
 IsAnnouncedBy contents w0 w1 Unaccepted = Appends (contents w0) (contents w1) listening
 IsAnnouncedBy contents w0 w1 Finished = Appends (contents w0) (contents w1) listening
 
 abbrev pub ends_unwritten : Option Ending → Bool
 ends_unwritten (Some Unwritten) = true
 ends_unwritten _ = false
+
+-- where `listening` cannot be written, or is not handed on, nothing is served
+abbrev pub ServesIfHeard : {S : Type 0} → Ending → Treasury S → Treasury S → Type 0
+ServesIfHeard Unwritten old new = new ≡ old
+ServesIfHeard _ old new = ⊤
 
 -- what is said then, where the file is closed
 abbrev pub SaysAtEnd : Ending → Spoken → Type 0
@@ -36,9 +48,15 @@ IsAnnounced contents w0 w1 None = w1 ≡ w0
 IsAnnounced contents w0 w1 (Some ending) = IsAnnouncedBy contents w0 w1 ending
 
 module _ {D : Type 0} (g : disk.Ghosts D) where
-  -- and where it may not be
+  -- the file holds what it held where nothing is served
+  abbrev pub KeepsUnheard : Image → Ending → Left D g → Type 0
+  KeepsUnheard image Unwritten left = KeepsFile g image left
+  KeepsUnheard image _ left = ⊤
+
+  -- and where it may not be closed
   abbrev pub EndsBy : Image → Ending → Spoken → Left D g → Type 0
-  EndsBy image ending said left = IsRefusedBy Store said ⊎ (ServesOver g image left × SaysAtEnd ending said)
+  EndsBy image ending said left =
+      (IsRefusedBy Store said ⊎ (ServesOver g image left × SaysAtEnd ending said)) × KeepsUnheard image ending left
 
   -- and where it did not begin
   abbrev pub SaysServing : Image → List Row → Option Ending → Spoken → Left D g → Type 0

@@ -1,6 +1,6 @@
 //! The word `serve`: connections to a port of this machine, answered one after another over a database file.
 
-ghost use Rattle.std.specs.Prelude.{◌≡◌, ℕ, List, take, None, OnOk, OnErr};
+ghost use Rattle.std.specs.Prelude.{◌≡◌, List, None, OnOk, OnErr};
 ghost use Rattle.std.specs.Io.KnownBytes.{Appends};
 ghost use Rattle.clap.specs.Matches.{found_of};
 ghost use Rattle.clap.specs.Walk.{Row, rows_of};
@@ -11,7 +11,8 @@ ghost use Rattle.treasury.specs.declared.words.left.Left.TheVariants.{Untouched}
 ghost use Rattle.treasury.specs.OverFile.{IsRefusedBy, IsFileRefused};
 ghost use Rattle.treasury.specs.Serving.{listening, silent, LacksValue};
 ghost use Rattle.treasury.specs.Started.{spoken, IsRoom, IsStarted, IsClosedOrShut};
-ghost use Rattle.treasury.specs.ServingParts.{ends_unwritten, IsAnnounced, IsAnnouncedBy, SaysAtEnd, SaysServing};
+ghost use Rattle.treasury.specs.ServingParts.{ends_unwritten, IsUnannounced, IsAnnounced, IsAnnouncedBy, ServesIfHeard};
+ghost use Rattle.treasury.specs.ServingParts.{SaysAtEnd, SaysServing};
 
 use crate::words::file::{UNCLOSED, Unopened, Unserved, close_treasury, open_treasury};
 use crate::words::left::Left;
@@ -114,8 +115,7 @@ fn say_cut_off(rt: &HostRuntime, cause: Cause) {
 /// Says that connections can be made: a reader of the output sees it before the first of them is accepted.
 fn announce<W: Write>(output: &mut W) -> Result<(), Cause>
     ensures ok { OnOk result (Appends (W.contents output.old) (W.contents output.new) listening) }
-    ensures err { OnErr result ((taken : ℕ)
-        × Appends (W.contents output.old) (W.contents output.new) (take taken listening)) }
+    ensures err { OnErr result (IsUnannounced W.contents output.old output.new) }
 {
     match write_whole(output, LISTENING) {
         Ok(()) => {}
@@ -197,6 +197,7 @@ fn serve_port<W: Write, S: Alter>(
 ) -> Ending
     ensures announced { IsAnnouncedBy W.contents output.old output.new result }
     ensures served { HasServed S.Store treasury.old treasury.new }
+    ensures heard { ServesIfHeard result treasury.old treasury.new }
 {
     let listener = match TcpListener::bind(rt, (HOST, wanted.port)) {
         Ok(listener) => listener,
