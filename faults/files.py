@@ -132,14 +132,19 @@ def tables(folder):
         connection.close()
 
 
+def copied(folder, copy):
+    """Copies t.db and its log, where it has one, into another folder."""
+    for name in ("t.db", "t.db-wal"):
+        if os.path.exists(f"{folder}/{name}"):
+            shutil.copy(f"{folder}/{name}", copy)
+
+
 def tables_with_log(folder):
     """Returns the tables of a copy of t.db and its log, which SQLite recovers; none of a file that is only begun."""
     if is_begun(folder):
         return []
     with tempfile.TemporaryDirectory(dir=folder) as copy:
-        for name in ("t.db", "t.db-wal"):
-            if os.path.exists(f"{folder}/{name}"):
-                shutil.copy(f"{folder}/{name}", copy)
+        copied(folder, copy)
         connection = sqlite3.connect(f"{copy}/t.db")
         try:
             return rows_of(connection)
