@@ -6,7 +6,8 @@ use Rattle.std.specs.List.{list_all}
 use Rattle.std.specs.Char.{is_ascii_digit}
 use Rattle.std.specs.Str.Parse.{digits_value}
 use Rattle.std.proofs.lemmas.Bool.{and_parts, leb-true}
-use Rattle.http_request.specs.Length.{is_decimal, length_in, plain_length, values_of, body_length}
+use Rattle.http_request.specs.Fields.{values_of}
+use Rattle.http_request.specs.Length.{is_decimal, length_in, plain_length, body_length}
 
 pub digit_at : (xs : List ℕ) (i : ℕ) → i < length xs → list_all is_ascii_digit xs ≡ true
     → is_ascii_digit (get_or xs i 0) ≡ true

@@ -7,8 +7,8 @@ use Rattle.httparse.specs.declared.spans.HeaderSpan.{HeaderSpan}
 use Rattle.httparse.specs.declared.spans.RequestSpans.{RequestSpans}
 use Rattle.http_request.specs.Head.{IsHead, NeverHead, CanEnd}
 use Rattle.http_request.specs.Spaces.{spaces}
-use Rattle.http_request.specs.declared.length.Values.{Values}
-use Rattle.http_request.specs.declared.length.Values.TheVariants as found
+use Rattle.http_request.specs.declared.fields.Values.{Values}
+use Rattle.http_request.specs.declared.fields.Values.TheVariants as found
 
 -- what was read is a head and perhaps more, and the spans are the head's
 pub record HasHead (r0 r1 : Option (List ℕ)) (text : List ℕ) (headers : List HeaderSpan)

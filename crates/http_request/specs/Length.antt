@@ -1,20 +1,10 @@
 -- How long the body of a request is (RFC 9110, section 8.6; limit: own rule).
-use Rattle.std.specs.Prelude.{ℕ, Bool, ◌&&◌, List, [], ◌∷◌, map, length, Option, Some, None, codes, if◌then◌else◌}
+use Rattle.std.specs.Prelude.{ℕ, Bool, ◌&&◌, List, [], ◌∷◌, length, Option, Some, None, codes, if◌then◌else◌}
 use Rattle.std.specs.Prelude.{nat_le, nat_lt}
-use Rattle.std.specs.Char.{is_ascii_digit, to_ascii_lowercase}
+use Rattle.std.specs.Char.{is_ascii_digit}
 use Rattle.std.specs.List.{list_all}
-use Rattle.std.specs.Str.{bytes_eq}
 use Rattle.std.specs.Str.Parse.{digits_value}
-
--- a field's name is that one, whatever case its letters have
-abbrev pub is_named : List ℕ → List ℕ → Bool
-is_named name given = bytes_eq (map to_ascii_lowercase given) (map to_ascii_lowercase name)
-
--- the values of the fields of a name
-abbrev pub values_of : List ℕ → List (List ℕ × List ℕ) → List (List ℕ)
-values_of name [] = []
-values_of name (field ∷ fields) =
-    if is_named name field.0 then field.1 ∷ values_of name fields else values_of name fields
+use Rattle.http_request.specs.Fields.{values_of}
 
 -- decimal digits, one or more
 abbrev pub is_decimal : List ℕ → Bool

@@ -2,6 +2,7 @@
 pub mod Head
 pub mod Path
 pub mod Routes
+pub mod Fields
 pub mod Length
 pub mod Spaces
 pub mod Call

@@ -5,9 +5,9 @@ ghost use Rattle.std.specs.List.{list_all};
 ghost use Rattle.std.specs.Char.{is_ascii_digit, digit_value};
 ghost use Rattle.std.specs.Str.Parse.{digits_value};
 ghost use Rattle.httparse.specs.Spans.{IsHeaderWithin, header_bytes};
-ghost use Rattle.http_request.specs.Length.{is_named, is_decimal, values_of, length_in, body_length};
-ghost use Rattle.http_request.specs.Found.{AreValues};
+ghost use Rattle.http_request.specs.Length.{is_decimal, length_in, body_length};
 
+use crate::fields::{Values, values_of};
 use httparse::spans::HeaderSpan;
 
 /// The most bytes of a body.
@@ -15,43 +15,6 @@ pub const MAX_BODY: usize = 8 * 1024 * 1024;
 
 /// Stands for every length over the limit.
 const TOO_LONG: usize = MAX_BODY + 1;
-
-/// The values of the fields of one name.
-#[derive(Clone, Copy, Debug)]
-enum Values<'b> {
-    None,
-    One(&'b [u8]),
-    More,
-}
-
-/// Whether the field has this name, in whatever case.
-fn is_named(buf: &[u8], header: &HeaderSpan, name: &str) -> bool
-    requires { IsHeaderWithin (length buf.now) header.now }
-    ensures { result ≡ is_named name.now (header_bytes buf.now header.now).0 }
-{
-    header.name.of(buf).eq_ignore_ascii_case(name.as_bytes())
-}
-
-/// The values of the fields of a name.
-fn values_of<'b>(buf: &'b [u8], headers: &[HeaderSpan], name: &str) -> Values<'b>
-    requires { All (IsHeaderWithin (length buf.now)) headers.now }
-    ensures { AreValues result (values_of name.now (map (header_bytes buf.now) headers.now)) }
-{
-    match headers.split_first() {
-        None => Values::None,
-        Some((first, rest)) => {
-            let others = values_of(buf, rest, name);
-            if is_named(buf, first, name) {
-                match others {
-                    Values::None => Values::One(first.value.of(buf)),
-                    _ => Values::More,
-                }
-            } else {
-                others
-            }
-        }
-    }
-}
 
 /// Whether all bytes are decimal digits.
 fn all_digits(digits: &[u8]) -> bool

@@ -3,6 +3,7 @@
 
 mod body;
 mod call;
+mod fields;
 mod head;
 mod length;
 mod path;
