@@ -1,6 +1,7 @@
 -- A request is read, part by part.
 use Rattle.std.proofs.Common.{◌≡◌, ◌≤◌, ◌<◌, ◌+◌, ◌-◌, ◌++◌, ℕ, List, length, take, drop, max, map, Option, Some, None}
 use Rattle.std.proofs.Common.{Result, Ok, Err, IfOk, codes, refl, ap, ◌∙◌, sym, subst, inl, inr, arith}
+use Rattle.std.proofs.Common.{Bool, true, false}
 use Rattle.std.specs.Prelude.{IfSome, MatchOption}
 use Rattle.std.proofs.lemmas.Grind.{common_steps}
 use Rattle.std.proofs.lemmas.List.{length-append, drop_at}
@@ -19,10 +20,12 @@ use Rattle.http_request.specs.Path.{path_of}
 use Rattle.http_request.specs.Routes.{Routed, commands, balance, journal, transit, LeadsTo, HasNoRoute}
 use Rattle.http_request.specs.declared.routes.Route.{Route}
 use Rattle.http_request.specs.Length.{body_length}
-use Rattle.http_request.specs.Call.{Reads, IsStopped, length_of, Leads, most_read}
+use Rattle.http_request.specs.Foreign.{is_foreign}
+use Rattle.http_request.specs.Call.{Reads, IsStopped, is_foreign_head, length_of, Leads, most_read}
 use Rattle.http_request.specs.Calling.{shown, call_at, CallsFor, CallsBy, LacksBytes}
 use Rattle.http_request.specs.declared.call.Call.{Call}
-use Rattle.http_request.specs.declared.call.Call.TheVariants.{Unreadable, Nowhere, Command, Balance, Journal, Transit}
+use Rattle.http_request.specs.declared.call.Call.TheVariants.{Unreadable, Foreign, Nowhere, Command, Balance, Journal}
+use Rattle.http_request.specs.declared.call.Call.TheVariants.{Transit}
 use Rattle.http_request.proofs.LengthLemmas.{body_bound}
 
 -- ---- routes
@@ -92,21 +95,40 @@ module _ (r0 r1 : Option (List ℕ)) (text : List ℕ) (headers : List HeaderSpa
   there P leads = subst (λ (t : List ℕ). P h.head.method (path_of t)) h.at.path
       (subst (λ (m : List ℕ). P m (path_of (span_bytes text spans.path))) h.at.method leads)
 
-  -- a head that leads to no route, or to that of a report
-  pub head_calls : (call : Call) → CallsFor (span_bytes text spans.method) (path_of (span_bytes text spans.path))
-      (Some call) → Reads r0 r1 call
-  head_calls call (inl (is, none)) = subst (Reads r0 r1) (let same : Nowhere ≡ call = cc in same)
+  -- whether it is foreign
+  foreign_is : (b : Bool) → is_foreign (map (header_bytes text) (take spans.headers headers)) ≡ b
+      → is_foreign_head h.head ≡ b
+  foreign_is b e = sym (ap is_foreign h.at.fields) ∙ e
+
+  -- a head that is
+  pub foreign_calls : is_foreign (map (header_bytes text) (take spans.headers headers)) ≡ true → Reads r0 r1 Foreign
+  foreign_calls is =
+      record {
+        seen = text;
+        read = h.read;
+        bounded = (let b = h.bounded in omega arith);
+        calls = (h.head, h.rest, h.is_head, foreign_is true is);
+      }
+
+  -- another, that leads to no route, or to that of a report
+  pub head_calls : is_foreign (map (header_bytes text) (take spans.headers headers)) ≡ false → (call : Call)
+      → CallsFor (span_bytes text spans.method) (path_of (span_bytes text spans.path)) (Some call) → Reads r0 r1 call
+  head_calls own call (inl (is, none)) = subst (Reads r0 r1) (let same : Nowhere ≡ call = cc in same)
       (record {
         seen = text;
         read = h.read;
         bounded = (let b = h.bounded in omega arith);
-        calls = (h.head, h.rest, h.is_head, there HasNoRoute none);
+        calls = (h.head, h.rest, h.is_head, foreign_is false own, there HasNoRoute none);
       })
-  head_calls call (inr (route, leads, is)) = by_route route leads is
+  head_calls own call (inr (route, leads, is)) = by_route route leads is
     where
       leading : (route : Routed) → LeadsTo (span_bytes text spans.method) (path_of (span_bytes text spans.path)) route
           → Leads text h.head h.rest route
-      leading route leads = record { is_head = h.is_head; leads = there (λ (m p : List ℕ). LeadsTo m p route) leads }
+      leading route leads = record {
+        is_head = h.is_head;
+        own = foreign_is false own;
+        leads = there (λ (m p : List ℕ). LeadsTo m p route) leads;
+      }
 
       by_route : (route : Routed) → LeadsTo (span_bytes text spans.method) (path_of (span_bytes text spans.path)) route
           → Some call ≡ call_at route → Reads r0 r1 call
@@ -133,7 +155,7 @@ module _ (r0 r1 : Option (List ℕ)) (text : List ℕ) (headers : List HeaderSpa
             calls = (h.head, h.rest, leading (transit date) leads);
           })
 
-  module _ (r2 : Option (List ℕ))
+  module _ (r2 : Option (List ℕ)) (own : is_foreign (map (header_bytes text) (take spans.headers headers)) ≡ false)
       (leads : LeadsTo (span_bytes text spans.method) (path_of (span_bytes text spans.path)) commands) where
     leads_there : LeadsTo h.head.method (path_of h.head.target) commands
     leads_there = there (λ (m p : List ℕ). LeadsTo m p commands) leads
@@ -143,7 +165,11 @@ module _ (r0 r1 : Option (List ℕ)) (text : List ℕ) (headers : List HeaderSpa
     size_is o e = sym (ap body_length h.at.fields) ∙ e
 
     still : (more : List ℕ) → Leads (text ++ more) h.head (h.rest ++ more) commands
-    still more = record { is_head = head_more text h.head h.rest more h.is_head; leads = leads_there }
+    still more = record {
+      is_head = head_more text h.head h.rest more h.is_head;
+      own = foreign_is false own;
+      leads = leads_there;
+    }
 
     rest_is : drop spans.len text ≡ h.rest
     rest_is = (behind text h.head h.rest spans.len h.is_head h.at.len).0
@@ -166,7 +192,12 @@ module _ (r0 r1 : Option (List ℕ)) (text : List ℕ) (headers : List HeaderSpa
       seen = text;
       read = subst (λ (r : Option (List ℕ)). Consumes r0 r text) (sym kept) h.read;
       bounded = (let b = h.bounded in omega arith);
-      calls = inr (h.head, h.rest, record { is_head = h.is_head; leads = leads_there }, size_is None size);
+      calls = inr (
+        h.head,
+        h.rest,
+        record { is_head = h.is_head; own = foreign_is false own; leads = leads_there },
+        size_is None size,
+      );
     })
     command_calls (Some n) call size (body, has, is) = subst (Reads r0 r2) (sym is) (record {
       seen = text ++ has.more;

@@ -1,5 +1,6 @@
 -- What the bytes of a connection call for (own rule; docs/FORMATS.md, "HTTP").
-use Rattle.std.specs.Prelude.{◌≡◌, ◌⊎◌, ◌≤◌, ◌<◌, ◌+◌, ℕ, List, length, take, map, Option, Some, None}
+use Rattle.std.specs.Prelude.{◌≡◌, ◌⊎◌, ◌≤◌, ◌<◌, ◌+◌, ℕ, Bool, true, false, List, length, take, map}
+use Rattle.std.specs.Prelude.{Option, Some, None}
 use Rattle.std.specs.Io.KnownBytes.{Consumes}
 use Rattle.httparse.specs.Grammar.{RequestHead, HasNoRequest, MayBecomeRequest}
 use Rattle.httparse.specs.Spans.{name_and_value}
@@ -8,28 +9,38 @@ use Rattle.http_request.specs.Spaces.{spaces}
 use Rattle.http_request.specs.Path.{path_of}
 use Rattle.http_request.specs.Routes.{Routed, commands, balance, journal, transit, LeadsTo, HasNoRoute}
 use Rattle.http_request.specs.Length.{body_length}
+use Rattle.http_request.specs.Foreign.{is_foreign}
 use Rattle.http_request.specs.declared.call.Call.{Call}
-use Rattle.http_request.specs.declared.call.Call.TheVariants.{Unreadable, Nowhere, Command, Balance, Journal, Transit}
+use Rattle.http_request.specs.declared.call.Call.TheVariants.{Unreadable, Foreign, Nowhere, Command, Balance, Journal}
+use Rattle.http_request.specs.declared.call.Call.TheVariants.{Transit}
 
 -- how long the body of a command is
 abbrev pub length_of : RequestHead → Option ℕ
 length_of head = body_length (map name_and_value head.fields)
 
--- the bytes begin with a head within the limits, which leads to this route
+-- it is foreign, by its fields
+abbrev pub is_foreign_head : RequestHead → Bool
+is_foreign_head head = is_foreign (map name_and_value head.fields)
+
+-- the bytes begin with a head within the limits, which is not foreign and leads to this route
 pub record Leads (seen : List ℕ) (head : RequestHead) (rest : List ℕ) (route : Routed) : Type 0 where
   pub is_head : IsHead seen head rest
+  pub own : is_foreign_head head ≡ false
   pub leads : LeadsTo head.method (path_of head.target) route
 
 abbrev pub LeadTo : List ℕ → Routed → Type 0
 LeadTo seen route = (head : RequestHead) × (rest : List ℕ) × Leads seen head rest route
 
 -- What the bytes call for. Nothing where they begin no head, or where the length of a command's body is not stated as
--- it has to be; a command has its whole body, and what stands behind it is not looked at.
+-- it has to be. A head that is foreign calls for nothing else, whatever it asks for. A command has its whole body, and
+-- what stands behind it is not looked at.
 abbrev pub Calls : List ℕ → Call → Type 0
 Calls seen Unreadable =
     NeverHead seen ⊎ ((head : RequestHead) × (rest : List ℕ) × Leads seen head rest commands × (length_of head ≡ None))
+Calls seen Foreign = (head : RequestHead) × (rest : List ℕ) × IsHead seen head rest × (is_foreign_head head ≡ true)
 Calls seen Nowhere =
-    (head : RequestHead) × (rest : List ℕ) × IsHead seen head rest × HasNoRoute head.method (path_of head.target)
+    (head : RequestHead) × (rest : List ℕ) × IsHead seen head rest × (is_foreign_head head ≡ false)
+    × HasNoRoute head.method (path_of head.target)
 Calls seen (Command body) =
     (head : RequestHead) × (rest : List ℕ) × (n : ℕ) × Leads seen head rest commands × (length_of head ≡ Some n)
     × (n ≤ length rest) × (body ≡ take n rest)

@@ -4,6 +4,7 @@ pub mod Path
 pub mod Routes
 pub mod Fields
 pub mod Length
+pub mod Foreign
 pub mod Spaces
 pub mod Call
 -- What mirrors code, for private clauses: nobody has to believe it

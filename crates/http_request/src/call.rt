@@ -7,6 +7,8 @@ use money_core::{Items, Text};
 pub enum Call {
     /// Nothing: it begins with no head within the limits, or says the length of its body wrongly.
     Unreadable,
+    /// Nothing, whatever it asks for: it names another machine, or a page of another origin has a browser send it.
+    Foreign,
     /// Nothing: its method and its path have no route.
     Nowhere,
     /// What the body says of a `POST` to `/commands`.

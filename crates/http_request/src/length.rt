@@ -17,7 +17,7 @@ pub const MAX_BODY: usize = 8 * 1024 * 1024;
 const TOO_LONG: usize = MAX_BODY + 1;
 
 /// Whether all bytes are decimal digits.
-fn all_digits(digits: &[u8]) -> bool
+pub fn all_digits(digits: &[u8]) -> bool
     ensures { result ≡ list_all is_ascii_digit digits.now }
 {
     digits.iter().all(|digit| digit.is_ascii_digit())

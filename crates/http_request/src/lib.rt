@@ -4,6 +4,7 @@
 mod body;
 mod call;
 mod fields;
+mod foreign;
 mod head;
 mod length;
 mod path;

@@ -1,19 +1,22 @@
 //! One request, read from a connection.
 
-ghost use Rattle.std.specs.Prelude.{◌≡◌, ◌⊎◌, Err, IfOk, IfErr};
+ghost use Rattle.std.specs.Prelude.{◌≡◌, ◌⊎◌, Err, take, map, IfOk, IfErr};
 ghost use Rattle.std.specs.Result.{IsOkUnless};
 ghost use Rattle.std.specs.Str.{IsUtf8};
+ghost use Rattle.httparse.specs.Spans.{IsRequestWithin, header_bytes};
+ghost use Rattle.http_request.specs.Foreign.{is_foreign};
 ghost use Rattle.http_request.specs.Path.{path_of};
 ghost use Rattle.http_request.specs.Call.{Reads, IsStopped};
 ghost use Rattle.http_request.specs.Calling.{shown, call_at, CallsFor, CallsBy, LacksBytes};
 
 use crate::body::read_body;
 use crate::call::Call;
+use crate::foreign::is_foreign;
 use crate::head::{MAX_HEADERS, read_head};
 use crate::length::body_length;
 use crate::path::path_of;
 use crate::routes::{Route, find_route};
-use httparse::spans::EMPTY_HEADER_SPAN;
+use httparse::spans::{EMPTY_HEADER_SPAN, HeaderSpan, RequestSpans};
 use money_core::{Cause, Items, Text};
 use std::alloc::Global;
 use std::io::Read;
@@ -79,6 +82,14 @@ fn read_command<R: Read>(
     }
 }
 
+/// Whether the head with these spans is foreign.
+fn is_foreign_head(text: &[u8], headers: &[HeaderSpan], spans: &RequestSpans) -> bool
+    requires { IsRequestWithin text.now headers.now spans.now }
+    ensures { result ≡ is_foreign (map (header_bytes text.now) (take spans.now.headers headers.now)) }
+{
+    is_foreign(text, &headers[..spans.headers])
+}
+
 /// Reads one request, and says what it calls for.
 ///
 /// Its head has at most 16 KiB and 32 headers, its body at most 8 MiB; of a `GET` no body is read. 45 comes where a
@@ -96,6 +107,9 @@ pub fn read_call<R: Read>(alloc: Global, reader: &mut R) -> Result<Call, Cause>
         Ok(None) => return Ok(Call::Unreadable),
         Err(cause) => return Err(cause),
     };
+    if is_foreign_head(&text, &headers, &spans) {
+        return Ok(Call::Foreign);
+    }
     match call_for(alloc, spans.method.of(&text), spans.path.of(&text)) {
         Ok(Some(call)) => Ok(call),
         Ok(None) => {

@@ -135,6 +135,32 @@ const CALLED: &[(&str, &str, &str)] = &[
         "400 Bad Request",
         "refused 44 Request\n",
     ),
+    (
+        "GET /transit/2024-12-31 HTTP/1.1\r\nOrigin: http://[::1]:8040\r\nHost: [::1]:8040\r\n\r\n",
+        "200 OK",
+        "",
+    ),
+    // That a request is foreign comes before everything else that its head asks for.
+    (
+        "GET /transit/2024-12-31 HTTP/1.1\r\nHost: 127.0.0.1.example.org\r\n\r\n",
+        "403 Forbidden",
+        "forbidden\n",
+    ),
+    (
+        "GET /transit/2024-12-31 HTTP/1.1\r\nHost: localhost\r\nHost: localhost\r\n\r\n",
+        "403 Forbidden",
+        "forbidden\n",
+    ),
+    (
+        "POST /commands HTTP/1.1\r\nHost: localhost\r\nOrigin: null\r\nContent-Length: 30\r\n\r\n",
+        "403 Forbidden",
+        "forbidden\n",
+    ),
+    (
+        "DELETE / HTTP/1.1\r\nSec-Fetch-Site: cross-site\r\n\r\n",
+        "403 Forbidden",
+        "forbidden\n",
+    ),
     ("GET / HTTP/1.1\r\n\r\n", "404 Not Found", "not found\n"),
     (
         "GET /balance/north/2024/01/31 HTTP/1.1\r\n\r\n",

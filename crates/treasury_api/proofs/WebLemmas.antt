@@ -5,7 +5,8 @@ use Rattle.std.specs.Io.KnownBytes.{Appends}
 use Rattle.sqlite.specs.Store.{Ghosts}
 use Rattle.sqlite.specs.Held.{Held, state}
 use Rattle.http_request.specs.declared.call.Call.{Call}
-use Rattle.http_request.specs.declared.call.Call.TheVariants.{Unreadable, Nowhere, Command, Balance, Journal, Transit}
+use Rattle.http_request.specs.declared.call.Call.TheVariants.{Unreadable, Foreign, Nowhere, Command, Balance, Journal}
+use Rattle.http_request.specs.declared.call.Call.TheVariants.{Transit}
 use Rattle.http_request.specs.Call.{IsStopped}
 use Rattle.money_core.specs.declared.cause.Cause.{Cause}
 use Rattle.money_core.specs.declared.cause.Cause.TheVariants.{OutOfMemory, ReadFault, WriteFault, Request as NoRequest}
@@ -83,6 +84,19 @@ open_but_503 g old new result refusal cause status text is told code (inr (inr (
 
 -- ---- a call
 
+-- one that is foreign
+pub foreign_answered : {S : Type 0} (g : Ghosts S) (t : Treasury S) (status : ℕ) (body : List ℕ) → status ≡ 403
+    → body ≡ codes "forbidden\n" → AnswersOn g t Foreign status body t
+foreign_answered g t status body is said =
+    record {
+      clean = λ k. k;
+      answers = λ k f of. (f, (of, inl (refl, (is, said), refl)));
+      left = refl;
+      open_but = λ k is_open f of. inl is_open;
+      shuts = shuts_same g t.store.conn;
+      closed = λ failed. refl;
+    }
+
 -- one that has no route
 pub nowhere_answered : {S : Type 0} (g : Ghosts S) (t : Treasury S) (status : ℕ) (body : List ℕ) → status ≡ 404
     → body ≡ codes "not found\n" → AnswersOn g t Nowhere status body t
@@ -96,24 +110,25 @@ nowhere_answered g t status body is said =
       closed = λ failed. refl;
     }
 
-no_answer : (call : Call) (status : ℕ) (body : List ℕ) → call ≢ Nowhere → status ≡ 400
+no_answer : (call : Call) (status : ℕ) (body : List ℕ) → call ≢ Foreign → call ≢ Nowhere → status ≡ 400
     → body ≡ answer_text [] (Err (Plain NoRequest)) → IsNoAnswer call status body
-no_answer Unreadable status body other is said = (is, said)
-no_answer Nowhere status body other is said = absurd (other refl)
-no_answer (Command text) status body other is said = (is, said)
-no_answer (Balance branch date) status body other is said = (is, said)
-no_answer (Journal branch) status body other is said = (is, said)
-no_answer (Transit date) status body other is said = (is, said)
+no_answer Unreadable status body own other is said = (is, said)
+no_answer Foreign status body own other is said = absurd (own refl)
+no_answer Nowhere status body own other is said = absurd (other refl)
+no_answer (Command text) status body own other is said = (is, said)
+no_answer (Balance branch date) status body own other is said = (is, said)
+no_answer (Journal branch) status body own other is said = (is, said)
+no_answer (Transit date) status body own other is said = (is, said)
 
 -- one that asks nothing
 pub nothing_answered : {S : Type 0} (g : Ghosts S) (t : Treasury S) (call : Call) (status : ℕ) (body : List ℕ)
-    → call ≢ Nowhere → None ≡ asked_by call → status ≡ 400 → body ≡ answer_text [] (Err (Plain NoRequest))
-    → AnswersOn g t call status body t
-nothing_answered g t call status body other none is said =
+    → call ≢ Foreign → call ≢ Nowhere → None ≡ asked_by call → status ≡ 400
+    → body ≡ answer_text [] (Err (Plain NoRequest)) → AnswersOn g t call status body t
+nothing_answered g t call status body own other none is said =
     record {
       clean = λ k. k;
       answers = λ k f of.
-          (f, (of, inl (sym none, no_answer call status body other is said, refl)));
+          (f, (of, inl (sym none, no_answer call status body own other is said, refl)));
       left = subst (λ (o : Option Request). MatchOption o (t ≡ t) (LeavesRequest g t t)) none refl;
       open_but = λ k is_open f of. inl is_open;
       shuts = shuts_same g t.store.conn;

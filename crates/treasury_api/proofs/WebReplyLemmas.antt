@@ -7,7 +7,7 @@ use Rattle.std.proofs.KnownBytes.{Appends-trans}
 use Rattle.std.specs.Io.KnownBytes.{Appends}
 use Rattle.http.specs.StatusCode.{code_digits}
 use Rattle.treasury_api.specs.declared.web.status.Status.{Status}
-use Rattle.treasury_api.specs.declared.web.status.Status.TheVariants.{Done, BadRequest, NotFound, Conflict}
+use Rattle.treasury_api.specs.declared.web.status.Status.TheVariants.{Done, BadRequest, Forbidden, NotFound, Conflict}
 use Rattle.treasury_api.specs.declared.web.status.Status.TheVariants.{Unprocessable, Internal, Unavailable}
 use Rattle.treasury_api.specs.WebReply.{reason_of, reply_head, whole_reply}
 use Rattle.treasury_api.specs.WebServing.{code_of}
@@ -59,6 +59,7 @@ head_fits n cap digits reason bytes d r b fits =
 pub reason_short : (s : Status) → length (reason_of (code_of s)) ≤ 21
 reason_short Done = omega arith
 reason_short BadRequest = omega arith
+reason_short Forbidden = omega arith
 reason_short NotFound = omega arith
 reason_short Conflict = omega arith
 reason_short Unprocessable = omega arith

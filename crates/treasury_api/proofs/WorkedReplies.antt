@@ -4,7 +4,7 @@ use Rattle.std.specs.Fmt.{digits}
 use Rattle.money_core.specs.declared.cause.Cause.TheVariants as cause
 use Rattle.book_core.specs.declared.refusal.Refusal.TheVariants.{Plain, Text}
 use Rattle.treasury_core.specs.declared.command.Answer.TheVariants.{Done, Entered, Repeated}
-use Rattle.http_request.specs.declared.call.Call.TheVariants.{Unreadable, Nowhere, Balance, Journal, Transit}
+use Rattle.http_request.specs.declared.call.Call.TheVariants.{Unreadable, Foreign, Nowhere, Balance, Journal, Transit}
 use Rattle.treasury_api.specs.declared.request.Request.TheVariants as asking
 use Rattle.treasury_api.specs.Web.{asked_by}
 use Rattle.treasury_api.specs.WebReply.{status_of, whole_reply}
@@ -39,7 +39,12 @@ pub not_found : whole_reply 404 (codes "not found\n")
 unfolding digits
 not_found = refl
 
+pub forbidden : whole_reply 403 (codes "forbidden\n")
+    ≡ codes "HTTP/1.1 403 Forbidden\r\nContent-Type: text/plain; charset=utf-8\r\nContent-Length: 10\r\nConnection: close\r\n\r\nforbidden\n"
+unfolding digits
+forbidden = refl
+
 -- parts of a path are taken as they stand
 pub parts : (asked_by (Journal (codes "%6eorth")) ≡ Some (asking.Journal (codes "%6eorth")))
-    × (asked_by Unreadable ≡ None) × (asked_by Nowhere ≡ None)
-parts = (refl, refl, refl)
+    × (asked_by Unreadable ≡ None) × (asked_by Foreign ≡ None) × (asked_by Nowhere ≡ None)
+parts = (refl, refl, refl, refl)

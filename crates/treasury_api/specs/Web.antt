@@ -7,7 +7,8 @@ use Rattle.sqlite.specs.Store.{Ghosts}
 use Rattle.sqlite.specs.State.{HasCleanDisk}
 use Rattle.sqlite.specs.Held.{state}
 use Rattle.http_request.specs.declared.call.Call.{Call}
-use Rattle.http_request.specs.declared.call.Call.TheVariants.{Unreadable, Nowhere, Command, Balance, Journal, Transit}
+use Rattle.http_request.specs.declared.call.Call.TheVariants.{Unreadable, Foreign, Nowhere, Command, Balance, Journal}
+use Rattle.http_request.specs.declared.call.Call.TheVariants.{Transit}
 use Rattle.http_request.specs.Call.{Reads, IsStopped}
 use Rattle.money_core.specs.declared.cause.Cause.{Cause}
 use Rattle.money_core.specs.declared.cause.Cause.TheVariants.{OutOfMemory, ReadFault, WriteFault, Request as NoRequest}
@@ -31,14 +32,16 @@ use Rattle.treasury_api.specs.WebReply.{status_of, whole_reply}
 -- the request that is called for; none where nothing is, as by a date that is none
 abbrev pub asked_by : Call → Option Request
 asked_by Unreadable = None
+asked_by Foreign = None
 asked_by Nowhere = None
 asked_by (Command body) = spelled body
 asked_by (Balance branch date) = option_map (asking.Balance branch) (date_of date)
 asked_by (Journal branch) = Some (asking.Journal branch)
 asked_by (Transit date) = option_map asking.Transit (date_of date)
 
--- the reply to a call that asks nothing: 404 where it has no route, else 44
+-- the reply to a call that asks nothing: 403 where it is foreign, 404 where it has no route, else 44
 abbrev pub IsNoAnswer : Call → ℕ → List ℕ → Type 0
+IsNoAnswer Foreign status body = (status ≡ 403) × (body ≡ codes "forbidden\n")
 IsNoAnswer Nowhere status body = (status ≡ 404) × (body ≡ codes "not found\n")
 IsNoAnswer call status body = (status ≡ 400) × (body ≡ answer_text [] (Err (Plain NoRequest)))
 

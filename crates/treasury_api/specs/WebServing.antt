@@ -11,7 +11,7 @@ use Rattle.treasury_api.specs.declared.request.Request.{Request}
 use Rattle.treasury_api.specs.Request.{HasDayNumbers}
 use Rattle.treasury_api.specs.Answer.{answer_text}
 use Rattle.treasury_api.specs.declared.web.status.Status.{Status}
-use Rattle.treasury_api.specs.declared.web.status.Status.TheVariants.{Done, BadRequest, NotFound, Conflict}
+use Rattle.treasury_api.specs.declared.web.status.Status.TheVariants.{Done, BadRequest, Forbidden, NotFound, Conflict}
 use Rattle.treasury_api.specs.declared.web.status.Status.TheVariants.{Unprocessable, Internal, Unavailable}
 use Rattle.treasury_api.specs.WebReply.{cause_of}
 
@@ -19,6 +19,7 @@ use Rattle.treasury_api.specs.WebReply.{cause_of}
 abbrev pub code_of : Status → ℕ
 code_of Done = 200
 code_of BadRequest = 400
+code_of Forbidden = 403
 code_of NotFound = 404
 code_of Conflict = 409
 code_of Unprocessable = 422

@@ -45,6 +45,7 @@ fn request_by(alloc: Global, call: Call) -> Result<Option<Request>, Cause>
 {
     match call {
         Call::Unreadable => Ok(None),
+        Call::Foreign => Ok(None),
         Call::Nowhere => Ok(None),
         Call::Command(body) => match read_line(alloc, body.items()) {
             Ok(request) => Ok(Some(request)),
@@ -57,6 +58,24 @@ fn request_by(alloc: Global, call: Call) -> Result<Option<Request>, Cause>
             Some(day) => Ok(Some(Request::Transit { day })),
             None => Ok(None),
         },
+    }
+}
+
+/// The reply to a call that is foreign, in room for a plain line.
+fn forbidden(room: Vec<u8>) -> Reply
+    requires empty { room.items ≡ [] }
+    requires room { MOST_PLAIN ≤ vec_capacity room }
+    ensures status { code_of result.status ≡ 403 }
+    ensures body { result.body.items ≡ codes "forbidden\n" }
+{
+    let mut body = room;
+    match body.extend_from_slice(b"forbidden\n") {
+        Ok(()) => {}
+        Err(_) => unreachable!(),
+    }
+    Reply {
+        status: Status::Forbidden,
+        body,
     }
 }
 
@@ -146,6 +165,7 @@ pub fn answer_call<S: Alter>(
     ensures memory { IsOkUnless result Cause.OutOfMemory }
 {
     match call {
+        Call::Foreign => Ok(forbidden(room)),
         Call::Nowhere => Ok(not_found(room)),
         call => match request_by(alloc, call) {
             Ok(Some(request)) => Ok(answer_request(alloc, &request, treasury, room)),

@@ -13,6 +13,7 @@ use money_core::Cause;
 pub enum Status {
     Done,
     BadRequest,
+    Forbidden,
     NotFound,
     Conflict,
     Unprocessable,
@@ -28,6 +29,7 @@ impl Status {
         match self {
             Status::Done => StatusCode::OK,
             Status::BadRequest => StatusCode::BAD_REQUEST,
+            Status::Forbidden => StatusCode::FORBIDDEN,
             Status::NotFound => StatusCode::NOT_FOUND,
             Status::Conflict => StatusCode::CONFLICT,
             Status::Unprocessable => StatusCode::UNPROCESSABLE_ENTITY,

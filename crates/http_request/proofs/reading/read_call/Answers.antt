@@ -1,6 +1,7 @@
-use Rattle.std.proofs.Common.{◌≡◌, ◌∙◌, ℕ, List, ap, map, take, drop, None}
+use Rattle.std.proofs.Common.{◌≡◌, ◌∙◌, ℕ, List, ap, sym, map, take, drop, None, false}
 use Rattle.httparse.specs.Spans.{span_bytes, header_bytes}
 use Rattle.http_request.specs.Length.{body_length}
+use Rattle.http_request.specs.Foreign.{is_foreign}
 use Rattle.http_request.proofs.ReadLemmas.{whole_rest, is_command, call_told, command_told, stop_told}
 use Rattle.http_request.proofs.reading.read_call.Goals as goal
 
@@ -9,12 +10,16 @@ returns-in-Ok-None-call_for-clause-ok g c =
     let h = rw c.in-Ok-Some.field-0-is at c.in-Ok-Some.ensures.found in
     let text = c.read_head.new.text.items in
     let m : c.of.result.now ≡ span_bytes text c.in-Ok-Some.spans.method =
-    c.of.ensures ∙ ap (λ (t : List ℕ). span_bytes t c.in-Ok-Some.spans.method) c.deref.ensures.value in
+    c.of.ensures ∙ ap (λ (t : List ℕ). span_bytes t c.in-Ok-Some.spans.method) c.deref-2.ensures.value in
     let p : c.of-2.result.now ≡ span_bytes text c.in-Ok-Some.spans.path =
-    c.of-2.ensures ∙ ap (λ (t : List ℕ). span_bytes t c.in-Ok-Some.spans.path) c.deref-2.ensures.value in
+    c.of-2.ensures ∙ ap (λ (t : List ℕ). span_bytes t c.in-Ok-Some.spans.path) c.deref-3.ensures.value in
+    let own : is_foreign (map (header_bytes text) (take c.in-Ok-Some.spans.headers c.read_head.new.headers)) ≡ false =
+    ap (λ (t : List ℕ). is_foreign (map (header_bytes t)
+    (take c.in-Ok-Some.spans.headers c.read_head.new.headers))) (sym c.deref.ensures.value)
+    ∙ sym c.is_foreign_head.ensures ∙ c.if-is_foreign_head.false in
     let told = rw c.in-Ok-None-call_for.field-0-is at c.in-Ok-None-call_for.ensures.calls in
     let leads = is_command _ _ (call_told None c.of.result.now _ c.of-2.result.now _ m p told) in
-    command_told _ _ text c.read_head.new.headers c.in-Ok-Some.spans h _ leads c.read_command.result _ _
+    command_told _ _ text c.read_head.new.headers c.in-Ok-Some.spans h _ own leads c.read_command.result _ _
     (c.body_length-size.ensures ∙ ap
     (λ (t : List ℕ). body_length (map (header_bytes t) (take c.in-Ok-Some.spans.headers c.read_head.new.headers)))
     c.deref-in-Ok-None-call_for.ensures.value)
@@ -26,12 +31,16 @@ returns-in-Ok-None-call_for-clause-early g c e =
     let h = rw c.in-Ok-Some.field-0-is at c.in-Ok-Some.ensures.found in
     let text = c.read_head.new.text.items in
     let m : c.of.result.now ≡ span_bytes text c.in-Ok-Some.spans.method =
-    c.of.ensures ∙ ap (λ (t : List ℕ). span_bytes t c.in-Ok-Some.spans.method) c.deref.ensures.value in
+    c.of.ensures ∙ ap (λ (t : List ℕ). span_bytes t c.in-Ok-Some.spans.method) c.deref-2.ensures.value in
     let p : c.of-2.result.now ≡ span_bytes text c.in-Ok-Some.spans.path =
-    c.of-2.ensures ∙ ap (λ (t : List ℕ). span_bytes t c.in-Ok-Some.spans.path) c.deref-2.ensures.value in
+    c.of-2.ensures ∙ ap (λ (t : List ℕ). span_bytes t c.in-Ok-Some.spans.path) c.deref-3.ensures.value in
+    let own : is_foreign (map (header_bytes text) (take c.in-Ok-Some.spans.headers c.read_head.new.headers)) ≡ false =
+    ap (λ (t : List ℕ). is_foreign (map (header_bytes t)
+    (take c.in-Ok-Some.spans.headers c.read_head.new.headers))) (sym c.deref.ensures.value)
+    ∙ sym c.is_foreign_head.ensures ∙ c.if-is_foreign_head.false in
     let told = rw c.in-Ok-None-call_for.field-0-is at c.in-Ok-None-call_for.ensures.calls in
     let leads = is_command _ _ (call_told None c.of.result.now _ c.of-2.result.now _ m p told) in
-    stop_told _ _ text c.read_head.new.headers c.in-Ok-Some.spans h _ leads _ _
+    stop_told _ _ text c.read_head.new.headers c.in-Ok-Some.spans h _ own leads _ _
     (c.body_length-size.ensures ∙ ap
     (λ (t : List ℕ). body_length (map (header_bytes t) (take c.in-Ok-Some.spans.headers c.read_head.new.headers)))
     c.deref-in-Ok-None-call_for.ensures.value)
