@@ -19,7 +19,7 @@ use Rattle.treasury_api.specs.Asked.{AsksOf, RequestAsks}
 use Rattle.treasury_api.specs.Answer.{answer_text}
 use Rattle.treasury_api.specs.Step.{Standing, MayReply, after, is_failure}
 use Rattle.treasury_api.specs.History.{command_if}
-use Rattle.treasury_api.specs.OneRequest.{AnswersRequest, RepliesOn, request_text, is_refusal}
+use Rattle.treasury_api.specs.OneRequest.{AnswersRequest, RepliesOn, request_text, is_refusal, command_of}
 use Rattle.treasury_api.specs.Replied.{standing, body_of, IsLineOf}
 use Rattle.treasury_api.proofs.AnswerLemmas.{IsAnswered}
 use Rattle.treasury_api.proofs.AskedLemmas.{request_fits}
@@ -209,16 +209,14 @@ behind f request (Ok (Command c)) r turns end days asks replies rest = commanded
 behind f request (Ok (Report report)) r turns end days asks replies rest = rest
 behind f request (Err refusal) r turns end days asks replies rest = rest
 
--- a request that is answered, and commands behind it
+-- the command of a request that is answered, if it is one, and those behind it
 pub request_run : (f : Federation) (request : Request) (text : List ℕ) (reply : Result Answer Refusal) (t : Standing)
     (turns : List Turn) (end : Federation)
-    → AnswersRequest (record { now = f; failed = false }) request text reply t → IsRunTo t.now turns end
-    → (all : List Turn) × IsRunTo f all end
-request_run f request text reply t turns end answers rest = (
-  command_if answers.asked reply ++ turns,
-  behind f request answers.asked reply turns end answers.days answers.asks answers.replies
-      (subst (λ (g : Federation). IsRunTo g turns end) (ap (λ (s : Standing). s.now) answers.left) rest),
-)
+    → (answers : AnswersRequest (record { now = f; failed = false }) request text reply t) → IsRunTo t.now turns end
+    → IsRunTo f (command_of answers ++ turns) end
+request_run f request text reply t turns end answers rest =
+    behind f request answers.asked reply turns end answers.days answers.asks answers.replies
+    (subst (λ (g : Federation). IsRunTo g turns end) (ap (λ (s : Standing). s.now) answers.left) rest)
 
 -- a refusal leaves the state
 refusal_leaves : (f : Federation) (asked : Result Asked Refusal) (r : Result Answer Refusal) → is_refusal r ≡ true

@@ -26,10 +26,11 @@ use Rattle.treasury_api.specs.Answer.{answer_text}
 use Rattle.treasury_api.specs.Step.{Standing, after}
 use Rattle.treasury_api.specs.Left.{IsOpenBut, LeavesRequest}
 use Rattle.treasury_api.specs.Replied.{standing}
-use Rattle.treasury_api.specs.OneRequest.{AnswersRequest, RepliesOn, is_refusal}
+use Rattle.treasury_api.specs.History.{command_if}
+use Rattle.treasury_api.specs.OneRequest.{AnswersRequest, RepliesOn, is_refusal, command_of}
 use Rattle.treasury_api.specs.WebReply.{status_of, status_of_number, whole_reply}
 use Rattle.treasury_api.specs.Web.{asked_by, IsNoAnswer, AnswersCall, IsOpenBut503, AnswersOn, AnswersRead, FailsBy}
-use Rattle.treasury_api.specs.Web.{ServesOne, AnsweredCall, AreServed, HasServed}
+use Rattle.treasury_api.specs.Web.{ServesOne, AnsweredCall, AreServed, turns_of_calls, HasServed}
 use Rattle.treasury_api.specs.WebServing.{IsToldBy}
 use Rattle.treasury_api.proofs.ReplyLemmas.{state_is, refusal_is}
 use Rattle.treasury_api.proofs.ServeLemmas.{plain_line}
@@ -155,25 +156,25 @@ request_answered g old new call request status body asks replies left open_but s
 -- a request that is answered, whether or not a call of the database has failed, and commands behind it
 request_run_of : (failed : Bool) (f : Federation) (request : Request) (text : List ℕ) (reply : Result Answer Refusal)
     (t : Standing) (turns : List Turn) (end : Federation)
-    → AnswersRequest (record { now = f; failed = failed }) request text reply t → IsRunTo t.now turns end
-    → (all : List Turn) × IsRunTo f all end
+    → (answers : AnswersRequest (record { now = f; failed = failed }) request text reply t) → IsRunTo t.now turns end
+    → IsRunTo f (command_of answers ++ turns) end
 request_run_of false f request text reply t turns end answers rest =
     request_run f request text reply t turns end answers rest
 request_run_of true f request text reply t turns end answers rest =
     let left : t.now ≡ f = ap (λ (s : Standing). s.now) answers.left ∙ ap
     (λ (asked : Result Asked Refusal). after f asked reply) answers.asks in
-    (turns, subst (λ (g : Federation). IsRunTo g turns end) left rest)
+    subst (λ (asked : Result Asked Refusal). IsRunTo f (command_if asked reply ++ turns) end) (sym answers.asks)
+    (subst (λ (g : Federation). IsRunTo g turns end) left rest)
 
 -- so their commands are a run
-pub calls_run : (start : Standing) (calls : List AnsweredCall) (end : Standing) → AreServed start calls end
-    → (turns : List Turn) × IsRunTo start.now turns end.now
-calls_run start [] end same = ([], (tt, ap (λ (s : Standing). s.now) same))
+pub calls_run : (start : Standing) (calls : List AnsweredCall) (end : Standing) (served : AreServed start calls end)
+    → IsRunTo start.now (turns_of_calls start calls end served) end.now
+calls_run start [] end same = (tt, ap (λ (s : Standing). s.now) same)
 calls_run start (c ∷ cs) end (mid, inl (none, answer, left), rest) =
-    let more = calls_run mid cs end rest in
-    (more.0, subst (λ (s : Standing). IsRunTo s.now more.0 end.now) left more.1)
+    subst (λ (s : Standing). IsRunTo s.now (turns_of_calls mid cs end rest) end.now) left (calls_run mid cs end rest)
 calls_run start (c ∷ cs) end (mid, inr (request, asks, (reply, (answers, told))), rest) =
-    let more = calls_run mid cs end rest in
-    request_run_of start.failed start.now request c.body reply mid more.0 end.now answers more.1
+    request_run_of start.failed start.now request c.body reply mid (turns_of_calls mid cs end rest) end.now answers
+    (calls_run mid cs end rest)
 
 -- a reply of another status leaves the state
 refuses : (status : ℕ) (reply : Result Answer Refusal) → status ≡ status_of reply → status ≢ 200
@@ -219,16 +220,15 @@ ends_torn g r0 r1 contents w0 w1 old new cause status body answered (write, (tak
 
 -- none
 pub has_served_none : {S : Type 0} (g : Ghosts S) (t : Treasury S) → HasServed g t t
-has_served_none g t = record { clean = λ k. k; served = λ k f of. (f, (of, ([], refl))) }
+has_served_none g t = record { calls = []; clean = λ k. k; served = λ k f of. (f, (of, refl)) }
 
 -- one that is answered
 served_call : {S : Type 0} (g : Ghosts S) (old new : Treasury S) (call : Call) (status : ℕ) (body : List ℕ)
     → AnswersOn g old call status body new → HasServed g old new
 served_call g old new call status body answers = record {
+  calls = record { call = call; status = status; body = body } ∷ [];
   clean = answers.clean;
-  served = λ k f of.
-      let r = answers.answers k f of in
-      (r.0, (r.1.0, (record { call = call; status = status; body = body } ∷ [], (standing new r.0, r.1.1, refl))));
+  served = λ k f of. let r = answers.answers k f of in (r.0, (r.1.0, (standing new r.0, r.1.1, refl)));
 }
 
 served_read : {S : Type 0} (g : Ghosts S) (r0 r1 : Option (List ℕ)) (old new : Treasury S) (status : ℕ) (body : List ℕ)
@@ -264,6 +264,7 @@ served_then start (c ∷ cs) mid more end (next, answers, rest) then =
 pub has_served_more : {S : Type 0} (g : Ghosts S) (old mid new : Treasury S) → HasServed g old mid → HasServed g mid new
     → HasServed g old new
 has_served_more g old mid new first then = record {
+  calls = first.calls ++ then.calls;
   clean = λ k. first.clean (then.clean k);
   served = λ k f of.
       let one = first.served (then.clean k) f of in
@@ -271,11 +272,7 @@ has_served_more g old mid new first then = record {
         two.0,
         (
           two.1.0,
-          (
-            one.1.1.0 ++ two.1.1.0,
-            served_then (standing old f) one.1.1.0 (standing mid one.0) two.1.1.0 (standing new two.0) one.1.1.1
-                two.1.1.1,
-          ),
+          served_then (standing old f) first.calls (standing mid one.0) then.calls (standing new two.0) one.1.1 two.1.1,
         ),
       );
 }

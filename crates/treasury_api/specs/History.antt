@@ -3,7 +3,9 @@
 use Rattle.std.specs.Prelude.{◌≡◌, ◌⊎◌, ⊤, ℕ, if◌then◌else◌, Result, Ok, Err, List, [], ◌∷◌, ◌++◌, map, codes}
 use Rattle.book_core.specs.declared.refusal.Refusal.{Refusal}
 use Rattle.treasury_core.specs.declared.command.Answer.{Answer}
-use Rattle.treasury_core.specs.History.{Turn as CommandTurn, IsRefusedOrRepeated}
+use Rattle.treasury_core.specs.Federation.{Federation}
+use Rattle.treasury_core.specs.Headline.{KeepsBooks}
+use Rattle.treasury_core.specs.History.{Turn as CommandTurn, IsRun as IsCommandRun, state_after, IsRefusedOrRepeated}
 use Rattle.treasury_api.specs.declared.asking.Asked.{Asked}
 use Rattle.treasury_api.specs.declared.asking.Asked.TheVariants.{Command, Report}
 use Rattle.treasury_api.specs.Asked.{Asks}
@@ -58,6 +60,11 @@ command_if (Err refusal) r = []
 abbrev pub commands_of : List Turn → List CommandTurn
 commands_of [] = []
 commands_of (t ∷ ts) = command_if t.asked t.reply ++ commands_of ts
+
+-- Commands keep the books up to a state: they are a run of the machine of commands, which leads there, and of which the
+-- headline holds.
+abbrev pub KeepBooksTo : Federation → List CommandTurn → Federation → Type 0
+KeepBooksTo f turns end = IsCommandRun f turns × (end ≡ state_after f turns) × KeepsBooks f turns
 
 -- each turn whose reply is a refusal or `repeated` leaves the state
 abbrev pub RefusalsLeave : Standing → List Turn → Type 0

@@ -8,6 +8,7 @@ use Rattle.sqlite.specs.Held.{state}
 use Rattle.book_core.specs.declared.refusal.Refusal.{Refusal}
 use Rattle.treasury_core.specs.declared.command.Answer.{Answer}
 use Rattle.treasury_core.specs.Federation.{Federation}
+use Rattle.treasury_core.specs.History.{Turn}
 use Rattle.treasury_store.specs.Treasury.{Treasury, IsTreasuryOf}
 use Rattle.treasury_api.specs.declared.request.Request.{Request}
 use Rattle.treasury_api.specs.declared.asking.Asked.{Asked}
@@ -16,6 +17,7 @@ use Rattle.treasury_api.specs.Request.{HasDayNumbers}
 use Rattle.treasury_api.specs.Asked.{AsksOf}
 use Rattle.treasury_api.specs.Report.{report_text}
 use Rattle.treasury_api.specs.Step.{Standing, MayReply, next, reply_text}
+use Rattle.treasury_api.specs.History.{command_if}
 use Rattle.treasury_api.specs.Replied.{standing}
 
 -- the text of a reply to one request
@@ -41,6 +43,13 @@ pub record AnswersRequest (s : Standing) (request : Request) (said : List ℕ) (
   pub replies : MayReply s asked reply
   pub text : said ≡ request_text s.now asked reply
   pub left : t ≡ next s asked reply
+
+-- the command of a request that is answered so, with its reply; none where it is answered 41, or where a report is
+-- asked for, or nothing
+abbrev pub command_of : {s : Standing} {request : Request} {said : List ℕ} {reply : Result Answer Refusal}
+    {t : Standing}
+    → AnswersRequest s request said reply t → List Turn
+command_of {reply = reply} answers = command_if answers.asked reply
 
 -- What a request makes of a treasury: of whichever state it is, while the disk returns what was written, the request is
 -- answered by a reply, which is told as `Tells` has it, and the treasury is of the state where that leads.

@@ -1,6 +1,7 @@
 -- HTTP over a treasury: what a call asks, what it is answered, and how a connection ends (own rules; docs/FORMATS.md,
 -- "HTTP"). What the bytes of a connection call for, `http_request` says.
-use Rattle.std.specs.Prelude.{◌≡◌, ◌⊎◌, ℕ, List, [], ◌∷◌, take, Option, Some, None, option_map, Result, Err}
+use mathlib.Core.Logic.{inl, inr}
+use Rattle.std.specs.Prelude.{◌≡◌, ◌⊎◌, ℕ, List, [], ◌∷◌, ◌++◌, take, Option, Some, None, option_map, Result, Err}
 use Rattle.std.specs.Prelude.{MatchOption, MatchResult, IsTrue, codes}
 use Rattle.std.specs.Io.KnownBytes.{Appends}
 use Rattle.sqlite.specs.Store.{Ghosts}
@@ -17,6 +18,7 @@ use Rattle.book_core.specs.declared.refusal.Refusal.{Refusal}
 use Rattle.book_core.specs.declared.refusal.Refusal.TheVariants.{Plain}
 use Rattle.treasury_core.specs.declared.command.Answer.{Answer}
 use Rattle.treasury_core.specs.Federation.{Federation}
+use Rattle.treasury_core.specs.History.{Turn}
 use Rattle.treasury_store.specs.Kept.{ShutsByFault}
 use Rattle.treasury_store.specs.Treasury.{Treasury, IsTreasuryOf}
 use Rattle.treasury_api.specs.declared.request.Request.{Request}
@@ -26,7 +28,7 @@ use Rattle.treasury_api.specs.Answer.{answer_text}
 use Rattle.treasury_api.specs.Step.{Standing}
 use Rattle.treasury_api.specs.Left.{LeavesRequest}
 use Rattle.treasury_api.specs.Replied.{standing}
-use Rattle.treasury_api.specs.OneRequest.{AnswersRequest}
+use Rattle.treasury_api.specs.OneRequest.{AnswersRequest, command_of}
 use Rattle.treasury_api.specs.WebReply.{status_of, whole_reply}
 
 -- the request that is called for; none where nothing is, as by a date that is none
@@ -123,10 +125,18 @@ abbrev pub AreServed : Standing → List AnsweredCall → Standing → Type 0
 AreServed s [] end = end ≡ s
 AreServed s (c ∷ cs) end = (mid : Standing) × AnswersCall s c.call c.status c.body mid × AreServed mid cs end
 
--- What connections make of a treasury: of whichever state it was, while the disk returned what was written, it is of
--- the state where those that were answered lead.
+-- the commands among calls that are answered so, with their replies, in order
+abbrev pub turns_of_calls : (s : Standing) (calls : List AnsweredCall) (end : Standing) → AreServed s calls end
+    → List Turn
+turns_of_calls s [] end served = []
+turns_of_calls s (c ∷ cs) end (mid, inl nothing, rest) = turns_of_calls mid cs end rest
+turns_of_calls s (c ∷ cs) end (mid, inr (request, asked, (reply, (answers, told))), rest) =
+    command_of answers ++ turns_of_calls mid cs end rest
+
+-- What connections make of a treasury, of which these calls were answered: of whichever state it was, while the disk
+-- returned what was written, it is of the state where they lead.
 pub record HasServed {S : Type 0} (g : Ghosts S) (old new : Treasury S) : Type 0 where
+  pub calls : List AnsweredCall
   pub clean : HasCleanDisk (state g new.store.conn) → HasCleanDisk (state g old.store.conn)
   pub served : HasCleanDisk (state g new.store.conn) → (f : Federation) → IsTreasuryOf g old f
-      → (end : Federation) × (IsTreasuryOf g new end
-      × ((calls : List AnsweredCall) × AreServed (standing old f) calls (standing new end)))
+      → (end : Federation) × (IsTreasuryOf g new end × AreServed (standing old f) calls (standing new end))

@@ -3,21 +3,20 @@
 ghost use Rattle.std.specs.Prelude.{◌≡◌, ◌≢◌, List, ℕ};
 ghost use Rattle.http_request.specs.declared.call.Call.{Call};
 ghost use Rattle.treasury_core.specs.Good.{IsGoodState};
-ghost use Rattle.treasury_core.specs.Headline.{KeepsBooks};
-ghost use Rattle.treasury_core.specs.History.{Turn, IsRun, state_after};
 ghost use Rattle.treasury_api.specs.Step.{Standing};
-ghost use Rattle.treasury_api.specs.Web.{AnswersCall, AnsweredCall, AreServed};
+ghost use Rattle.treasury_api.specs.History.{KeepBooksTo};
+ghost use Rattle.treasury_api.specs.Web.{AnswersCall, AnsweredCall, AreServed, turns_of_calls};
 
 use treasury_core::headline_law;
 
-/// A law of connections: answered one after another, each by the state that the one before it left, their commands are
-/// a run of the machine of commands, and it keeps the books as the headline says. A reply of another status than 200
-/// leaves the state. Costs nothing.
+/// A law of connections: answered one after another, each by the state that the one before it left, the commands that
+/// they called for are, with their replies and in their order, a run of the machine of commands that leads where the
+/// calls do, and it keeps the books as the headline says. A reply of another status than 200 leaves the state. Costs
+/// nothing.
 pub fn calls_law()
     ensures headline { (start : Standing) (calls : List AnsweredCall) (end : Standing) → IsGoodState start.now
-        → AreServed start calls end
-        → (turns : List Turn) × IsRun start.now turns × (end.now ≡ state_after start.now turns)
-        × KeepsBooks start.now turns }
+        → (served : AreServed start calls end)
+        → KeepBooksTo start.now (turns_of_calls start calls end served) end.now }
     ensures refused { (s : Standing) (call : Call) (status : ℕ) (body : List ℕ) (t : Standing)
         → AnswersCall s call status body t
         → status ≢ 200 → t.now ≡ s.now }
