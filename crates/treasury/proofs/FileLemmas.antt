@@ -1,17 +1,28 @@
 -- Words over a file, one after another.
-use Rattle.std.proofs.Common.{◌≡◌, false, List, [], ◌∷◌, refl, sym, subst, inl, inr}
+use Rattle.std.proofs.Common.{◌≡◌, ◌∙◌, false, List, [], ◌∷◌, length, refl, sym, ap, subst, inl, inr, arith}
+use Rattle.std.specs.List.{AllZip}
 use Rattle.std.proofs.Math.Logic.{∥∥₁_elim, ∥∥₁_map}
 use Rattle.sqlite_disk.specs.declared.Disk as disk
 use Rattle.sqlite_disk.specs.declared.Files.{Files}
 use Rattle.sqlite_wal.specs.Recovery.{Image}
 use Rattle.sqlite_wal.specs.Reads.{AreClean}
+use Rattle.sqlite_trees.specs.Tree.{Trees}
+use Rattle.sqlite_trees.specs.Objects.{catalog_tree}
+use Rattle.sqlite_schema.specs.declared.schema.Schema.{Schema}
+use Rattle.sqlite_schema.specs.declared.schema.Table.{Table}
+use Rattle.sqlite_schema.specs.declared.schema.Index.{Index}
+use Rattle.sqlite_schema.specs.declared.schema.View.{View as Stored}
+use Rattle.sqlite_catalog.specs.Listing.{Lists, IsTableRow, IsIndexRow, IsViewRow}
 use Rattle.sqlite_store.specs.declared.store.FileStore.{FileStore}
+use Rattle.sqlite.specs.Order.{Row}
+use Rattle.sqlite.specs.Effect.{Database}
 use Rattle.sqlite.specs.Held.{Held}
 use Rattle.sqlite.specs.Start.{FindsIn}
-use Rattle.sqlite.specs.Files.{file_state, IsOpened}
+use Rattle.sqlite.specs.Files.{file_state, IsOpened, AreFoundIn}
 use Rattle.treasury_core.specs.Federation.{Federation}
 use Rattle.treasury_core.specs.Good.{IsGoodState}
 use Rattle.treasury_core.specs.Rows.{rows, HasShortLocks}
+use Rattle.treasury_store.specs.Tables.{no_schema}
 use Rattle.treasury_api.specs.Step.{Standing}
 use Rattle.treasury.specs.Word.{AnswersWord, Told, AreTold}
 use Rattle.treasury.specs.declared.words.left.Left.{Left}
@@ -41,7 +52,39 @@ holds_of image f holds = record {
   held = record { db = holds.db; listed = holds.listed; tables = inl holds.tables; both = holds.alone.both };
 }
 
+-- an empty list of objects lists nothing
+none_zipped : {A B : Type 0} (R : A → B → Type 0) (ys : List B) → AllZip R [] ys → ys ≡ []
+none_zipped R [] zip = refl
+none_zipped R (y ∷ ys) zip = absurd zip
+
+lists_nothing : (s : Schema) → Lists [] s → s ≡ no_schema
+lists_nothing s lists =
+    ap (λ (l : List Table). record { tables = l; indexes = s.indexes; views = s.views })
+    (none_zipped IsTableRow s.tables lists.listed.tables)
+    ∙ (ap (λ (l : List Index). record { tables = []; indexes = l; views = s.views })
+    (none_zipped (IsIndexRow s.tables) s.indexes lists.listed.indexes)
+    ∙ ap (λ (l : List Stored). record { tables = []; indexes = []; views = l })
+    (none_zipped IsViewRow s.views lists.listed.views))
+
+-- no database is found in an empty file
+found_empty : (image : Image) (trees : Trees) → image.db ≡ [] → AreFoundIn image trees → trees catalog_tree ≡ []
+found_empty image trees empty (inl (size, pages, wanted, adopts, ours, is)) =
+    let some = adopts.found.present in
+    let none : length image.db ≡ 0 = ap length empty in
+    let never : ⊥ = omega (arith, some, none) in absurd never
+found_empty image trees empty (inr (nothing, none)) = none.1
+
 module _ {D : Type 0} (g : disk.Ghosts D) where
+  -- an opening of an empty file shows no table
+  pub shows_nothing : (image : Image) (c : Held (FileStore D g)) → image.db ≡ [] → FindsIn image (file_state c)
+      → IsOpened c → (file_state c).now.schema ≡ no_schema
+  shows_nothing image c empty finds (opens, live) =
+      let none : (file_state c).now.trees catalog_tree ≡ [] =
+      ap (λ (db : Database). db.trees catalog_tree) opens.clean
+      ∙ found_empty image (file_state c).committed.trees empty finds.reads in
+      lists_nothing (file_state c).now.schema
+      (subst (λ (objects : List Row). Lists objects (file_state c).now.schema) none (live opens.is_open).0.lists)
+
   -- an opening of files that hold the rows of a state shows that state
   pub shows_of : (image : Image) (c : Held (FileStore D g)) (f : Federation) → HoldsOf image f
       → FindsIn image (file_state c) → IsOpened c → ShowsState g c f

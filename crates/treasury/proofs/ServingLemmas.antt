@@ -24,7 +24,7 @@ use Rattle.treasury_store.specs.Treasury.{Treasury}
 use Rattle.treasury_api.specs.Answer.{answer_text}
 use Rattle.treasury_api.specs.Replied.{standing}
 use Rattle.treasury_api.specs.Step.{Standing}
-use Rattle.treasury_api.specs.Web.{AnsweredCall, AreServed, HasServed}
+use Rattle.treasury_api.specs.Web.{AreServed, HasServed}
 use Rattle.treasury.specs.declared.words.left.Left.{Left}
 use Rattle.treasury.specs.declared.words.left.Left.TheVariants.{Untouched, Closed}
 use Rattle.treasury.specs.OverFile.{Spoken, ShowsState, LeavesState, Tells}
@@ -132,6 +132,7 @@ module _ {D : Type 0} (g : disk.Ghosts D) where
   serves_over image old new closed started served closes = record {
     opened = started.opened;
     closed = closed;
+    calls = served.calls;
     is_left = refl;
     found = λ k. started.on.found (at_first k);
     serves = λ k. started.on.serves (at_first k);
@@ -143,16 +144,15 @@ module _ {D : Type 0} (g : disk.Ghosts D) where
       at_first k = started.starts.clean (served.clean (closes.copied k).was_clean)
 
       answers : AreClean g closed.log closed.db → (f : Federation) → ShowsState g started.opened f
-          → (calls : List AnsweredCall) × (end : Standing) × AreServed (record { now = f; failed = false }) calls end
+          → (end : Standing) × AreServed (record { now = f; failed = false }) served.calls end
           × LeavesState g closed end.now
       answers k f shows =
           let at_end = (closes.copied k).was_clean in
           let r = served.served at_end f (started.starts.of (served.clean at_end)
           (committed_in g image started.opened started.on (at_first k)) f shows) in (
-            r.1.1.0,
             standing new r.0,
-            subst (λ (failed : Bool). AreServed (record { now = f; failed = failed }) r.1.1.0 (standing new r.0))
-                started.starts.unfailed r.1.1.1,
+            subst (λ (failed : Bool). AreServed (record { now = f; failed = failed }) served.calls (standing new r.0))
+                started.starts.unfailed r.1.1,
             left_behind g new.store.conn closed r.0 closes.live (closes.copied k) r.1.0.store.good r.1.0.short
                 r.1.0.store.tables,
           )
@@ -160,7 +160,7 @@ module _ {D : Type 0} (g : disk.Ghosts D) where
   -- where nothing was served, the file holds what it held
   pub keeps_unheard : {S : Type 0} (image : Image) (ending : Ending) (old new : Treasury S) (left : Left D g)
       → ServesIfHeard ending old new → (new ≡ old → KeepsFile g image left) → KeepsUnheard g image ending left
-  keeps_unheard image (Unbound reason) old new left heard keeps = tt
+  keeps_unheard image (Unbound reason) old new left same keeps = keeps same
   keeps_unheard image Unwritten old new left same keeps = keeps same
   keeps_unheard image Unaccepted old new left heard keeps = tt
   keeps_unheard image Finished old new left heard keeps = tt
@@ -176,33 +176,37 @@ module _ {D : Type 0} (g : disk.Ghosts D) where
   told_served image contents w0 w1 w2 status values None said left same (inr file) other tells =
       inl (said, tells_alone contents w0 w1 w2 status said same tells, inr (inr (inl file)))
   told_served image contents w0 w1 w2 status values (Some (Unbound reason)) said left same (inl file, keeps) other
-      tells = inl (said, tells_alone contents w0 w1 w2 status said same tells, inr (inr (inr (inr (inl file)))))
+      tells = inl (said, tells_alone contents w0 w1 w2 status said same tells, inr (inr (inl (inr (inl file), keeps))))
   told_served image contents w0 w1 w2 status values (Some (Unbound reason)) said left same (inr port, keeps) other
-      tells = inl (said, tells_alone contents w0 w1 w2 status said same tells, inr (inr (inr (inl port))))
+      tells = inl (
+        said,
+        tells_alone contents w0 w1 w2 status said same tells,
+        inr (inr (inr (inl (port.0, port.1, keeps)))),
+      )
   told_served image contents w0 w1 w2 status values (Some Unwritten) said left first says other tells = absurd cc
   told_served image contents w0 w1 w2 status values (Some Unaccepted) said left first (inl file, keeps) other tells =
       inl (
         after_listening said,
         tells_after contents w0 w1 w2 status said first tells,
-        inr (inr (inr (inr (inr (said, refl, inr file))))),
+        inr (inr (inr (inr (said, refl, inr file)))),
       )
   told_served image contents w0 w1 w2 status values (Some Unaccepted) said left first (inr (serves, refused), keeps)
       other tells = inl (
         after_listening said,
         tells_after contents w0 w1 w2 status said first tells,
-        inr (inr (inr (inr (inr (said, refl, inl (serves, inr refused)))))),
+        inr (inr (inr (inr (said, refl, inl (serves, inr refused))))),
       )
   told_served image contents w0 w1 w2 status values (Some Finished) said left first (inl file, keeps) other tells =
       inl (
         after_listening said,
         tells_after contents w0 w1 w2 status said first tells,
-        inr (inr (inr (inr (inr (said, refl, inr file))))),
+        inr (inr (inr (inr (said, refl, inr file)))),
       )
   told_served image contents w0 w1 w2 status values (Some Finished) said left first (inr (serves, is), keeps) other
       tells = inl (
         after_listening said,
         tells_after contents w0 w1 w2 status said first tells,
-        inr (inr (inr (inr (inr (said, refl, inl (serves, inl is)))))),
+        inr (inr (inr (inr (said, refl, inl (serves, inl is))))),
       )
 
   -- and a first part where `listening` cannot be written
@@ -215,20 +219,20 @@ module _ {D : Type 0} (g : disk.Ghosts D) where
       (inl file, keeps) is one = inl (
         after_listening said,
         tells_part contents w0 w1 status taken said within written one,
-        inr (inr (inr (inr (inr (said, refl, inr file))))),
+        inr (inr (inr (inr (said, refl, inr file)))),
       )
   told_unwritten image contents w0 w1 status values (Some Unwritten) said left (inl (taken, within, written))
       (inr (serves, silence), keeps) is one = inl (
         after_listening said,
         tells_part contents w0 w1 status taken said within written one,
-        inr (inr (inr (inr (inr (said, refl, inl (serves, inl silence)))))),
+        inr (inr (inr (inr (said, refl, inl (serves, inl silence))))),
       )
   told_unwritten image contents w0 w1 status values (Some Unwritten) said left (inr written) (inl file, keeps) is one =
       inl (
         after_listening said,
         tells_no_more contents w0 w1 status said
             (subst (λ (text : List ℕ). 0 < length text) (sym file.0) some_41) written one,
-        inr (inr (inr (inr (inr (said, refl, inr file))))),
+        inr (inr (inr (inr (said, refl, inr file)))),
       )
   told_unwritten image contents w0 w1 status values (Some Unwritten) said left (inr written)
       (inr (serves, silence), keeps) is one = inr (written, one, serves, keeps)

@@ -1,20 +1,18 @@
 -- Words over a file, one after another: their commands are a run of the machine of commands.
-use Rattle.std.proofs.Common.{◌≡◌, List, [], ◌∷◌, true, ℕ, refl, sym, inl, inr}
+use Rattle.std.proofs.Common.{◌≡◌, List, [], ◌∷◌, true, ℕ, sym, inl, inr}
 use Rattle.treasury_core.specs.Federation.{Federation}
-use Rattle.treasury_core.specs.History.{Turn, IsRun, state_after}
 use Rattle.treasury_api.specs.declared.request.Request.{Request}
 use Rattle.treasury_api.specs.Step.{Standing}
-use Rattle.treasury.specs.Word.{AnswersWord, Told, AreTold}
-use Rattle.treasury.specs.OverFile.{AreToldBut}
-use Rattle.treasury_api.proofs.OneRequestLemmas.{request_run, request_leaves}
+use Rattle.treasury.specs.Word.{AnswersWord, Told, AreTold, turns_of_words}
+use Rattle.treasury.specs.OverFile.{AreToldBut, turns_of_told}
+use Rattle.treasury_api.proofs.OneRequestLemmas.{IsRunTo, request_run, request_leaves}
 
-pub words_run : (f : Federation) (words : List Told) (end : Federation) → AreTold f words end
-    → (turns : List Turn) × IsRun f turns × (end ≡ state_after f turns)
-words_run f [] end same = ([], tt, same)
+pub words_run : (f : Federation) (words : List Told) (end : Federation) (told : AreTold f words end)
+    → IsRunTo f (turns_of_words f words end told) end
+words_run f [] end same = (tt, same)
 words_run f (w ∷ ws) end (mid, (reply, (answers, refused)), rest) =
-    let more = words_run mid.now ws end rest in
-    let run = request_run f w.request w.text reply mid more.0 end answers (more.1, more.2) in
-    (run.0, run.1.0, run.1.1)
+    request_run f w.request w.text reply mid (turns_of_words mid.now ws end rest) end answers
+    (words_run mid.now ws end rest)
 
 pub refused_leaves : (s : Standing) (request : Request) (text : List ℕ) (t : Standing)
     → AnswersWord s request text true t → t.now ≡ s.now
@@ -22,11 +20,10 @@ refused_leaves s request text t (reply, (answers, refused)) =
     request_leaves s request text reply t answers (sym refused)
 
 -- the same where some of the words are refused and leave the state
-pub told_run : (f : Federation) (words : List Told) (end : Federation) → AreToldBut f words end
-    → (turns : List Turn) × IsRun f turns × (end ≡ state_after f turns)
-told_run f [] end same = ([], tt, same)
+pub told_run : (f : Federation) (words : List Told) (end : Federation) (told : AreToldBut f words end)
+    → IsRunTo f (turns_of_told f words end told) end
+told_run f [] end same = (tt, same)
 told_run f (w ∷ ws) end (inl (mid, (reply, (answers, refused)), rest)) =
-    let more = told_run mid.now ws end rest in
-    let run = request_run f w.request w.text reply mid more.0 end answers (more.1, more.2) in
-    (run.0, run.1.0, run.1.1)
+    request_run f w.request w.text reply mid (turns_of_told mid.now ws end rest) end answers
+    (told_run mid.now ws end rest)
 told_run f (w ∷ ws) end (inr (refused, rest)) = told_run f ws end rest

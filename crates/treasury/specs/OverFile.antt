@@ -1,8 +1,9 @@
 -- What is said to a word over a database file, and what it leaves of the file (own rules; docs/RULES.md, "The
 -- program"), while the disk returns what was written. An image is what the files, the database and its log, hold; that
 -- of a word, when they were opened.
-use Rattle.std.specs.Prelude.{◌≡◌, ◌≢◌, ◌<◌, ◌⊎◌, ℕ, Bool, true, false, if◌then◌else◌, List, [], ◌∷◌, take, length}
-use Rattle.std.specs.Prelude.{Option, None, Some, IfSome, Ok, Err, codes, IsTrue}
+use mathlib.Core.Logic.{inl, inr}
+use Rattle.std.specs.Prelude.{◌≡◌, ◌≢◌, ◌<◌, ◌⊎◌, ℕ, Bool, true, false, List, [], ◌∷◌, ◌++◌, take}
+use Rattle.std.specs.Prelude.{if◌then◌else◌, length, Option, None, Some, IfSome, Ok, Err, codes, IsTrue}
 use Rattle.std.specs.Io.KnownBytes.{Appends}
 use Rattle.clap.specs.Walk.{Row, first_of}
 use Rattle.sqlite_disk.specs.declared.Disk as disk
@@ -23,6 +24,7 @@ use Rattle.book_core.specs.declared.refusal.Refusal.TheVariants.{Plain}
 use Rattle.treasury_core.specs.declared.command.Answer.TheVariants.{Done}
 use Rattle.treasury_core.specs.Federation.{Federation}
 use Rattle.treasury_core.specs.Good.{IsGoodState}
+use Rattle.treasury_core.specs.History.{Turn}
 use Rattle.treasury_core.specs.Rows.{rows, HasShortLocks}
 use Rattle.treasury_store.specs.Rows.{Holds, HoldsEither, AreTreesOf}
 use Rattle.treasury_store.specs.Store.{empty_state}
@@ -35,6 +37,7 @@ use Rattle.treasury_api.specs.declared.request.Request.{Request}
 use Rattle.treasury_api.specs.declared.request.Request.TheVariants.{Import}
 use Rattle.treasury_api.specs.Answer.{answer_text}
 use Rattle.treasury_api.specs.Step.{Standing}
+use Rattle.treasury_api.specs.OneRequest.{command_of}
 use Rattle.treasury.specs.Spelling.{request_in}
 use Rattle.treasury.specs.Word.{AnswersWord, Told}
 use Rattle.treasury.specs.declared.words.left.Left.{Left}
@@ -129,13 +132,15 @@ module _ {D : Type 0} (g : disk.Ghosts D) where
         → (end : Standing) × AnswersWord (record { now = f; failed = false }) request said.text said.refused end
         × LeavesState closed end.now
 
-  -- A file was opened and closed, and that is what is left. Where its connection showed no table first, the file that
-  -- is closed holds the rows of a state that has nothing; in no case was there a table with one of our names.
+  -- A file was opened and closed, and that is what is left. What its connection showed first is what the image holds.
+  -- Where that is no table, the file that is closed holds the rows of a state that has nothing; in no case was there a
+  -- table with one of our names.
   pub record MakesOver (image : Image) (left : Left D g) : Type 0 where
     pub opened : Held (FileStore D g)
     pub closed : Files D
     pub is_left : left ≡ Closed closed
     pub found : AreClean g closed.log closed.db → FindsIn image (file_state opened)
+    pub serves : AreClean g closed.log closed.db → IsOpened opened
     pub free : has_one (file_state opened).now.schema ≡ false
     pub makes : AreClean g closed.log closed.db → (file_state opened).now.schema ≡ no_schema
         → LeavesState closed empty_state
@@ -233,3 +238,10 @@ AreToldBut f (w ∷ ws) end =
     ((mid : Standing) × AnswersWord (record { now = f; failed = false }) w.request w.text w.refused mid
     × AreToldBut mid.now ws end)
     ⊎ (IsFileRefused (said_to w) × AreToldBut f ws end)
+
+-- the commands among words that are answered or refused so, with their replies, in order
+abbrev pub turns_of_told : (f : Federation) (words : List Told) (end : Federation) → AreToldBut f words end → List Turn
+turns_of_told f [] end told = []
+turns_of_told f (w ∷ ws) end (inl (mid, (reply, (answers, refused)), rest)) =
+    command_of answers ++ turns_of_told mid.now ws end rest
+turns_of_told f (w ∷ ws) end (inr (refused, rest)) = turns_of_told f ws end rest

@@ -55,20 +55,20 @@ abbrev pub after_listening : Spoken → Spoken
 after_listening said = record said { text = listening ++ said.text }
 
 module _ {D : Type 0} (g : disk.Ghosts D) where
-  -- A file was opened and closed, and that is what is left; calls were answered in between. What its connection showed
-  -- first is what the image holds, and that has a treasury. Of whichever state these are the rows: each call is
+  -- A file was opened and closed, and that is what is left; these calls were answered in between. What its connection
+  -- showed first is what the image holds, and that has a treasury. Of whichever state these are the rows: each call is
   -- answered by the state that the one before it left, and the file that is closed holds the rows of the state where
   -- the last one leads.
   pub record ServesOver (image : Image) (left : Left D g) : Type 0 where
     pub opened : Held (FileStore D g)
     pub closed : Files D
+    pub calls : List AnsweredCall
     pub is_left : left ≡ Closed closed
     pub found : AreClean g closed.log closed.db → FindsIn image (file_state opened)
     pub serves : AreClean g closed.log closed.db → IsOpened opened
     pub has : AreClean g closed.log closed.db → HasTreasury (file_state opened).now
     pub answers : AreClean g closed.log closed.db → (f : Federation) → ShowsState g opened f
-        → (calls : List AnsweredCall) × (end : Standing) × AreServed (record { now = f; failed = false }) calls end
-        × LeavesState g closed end.now
+        → (end : Standing) × AreServed (record { now = f; failed = false }) calls end × LeavesState g closed end.now
 
   -- how it ends once connections can be made: they are served, or one of them cannot be accepted, which is 45; or the
   -- file cannot be closed
@@ -76,15 +76,14 @@ module _ {D : Type 0} (g : disk.Ghosts D) where
   EndsServing image said left =
       (ServesOver image left × ((said ≡ silent) ⊎ IsRefusedBy ReadFault said)) ⊎ IsRefusedBy Store said
 
-  -- what is said to `serve`: a value is lacking, which is 44; or the file is refused, and is left as it was; or the
-  -- port, which is 45, where the file may not be closed, which is 41; or connections can be made
+  -- what is said to `serve`: a value is lacking, which is 44; or the file is refused, also because it cannot be closed,
+  -- or the port, which is 45, and the file is left as it was; or connections can be made
   abbrev pub SaysToServe : Image → List Row → Spoken → Left D g → Type 0
   SaysToServe image values said left =
       (LacksValue values × IsRefusedBefore g NoRequest said left)
       ⊎ ((IsFileRefused said × KeepsFile g image left)
-      ⊎ ((ServesOver image left × IsRefusedBy ReadFault said)
-      ⊎ (IsRefusedBy Store said
-      ⊎ ((rest : Spoken) × (said ≡ after_listening rest) × EndsServing image rest left))))
+      ⊎ ((ServesOver image left × IsRefusedBy ReadFault said × KeepsFile g image left)
+      ⊎ ((rest : Spoken) × (said ≡ after_listening rest) × EndsServing image rest left)))
 
   -- `listening` is written and not handed on: the status is 1, and the file that was opened holds what it held
   abbrev pub IsUnheard : {W : Type 0} → Image → (W → Option (List ℕ)) → W → W → ℕ → Left D g → Type 0

@@ -30,8 +30,9 @@ abbrev pub ends_unwritten : Option Ending → Bool
 ends_unwritten (Some Unwritten) = true
 ends_unwritten _ = false
 
--- where `listening` cannot be written, or is not handed on, nothing is served
+-- where the port cannot be listened on, or `listening` cannot be written, or is not handed on, nothing is served
 abbrev pub ServesIfHeard : {S : Type 0} → Ending → Treasury S → Treasury S → Type 0
+ServesIfHeard (Unbound reason) old new = new ≡ old
 ServesIfHeard Unwritten old new = new ≡ old
 ServesIfHeard _ old new = ⊤
 
@@ -50,6 +51,7 @@ IsAnnounced contents w0 w1 (Some ending) = IsAnnouncedBy contents w0 w1 ending
 module _ {D : Type 0} (g : disk.Ghosts D) where
   -- the file holds what it held where nothing is served
   abbrev pub KeepsUnheard : Image → Ending → Left D g → Type 0
+  KeepsUnheard image (Unbound reason) left = KeepsFile g image left
   KeepsUnheard image Unwritten left = KeepsFile g image left
   KeepsUnheard image _ left = ⊤
 

@@ -1,6 +1,6 @@
 //! What words over a file come to, one after another.
 
-ghost use Rattle.std.specs.Prelude.{◌≡◌, true, List, ℕ};
+ghost use Rattle.std.specs.Prelude.{◌≡◌, true, false, List, [], ℕ};
 ghost use Rattle.sqlite_wal.specs.Recovery.{Image};
 ghost use Rattle.sqlite_wal.specs.Reads.{AreClean};
 ghost use Rattle.sqlite_store.specs.declared.store.FileStore.{FileStore};
@@ -9,16 +9,17 @@ ghost use Rattle.sqlite.specs.Start.{FindsIn};
 ghost use Rattle.sqlite.specs.Files.{file_state, IsOpened};
 ghost use Rattle.treasury_core.specs.Federation.{Federation};
 ghost use Rattle.treasury_core.specs.Good.{IsGoodState};
-ghost use Rattle.treasury_core.specs.Headline.{KeepsBooks};
-ghost use Rattle.treasury_core.specs.History.{Turn, IsRun, state_after};
 ghost use Rattle.treasury_api.specs.Step.{Standing};
+ghost use Rattle.treasury_api.specs.History.{KeepBooksTo};
+ghost use Rattle.treasury_api.specs.Web.{AreServed, turns_of_calls};
 ghost use Rattle.treasury_api.specs.declared.request.Request.{Request};
-ghost use Rattle.treasury.specs.Word.{AnswersWord, Told, AreTold};
+ghost use Rattle.treasury.specs.Word.{AnswersWord, Told, AreTold, turns_of_words};
 ghost use Rattle.treasury_store.specs.Tables.{no_schema};
 ghost use Rattle.treasury_store.specs.Store.{empty_state};
 ghost use Rattle.treasury.specs.declared.words.left.Left.{Left};
 ghost use Rattle.treasury.specs.Left.{HoldsOf, MayBe};
-ghost use Rattle.treasury.specs.OverFile.{HoldsState, ShowsState, MakesOver, AreToldOver, AreAnsweredOver, AreToldBut};
+ghost use Rattle.treasury.specs.OverFile.{HoldsState, ShowsState, MakesOver, AreToldOver, AreAnsweredOver};
+ghost use Rattle.treasury.specs.OverFile.{AreToldBut, turns_of_told};
 ghost use Rattle.treasury.specs.Serving.{ServesOver};
 
 use sqlite_disk::Disk;
@@ -26,11 +27,11 @@ use treasury_api::calls_law;
 use treasury_core::headline_law;
 
 /// A law of words over a file: said one after another, each on the state that the one before it left there, their
-/// commands are a run of the machine of commands, and it keeps the books as the headline says. A word that is refused
-/// leaves the state. Costs nothing.
+/// commands are, with their replies and in their order, a run of the machine of commands that leads where the words do,
+/// and it keeps the books as the headline says. A word that is refused leaves the state. Costs nothing.
 pub fn words_law()
-    ensures headline { (f : Federation) (words : List Told) (end : Federation) → IsGoodState f → AreTold f words end
-        → (turns : List Turn) × IsRun f turns × (end ≡ state_after f turns) × KeepsBooks f turns }
+    ensures headline { (f : Federation) (words : List Told) (end : Federation) → IsGoodState f
+        → (told : AreTold f words end) → KeepBooksTo f (turns_of_words f words end told) end }
     ensures refused { (s : Standing) (request : Request) (text : List ℕ) (t : Standing)
         → AnswersWord s request text true t → t.now ≡ s.now }
 {
@@ -50,18 +51,24 @@ pub fn files_law<D: Disk>()
     ensures begun { (start : Image) (left : Left D D.Disk) (made : MakesOver D.Disk start left) (next : Image)
         → AreClean D.Disk made.closed.log made.closed.db → (file_state made.opened).now.schema ≡ no_schema
         → MayBe D.Disk start left next → HoldsState next empty_state }
+    // In a file that is missing or empty it makes a treasury that has nothing.
+    ensures begun_new { (start : Image) (left : Left D D.Disk) (made : MakesOver D.Disk start left) (next : Image)
+        → AreClean D.Disk made.closed.log made.closed.db → start.db ≡ []
+        → MayBe D.Disk start left next → HoldsState next empty_state }
     ensures answered { (start : Image) (words : List Told) (end : Image) (f : Federation) → HoldsState start f
         → AreAnsweredOver D.Disk start words end
         → (last : Federation) × AreTold f words last × HoldsState end last }
     ensures books { (start : Image) (words : List Told) (end : Image) (f : Federation) → HoldsState start f
         → AreAnsweredOver D.Disk start words end
-        → (turns : List Turn) × IsRun f turns × KeepsBooks f turns × HoldsState end (state_after f turns) }
+        → (last : Federation) × (told : AreTold f words last)
+        × KeepBooksTo f (turns_of_words f words last told) last × HoldsState end last }
     ensures kept { (start : Image) (words : List Told) (end : Image) (f : Federation) → HoldsOf start f
         → AreToldOver D.Disk start words end
         → ∥ ((last : Federation) × AreToldBut f words last × HoldsOf end last) ∥₁ }
     ensures headline { (start : Image) (words : List Told) (end : Image) (f : Federation) → HoldsOf start f
         → AreToldOver D.Disk start words end
-        → ∥ ((turns : List Turn) × IsRun f turns × KeepsBooks f turns × HoldsOf end (state_after f turns)) ∥₁ }
+        → ∥ ((last : Federation) × (told : AreToldBut f words last)
+        × KeepBooksTo f (turns_of_told f words last told) last × HoldsOf end last) ∥₁ }
 {
     words_law();
     headline_law();
@@ -73,8 +80,9 @@ pub fn files_law<D: Disk>()
 pub fn serving_law<D: Disk>()
     ensures headline { (start : Image) (left : Left D D.Disk) (served : ServesOver D.Disk start left) (f : Federation)
         → HoldsOf start f → AreClean D.Disk served.closed.log served.closed.db
-        → (turns : List Turn) × IsRun f turns × KeepsBooks f turns
-        × ((next : Image) → MayBe D.Disk start left next → HoldsState next (state_after f turns)) }
+        → (end : Standing) × (answered : AreServed (record { now = f; failed = false }) served.calls end)
+        × KeepBooksTo f (turns_of_calls (record { now = f; failed = false }) served.calls end answered) end.now
+        × ((next : Image) → MayBe D.Disk start left next → HoldsState next end.now) }
 {
     calls_law();
 }
