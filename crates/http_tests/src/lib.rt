@@ -6,4 +6,6 @@ mod desk;
 #[cfg(test)]
 mod endings;
 #[cfg(test)]
+mod parts;
+#[cfg(test)]
 mod replies;
