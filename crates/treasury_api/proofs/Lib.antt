@@ -19,3 +19,4 @@ pub mod WorkedValues
 pub mod WorkedHistory
 pub mod WorkedReports
 pub mod WorkedReplies
+pub mod WrongTurns
