@@ -407,6 +407,7 @@ led_where_cut_off g WriteFault r0 r1 w0 w1 old new ends clean f of =
                 request = stops.request;
                 answer = stops.answer;
                 taken = stops.taken;
+                part = stops.part;
                 split = stops.split;
                 complete = stops.complete;
                 transcript = told g old mid (standing old f) stops.whole stops.written all.0 turns served;

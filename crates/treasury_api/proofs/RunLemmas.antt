@@ -132,6 +132,7 @@ torn Step AtEnd w0 w1 w2 s m t seen line further all requests so_far failed next
   request = failed.request;
   answer = failed.answer;
   taken = failed.taken;
+  part = failed.part;
   split = split so_far.whole so_far.split;
   complete = so_far.complete;
   transcript = so_far.transcript;
@@ -230,6 +231,7 @@ torn_later Step AtEnd w0 w1 w2 s m t seen line new so_far next = record {
   request = next.request;
   answer = next.answer;
   taken = next.taken;
+  part = next.part;
   split = later Step w0 w1 s m seen line new next.whole next.further so_far next.split;
   complete = whole-append so_far.whole next.whole so_far.complete next.complete;
   transcript = transcript-append Step s m next.mid so_far.whole next.whole so_far.written next.written so_far.complete

@@ -1,6 +1,7 @@
 -- A call is answered on a treasury, and a connection served.
-use Rattle.std.proofs.Common.{◌≡◌, ◌≢◌, ◌⊎◌, ◌++◌, ℕ, List, [], ◌∷◌, Bool, true, false, Option, Some, None, Result, Ok}
-use Rattle.std.proofs.Common.{Err, IsTrue, MatchOption, take, codes, refl, ap, ◌∙◌, sym, subst, inl, inr}
+use Rattle.std.proofs.Common.{◌≡◌, ◌≢◌, ◌<◌, ◌⊎◌, ◌++◌, ℕ, List, [], ◌∷◌, length, Bool, true, false, Option, Some}
+use Rattle.std.proofs.Common.{None, Result, Ok, Err, IsTrue, MatchOption, take, codes, refl, ap, ◌∙◌, sym, subst}
+use Rattle.std.proofs.Common.{inl, inr}
 use Rattle.std.specs.Io.KnownBytes.{Appends}
 use Rattle.sqlite.specs.Store.{Ghosts}
 use Rattle.sqlite.specs.Held.{Held, state}
@@ -210,11 +211,19 @@ ends_unread g r0 r1 contents w old new cause memory same =
 -- its reply is cut off
 pub ends_torn : {S W : Type 0} (g : Ghosts S) (r0 r1 : Option (List ℕ)) (contents : W → Option (List ℕ)) (w0 w1 : W)
     (old new : Treasury S) (cause : Cause) (status : ℕ) (body : List ℕ) → AnswersRead g r0 r1 old status body new
-    → (cause ≡ WriteFault) × ((taken : ℕ) × Appends (contents w0) (contents w1) (take taken (whole_reply status body)))
+    → (cause ≡ WriteFault) × ((taken : ℕ) × (taken < length (whole_reply status body))
+    × Appends (contents w0) (contents w1) (take taken (whole_reply status body)))
     → FailsBy cause g r0 r1 contents w0 w1 old new
-ends_torn g r0 r1 contents w0 w1 old new cause status body answered (write, (taken, written)) =
+ends_torn g r0 r1 contents w0 w1 old new cause status body answered (write, (taken, part, written)) =
     subst (λ (x : Cause). FailsBy x g r0 r1 contents w0 w1 old new) (sym write)
-    (record { status = status; body = body; taken = taken; answered = answered; written = written })
+    (record {
+      status = status;
+      body = body;
+      taken = taken;
+      part = part;
+      answered = answered;
+      written = written;
+    })
 
 -- ---- what connections make of a treasury
 

@@ -1,7 +1,7 @@
 -- A reply of HTTP: its head, and how it is written part by part.
-use Rattle.std.proofs.Common.{◌≡◌, ◌≤◌, ◌+◌, ◌++◌, ℕ, List, [], min, length, take, drop, codes, decimal, Option, arith}
+use Rattle.std.proofs.Common.{◌≡◌, ◌≤◌, ◌<◌, ◌+◌, ◌++◌, ℕ, List, [], length, take, drop, codes, decimal, Option, arith}
 use Rattle.std.proofs.Common.{ap, ◌∙◌, sym, subst, refl, append_assoc, append-nil, length-append, Result, Ok, Err, OnOk}
-use Rattle.std.proofs.lemmas.List.{drop_at, take_at, take-append-le, take_min}
+use Rattle.std.proofs.lemmas.List.{drop_at, take_at, take-append-le}
 use Rattle.std.proofs.Math.Seq.{take-add}
 use Rattle.std.proofs.KnownBytes.{Appends-trans}
 use Rattle.std.specs.Io.KnownBytes.{Appends}
@@ -69,12 +69,13 @@ reason_short Unavailable = omega arith
 -- ---- written
 
 -- a first part of the head
-torn_head : (a b : Option (List ℕ)) (taken : ℕ) (head body : List ℕ) → Appends a b (take taken head)
-    → (n : ℕ) × Appends a b (take n (head ++ body))
-torn_head a b taken head body part = (
-  min taken (length head),
-  subst (λ (t : List ℕ). Appends a b t)
-      (sym (take-append-le (min taken (length head)) head body (omega arith) ∙ take_min taken head)) part,
+torn_head : (a b : Option (List ℕ)) (taken : ℕ) (head body : List ℕ) → taken < length head
+    → Appends a b (take taken head)
+    → (n : ℕ) × (n < length (head ++ body)) × Appends a b (take n (head ++ body))
+torn_head a b taken head body less part = (
+  taken,
+  (let sum = length-append head body in omega (arith, less, sum)),
+  subst (λ (t : List ℕ). Appends a b t) (sym (take-append-le taken head body (omega (arith, less)))) part,
 )
 
 take_seam : (xs ys : List ℕ) (n : ℕ) → take (length xs + n) (xs ++ ys) ≡ xs ++ take n ys
@@ -84,26 +85,30 @@ take_seam xs ys n =
     (λ (t : List ℕ). xs ++ take n t) (drop_at xs ys (length xs) refl))
 
 -- the head, and a first part of the body
-pub torn_body : (a b c : Option (List ℕ)) (taken : ℕ) (head body : List ℕ) → Appends a b head
-    → Appends b c (take taken body) → (n : ℕ) × Appends a c (take n (head ++ body))
-torn_body a b c taken head body first part = (
+pub torn_body : (a b c : Option (List ℕ)) (taken : ℕ) (head body : List ℕ) → Appends a b head → taken < length body
+    → Appends b c (take taken body) → (n : ℕ) × (n < length (head ++ body)) × Appends a c (take n (head ++ body))
+torn_body a b c taken head body first less part = (
   length head + taken,
+  (let sum = length-append head body in omega (arith, less, sum)),
   subst (λ (t : List ℕ). Appends a c t) (sym (take_seam head body taken))
       (Appends-trans a b c head (take taken body) first part),
 )
 
 module _ (status : ℕ) (body : List ℕ) where
   pub head_torn : (a b : Option (List ℕ)) (taken : ℕ) (slice : List ℕ) → slice ≡ reply_head status (length body)
-      → Appends a b (take taken slice) → (n : ℕ) × Appends a b (take n (whole_reply status body))
-  head_torn a b taken slice is part =
+      → taken < length slice → Appends a b (take taken slice)
+      → (n : ℕ) × (n < length (whole_reply status body)) × Appends a b (take n (whole_reply status body))
+  head_torn a b taken slice is less part =
       torn_head a b taken (reply_head status (length body)) body
+      (subst (λ (t : List ℕ). taken < length t) is less)
       (subst (λ (t : List ℕ). Appends a b (take taken t)) is part)
 
   pub body_torn : (a b c : Option (List ℕ)) (taken : ℕ) (slice text : List ℕ) → slice ≡ reply_head status (length body)
-      → text ≡ body → Appends a b slice → Appends b c (take taken text)
-      → (n : ℕ) × Appends a c (take n (whole_reply status body))
-  body_torn a b c taken slice text is same first part =
+      → text ≡ body → Appends a b slice → taken < length text → Appends b c (take taken text)
+      → (n : ℕ) × (n < length (whole_reply status body)) × Appends a c (take n (whole_reply status body))
+  body_torn a b c taken slice text is same first less part =
       torn_body a b c taken (reply_head status (length body)) body (subst (λ (t : List ℕ). Appends a b t) is first)
+      (subst (λ (t : List ℕ). taken < length t) same less)
       (subst (λ (t : List ℕ). Appends b c (take taken t)) same part)
 
   pub both_written : (a b c : Option (List ℕ)) (slice text : List ℕ) → slice ≡ reply_head status (length body)

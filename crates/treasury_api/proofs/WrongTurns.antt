@@ -92,22 +92,22 @@ run-without f (t ∷ ts) end ((fits, replied, rest), is) =
 
 not_more : (c : AnyCommand) (r : Result Answer Refusal) (rest : List Turn) (n : ℕ) → length rest ≤ n
     → length (if_accepted c r ++ rest) ≤ suc n
-not_more c (Ok a) rest n most = omega (arith, most)
-not_more c (Err e) rest n most = omega (arith, most)
+not_more c (Ok a) rest n most = let more : suc (length rest) ≤ suc n = omega (arith, most) in more
+not_more c (Err e) rest n most = let same : length rest ≤ suc n = omega (arith, most) in same
 
 fewer_by : (c : AnyCommand) (r : Result Answer Refusal) (rest : List Turn) (n : ℕ) → IsTrue (is_refusal r)
     → length rest ≤ n
     → length (if_accepted c r ++ rest) < suc n
 fewer_by c (Ok a) rest n never most = absurd (true≢false (sym never))
-fewer_by c (Err e) rest n refused most = omega (arith, most)
+fewer_by c (Err e) rest n refused most = let less : length rest < suc n = omega (arith, most) in less
 
 fewer_behind : (c : AnyCommand) (r : Result Answer Refusal) (rest : List Turn) (n : ℕ) → length rest < n
     → length (if_accepted c r ++ rest) < suc n
-fewer_behind c (Ok a) rest n fewer = omega (arith, fewer)
-fewer_behind c (Err e) rest n fewer = omega (arith, fewer)
+fewer_behind c (Ok a) rest n fewer = let less : suc (length rest) < suc n = omega (arith, fewer) in less
+fewer_behind c (Err e) rest n fewer = let less : length rest < suc n = omega (arith, fewer) in less
 
 at_most : (ts : List Turn) → length (without_refused ts) ≤ length ts
-at_most [] = omega arith
+at_most [] = let none : 0 ≤ 0 = omega arith in none
 at_most (t ∷ ts) = not_more t.command t.reply (without_refused ts) (length ts) (at_most ts)
 
 fewer : (ts : List Turn) → HasRefused ts → length (without_refused ts) < length ts

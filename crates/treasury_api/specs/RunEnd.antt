@@ -2,7 +2,7 @@
 -- 46. `r0` and `r1` are the bytes that the reader has left before and after the run, `w0` and `w1` those that the
 -- writer holds, where they are known, as those of readers and writers over memory are. `Step` is a step of a
 -- transcript.
-use Rattle.std.specs.Prelude.{◌≡◌, ◌≢◌, ◌≤◌, ℕ, List, [], ◌∷◌, ◌++◌, ◌⊎◌, Option, take, length, All, Result}
+use Rattle.std.specs.Prelude.{◌≡◌, ◌≢◌, ◌≤◌, ◌<◌, ℕ, List, [], ◌∷◌, ◌++◌, ◌⊎◌, Option, take, length, All, Result}
 use Rattle.std.specs.Prelude.{MatchResult}
 use Rattle.std.specs.Io.KnownBytes.{Appends, Consumes, IsAtEnd}
 use Rattle.money_core.specs.declared.cause.Cause.{Cause}
@@ -54,7 +54,7 @@ pub record GaveUp {S : Type 0} (Step : S → List ℕ → List ℕ → S → Typ
   pub appended : Appends w0 w1 written
 
 -- 46: the lines `whole` are answered, and of the answer to the request behind them the first `taken` bytes were
--- written; the state at the end is the one after that request
+-- written, and not all; the state at the end is the one after that request
 pub record Torn {S : Type 0} (Step : S → List ℕ → List ℕ → S → Type 0)
     (AtEnd : Type 0) (w0 w1 : Option (List ℕ)) (start : S) (seen : List ℕ) (end : S) : Type 0 where
   pub whole : List ℕ
@@ -64,6 +64,7 @@ pub record Torn {S : Type 0} (Step : S → List ℕ → List ℕ → S → Type 
   pub request : List ℕ
   pub answer : List ℕ
   pub taken : ℕ
+  pub part : taken < length answer
   pub split : seen ≡ whole ++ further
   pub complete : IsWholeLines whole
   pub transcript : IsTranscript Step start whole written mid

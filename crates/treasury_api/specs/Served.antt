@@ -1,5 +1,6 @@
 -- Mirrors code: one line that is served, and further bytes of an input.
-use Rattle.std.specs.Prelude.{◌≡◌, ℕ, ◌==◌, List, [], ◌∷◌, ◌++◌, Option, take, position, Result, MatchResult}
+use Rattle.std.specs.Prelude.{◌≡◌, ◌<◌, ℕ, ◌==◌, List, [], ◌∷◌, ◌++◌, Option, take, length, position, Result}
+use Rattle.std.specs.Prelude.{MatchResult}
 use Rattle.std.specs.Io.KnownBytes.{Appends}
 use Rattle.money_core.specs.declared.cause.Cause.{Cause}
 use Rattle.money_core.specs.declared.cause.Cause.TheVariants.{OutOfMemory, WriteFault}
@@ -18,12 +19,13 @@ pub record Unserved {S : Type 0} (w0 w1 : Option (List ℕ)) (start end : S) : T
   pub appended : Appends w0 w1 []
   pub same : end ≡ start
 
--- a write failed: of the one request's answer a first part was written
+-- a write failed: of the one request's answer a first part was written, and not all
 pub record HalfServed {S : Type 0} (Step : S → List ℕ → List ℕ → S → Type 0)
     (w0 w1 : Option (List ℕ)) (start : S) (requests : List (List ℕ)) (end : S) : Type 0 where
   pub request : List ℕ
   pub answer : List ℕ
   pub taken : ℕ
+  pub part : taken < length answer
   pub one : requests ≡ request ∷ []
   pub last : Step start request answer end
   pub appended : Appends w0 w1 (take taken answer)

@@ -1,8 +1,8 @@
 -- HTTP over a treasury: what a call asks, what it is answered, and how a connection ends (own rules; docs/FORMATS.md,
 -- "HTTP"). What the bytes of a connection call for, `http_request` says.
 use mathlib.Core.Logic.{inl, inr}
-use Rattle.std.specs.Prelude.{◌≡◌, ◌⊎◌, ℕ, List, [], ◌∷◌, ◌++◌, take, Option, Some, None, option_map, Result, Err}
-use Rattle.std.specs.Prelude.{MatchOption, MatchResult, IsTrue, codes}
+use Rattle.std.specs.Prelude.{◌≡◌, ◌<◌, ◌⊎◌, ℕ, List, [], ◌∷◌, ◌++◌, take, length, Option, Some, None, option_map}
+use Rattle.std.specs.Prelude.{Result, Err, MatchOption, MatchResult, IsTrue, codes}
 use Rattle.std.specs.Io.KnownBytes.{Appends}
 use Rattle.sqlite.specs.Store.{Ghosts}
 use Rattle.sqlite.specs.State.{HasCleanDisk}
@@ -88,11 +88,12 @@ pub record IsServed {S : Type 0} (g : Ghosts S) (r0 r1 w0 w1 : Option (List ℕ)
   pub answered : AnswersRead g r0 r1 old status body new
   pub written : Appends w0 w1 (whole_reply status body)
 
--- 46: a first part of the reply is written, and what was asked stands
+-- 46: a first part of the reply is written, and not all of it; what was asked stands
 pub record IsTorn {S : Type 0} (g : Ghosts S) (r0 r1 w0 w1 : Option (List ℕ)) (old new : Treasury S) : Type 0 where
   pub status : ℕ
   pub body : List ℕ
   pub taken : ℕ
+  pub part : taken < length (whole_reply status body)
   pub answered : AnswersRead g r0 r1 old status body new
   pub written : Appends w0 w1 (take taken (whole_reply status body))
 

@@ -1,6 +1,7 @@
 //! A reply, and how it is written.
 
-ghost use Rattle.std.specs.Prelude.{◌≡◌, ◌≤◌, ◌+◌, ◌++◌, ℕ, [], length, take, vec_capacity, OnOk, OnErr, IfErr, IsOk};
+ghost use Rattle.std.specs.Prelude.{◌≡◌, ◌≤◌, ◌<◌, ◌+◌, ◌++◌, ℕ, [], length, take, vec_capacity, OnOk, OnErr};
+ghost use Rattle.std.specs.Prelude.{IfErr, IsOk};
 ghost use Rattle.std.specs.Io.KnownBytes.{Appends};
 ghost use Rattle.treasury_api.specs.WebReply.{reply_head, whole_reply};
 ghost use Rattle.treasury_api.specs.WebServing.{code_of};
@@ -50,13 +51,14 @@ fn push_head(status: Status, size: usize, head: &mut Vec<u8>) -> Result<(), Allo
 }
 
 /// Writes a reply, with its head on an empty vector that has room for it. Where a write fails or takes nothing, it
-/// answers 46, and a first part was written.
+/// answers 46: a first part was written, and not all of it.
 pub fn write_reply<W: Write>(reply: &Reply, room: Vec<u8>, writer: &mut W) -> Result<(), Cause>
     requires empty { room.items ≡ [] }
     requires room { MAX_REPLY_HEAD ≤ vec_capacity room }
     ensures ok { OnOk result (Appends (W.contents writer.old) (W.contents writer.new)
         (whole_reply (code_of reply.now.status) reply.now.body.items)) }
     ensures err { IfErr result (λ cause. (cause ≡ Cause.WriteFault) × ((taken : ℕ)
+        × (taken < length (whole_reply (code_of reply.now.status) reply.now.body.items))
         × Appends (W.contents writer.old) (W.contents writer.new)
         (take taken (whole_reply (code_of reply.now.status) reply.now.body.items)))) }
 {

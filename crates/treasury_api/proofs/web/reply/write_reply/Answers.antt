@@ -14,7 +14,8 @@ returns-in-Err-write_whole-clause-err g c =
     (c.len.ensures ∙ c.args.reply.now.body.ok.0))) in (
       refl,
       head_torn code body (g.W.Write.contents c.args.writer.now) (g.W.Write.contents c.write_whole.new.writer)
-          c.in-Err-write_whole.ensures.err.0 c.as_slice.result.now is c.in-Err-write_whole.ensures.err.2,
+          c.in-Err-write_whole.ensures.err.0 c.as_slice.result.now is c.in-Err-write_whole.ensures.err.1
+          c.in-Err-write_whole.ensures.err.2,
     )
 
 pub returns-in-Ok-write_whole-2-clause-ok : goal.returns-in-Ok-write_whole-2-clause-ok
@@ -42,5 +43,5 @@ returns-clause-err g c =
       body_torn code body (g.W.Write.contents c.args.writer.now) (g.W.Write.contents c.write_whole.new.writer)
           (g.W.Write.contents c.write_whole-2.new.writer) c.in-Err-write_whole-2.ensures.err.0 c.as_slice.result.now
           c.as_slice-2.result.now is c.as_slice-2.ensures.value
-          c.in-Ok-write_whole.ensures.ok c.in-Err-write_whole-2.ensures.err.2,
+          c.in-Ok-write_whole.ensures.ok c.in-Err-write_whole-2.ensures.err.1 c.in-Err-write_whole-2.ensures.err.2,
     )
