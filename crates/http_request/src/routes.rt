@@ -1,7 +1,9 @@
 //! The routes, and the one that a method and a path lead to.
 
-ghost use Rattle.std.specs.Prelude.{◌≡◌, ◌≢◌, ◌++◌, ◌∷◌, ◌&&◌, ℕ, List, None, true, false, IfOk, IfSome, MatchOption};
+ghost use Rattle.std.specs.Prelude.{◌≡◌, ◌≢◌, ◌++◌, ◌∷◌, ◌&&◌, ℕ, List, Ok, None, true, false, IfOk, IfSome};
+ghost use Rattle.std.specs.Prelude.{MatchOption};
 ghost use Rattle.std.specs.Result.{IsOkUnless};
+ghost use Rattle.http_header.specs.Token.{IsToken};
 ghost use Rattle.http_request.specs.Routes.{is_part, LeadsTo, HasNoRoute};
 ghost use Rattle.http_request.specs.Calling.{shown};
 ghost use Rattle.http_request.specs.Rows.{route_rows, HasNoRouteAt};
@@ -136,6 +138,8 @@ pub fn find_route<'p>(
 ) -> Result<Option<Route<'p>>, Cause>
     ensures found { IfOk result (λ found.
         MatchOption found (HasNoRoute method.now path.now) (λ route. LeadsTo method.now path.now (shown route))) }
+    // What is no method leads nowhere, whether or not there is memory.
+    ensures token { (IsToken method.now → ⊥) → result ≡ Ok None }
     ensures memory { IsOkUnless result Cause.OutOfMemory }
 {
     let method = match Method::from_bytes(alloc, method) {
