@@ -6,7 +6,7 @@ ghost use Rattle.clap.specs.Matches.{found_of};
 ghost use Rattle.clap.specs.Walk.{Row, rows_of};
 ghost use Rattle.sqlite_wal.specs.Recovery.{Image};
 ghost use Rattle.sqlite_wal.specs.Files.{image_at};
-ghost use Rattle.treasury_api.specs.Web.{HasServed};
+ghost use Rattle.treasury_api.specs.Web.{HasServed, ServesOne};
 ghost use Rattle.treasury.specs.declared.words.left.Left.TheVariants.{Untouched};
 ghost use Rattle.treasury.specs.OverFile.{IsRefusedBy, IsFileRefused};
 ghost use Rattle.treasury.specs.Serving.{listening, silent, LacksValue};
@@ -150,7 +150,10 @@ fn serve_call<R: Read, W: Write, S: Alter>(
     writer: &mut W,
     treasury: &mut Treasury<S>,
 ) -> Result<(), Cause>
-    ensures { HasServed S.Store treasury.old treasury.new }
+    // The reply goes to this writer, so far as it takes it.
+    ensures one { ServesOne result S.Store R.remaining reader.old reader.new W.contents writer.old writer.new
+        treasury.old treasury.new }
+    ensures served { HasServed S.Store treasury.old treasury.new }
 {
     serve_one(alloc, reader, writer, treasury)
 }
