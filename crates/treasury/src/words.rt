@@ -5,6 +5,7 @@ mod file;
 mod known;
 mod left;
 mod looks;
+mod others;
 mod over_file;
 mod pipe;
 mod rehearsal;

@@ -17,6 +17,7 @@ ghost use Rattle.treasury.specs.Started.{IsLeftOpen, IsLeftClosed, IsLeftRefused
 
 use crate::words::beside::{Look, has_log, look_beside};
 use crate::words::left::{Left, close, leave};
+use crate::words::others::{note_of, say_note};
 use crate::words::rehearsal::{rehearse, why_not_made};
 use crate::words::tables::{check_tables, has_receipts, is_taken};
 use money_core::Cause;
@@ -343,10 +344,16 @@ pub fn open_treasury<S: Start>(
         Ok(is_alone) => is_alone,
         Err(why) => return Err(untouched(why)),
     };
-    match connect(rt, path, start) {
-        Ok(conn) => start_on(rt.alloc(), conn, is_alone),
-        Err(unserved) => Err(unserved),
+    let conn = match connect(rt, path, start) {
+        Ok(conn) => conn,
+        Err(unserved) => return Err(unserved),
+    };
+    let note = note_of(rt.alloc(), path, conn.schema());
+    let started = start_on(rt.alloc(), conn, is_alone);
+    if started.is_ok() {
+        say_note(rt, note.as_slice());
     }
+    started
 }
 
 /// Why no tables were made in a database.
@@ -420,10 +427,16 @@ pub fn make_tables<S: Start>(
         Ok(()) => {}
         Err(why) => return Err(untouched(why)),
     }
-    match connect(rt, path, start) {
-        Ok(conn) => make_on(rt.alloc(), conn),
-        Err(unserved) => Err(unserved),
+    let conn = match connect(rt, path, start) {
+        Ok(conn) => conn,
+        Err(unserved) => return Err(unserved),
+    };
+    let note = note_of(rt.alloc(), path, conn.schema());
+    let made = make_on(rt.alloc(), conn);
+    if made.is_ok() {
+        say_note(rt, note.as_slice());
     }
+    made
 }
 
 /// Closes the database of a treasury, so that its file alone is a whole copy. Where that fails, it is left with its

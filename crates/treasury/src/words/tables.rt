@@ -44,7 +44,7 @@ fn table_named<'a>(schema: &'a Schema, name: &[u8]) -> Option<&'a Table> {
 }
 
 /// Whether the name is that of a treasury's table.
-fn is_ours(name: &[u8]) -> bool {
+pub fn is_ours(name: &[u8]) -> bool {
     for (table, _) in TABLES {
         if same_name(name, table.as_bytes()) {
             return true;
@@ -97,7 +97,7 @@ pub fn is_taken(schema: &Schema) -> bool {
 }
 
 /// Appends a name to a list of names.
-fn push_name(name: &[u8], list: &mut Vec<u8>) -> Result<(), Cause> {
+pub fn push_name(name: &[u8], list: &mut Vec<u8>) -> Result<(), Cause> {
     if !list.is_empty() {
         list.extend_from_slice(b", ")?;
     }

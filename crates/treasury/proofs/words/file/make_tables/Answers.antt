@@ -5,5 +5,5 @@ use Rattle.treasury.proofs.words.file.make_tables.Goals as goal
 pub returns-in-Err : goal.returns-in-Err
 returns-in-Err g c = keeps_untouched _ (image_at g.S.Start) _ c.untouched.ensures
 
-pub returns-in-Ok-connect : goal.returns-in-Ok-connect
-returns-in-Ok-connect g c = c.make_on.ensures (image_at g.S.Start) c.in-Ok-connect.ensures.opened
+pub returns : goal.returns
+returns g c = c.make_on.ensures (image_at g.S.Start) c.in-Ok-connect.ensures.opened

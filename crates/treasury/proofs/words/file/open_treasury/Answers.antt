@@ -6,6 +6,6 @@ use Rattle.treasury.proofs.words.file.open_treasury.Goals as goal
 pub returns-in-Err : goal.returns-in-Err
 returns-in-Err g c = keeps_untouched _ (image_at g.S.Start) _ c.untouched.ensures
 
-pub returns-in-Ok-connect : goal.returns-in-Ok-connect
-returns-in-Ok-connect g c = started_by _ (λ r. r.left) c.start_on.result (image_at g.S.Start) c.in-Ok-connect.conn
+pub returns : goal.returns
+returns g c = started_by _ (λ r. r.left) c.start_on.result (image_at g.S.Start) c.in-Ok-connect.conn
     c.in-Ok-connect.ensures.opened c.start_on.ensures
