@@ -1,6 +1,6 @@
 -- Heads within their limits.
 use Rattle.std.proofs.Common.{◌⊎◌, ◌≡◌, ◌≤◌, ◌+◌, ℕ, List, [], ◌∷◌, ◌++◌, take, drop, length, Option, arith, sym, subst}
-use Rattle.std.proofs.Common.{ap, ◌∙◌, map}
+use Rattle.std.proofs.Common.{ap, ◌∙◌, map, append-nil}
 use Rattle.std.proofs.lemmas.Grind.{common_steps}
 use Rattle.std.proofs.lemmas.List.{length-map, length-append, take-append-drop, take-append-le, take_at}
 use Rattle.std.proofs.Math.Seq.{take-append_seam}
@@ -12,6 +12,7 @@ use Rattle.httparse.specs.declared.spans.HeaderSpan.{HeaderSpan}
 use Rattle.httparse.specs.declared.spans.RequestSpans.{RequestSpans}
 use Rattle.httparse.proofs.GrammarLemmas.{print_request-append}
 use Rattle.http_request.specs.Head.{IsHead, NeverHead}
+use Rattle.http_request.specs.Call.{StopsAtHead}
 use Rattle.http_request.specs.Found.{HasHead}
 
 pub record Reading (r0 r1 : Option (List ℕ)) (text : List ℕ) : Type 0 where
@@ -29,6 +30,11 @@ not_empty a b c x e = (let l : 0 ≡ length a + (length b + (length c + 1)) =
 -- nothing is no head
 pub nothing : HasNoRequest []
 nothing head rest reads = not_empty _ _ _ _ (reads.1 ∙ print_request-append head rest)
+
+-- where nothing that was read has a head, the last part is empty
+pub all_before : (text : List ℕ) → HasNoRequest text → StopsAtHead text
+all_before text none =
+    record { before = text; last = []; split = sym (append-nil text); none = none; short = omega arith }
 
 -- a text of all the bytes that a head may have, and with none in it
 pub never_full : (text : List ℕ) → length text ≡ 16_384 → HasNoRequest text → NeverHead text
@@ -55,8 +61,9 @@ few_fields text headers count fields at =
 
 pub head_found : (r0 r1 : Option (List ℕ)) (text held : List ℕ) (headers : List HeaderSpan) (spans : RequestSpans)
     → held ≡ text → Consumes r0 r1 text → length text ≤ 16_384 → length headers ≡ 32
-    → IsRequestWithin held headers spans → IsRequestOf held headers spans → HasHead r0 r1 text headers spans
-head_found r0 r1 text held headers spans same read within room inside of =
+    → IsRequestWithin held headers spans → IsRequestOf held headers spans → StopsAtHead text
+    → HasHead r0 r1 text headers spans
+head_found r0 r1 text held headers spans same read within room inside of stops =
     let P : List ℕ → Type 0 = λ t. HasHead r0 r1 t headers spans in
     subst P same (record {
       read = (let Q : List ℕ → Type 0 = λ t. Consumes r0 r1 t in subst Q (sym same) read);
@@ -71,6 +78,7 @@ head_found r0 r1 text held headers spans same read within room inside of =
       };
       at = of.1;
       within = inside;
+      stops = subst StopsAtHead (sym same) stops;
     })
 
 -- the spans of a head within the limits

@@ -86,7 +86,13 @@ stopped_early r0 r1 text ends =
 
 pub read_bad : (r0 r1 : Option (List ℕ)) (text : List ℕ) → IsBad r0 r1 text → Reads r0 r1 Unreadable
 read_bad r0 r1 text bad =
-    record { seen = text; read = bad.read; bounded = (let b = bad.bounded in omega arith); calls = inl bad.never }
+    record {
+      seen = text;
+      read = bad.read;
+      bounded = (let b = bad.bounded in omega arith);
+      calls = inl bad.never;
+      stops = bad.stops;
+    }
 
 module _ (r0 r1 : Option (List ℕ)) (text : List ℕ) (headers : List HeaderSpan) (spans : RequestSpans)
     (h : HasHead r0 r1 text headers spans) where
@@ -108,6 +114,7 @@ module _ (r0 r1 : Option (List ℕ)) (text : List ℕ) (headers : List HeaderSpa
         read = h.read;
         bounded = (let b = h.bounded in omega arith);
         calls = (h.head, h.rest, h.is_head, foreign_is true is);
+        stops = h.stops;
       }
 
   -- another, that leads to no route, or to that of a report
@@ -119,6 +126,7 @@ module _ (r0 r1 : Option (List ℕ)) (text : List ℕ) (headers : List HeaderSpa
         read = h.read;
         bounded = (let b = h.bounded in omega arith);
         calls = (h.head, h.rest, h.is_head, foreign_is false own, there HasNoRoute none);
+        stops = h.stops;
       })
   head_calls own call (inr (route, leads, is)) = by_route route leads is
     where
@@ -139,6 +147,7 @@ module _ (r0 r1 : Option (List ℕ)) (text : List ℕ) (headers : List HeaderSpa
             read = h.read;
             bounded = (let b = h.bounded in omega arith);
             calls = (h.head, h.rest, leading (balance branch date) leads);
+            stops = h.stops;
           })
       by_route (journal branch) leads is = subst (Reads r0 r1) (let same : Journal branch ≡ call = cc in same)
           (record {
@@ -146,6 +155,7 @@ module _ (r0 r1 : Option (List ℕ)) (text : List ℕ) (headers : List HeaderSpa
             read = h.read;
             bounded = (let b = h.bounded in omega arith);
             calls = (h.head, h.rest, leading (journal branch) leads);
+            stops = h.stops;
           })
       by_route (transit date) leads is = subst (Reads r0 r1) (let same : Transit date ≡ call = cc in same)
           (record {
@@ -153,6 +163,7 @@ module _ (r0 r1 : Option (List ℕ)) (text : List ℕ) (headers : List HeaderSpa
             read = h.read;
             bounded = (let b = h.bounded in omega arith);
             calls = (h.head, h.rest, leading (transit date) leads);
+            stops = h.stops;
           })
 
   module _ (r2 : Option (List ℕ)) (own : is_foreign (map (header_bytes text) (take spans.headers headers)) ≡ false)
@@ -198,6 +209,7 @@ module _ (r0 r1 : Option (List ℕ)) (text : List ℕ) (headers : List HeaderSpa
         record { is_head = h.is_head; own = foreign_is false own; leads = leads_there },
         size_is None size,
       );
+      stops = h.stops;
     })
     command_calls (Some n) call size (body, has, is) = subst (Reads r0 r2) (sym is) (record {
       seen = text ++ has.more;
@@ -219,6 +231,7 @@ module _ (r0 r1 : Option (List ℕ)) (text : List ℕ) (headers : List HeaderSpa
         subst (λ (t : List ℕ). n ≤ length (t ++ has.more)) rest_is has.long,
         has.is ∙ ap (λ (t : List ℕ). take n (t ++ has.more)) rest_is,
       );
+      stops = tt;
     })
 
     pub command_stops : (o : Option ℕ) → body_length (map (header_bytes text) (take spans.headers headers)) ≡ o

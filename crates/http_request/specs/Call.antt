@@ -1,5 +1,5 @@
 -- What the bytes of a connection call for (own rule; docs/FORMATS.md, "HTTP").
-use Rattle.std.specs.Prelude.{◌≡◌, ◌⊎◌, ◌≤◌, ◌<◌, ◌+◌, ℕ, Bool, true, false, List, length, take, map}
+use Rattle.std.specs.Prelude.{◌≡◌, ◌⊎◌, ◌≤◌, ◌<◌, ◌+◌, ⊤, ℕ, Bool, true, false, List, ◌++◌, length, take, map}
 use Rattle.std.specs.Prelude.{Option, Some, None}
 use Rattle.std.specs.Io.KnownBytes.{Consumes}
 use Rattle.httparse.specs.Grammar.{RequestHead, HasNoRequest, MayBecomeRequest}
@@ -52,12 +52,27 @@ Calls seen (Transit date) = LeadTo seen (transit date)
 abbrev pub most_read : ℕ
 most_read = 16_384 + 8_388_608
 
+-- The last of several parts ends the bytes, of at most 1,024 of them, and those before it have no head: so nothing was
+-- read once there was a head.
+pub record StopsAtHead (seen : List ℕ) : Type 0 where
+  pub before : List ℕ
+  pub last : List ℕ
+  pub split : seen ≡ before ++ last
+  pub none : HasNoRequest before
+  pub short : length last ≤ 1_024
+
+-- where no command is called for, nothing is read behind the part that ends its head
+abbrev pub StopsFor : List ℕ → Call → Type 0
+StopsFor seen (Command body) = ⊤
+StopsFor seen call = StopsAtHead seen
+
 -- what was read calls for this
 pub record Reads (r0 r1 : Option (List ℕ)) (call : Call) : Type 0 where
   pub seen : List ℕ
   pub read : Consumes r0 r1 seen
   pub bounded : length seen ≤ most_read
   pub calls : Calls seen call
+  pub stops : StopsFor seen call
 
 -- The bytes are a first part of a request: of its head, which some bytes could still end within the limits (inside its
 -- target that is not asked), or of its body.

@@ -6,6 +6,7 @@ use Rattle.httparse.specs.Spans.{IsRequestAt, IsRequestWithin}
 use Rattle.httparse.specs.declared.spans.HeaderSpan.{HeaderSpan}
 use Rattle.httparse.specs.declared.spans.RequestSpans.{RequestSpans}
 use Rattle.http_request.specs.Head.{IsHead, NeverHead, CanEnd}
+use Rattle.http_request.specs.Call.{StopsAtHead}
 use Rattle.http_request.specs.Spaces.{spaces}
 use Rattle.http_request.specs.declared.fields.Values.{Values}
 use Rattle.http_request.specs.declared.fields.Values.TheVariants as found
@@ -20,12 +21,14 @@ pub record HasHead (r0 r1 : Option (List ℕ)) (text : List ℕ) (headers : List
   pub is_head : IsHead text head rest
   pub at : IsRequestAt text headers spans head
   pub within : IsRequestWithin text headers spans
+  pub stops : StopsAtHead text
 
 -- what was read begins no head
 pub record IsBad (r0 r1 : Option (List ℕ)) (text : List ℕ) : Type 0 where
   pub read : Consumes r0 r1 text
   pub bounded : length text ≤ 16_384
   pub never : NeverHead text
+  pub stops : StopsAtHead text
 
 -- the input ended before its head did, which some bytes could still have ended; or inside its target, with one space so
 -- far

@@ -4,7 +4,7 @@ use Rattle.std.proofs.lemmas.Grind.{common_steps}
 use Rattle.std.proofs.lemmas.List.{take-append-le}
 use Rattle.std.proofs.KnownBytes.{Consumes-trans, Consumes-nil}
 use Rattle.std.specs.Io.KnownBytes.{Consumes}
-use Rattle.http_request.proofs.HeadLemmas.{head_found, never_full, nothing}
+use Rattle.http_request.proofs.HeadLemmas.{all_before, head_found, never_full, nothing}
 use Rattle.http_request.proofs.head.read_head.Goals as goal
 
 pub returns-in-Ok-Complete-clause-found : goal.returns-in-Ok-Complete-clause-found
@@ -20,6 +20,13 @@ returns-in-Ok-Complete-clause-found g c =
     c.in-Ok-Complete.spans c.as_slice.ensures.value
     (subst P (sym more) (Consumes-trans _ _ _ _ _ c.reading.invariant.read c.in-Ok.ensures.bytes.0))
     (grind (arith, common_steps)) (grind (arith, common_steps)) ok.within ok.complete
+    (record {
+      before = c.reading.text.items;
+      last = take c.in-Ok.count c.read.new.buf;
+      split = more;
+      none = c.reading.invariant.none;
+      short = grind (arith, common_steps, got);
+    })
 
 pub returns-clause-found : goal.returns-clause-found
 returns-clause-found g c =
@@ -30,6 +37,7 @@ returns-clause-found g c =
       read = c.reading.invariant.read;
       bounded = c.reading.invariant.within;
       never = never_full c.reading.text.items full c.reading.invariant.none;
+      stops = all_before c.reading.text.items c.reading.invariant.none;
     }
 
 pub reading-init : goal.reading-init
