@@ -139,7 +139,7 @@ module _ {D : Type 0} (g : disk.Ghosts D) where
           both = ∣ subst (λ (x : Trees). HoldsDatabase next x) one.2 found.2 ∣₁;
         } in r)
 
-    image_holds : (it : FileStore D g) (t : Tables) → IsTrue (view it).is_numbered → AreDatabases (recovers it)
+    pub image_holds : (it : FileStore D g) (t : Tables) → IsTrue (view it).is_numbered → AreDatabases (recovers it)
         → AreClean g (files it).0 (files it).1 → ((trees : Trees) → recovers it trees → AreStored trees t)
         → (next : Image) → IsImageOf g (files it).0 (files it).1 next → ∥ HoldsRows next t ∥₁
     image_holds it t numbered sound clean stored next (inl same) =

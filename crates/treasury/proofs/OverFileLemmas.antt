@@ -47,7 +47,7 @@ use Rattle.treasury_api.specs.Left.{LeavesRequest}
 use Rattle.treasury.specs.declared.words.file.Unopened.{Unopened as Why}
 use Rattle.treasury.specs.declared.words.file.Unopened.TheVariants as why
 use Rattle.treasury.specs.declared.words.left.Left.{Left}
-use Rattle.treasury.specs.declared.words.left.Left.TheVariants.{Untouched, Closed, Shut}
+use Rattle.treasury.specs.declared.words.left.Left.TheVariants.{Untouched, Closed, Open, Shut}
 use Rattle.treasury.specs.Word.{AnswersWord, SaysTo}
 use Rattle.treasury.specs.Left.{HoldsOf, HaveRows, KeepsFile}
 use Rattle.treasury.specs.OverFile.{Spoken, IsRefusedBy, IsFileRefused, ShowsState, LeavesState, AnswersOver, MakesOver}
@@ -55,8 +55,10 @@ use Rattle.treasury.specs.OverFile.{HaveRowsBehind, MayHaveDone, Tells, SaysOver
 use Rattle.treasury.specs.OverFile.{ShowsGoodRows, HasTreasury}
 use Rattle.treasury.specs.declared.words.said.Said.{Said}
 use Rattle.treasury.specs.declared.words.over_file.Answered.{Answered}
-use Rattle.treasury.specs.Started.{spoken, refusal_of, IsOpenedOn, StartsOn, IsStarted, IsClosedAs, IsUnclosed}
-use Rattle.treasury.proofs.LeftLemmas.{shows_rows, alone_in, settles, keeps_closed, keeps_shut, keeps_untouched}
+use Rattle.treasury.specs.Started.{spoken, refusal_of, IsLeftAs, IsOpenedOn, StartsOn, IsStarted, IsClosedAs}
+use Rattle.treasury.specs.Started.{IsUnclosed}
+use Rattle.treasury.proofs.LeftLemmas.{shows_rows, alone_in, settles, stored_in, keeps_open, keeps_closed, keeps_shut}
+use Rattle.treasury.proofs.LeftLemmas.{keeps_untouched}
 
 -- the line of 40
 pub line_of_40 : codes "refused 40 OutOfMemory\n" ≡ answer_text [] (Err (Plain OutOfMemory))
@@ -296,7 +298,18 @@ module _ {D : Type 0} (g : disk.Ghosts D) where
               )
             ]
 
-    -- nothing was asked of its treasury, and the file is closed, or cannot be
+    -- nothing was asked of its treasury, and the file is left open
+    pub keeps_left : (image : Image) (t : Treasury (FileStore D g)) (it : FileStore D g) → IsStarted g image t
+        → IsLeftAs t.store.conn it → KeepsFile g image (Open it)
+    keeps_left image t it started leaves =
+        keeps_open g stays image started.opened t.store.conn (Open it) started.on (it, refl, leaves.by)
+        started.starts.clean (λ k rows holds trees may.
+        let left_so = started.starts.is_open k in
+        let held = started.starts.tables k (committed_in image started.opened started.on (started.starts.clean k)) rows
+        holds k left_so in
+        stored_in g stays t.store.conn rows trees leaves.live left_so held.1 (inl held.0) may)
+
+    -- or closed, or cannot be
     pub keeps_started : (image : Image) (t : Treasury (FileStore D g)) (closed : Files D) → IsStarted g image t
         → IsClosedAs g t.store.conn closed → KeepsFile g image (Closed closed)
     keeps_started image t closed started closes =

@@ -1,8 +1,10 @@
 -- `serve`: its treasury is started, serves connections and is closed; what is told of it.
 use Rattle.std.proofs.Common.{◌≡◌, ◌≢◌, ◌<◌, ◌⊎◌, ℕ, ◌+◌, Bool, true, false, Err, List, [], ◌++◌, take, length, Option}
-use Rattle.std.proofs.Common.{None, Some, Result, arith, slice_index, codes, refl, sym, ap, subst, ◌∙◌, inl, inr}
+use Rattle.std.proofs.Common.{None, Some, Result, IsTrue, arith, slice_index, codes, refl, sym, ap, subst, ◌∙◌, inl}
+use Rattle.std.proofs.Common.{inr}
 use Rattle.std.proofs.lemmas.List.{length-append, take-append-le}
 use Rattle.std.proofs.Math.Seq.{take-append_seam, take-append-add}
+use Rattle.std.proofs.Math.Logic.{∥∥₁_map}
 use Rattle.std.proofs.KnownBytes.{Appends-trans}
 use Rattle.std.specs.Fmt.{digits}
 use Rattle.std.specs.Io.KnownBytes.{Appends}
@@ -14,26 +16,35 @@ use Rattle.sqlite_disk.specs.declared.Disk as disk
 use Rattle.sqlite_disk.specs.declared.Files.{Files}
 use Rattle.sqlite_wal.specs.Recovery.{Image}
 use Rattle.sqlite_wal.specs.Reads.{AreClean}
+use Rattle.sqlite_wal.proofs.LogLemmas.{SeenMayStay}
 use Rattle.sqlite_store.specs.declared.store.FileStore.{FileStore}
+use Rattle.sqlite_store.specs.FileStore.{view}
+use Rattle.sqlite.specs.Held.{Held}
 use Rattle.sqlite.specs.State.{HasCleanDisk}
 use Rattle.sqlite.specs.Files.{file_state, over_files}
 use Rattle.money_core.specs.declared.cause.Cause.TheVariants.{OutOfMemory, Store as Failed}
 use Rattle.book_core.specs.declared.refusal.Refusal.TheVariants.{Plain}
 use Rattle.treasury_core.specs.Federation.{Federation}
+use Rattle.treasury_core.specs.Good.{IsGoodState}
+use Rattle.treasury_core.specs.Rows.{rows, HasShortLocks}
+use Rattle.treasury_store.specs.Store.{TablesAre}
 use Rattle.treasury_store.specs.Treasury.{Treasury}
 use Rattle.treasury_api.specs.Answer.{answer_text}
 use Rattle.treasury_api.specs.Replied.{standing}
 use Rattle.treasury_api.specs.Step.{Standing}
 use Rattle.treasury_api.specs.Web.{AreServed, HasServed}
 use Rattle.treasury.specs.declared.words.left.Left.{Left}
-use Rattle.treasury.specs.declared.words.left.Left.TheVariants.{Untouched, Closed}
-use Rattle.treasury.specs.OverFile.{Spoken, ShowsState, LeavesState, Tells}
-use Rattle.treasury.specs.Left.{KeepsFile}
-use Rattle.treasury.specs.Serving.{IsNumber, LacksNumber, listening, after_listening, ServesOver, IsServed}
-use Rattle.treasury.specs.Started.{IsStarted, IsClosedAs}
-use Rattle.treasury.specs.ServingParts.{ends_unwritten, IsAnnounced, SaysServing, ServesIfHeard, KeepsUnheard}
+use Rattle.treasury.specs.declared.words.left.Left.TheVariants.{Untouched, Closed, Open}
+use Rattle.treasury.specs.OverFile.{Spoken, IsRefusedBy, ShowsState, LeavesState, Tells}
+use Rattle.treasury.specs.Left.{HoldsOf, IsCleanStore, KeepsFile}
+use Rattle.treasury.specs.Serving.{IsNumber, LacksNumber, listening, after_listening, ServesOver, LeavesOpen}
+use Rattle.treasury.specs.Serving.{ServesOpen, IsNotClosed, IsServed}
+use Rattle.treasury.specs.Started.{IsStarted, IsClosedAs, IsLeftAs}
+use Rattle.treasury.specs.ServingParts.{ends_unwritten, IsAnnounced, SaysAtEnd, SaysServing, ServesIfHeard}
+use Rattle.treasury.specs.ServingParts.{KeepsUnheard, EndsBy}
 use Rattle.treasury.specs.declared.words.serving.Ending.{Ending}
-use Rattle.treasury.specs.declared.words.serving.Ending.TheVariants.{Unbound, Unwritten, Unaccepted, Finished}
+use Rattle.treasury.specs.declared.words.serving.Ending.TheVariants.{Unbound, Unwritten, Unaccepted, Changed, Finished}
+use Rattle.treasury.proofs.LeftLemmas.{image_holds, stored_in}
 use Rattle.treasury.proofs.OverFileLemmas.{left_behind, committed_in, line_of_40, tells_nothing}
 
 -- ---- its values
@@ -157,12 +168,79 @@ module _ {D : Type 0} (g : disk.Ghosts D) where
                 r.1.0.store.tables,
           )
 
+  module _ (stays : SeenMayStay g) where
+    -- what is left open of a connection that shows the rows of a good state holds that state
+    open_behind : (c : Held (FileStore D g)) (it : FileStore D g) (f : Federation) → IsLeftAs c it → IsCleanStore g it
+        → HasCleanDisk (file_state c) → IsGoodState f → HasShortLocks f → TablesAre over_files c (rows f)
+        → IsTrue (view it).is_open → LeavesOpen g it f
+    open_behind c it f leaves clean last good short tables still next may =
+        let is_open = leaves.by.was_open clean.0 still in
+        let held = tables last is_open in
+        ∥∥₁_map (image_holds g stays it (rows f) (leaves.by.numbered clean.0) (leaves.by.sound clean.0) clean.1
+        (λ trees came. stored_in g stays c (rows f) trees leaves.live is_open held.1 (inl held.0)
+        (leaves.by.quiet.outcomes trees came)) next may)
+        (λ found. let r : HoldsOf next f = record { good = good; short = short; held = found } in r)
+
+    -- its treasury serves connections, and the file is left open
+    pub serves_open : (image : Image) (old new : Treasury (FileStore D g)) (it : FileStore D g)
+        → IsStarted g image old → HasServed over_files old new → IsLeftAs new.store.conn it
+        → ServesOpen g image (Open it)
+    serves_open image old new it started served leaves = record {
+      opened = started.opened;
+      it = it;
+      calls = served.calls;
+      is_left = refl;
+      found = λ k. started.on.found (at_first k);
+      serves = λ k. started.on.serves (at_first k);
+      has = λ k. started.starts.has (served.clean (at_end k));
+      answers = answers;
+    }
+      where
+        at_end : IsCleanStore g it → HasCleanDisk (file_state new.store.conn)
+        at_end k = omega (arith, leaves.by.quiet.clean, k.0)
+
+        at_first : IsCleanStore g it → HasCleanDisk (file_state started.opened)
+        at_first k = started.starts.clean (served.clean (at_end k))
+
+        answers : IsCleanStore g it → (f : Federation) → ShowsState g started.opened f
+            → (end : Standing) × AreServed (record { now = f; failed = false }) served.calls end
+            × (IsTrue (view it).is_open → LeavesOpen g it end.now)
+        answers k f shows =
+            let last = at_end k in
+            let r = served.served last f (started.starts.of (served.clean last)
+            (committed_in g image started.opened started.on (at_first k)) f shows) in (
+              standing new r.0,
+              subst (λ (failed : Bool). AreServed (record { now = f; failed = failed }) served.calls (standing new r.0))
+                  started.starts.unfailed r.1.1,
+              open_behind new.store.conn it r.0 leaves k last r.1.0.store.good r.1.0.short r.1.0.store.tables,
+            )
+
+  -- a file that is left open was not closed, however serving ended
+  pub ends_open : (image : Image) (ending : Ending) (said : Spoken) (left : Left D g) → IsRefusedBy Failed said
+      → ServesOpen g image left → KeepsUnheard g image ending left → EndsBy g image ending said left
+  ends_open image (Unbound reason) said left refused serves keeps = (inl (refused, inl serves), keeps)
+  ends_open image Unwritten said left refused serves keeps = (inl (refused, inl serves), keeps)
+  ends_open image (Unaccepted port) said left refused serves keeps = (inl (refused, inl serves), keeps)
+  ends_open image Changed said left refused serves keeps = (refused, serves)
+  ends_open image Finished said left refused serves keeps = (inl (refused, inl serves), keeps)
+
+  -- one that another program did not change is closed, or cannot be
+  pub ends_otherwise : (image : Image) (ending : Ending) (said : Spoken) (left : Left D g) → ending ≢ Changed
+      → IsNotClosed g image said left ⊎ (ServesOver g image left × SaysAtEnd ending said)
+      → KeepsUnheard g image ending left → EndsBy g image ending said left
+  ends_otherwise image (Unbound reason) said left other ends keeps = (ends, keeps)
+  ends_otherwise image Unwritten said left other ends keeps = (ends, keeps)
+  ends_otherwise image (Unaccepted port) said left other ends keeps = (ends, keeps)
+  ends_otherwise image Changed said left other ends keeps = absurd (other refl)
+  ends_otherwise image Finished said left other ends keeps = (ends, keeps)
+
   -- where nothing was served, the file holds what it held
   pub keeps_unheard : {S : Type 0} (image : Image) (ending : Ending) (old new : Treasury S) (left : Left D g)
       → ServesIfHeard ending old new → (new ≡ old → KeepsFile g image left) → KeepsUnheard g image ending left
   keeps_unheard image (Unbound reason) old new left same keeps = keeps same
   keeps_unheard image Unwritten old new left same keeps = keeps same
-  keeps_unheard image Unaccepted old new left heard keeps = tt
+  keeps_unheard image (Unaccepted port) old new left heard keeps = tt
+  keeps_unheard image Changed old new left heard keeps = tt
   keeps_unheard image Finished old new left heard keeps = tt
 
   -- what is said to it is told
@@ -176,7 +254,11 @@ module _ {D : Type 0} (g : disk.Ghosts D) where
   told_served image contents w0 w1 w2 status values None said left same (inr file) other tells =
       inl (said, tells_alone contents w0 w1 w2 status said same tells, inr (inr (inl file)))
   told_served image contents w0 w1 w2 status values (Some (Unbound reason)) said left same (inl file, keeps) other
-      tells = inl (said, tells_alone contents w0 w1 w2 status said same tells, inr (inr (inl (inr (inl file), keeps))))
+      tells = inl (
+        said,
+        tells_alone contents w0 w1 w2 status said same tells,
+        inr (inr (inl (inr (inl file.0), keeps))),
+      )
   told_served image contents w0 w1 w2 status values (Some (Unbound reason)) said left same (inr port, keeps) other
       tells = inl (
         said,
@@ -184,18 +266,23 @@ module _ {D : Type 0} (g : disk.Ghosts D) where
         inr (inr (inr (inl (port.0, port.1, keeps)))),
       )
   told_served image contents w0 w1 w2 status values (Some Unwritten) said left first says other tells = absurd cc
-  told_served image contents w0 w1 w2 status values (Some Unaccepted) said left first (inl file, keeps) other tells =
-      inl (
+  told_served image contents w0 w1 w2 status values (Some (Unaccepted port)) said left first (inl file, keeps) other
+      tells = inl (
         after_listening said,
         tells_after contents w0 w1 w2 status said first tells,
         inr (inr (inr (inr (said, refl, inr file)))),
       )
-  told_served image contents w0 w1 w2 status values (Some Unaccepted) said left first (inr (serves, refused), keeps)
-      other tells = inl (
+  told_served image contents w0 w1 w2 status values (Some (Unaccepted port)) said left first
+      (inr (serves, refused), keeps) other tells = inl (
         after_listening said,
         tells_after contents w0 w1 w2 status said first tells,
         inr (inr (inr (inr (said, refl, inl (serves, inr refused))))),
       )
+  told_served image contents w0 w1 w2 status values (Some Changed) said left first (refused, serves) other tells = inl (
+    after_listening said,
+    tells_after contents w0 w1 w2 status said first tells,
+    inr (inr (inr (inr (said, refl, inr (refused, inl serves))))),
+  )
   told_served image contents w0 w1 w2 status values (Some Finished) said left first (inl file, keeps) other tells =
       inl (
         after_listening said,
@@ -231,14 +318,15 @@ module _ {D : Type 0} (g : disk.Ghosts D) where
       inl (
         after_listening said,
         tells_no_more contents w0 w1 status said
-            (subst (λ (text : List ℕ). 0 < length text) (sym file.0) some_41) written one,
+            (subst (λ (text : List ℕ). 0 < length text) (sym file.0.0) some_41) written one,
         inr (inr (inr (inr (said, refl, inr file)))),
       )
   told_unwritten image contents w0 w1 status values (Some Unwritten) said left (inr written)
       (inr (serves, silence), keeps) is one = inr (written, one, serves, keeps)
   told_unwritten image contents w0 w1 status values None said left first says is one = absurd cc
   told_unwritten image contents w0 w1 status values (Some (Unbound reason)) said left first says is one = absurd cc
-  told_unwritten image contents w0 w1 status values (Some Unaccepted) said left first says is one = absurd cc
+  told_unwritten image contents w0 w1 status values (Some (Unaccepted port)) said left first says is one = absurd cc
+  told_unwritten image contents w0 w1 status values (Some Changed) said left first says is one = absurd cc
   told_unwritten image contents w0 w1 status values (Some Finished) said left first says is one = absurd cc
 
   -- 40 is told

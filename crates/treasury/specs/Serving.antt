@@ -1,7 +1,7 @@
 -- What `serve` says and does over a database file (own rules; docs/RULES.md, "The program"), while the disk returns
 -- what was written. Of what a socket gives or takes nothing is said: whichever calls come, they are answered one after
 -- another.
-use Rattle.std.specs.Prelude.{◌≡◌, ◌<◌, ◌⊎◌, ◌^◌, ℕ, false, List, [], ◌++◌, Option, None, Some, codes}
+use Rattle.std.specs.Prelude.{◌≡◌, ◌<◌, ◌⊎◌, ◌^◌, ℕ, false, List, [], ◌++◌, Option, None, Some, codes, IsTrue}
 use Rattle.std.specs.Io.KnownBytes.{Appends}
 use Rattle.std.specs.Str.Parse.{IsNumeral, without_leading_plus, digits_value}
 use Rattle.clap.specs.Walk.{Row, first_of, one_of}
@@ -10,6 +10,7 @@ use Rattle.sqlite_disk.specs.declared.Files.{Files}
 use Rattle.sqlite_wal.specs.Recovery.{Image}
 use Rattle.sqlite_wal.specs.Reads.{AreClean}
 use Rattle.sqlite_store.specs.declared.store.FileStore.{FileStore}
+use Rattle.sqlite_store.specs.FileStore.{view, files}
 use Rattle.sqlite.specs.Held.{Held}
 use Rattle.sqlite.specs.Start.{FindsIn}
 use Rattle.sqlite.specs.Files.{file_state, IsOpened}
@@ -18,8 +19,8 @@ use Rattle.treasury_core.specs.Federation.{Federation}
 use Rattle.treasury_api.specs.Step.{Standing}
 use Rattle.treasury_api.specs.Web.{AnsweredCall, AreServed}
 use Rattle.treasury.specs.declared.words.left.Left.{Left}
-use Rattle.treasury.specs.declared.words.left.Left.TheVariants.{Closed}
-use Rattle.treasury.specs.Left.{KeepsFile}
+use Rattle.treasury.specs.declared.words.left.Left.TheVariants.{Closed, Open, Shut}
+use Rattle.treasury.specs.Left.{HoldsOf, IsImageOf, IsCleanStore, KeepsFile}
 use Rattle.treasury.specs.OverFile.{Spoken, IsRefusedBy, IsFileRefused, IsRefusedBefore, LeavesState, ShowsState}
 use Rattle.treasury.specs.OverFile.{HasTreasury, Tells}
 
@@ -70,13 +71,36 @@ module _ {D : Type 0} (g : disk.Ghosts D) where
     pub answers : AreClean g closed.log closed.db → (f : Federation) → ShowsState g opened f
         → (end : Standing) × AreServed (record { now = f; failed = false }) calls end × LeavesState g closed end.now
 
+  -- What the next word may find of files that were left open, with their log, holds the rows of a state.
+  abbrev pub LeavesOpen : FileStore D g → Federation → Type 0
+  LeavesOpen it f = (next : Image) → IsImageOf g (files it).0 (files it).1 next → ∥ HoldsOf next f ∥₁
+
+  -- The same of a file that was opened and is left open, with its log beside it. If a failure has shut the database, it
+  -- is not said what the two hold.
+  pub record ServesOpen (image : Image) (left : Left D g) : Type 0 where
+    pub opened : Held (FileStore D g)
+    pub it : FileStore D g
+    pub calls : List AnsweredCall
+    pub is_left : left ≡ Open it
+    pub found : IsCleanStore g it → FindsIn image (file_state opened)
+    pub serves : IsCleanStore g it → IsOpened opened
+    pub has : IsCleanStore g it → HasTreasury (file_state opened).now
+    pub answers : IsCleanStore g it → (f : Federation) → ShowsState g opened f
+        → (end : Standing) × AreServed (record { now = f; failed = false }) calls end
+        × (IsTrue (view it).is_open → LeavesOpen it end.now)
+
+  -- 41: the file was changed by another program, and is left open; or it could not be closed
+  abbrev pub IsNotClosed : Image → Spoken → Left D g → Type 0
+  IsNotClosed image said left =
+      IsRefusedBy Store said × (ServesOpen image left ⊎ ((it : FileStore D g) × (left ≡ Shut it)))
+
   -- how it ends once connections can be made: they are served, or one of them cannot be accepted, which is 45; or the
-  -- file cannot be closed
+  -- file is not closed
   abbrev pub EndsServing : Image → Spoken → Left D g → Type 0
   EndsServing image said left =
-      (ServesOver image left × ((said ≡ silent) ⊎ IsRefusedBy ReadFault said)) ⊎ IsRefusedBy Store said
+      (ServesOver image left × ((said ≡ silent) ⊎ IsRefusedBy ReadFault said)) ⊎ IsNotClosed image said left
 
-  -- what is said to `serve`: a value is lacking, which is 44; or the file is refused, also because it cannot be closed,
+  -- what is said to `serve`: a value is lacking, which is 44; or the file is refused, also because it is not closed,
   -- or the port, which is 45, and the file is left as it was; or connections can be made
   abbrev pub SaysToServe : Image → List Row → Spoken → Left D g → Type 0
   SaysToServe image values said left =

@@ -7,11 +7,11 @@ use Rattle.sqlite_wal.specs.Recovery.{Image}
 use Rattle.money_core.specs.declared.cause.Cause.TheVariants.{Store, Request as NoRequest, ReadFault}
 use Rattle.treasury_store.specs.Treasury.{Treasury}
 use Rattle.treasury.specs.declared.words.serving.Ending.{Ending}
-use Rattle.treasury.specs.declared.words.serving.Ending.TheVariants.{Unbound, Unwritten, Unaccepted, Finished}
+use Rattle.treasury.specs.declared.words.serving.Ending.TheVariants.{Unbound, Unwritten, Unaccepted, Changed, Finished}
 use Rattle.treasury.specs.declared.words.left.Left.{Left}
 use Rattle.treasury.specs.Left.{KeepsFile}
 use Rattle.treasury.specs.OverFile.{Spoken, IsRefusedBy, IsFileRefused, IsRefusedBefore}
-use Rattle.treasury.specs.Serving.{ServesOver, LacksValue, listening, silent}
+use Rattle.treasury.specs.Serving.{ServesOver, ServesOpen, IsNotClosed, LacksValue, listening, silent}
 
 -- the output takes no more behind a first part of `listening`, or does not hand on what it took
 abbrev pub IsUnannounced : {W : Type 0} → (W → Option (List ℕ)) → W → W → Type 0
@@ -23,7 +23,8 @@ IsUnannounced contents w0 w1 =
 abbrev pub IsAnnouncedBy : {W : Type 0} → (W → Option (List ℕ)) → W → W → Ending → Type 0
 IsAnnouncedBy contents w0 w1 (Unbound reason) = w1 ≡ w0
 IsAnnouncedBy contents w0 w1 Unwritten = IsUnannounced contents w0 w1
-IsAnnouncedBy contents w0 w1 Unaccepted = Appends (contents w0) (contents w1) listening
+IsAnnouncedBy contents w0 w1 (Unaccepted port) = Appends (contents w0) (contents w1) listening
+IsAnnouncedBy contents w0 w1 Changed = Appends (contents w0) (contents w1) listening
 IsAnnouncedBy contents w0 w1 Finished = Appends (contents w0) (contents w1) listening
 
 abbrev pub ends_unwritten : Option Ending → Bool
@@ -40,7 +41,8 @@ ServesIfHeard _ old new = ⊤
 abbrev pub SaysAtEnd : Ending → Spoken → Type 0
 SaysAtEnd (Unbound reason) said = IsRefusedBy ReadFault said
 SaysAtEnd Unwritten said = said ≡ silent
-SaysAtEnd Unaccepted said = IsRefusedBy ReadFault said
+SaysAtEnd (Unaccepted port) said = IsRefusedBy ReadFault said
+SaysAtEnd Changed said = ⊥
 SaysAtEnd Finished said = said ≡ silent
 
 -- nothing is written where it does not begin
@@ -55,10 +57,12 @@ module _ {D : Type 0} (g : disk.Ghosts D) where
   KeepsUnheard image Unwritten left = KeepsFile g image left
   KeepsUnheard image _ left = ⊤
 
-  -- and where it may not be closed
+  -- and where it may not be closed, or is not closed because another program changed it
   abbrev pub EndsBy : Image → Ending → Spoken → Left D g → Type 0
+  EndsBy image Changed said left = IsRefusedBy Store said × ServesOpen g image left
   EndsBy image ending said left =
-      (IsRefusedBy Store said ⊎ (ServesOver g image left × SaysAtEnd ending said)) × KeepsUnheard image ending left
+      (IsNotClosed g image said left ⊎ (ServesOver g image left × SaysAtEnd ending said))
+      × KeepsUnheard image ending left
 
   -- and where it did not begin
   abbrev pub SaysServing : Image → List Row → Option Ending → Spoken → Left D g → Type 0

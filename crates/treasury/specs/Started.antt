@@ -57,7 +57,13 @@ IsRoom room = (room.items ≡ []) × (64 ≤ vec_capacity room)
 pub record IsLeftBy {D : Type 0} {g : disk.Ghosts D} (c : Held (FileStore D g)) (it : FileStore D g) : Type 0 where
   pub numbered : IsClean (view it) → IsTrue (view it).is_numbered
   pub sound : IsClean (view it) → AreDatabases (recovers it)
+  pub was_open : IsClean (view it) → IsTrue (view it).is_open → IsTrue (view c.store).is_open
   pub quiet : IsQuiet view faults recovers is_shielded c.store it
+
+-- the same of one that showed a database, where it was open
+pub record IsLeftAs {D : Type 0} {g : disk.Ghosts D} (c : Held (FileStore D g)) (it : FileStore D g) : Type 0 where
+  pub live : IsLive (file_state c)
+  pub by : IsLeftBy c it
 
 -- what is left of a connection that was neither closed nor copied, and of one that was closed, where it could be
 abbrev pub IsLeftOpen : {D : Type 0} {g : disk.Ghosts D} → Held (FileStore D g) → Left D g → Type 0
@@ -75,6 +81,10 @@ IsLeftClosed {D} {g} c left = IsLive (file_state c)
 -- of one that could be closed, or not
 abbrev pub IsClosedOrShut : {D : Type 0} {g : disk.Ghosts D} → Left D g → Type 0
 IsClosedOrShut {D} {g} left = ((closed : Files D) × (left ≡ Closed closed)) ⊎ ((it : FileStore D g) × (left ≡ Shut it))
+
+-- or was not closed, and is left open
+abbrev pub IsClosedOrLeft : {D : Type 0} {g : disk.Ghosts D} → Left D g → Type 0
+IsClosedOrLeft {D} {g} left = IsClosedOrShut left ⊎ ((it : FileStore D g) × (left ≡ Open it))
 
 -- and of one whose tables are not opened
 abbrev pub IsLeftRefused : {D : Type 0} {g : disk.Ghosts D} → Held (FileStore D g) → Cause → Bool → Left D g → Type 0

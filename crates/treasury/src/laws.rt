@@ -1,9 +1,10 @@
 //! What words over a file come to, one after another.
 
-ghost use Rattle.std.specs.Prelude.{◌≡◌, true, false, List, [], ℕ};
+ghost use Rattle.std.specs.Prelude.{◌≡◌, true, false, List, [], ℕ, IsTrue};
 ghost use Rattle.sqlite_wal.specs.Recovery.{Image};
 ghost use Rattle.sqlite_wal.specs.Reads.{AreClean};
 ghost use Rattle.sqlite_store.specs.declared.store.FileStore.{FileStore};
+ghost use Rattle.sqlite_store.specs.FileStore.{view};
 ghost use Rattle.sqlite.specs.Held.{Held};
 ghost use Rattle.sqlite.specs.Start.{FindsIn};
 ghost use Rattle.sqlite.specs.Files.{file_state, IsOpened};
@@ -17,10 +18,10 @@ ghost use Rattle.treasury.specs.Word.{AnswersWord, Told, AreTold, turns_of_words
 ghost use Rattle.treasury_store.specs.Tables.{no_schema};
 ghost use Rattle.treasury_store.specs.Store.{empty_state};
 ghost use Rattle.treasury.specs.declared.words.left.Left.{Left};
-ghost use Rattle.treasury.specs.Left.{HoldsOf, MayBe};
+ghost use Rattle.treasury.specs.Left.{HoldsOf, IsCleanStore, MayBe};
 ghost use Rattle.treasury.specs.OverFile.{HoldsState, ShowsState, MakesOver, AreToldOver, AreAnsweredOver};
 ghost use Rattle.treasury.specs.OverFile.{AreToldBut, turns_of_told};
-ghost use Rattle.treasury.specs.Serving.{ServesOver};
+ghost use Rattle.treasury.specs.Serving.{ServesOver, ServesOpen};
 
 use sqlite_disk::Disk;
 use treasury_api::calls_law;
@@ -76,13 +77,20 @@ pub fn files_law<D: Disk>()
 
 /// A law of what is served over a file: where the files that were opened hold the rows of a state, the calls that were
 /// answered are a run of the machine of commands, which keeps the books as the headline says, and what is opened next,
-/// with the log or without, holds the rows of the state behind it. Costs nothing.
+/// with the log or without, holds the rows of the state behind it; also where they were left open, because another
+/// program had changed them, while the disk returns what was written and no failure has shut the database. Costs
+/// nothing.
 pub fn serving_law<D: Disk>()
     ensures headline { (start : Image) (left : Left D D.Disk) (served : ServesOver D.Disk start left) (f : Federation)
         → HoldsOf start f → AreClean D.Disk served.closed.log served.closed.db
         → (end : Standing) × (answered : AreServed (record { now = f; failed = false }) served.calls end)
         × KeepBooksTo f (turns_of_calls (record { now = f; failed = false }) served.calls end answered) end.now
         × ((next : Image) → MayBe D.Disk start left next → HoldsState next end.now) }
+    ensures left_open { (start : Image) (left : Left D D.Disk) (served : ServesOpen D.Disk start left) (f : Federation)
+        → HoldsOf start f → IsCleanStore D.Disk served.it → IsTrue (view served.it).is_open
+        → (end : Standing) × (answered : AreServed (record { now = f; failed = false }) served.calls end)
+        × KeepBooksTo f (turns_of_calls (record { now = f; failed = false }) served.calls end answered) end.now
+        × ((next : Image) → MayBe D.Disk start left next → ∥ HoldsOf next end.now ∥₁) }
 {
     calls_law();
 }

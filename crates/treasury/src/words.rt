@@ -7,6 +7,7 @@ mod left;
 mod looks;
 mod others;
 mod over_file;
+mod patience;
 mod pipe;
 mod rehearsal;
 mod said;
@@ -14,6 +15,7 @@ mod serving;
 mod spelling;
 mod tables;
 mod waiting;
+mod watch;
 
 ghost use Rattle.std.specs.Prelude.{◌≡◌, ◌⊎◌, ◌≢◌, ℕ, List, map, codes, false, None, Some, IfOk, OnOk, OnErr};
 ghost use Rattle.std.specs.Prelude.{MatchResult};

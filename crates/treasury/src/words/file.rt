@@ -13,7 +13,7 @@ ghost use Rattle.treasury.specs.declared.words.left.Left.TheVariants.{Untouched,
 ghost use Rattle.treasury.specs.Left.{KeepsFile};
 ghost use Rattle.treasury.specs.OverFile.{MakesOver, most_journal};
 ghost use Rattle.treasury.specs.Started.{IsOpenedOn, StartsOn, IsStarted, IsClosedAs, IsUnclosed, unopened_as};
-ghost use Rattle.treasury.specs.Started.{IsLeftOpen, IsLeftClosed, IsLeftRefused, IsAsked};
+ghost use Rattle.treasury.specs.Started.{IsLeftAs, IsLeftOpen, IsLeftClosed, IsLeftRefused, IsAsked};
 
 use crate::words::beside::{Look, has_log, look_beside};
 use crate::words::left::{Left, close, leave};
@@ -447,4 +447,14 @@ pub fn close_treasury<D: Disk + Drop>(
     ensures { MatchResult result (IsClosedAs D.Disk treasury.store.conn) (IsUnclosed D.Disk treasury.store.conn) }
 {
     close(treasury.into_store().into_connection())
+}
+
+/// Leaves the database of a treasury as it is, with its log: nothing is written to either.
+pub fn leave_treasury<D: Disk + Drop>(treasury: Treasury<FileStore<D>>) -> FileStore<D>
+    ensures { IsLeftAs treasury.store.conn result }
+{
+    let conn = treasury.into_store().into_connection();
+    // What it shows is a database, by this call's contract.
+    let _ = conn.schema();
+    leave(conn)
 }

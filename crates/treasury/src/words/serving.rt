@@ -1,6 +1,6 @@
 //! The word `serve`: connections to a port of this machine, answered one after another over a database file.
 
-ghost use Rattle.std.specs.Prelude.{◌≡◌, List, None, OnOk, OnErr};
+ghost use Rattle.std.specs.Prelude.{◌≡◌, ◌≢◌, false, List, None, OnOk, OnErr, IfErr};
 ghost use Rattle.std.specs.Io.KnownBytes.{Appends};
 ghost use Rattle.clap.specs.Matches.{found_of};
 ghost use Rattle.clap.specs.Walk.{Row, rows_of};
@@ -8,25 +8,30 @@ ghost use Rattle.sqlite_wal.specs.Recovery.{Image};
 ghost use Rattle.sqlite_wal.specs.Files.{image_at};
 ghost use Rattle.treasury_api.specs.Web.{HasServed, ServesOne};
 ghost use Rattle.treasury.specs.declared.words.left.Left.TheVariants.{Untouched};
+ghost use Rattle.treasury.specs.declared.words.serving.Ending.TheVariants.{Changed};
 ghost use Rattle.treasury.specs.OverFile.{IsRefusedBy, IsFileRefused};
 ghost use Rattle.treasury.specs.Serving.{listening, silent, LacksValue};
-ghost use Rattle.treasury.specs.Started.{spoken, IsRoom, IsStarted, IsClosedOrShut};
+ghost use Rattle.treasury.specs.Started.{spoken, IsRoom, IsStarted, IsClosedOrLeft};
 ghost use Rattle.treasury.specs.ServingParts.{ends_unwritten, IsUnannounced, IsAnnounced, IsAnnouncedBy, ServesIfHeard};
 ghost use Rattle.treasury.specs.ServingParts.{SaysAtEnd, SaysServing};
 
-use crate::words::file::{UNCLOSED, Unopened, Unserved, close_treasury, open_treasury};
+use crate::words::beside::log_name;
+use crate::words::file::{
+    UNCLOSED, Unopened, Unserved, close_treasury, leave_treasury, open_treasury,
+};
 use crate::words::left::Left;
 use crate::words::over_file::{lacking, refused_file};
+use crate::words::patience::{Asking, Replying, read_rest};
 use crate::words::said::{Said, refused};
 use crate::words::spelling::value_of;
+use crate::words::watch::{Guarded, Noting, Sight, Watch};
 use clap::ArgMatches;
 use money_core::Cause;
 use sqlite::{Alter, FileFrom, FileStore, Start};
 use sqlite_disk::Disk;
 use std::alloc::Global;
 use std::io::{self, Read, Write};
-use std::net::{Shutdown, TcpListener, TcpStream};
-use std::time::Duration;
+use std::net::{TcpListener, TcpStream};
 use treasury_api::{serve_one, write_whole};
 use treasury_store::Treasury;
 
@@ -36,16 +41,9 @@ const HOST: &str = "127.0.0.1";
 /// What standard output says once connections can be made.
 const LISTENING: &[u8] = b"listening\n";
 
-/// How long a read or a write of a connection is waited for.
-const PATIENCE_SECONDS: u64 = 30;
-
-/// How long each further part is waited for once the reply is written.
-const REST_SECONDS: u64 = 1;
-
-/// What comes after a reply is read in at most so many parts, each of at most so many bytes: 16 MiB in all.
-const MOST_PARTS: usize = 4096;
-
-const PART: usize = 4096;
+/// Said where the file or its log is not as the service left it.
+const CHANGED: &str =
+    "the file or its log was changed, replaced or removed by another program: the service has ended, and writes to neither";
 
 /// How serving ended, before the file is closed.
 #[derive(Clone, Copy, Debug)]
@@ -54,8 +52,10 @@ pub enum Ending {
     Unbound(&'static str),
     /// 46: `listening` could not be written.
     Unwritten,
-    /// 45: a connection could not be accepted.
-    Unaccepted,
+    /// 45: a connection could not be accepted on this port.
+    Unaccepted(u16),
+    /// 41: another program changed the file or its log.
+    Changed,
     /// Each connection was served.
     Finished,
 }
@@ -68,7 +68,8 @@ pub fn is_unwritten(ending: Option<Ending>) -> bool
         None => false,
         Some(Ending::Unbound(_)) => false,
         Some(Ending::Unwritten) => true,
-        Some(Ending::Unaccepted) => false,
+        Some(Ending::Unaccepted(_)) => false,
+        Some(Ending::Changed) => false,
         Some(Ending::Finished) => false,
     }
 }
@@ -127,22 +128,6 @@ fn announce<W: Write>(output: &mut W) -> Result<(), Cause>
     }
 }
 
-/// Reads what a peer still sends after its reply. A connection that is closed with bytes unread is reset, and a reply
-/// that is on its way may be lost with it.
-fn read_rest(stream: &TcpStream) {
-    let _ = stream.shutdown(Shutdown::Write);
-    let _ = stream.set_read_timeout(Some(Duration::from_secs(REST_SECONDS)));
-    let mut reader = stream;
-    let mut part = [0u8; PART];
-    'reading: for _ in 0..MOST_PARTS {
-        match reader.read(&mut part) {
-            Ok(0) => return,
-            Ok(_) => {}
-            Err(_) => return,
-        }
-    }
-}
-
 /// Serves what a reader has, and writes the reply.
 fn serve_call<R: Read, W: Write, S: Alter>(
     alloc: Global,
@@ -158,43 +143,108 @@ fn serve_call<R: Read, W: Write, S: Alter>(
     serve_one(alloc, reader, writer, treasury)
 }
 
-/// Serves one connection. A peer that sends nothing, or takes nothing, is not waited for longer than
-/// `PATIENCE_SECONDS`.
-fn serve_connection<S: Alter>(rt: &HostRuntime, stream: &TcpStream, treasury: &mut Treasury<S>)
-    ensures { HasServed S.Store treasury.old treasury.new }
-{
-    let _ = stream.set_read_timeout(Some(Duration::from_secs(PATIENCE_SECONDS)));
-    let _ = stream.set_write_timeout(Some(Duration::from_secs(PATIENCE_SECONDS)));
-    let mut reader = stream;
-    let mut writer = stream;
-    match serve_call(rt.alloc(), &mut reader, &mut writer, treasury) {
-        Ok(()) => read_rest(stream),
-        Err(cause) => say_cut_off(rt, cause),
-    }
+/// How a connection ended.
+#[derive(Clone, Copy, Debug)]
+enum Met {
+    /// The reply was taken.
+    Replied,
+    /// Nothing was sent in time.
+    Silent,
+    /// The files are not as the service left them, and nothing is replied.
+    Changed,
+    /// By 40, 45 or 46, without a whole reply.
+    CutOff(Cause),
 }
 
-/// Serves so many connections, one after another, however each ends. 45 where one cannot be accepted.
+/// Serves a connection while the files are as they were left, in the time that its client has; and says what is seen of
+/// the files behind it.
+fn meet<S: Alter>(
+    rt: &HostRuntime,
+    stream: &TcpStream,
+    watch: &Watch<'_>,
+    treasury: &mut Treasury<S>,
+) -> (Met, Option<Sight>)
+    ensures { HasServed S.Store treasury.old treasury.new }
+{
+    let mut reader = Guarded {
+        rt,
+        watch,
+        reader: Asking::new(rt, stream),
+        is_changed: false,
+    };
+    let mut writer = Noting {
+        rt,
+        watch,
+        writer: Replying::new(rt, stream),
+        is_begun: false,
+        left: watch.left,
+    };
+    let met = match serve_call(rt.alloc(), &mut reader, &mut writer, treasury) {
+        Ok(()) => Met::Replied,
+        Err(_) if reader.is_changed || writer.left.is_none() => Met::Changed,
+        Err(_) if reader.reader.is_silent() => Met::Silent,
+        Err(cause) => Met::CutOff(cause),
+    };
+    (met, writer.left)
+}
+
+/// Serves one connection, and reads what its client still sends. 41 where the files are not as the service left them.
+fn serve_connection<S: Alter>(
+    rt: &HostRuntime,
+    stream: &TcpStream,
+    watch: &mut Watch<'_>,
+    treasury: &mut Treasury<S>,
+) -> Result<(), Cause>
+    ensures { HasServed S.Store treasury.old treasury.new }
+{
+    let (met, left) = meet(rt, stream, watch, treasury);
+    watch.left = left;
+    match met {
+        Met::Replied => read_rest(rt, stream),
+        Met::Silent => {}
+        Met::Changed => return Err(Cause::Store),
+        Met::CutOff(cause) => say_cut_off(rt, cause),
+    }
+    Ok(())
+}
+
+/// Serves so many connections, one after another, however each ends. 45 where one cannot be accepted, and 41 where the
+/// files are not as the service left them.
 fn serve_connections<S: Alter>(
     rt: &HostRuntime,
     listener: &TcpListener,
     requests: u32,
+    watch: &mut Watch<'_>,
     treasury: &mut Treasury<S>,
 ) -> Result<(), Cause>
     ensures served { HasServed S.Store treasury.old treasury.new }
 {
     'serving: for _ in 0..requests {
-        match listener.accept() {
-            Ok((stream, _)) => serve_connection(rt, &stream, treasury),
+        let stream = match listener.accept() {
+            Ok((stream, _)) => stream,
             Err(_) => return Err(Cause::ReadFault),
+        };
+        match serve_connection(rt, &stream, watch, treasury) {
+            Ok(()) => {}
+            Err(cause) => return Err(cause),
         }
     }
     Ok(())
+}
+
+/// The port that is listened on, where it can be told: the system chose it where 0 was asked for.
+fn port_of(listener: &TcpListener, wanted: u16) -> u16 {
+    match listener.local_addr() {
+        Ok(address) => address.port(),
+        Err(_) => wanted,
+    }
 }
 
 /// Listens on the port, says so, and serves the connections.
 fn serve_port<W: Write, S: Alter>(
     rt: &HostRuntime,
     wanted: Wanted,
+    watch: &mut Watch<'_>,
     output: &mut W,
     treasury: &mut Treasury<S>,
 ) -> Ending
@@ -211,9 +261,10 @@ fn serve_port<W: Write, S: Alter>(
         Ok(()) => {}
         Err(_) => return Ending::Unwritten,
     }
-    match serve_connections(rt, &listener, wanted.requests, treasury) {
+    match serve_connections(rt, &listener, wanted.requests, watch, treasury) {
         Ok(()) => Ending::Finished,
-        Err(_) => Ending::Unaccepted,
+        Err(Cause::Store) => Ending::Changed,
+        Err(_) => Ending::Unaccepted(port_of(&listener, wanted.port)),
     }
 }
 
@@ -239,27 +290,42 @@ fn refused_port(alloc: Global, room: Vec<u8>, port: u16, reason: &str) -> Said
     }
 }
 
+/// Whether the file may not be closed: it or its log was changed, or is not as the service left it.
+fn is_changed(rt: &HostRuntime, watch: &Watch<'_>, ending: Ending) -> bool
+    ensures { result ≡ false → ending ≢ Changed }
+{
+    match ending {
+        Ending::Changed => true,
+        Ending::Unbound(_) | Ending::Unwritten | Ending::Unaccepted(_) | Ending::Finished => {
+            !watch.is_as_left(rt)
+        }
+    }
+}
+
 /// Said once the file is closed.
 fn said_at_end(alloc: Global, room: Vec<u8>, port: u16, ending: Ending) -> Said
     requires room { IsRoom room }
+    requires closed { ending ≢ Changed }
     ensures { SaysAtEnd ending (spoken result) }
 {
     match ending {
         Ending::Unbound(reason) => refused_port(alloc, room, port, reason),
-        Ending::Unaccepted => {
+        Ending::Unaccepted(port) => {
             refused_port(alloc, room, port, "a connection could not be accepted")
         }
+        Ending::Changed => unreachable!(),
         Ending::Unwritten => nothing(alloc),
         Ending::Finished => nothing(alloc),
     }
 }
 
-/// Serves over the treasury of a file, and closes the file. Where it cannot be closed, that is what is said.
+/// Serves over the treasury of a file, and closes the file. Where it cannot be closed, that is what is said. Where it
+/// or its log is not as the service left it, it is left open, and nothing is written to either.
 fn serve_on_file<W: Write, D: Disk + Drop>(
     rt: &HostRuntime,
     room: Vec<u8>,
-    path: &str,
     wanted: Wanted,
+    watch: Watch<'_>,
     output: &mut W,
     treasury: Treasury<FileStore<D>>,
 ) -> Serving<D>
@@ -267,11 +333,19 @@ fn serve_on_file<W: Write, D: Disk + Drop>(
     ensures announced { IsAnnounced W.contents output.old output.new result.ending }
     ensures says { (image : Image) (values : List Row) → IsStarted D.Disk image treasury
         → SaysServing D.Disk image values result.ending (spoken result.said) result.left }
-    // What is handed back is what was closed, or could not be.
-    ensures touched { IsClosedOrShut result.left }
+    // What is handed back is what was closed, or could not be, or was left open.
+    ensures touched { IsClosedOrLeft result.left }
 {
     let mut treasury = treasury;
-    let ending = serve_port(rt, wanted, output, &mut treasury);
+    let mut watch = watch;
+    let ending = serve_port(rt, wanted, &mut watch, output, &mut treasury);
+    if is_changed(rt, &watch, ending) {
+        return Serving {
+            ending: Some(ending),
+            said: refused_file(rt.alloc(), room, watch.file, Unopened::Unusable(CHANGED)),
+            left: Left::Open(leave_treasury(treasury)),
+        };
+    }
     match close_treasury(treasury) {
         Ok(files) => Serving {
             ending: Some(ending),
@@ -280,7 +354,7 @@ fn serve_on_file<W: Write, D: Disk + Drop>(
         },
         Err(store) => Serving {
             ending: Some(ending),
-            said: refused_file(rt.alloc(), room, path, Unopened::Unusable(UNCLOSED)),
+            said: refused_file(rt.alloc(), room, watch.file, Unopened::Unusable(UNCLOSED)),
             left: Left::Shut(store),
         },
     }
@@ -312,6 +386,19 @@ fn refused_by<D: Disk>(alloc: Global, room: Vec<u8>, path: &str, refused: Unserv
     }
 }
 
+/// The name of a file's log; 40 where there is no memory for it.
+fn log_beside<D: Disk>(rt: &HostRuntime, path: &str) -> Result<String, Unserved<D>>
+    ensures { IfErr result (λ refused. refused.left ≡ Untouched) }
+{
+    match log_name(rt, path) {
+        Ok(log) => Ok(log),
+        Err(why) => Err(Unserved {
+            why,
+            left: Left::Untouched,
+        }),
+    }
+}
+
 /// The port and the number of connections, where both are given.
 fn wanted_of(values: &ArgMatches<'_>) -> Option<Wanted>
     ensures { result ≡ None → LacksValue (rows_of (found_of values.now)) }
@@ -330,7 +417,8 @@ fn wanted_of(values: &ArgMatches<'_>) -> Option<Wanted>
 /// Serves over a file, by the values of the word. `start` stands for what the file holds.
 ///
 /// The faults come in this order: the database's 40, 41, 43; the port's 45; 46 where `listening` cannot be written;
-/// then 45 where a connection cannot be accepted. The file is closed at the end, and 41 says where it cannot be.
+/// then 45 where a connection cannot be accepted. The file is closed at the end. 41 says where it cannot be, and where
+/// another program changed it.
 pub fn serve_over_file<W: Write, S: Start>(
     rt: &HostRuntime,
     room: Vec<u8>,
@@ -349,8 +437,16 @@ pub fn serve_over_file<W: Write, S: Start>(
     let Some(wanted) = wanted_of(values) else {
         return unbegun(lacking(rt.alloc(), room, "serve"));
     };
+    let log = match log_beside(rt, path) {
+        Ok(log) => log,
+        Err(refused) => return refused_by(rt.alloc(), room, path, refused),
+    };
+    let mut watch = Watch::new(rt, path, log.as_str());
     match open_treasury(rt, path, start) {
-        Ok(treasury) => serve_on_file(rt, room, path, wanted, output, treasury),
+        Ok(treasury) => {
+            watch.left = watch.look_behind(rt);
+            serve_on_file(rt, room, wanted, watch, output, treasury)
+        }
         Err(refused) => refused_by(rt.alloc(), room, path, refused),
     }
 }

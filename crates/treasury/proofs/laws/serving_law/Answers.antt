@@ -1,15 +1,25 @@
-use Rattle.std.proofs.Common.{false}
+use Rattle.std.proofs.Common.{false, subst}
+use Rattle.treasury.specs.declared.words.left.Left.{Left}
+use Rattle.treasury.specs.Left.{MayBe}
 use Rattle.treasury.proofs.FileLemmas.{shows_of, found_closed}
 use Rattle.treasury.proofs.laws.serving_law.Goals as goal
 
-pub returns : goal.returns
-returns g c = record {
-  headline = λ start left served f holds clean.
-      let shown = shows_of _ start served.opened f holds (served.found clean) (served.serves clean) in
-      let answered = served.answers clean f shown in (
-        answered.0,
-        answered.1,
-        c.calls_law.ensures.headline (record { now = f; failed = false }) served.calls answered.0 holds.good answered.1,
-        λ next may. found_closed _ start left next answered.0.now (served.closed, served.is_left, answered.2) may,
-      );
-}
+pub returns-clause-headline : goal.returns-clause-headline
+returns-clause-headline g c start left served f holds clean =
+    let shown = shows_of _ start served.opened f holds (served.found clean) (served.serves clean) in
+    let answered = served.answers clean f shown in (
+      answered.0,
+      answered.1,
+      c.calls_law.ensures.headline (record { now = f; failed = false }) served.calls answered.0 holds.good answered.1,
+      λ next may. found_closed _ start left next answered.0.now (served.closed, served.is_left, answered.2) may,
+    )
+
+pub returns-clause-left_open : goal.returns-clause-left_open
+returns-clause-left_open g c start left served f holds clean still =
+    let shown = shows_of _ start served.opened f holds (served.found clean) (served.serves clean) in
+    let answered = served.answers clean f shown in (
+      answered.0,
+      answered.1,
+      c.calls_law.ensures.headline (record { now = f; failed = false }) served.calls answered.0 holds.good answered.1,
+      λ next may. answered.2 still next (subst (λ (l : Left _ _). MayBe _ start l next) served.is_left may),
+    )

@@ -5,11 +5,13 @@ use Rattle.sqlite_wal.specs.Files.{image_at}
 use Rattle.treasury.specs.Left.{KeepsFile}
 use Rattle.treasury.specs.Started.{spoken}
 use Rattle.treasury.specs.ServingParts.{IsAnnounced, SaysServing}
+use Rattle.treasury.proofs.LeftLemmas.{keeps_untouched}
 use Rattle.treasury.proofs.words.serving.serve_over_file.Goals as goal
 
-pub returns-in-Ok-clause-says : goal.returns-in-Ok-clause-says
-returns-in-Ok-clause-says g c =
-    c.serve_on_file.ensures.says (image_at g.S.Start) (rows_of (found_of c.args.values.now)) c.in-Ok.ensures
+pub returns-in-Ok-open_treasury-clause-says : goal.returns-in-Ok-open_treasury-clause-says
+returns-in-Ok-open_treasury-clause-says g c =
+    c.serve_on_file.ensures.says (image_at g.S.Start) (rows_of (found_of c.args.values.now))
+    c.in-Ok-open_treasury.ensures
 
 pub returns-in-Err-clause-announced : goal.returns-in-Err-clause-announced
 returns-in-Err-clause-announced g c =
@@ -22,5 +24,21 @@ returns-in-Err-clause-says g c =
     (spoken c.refused_by.result.said) c.refused_by.result.left) (sym c.refused_by.ensures.ending)
     (inr (
       c.refused_by.ensures.refused,
-      subst (λ left. KeepsFile _ (image_at g.S.Start) left) (sym c.refused_by.ensures.left) c.in-Err.ensures,
+      subst (λ left. KeepsFile _ (image_at g.S.Start) left) (sym c.refused_by.ensures.left)
+          (keeps_untouched _ (image_at g.S.Start) _ c.in-Err.ensures),
+    ))
+
+pub returns-in-Err-open_treasury-clause-announced : goal.returns-in-Err-open_treasury-clause-announced
+returns-in-Err-open_treasury-clause-announced g c =
+    subst (λ ending. IsAnnounced g.W.Write.contents c.args.output.now c.args.output.now ending)
+    (sym c.refused_by-2.ensures.ending) refl
+
+pub returns-in-Err-open_treasury-clause-says : goal.returns-in-Err-open_treasury-clause-says
+returns-in-Err-open_treasury-clause-says g c =
+    subst (λ ending. SaysServing _ (image_at g.S.Start) (rows_of (found_of c.args.values.now)) ending
+    (spoken c.refused_by-2.result.said) c.refused_by-2.result.left) (sym c.refused_by-2.ensures.ending)
+    (inr (
+      c.refused_by-2.ensures.refused,
+      subst (λ left. KeepsFile _ (image_at g.S.Start) left) (sym c.refused_by-2.ensures.left)
+          c.in-Err-open_treasury.ensures,
     ))
