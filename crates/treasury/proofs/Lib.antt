@@ -3,6 +3,7 @@ pub mod LeftLemmas
 pub mod OverFileLemmas
 pub mod ToldLemmas
 pub mod FileLemmas
+pub mod CountsLemmas
 pub mod ServingLemmas
 pub mod WordLemmas
 pub mod WorkedWords

@@ -5,6 +5,7 @@ pub mod Word
 pub mod Left
 pub mod OverFile
 pub mod Look
+pub mod Counts
 pub mod Serving
 pub mod Words
 -- What mirrors code, for private clauses: nobody has to believe it

@@ -12,6 +12,7 @@ mod pipe;
 mod rehearsal;
 mod said;
 mod serving;
+mod shrinking;
 mod spelling;
 mod tables;
 mod waiting;

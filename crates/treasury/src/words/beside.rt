@@ -11,6 +11,9 @@ use std::io::ErrorKind;
 /// How a database file begins.
 const MAGIC: &[u8] = b"SQLite format 3\0";
 
+/// The bytes of the page that `init` begins a file with.
+const FIRST_PAGE: u64 = 4096;
+
 /// The fewest bytes of a log that has room for a page. A log that was closed has fewer, and SQLite passes over those.
 const LEAST_LOG: u64 = 56;
 
@@ -47,17 +50,25 @@ pub fn judge_look(size: u64, head: &[u8], log: Option<u64>) -> Look
     }
 }
 
-/// Whether a file begins as `init` leaves it that was cut off before it was a database: its first byte is written last.
-fn is_begun(head: &[u8]) -> bool {
-    match head.split_first() {
-        Some((first, rest)) => *first == 0 && MAGIC[1..].starts_with(rest),
-        None => false,
+/// Whether each byte is that of a database at its place, or 0.
+fn is_part_of_magic(head: &[u8]) -> bool {
+    head.iter()
+        .zip(MAGIC.iter())
+        .all(|(byte, whole)| *byte == 0 || *byte == *whole)
+}
+
+/// Whether a file is as `init` leaves it that was cut off before it was a database: it has one page at most, whose first
+/// byte is written last. Behind a power cut other bytes may lack too, and are 0 then.
+fn is_begun(size: u64, head: &[u8]) -> bool {
+    match head.first() {
+        Some(0) => size <= FIRST_PAGE && is_part_of_magic(head),
+        _ => false,
     }
 }
 
-/// Why a file that does not begin as a database serves no word.
-fn why_foreign(head: &[u8]) -> &'static str {
-    if is_begun(head) {
+/// Why a file of `size` bytes that does not begin as a database serves no word.
+fn why_foreign(size: u64, head: &[u8]) -> &'static str {
+    if is_begun(size, head) {
         "`treasury init` was cut off before the file was a database: remove it and its log, FILE-wal, and call init again"
     } else {
         "the file is not an SQLite database"
@@ -125,7 +136,7 @@ pub fn look_beside(rt: &HostRuntime, path: &str, size: u64) -> Result<Look, Unop
         Err(unopened) => return Err(unopened),
     };
     match judge_look(size, head.as_slice(), log) {
-        Look::Foreign => Err(Unopened::Unusable(why_foreign(head.as_slice()))),
+        Look::Foreign => Err(Unopened::Unusable(why_foreign(size, head.as_slice()))),
         look => Ok(look),
     }
 }

@@ -18,15 +18,16 @@ ghost use Rattle.treasury.specs.Started.{IsLeftAs, IsLeftOpen, IsLeftClosed, IsL
 use crate::words::beside::{Look, has_log, look_beside};
 use crate::words::left::{Left, close, leave};
 use crate::words::others::{note_of, say_note};
-use crate::words::rehearsal::{rehearse, why_not_made};
+use crate::words::rehearsal::{rehearse, rehearse_alone, why_not_made};
 use crate::words::tables::{check_tables, has_receipts, is_taken};
 use money_core::Cause;
 use sqlite::{Alter, Connection, Error, ErrorCode, FileFrom, FileStore, Files, Leftover, Start};
 use sqlite_disk::Disk;
 use sqlite_schema::schema::Schema;
 use std::alloc::Global;
-use std::fs;
+use std::fs::{self, OpenOptions};
 use std::io::{self, Read};
+use std::os::unix::fs::OpenOptionsExt;
 use treasury_store::{Refused, Store, Treasury, found_version};
 
 /// The most bytes of a journal's file that are read: one more than a text may have, so that a longer one is seen to be.
@@ -48,6 +49,14 @@ pub const OTHER_ROWS: &str =
 
 /// Said where tables are to be made that are there.
 const MADE_ALREADY: &str = "the database already has a table with the name of a treasury's";
+
+/// Said where a name is taken of a table that is to be made.
+const TAKEN: &str =
+    "a view or an index of the database has the name of a table that a treasury has: rename it first";
+
+/// The mode of a file that `init` makes: its owner alone reads and writes it. The log that is made beside it gets the
+/// same.
+const OWN: u32 = 0o600;
 
 /// Said where the log cannot be copied into the file.
 pub const UNCLOSED: &str =
@@ -143,10 +152,30 @@ fn look_at_treasury(rt: &HostRuntime, path: &str) -> Result<bool, Unopened> {
     }
 }
 
-/// Looks at a file that tables are to be made in: none are where a log stands beside it.
+/// Makes an empty file where there is none. One that is there keeps its mode; where none can be made, the opening says
+/// why.
+fn make_empty(rt: &HostRuntime, path: &str) {
+    // A database of that name would be one in memory, and is not opened.
+    if path == ":memory:" {
+        return;
+    }
+    let _ = OpenOptions::new()
+        .read(true)
+        .write(true)
+        .create_new(true)
+        .mode(OWN)
+        .open(rt, path);
+}
+
+/// Looks at a file that tables are to be made in, and makes an empty one where there is none. Where a log stands beside
+/// a database, no tables are made.
 fn look_at_new(rt: &HostRuntime, path: &str) -> Result<(), Unopened> {
     match look_at(rt, path) {
         Ok(Look::Beside) => Err(why_not_made(rt, path, MADE_ALREADY)),
+        Ok(Look::Absent) => {
+            make_empty(rt, path);
+            Ok(())
+        }
         Ok(_) => Ok(()),
         Err(unopened) => Err(unopened),
     }
@@ -217,6 +246,14 @@ pub fn unstarted(cause: Cause, damage: &'static str) -> Unopened {
     }
 }
 
+/// Why a call on the tables of a database was refused: `damage` says it of tables that are there.
+fn why_uncalled(cause: Cause, damage: &'static str, schema: &Schema) -> Unopened {
+    match cause {
+        Cause::Store if is_taken(schema) => Unopened::Unusable(TAKEN),
+        _ => unstarted(cause, damage),
+    }
+}
+
 /// Why the tables of a database are not opened. Where that is 43, the version that they name is looked for.
 pub(crate) fn unopened_tables<S: Alter>(conn: &mut Connection<S>, cause: Cause) -> Unopened
     ensures same { (cause ≡ Cause.Damaged → ⊥) → conn.new ≡ conn.old }
@@ -228,7 +265,7 @@ pub(crate) fn unopened_tables<S: Alter>(conn: &mut Connection<S>, cause: Cause) 
     };
     match version {
         Some(version) => Unopened::OtherVersion(version),
-        None => unstarted(cause, NO_VERSION),
+        None => why_uncalled(cause, NO_VERSION, conn.schema()),
     }
 }
 
@@ -282,9 +319,30 @@ fn left_unstarted<D: Disk + Drop>(conn: Connection<FileStore<D>>, is_upgraded: b
     }
 }
 
+/// Looks at the tables of a database that was opened, before any of them is changed: 43 where they have not the names
+/// and the columns of a treasury's. An opening of tables of version 1, which changes them, is tried on a copy first;
+/// where a log stands beside the file, each was.
+fn check_opened(
+    rt: &HostRuntime,
+    path: &str,
+    schema: &Schema,
+    is_alone: bool,
+) -> Result<(), Unopened> {
+    match check_tables(rt.alloc(), schema, is_alone) {
+        Ok(()) => {}
+        Err(unopened) => return Err(unopened),
+    }
+    if is_alone && !has_receipts(schema) {
+        rehearse_alone(rt, path)
+    } else {
+        Ok(())
+    }
+}
+
 /// The treasury whose tables a database has. `is_alone` says that no log stands beside the file.
 fn start_on<D: Disk + Drop>(
-    alloc: Global,
+    rt: &HostRuntime,
+    path: &str,
     conn: Connection<FileStore<D>>,
     is_alone: bool,
 ) -> Result<Treasury<FileStore<D>>, Unserved<D>>
@@ -292,7 +350,7 @@ fn start_on<D: Disk + Drop>(
     ensures { MatchResult result (StartsOn D.Disk conn)
         (λ r. (image : Image) → IsOpenedOn D.Disk image conn → KeepsFile D.Disk image r.left) }
 {
-    match check_tables(alloc, conn.schema(), is_alone) {
+    match check_opened(rt, path, conn.schema(), is_alone) {
         Ok(()) => {}
         Err(why) => {
             return Err(Unserved {
@@ -302,6 +360,7 @@ fn start_on<D: Disk + Drop>(
         }
     }
     let is_first = !has_receipts(conn.schema());
+    let alloc = rt.alloc();
     let store = match Store::open(alloc, conn) {
         Ok(store) => store,
         Err(refused) => return Err(without_tables(refused, is_first)),
@@ -349,21 +408,11 @@ pub fn open_treasury<S: Start>(
         Err(unserved) => return Err(unserved),
     };
     let note = note_of(rt.alloc(), path, conn.schema());
-    let started = start_on(rt.alloc(), conn, is_alone);
+    let started = start_on(rt, path, conn, is_alone);
     if started.is_ok() {
         say_note(rt, note.as_slice());
     }
     started
-}
-
-/// Why no tables were made in a database.
-fn unmade(cause: Cause, schema: &Schema) -> Unopened {
-    match cause {
-        Cause::Store if is_taken(schema) => Unopened::Unusable(
-            "a view or an index of the database has the name of a table that a treasury has: rename it first",
-        ),
-        _ => unstarted(cause, MADE_ALREADY),
-    }
 }
 
 /// What is left of a database in which no tables were made. Where they are there, it stays as it is, with its log.
@@ -382,7 +431,7 @@ fn give_up<D: Disk + Drop>(conn: Connection<FileStore<D>>, cause: Cause) -> Unse
     ensures open { cause ≡ Cause.Damaged → IsLeftOpen conn result.left }
     ensures closed { (cause ≡ Cause.Damaged → ⊥) → IsLeftClosed conn result.left }
 {
-    let why = unmade(cause, conn.schema());
+    let why = why_uncalled(cause, MADE_ALREADY, conn.schema());
     Unserved {
         why,
         left: left_unmade(conn, cause),

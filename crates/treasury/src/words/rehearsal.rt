@@ -1,11 +1,14 @@
-//! An opening that is tried on copies in memory first, where a log stands beside the file. So a file that is refused
-//! for what the log makes of it stays as it is, and so does the log.
+//! An opening that is tried on copies in memory first: where a log stands beside the file, and where the tables are of
+//! version 1. So a file that is refused for what its log makes of it, or for its rows, stays as it is, and so does the
+//! log.
 
 ghost use Rattle.std.specs.Prelude.{◌≡◌, false, IfOk};
 
+use crate::laws::counts_law;
 use crate::words::beside::log_name;
 use crate::words::file::{IN_USE, OTHER_ROWS, Unopened, read_at_most, unopened_tables, unstarted};
-use crate::words::tables::{check_tables, has_one};
+use crate::words::shrinking::{Counts, counts_of, is_kept};
+use crate::words::tables::{check_tables, has_one, is_bare, is_taken};
 use crate::words::waiting::is_in_use;
 use money_core::Cause;
 use sqlite::{Connection, Error, ErrorCode, Files, Options};
@@ -22,6 +25,14 @@ const SEED: u64 = 0;
 const FOREIGN: &str =
     "a log stands beside the file that is not its own, or one of the two is damaged";
 
+/// Said of a log with which there is less than without it.
+const SHRINKING: &str =
+    "a log stands beside the file that is not its own: it would take back what the file has";
+
+/// Said where neither the file nor its log has a table.
+const UNMADE: &str =
+    "the database has no tables of a treasury; if an earlier `treasury init` was cut off, remove it and its log";
+
 /// Said where tables would be made in a file beside a log.
 const BESIDE: &str =
     "a log stands beside the file, so no tables are made in it; if an earlier `treasury init` was cut off, remove both";
@@ -29,13 +40,15 @@ const BESIDE: &str =
 /// Said where the file or its log cannot be copied.
 const UNREAD: &str = "the file cannot be opened: it or its log cannot be read";
 
-/// Why an opening cannot be tried.
+/// What stands against an opening that is tried on copies.
 #[derive(Drop)]
-enum Untried {
-    /// The copies cannot be made.
+enum Obstacle {
+    /// The copies cannot be made, or a call failed, so that nothing is known of the file.
     Copies(Unopened),
     /// The log is told to be another file's, or one of the two is damaged.
     Foreign,
+    /// The tables are not those of a treasury, or their rows are no state's.
+    Tables(Unopened),
 }
 
 /// A copy of the file in memory.
@@ -76,51 +89,141 @@ fn copies(rt: &HostRuntime, path: &str) -> Result<Files<MemoryDisk>, Unopened> {
     }
 }
 
-/// Why the copies are not open.
-fn why_untried(error: Error) -> Untried {
-    match error {
-        Error::SqliteFailure(ErrorCode::DatabaseCorrupt | ErrorCode::NotADatabase) => {
-            Untried::Foreign
-        }
-        _ => Untried::Copies(Unopened::NoMemory),
+/// A copy in memory of the file alone, with an empty log.
+fn copy_alone(rt: &HostRuntime, path: &str) -> Result<Files<MemoryDisk>, Unopened> {
+    let Ok(log) = MemoryDisk::new(rt.alloc()) else {
+        return Err(Unopened::NoMemory);
+    };
+    match copy_of(rt, path) {
+        Ok(db) => Ok(Files { log, db }),
+        Err(unopened) => Err(unopened),
     }
 }
 
-/// A connection to copies in memory of the file and its log.
-fn connect_copies(rt: &HostRuntime, path: &str) -> Result<Connection<MemoryStore>, Untried>
+/// Why the copies are not open.
+fn why_untried(error: Error) -> Obstacle {
+    match error {
+        Error::SqliteFailure(ErrorCode::DatabaseCorrupt | ErrorCode::NotADatabase) => {
+            Obstacle::Foreign
+        }
+        _ => Obstacle::Copies(Unopened::NoMemory),
+    }
+}
+
+/// A connection to copies, where they could be made.
+fn connect_to(
+    alloc: Global,
+    copied: Result<Files<MemoryDisk>, Unopened>,
+) -> Result<Connection<MemoryStore>, Obstacle>
     ensures { IfOk result (λ conn. conn.in_transaction ≡ false) }
 {
-    let files = match copies(rt, path) {
+    let files = match copied {
         Ok(files) => files,
-        Err(unopened) => return Err(Untried::Copies(unopened)),
+        Err(unopened) => return Err(Obstacle::Copies(unopened)),
     };
-    match Connection::open_files(rt.alloc(), files, Options::new(SEED)) {
+    match Connection::open_files(alloc, files, Options::new(SEED)) {
         Ok(conn) => Ok(conn),
         Err((error, _left)) => Err(why_untried(error)),
     }
 }
 
-/// Why the tables of the copies are not opened.
-fn why_refused(refused: Refused<MemoryStore>) -> Unopened {
-    let Refused { mut conn, cause } = refused;
-    unopened_tables(&mut conn, cause)
+/// A connection to copies in memory of the file and its log.
+fn connect_copies(rt: &HostRuntime, path: &str) -> Result<Connection<MemoryStore>, Obstacle>
+    ensures { IfOk result (λ conn. conn.in_transaction ≡ false) }
+{
+    connect_to(rt.alloc(), copies(rt, path))
 }
 
-/// Whether the tables of the copies are those of a treasury: what stands against it.
-fn start_copies(alloc: Global, conn: Connection<MemoryStore>) -> Result<(), Unopened>
+/// A connection to a copy in memory of the file alone.
+fn connect_alone(rt: &HostRuntime, path: &str) -> Result<Connection<MemoryStore>, Obstacle>
+    ensures { IfOk result (λ conn. conn.in_transaction ≡ false) }
+{
+    connect_to(rt.alloc(), copy_alone(rt, path))
+}
+
+/// What stands against an opening by what the tables hold. Where a call failed, nothing is known of them.
+fn obstacle_of(unopened: Unopened) -> Obstacle {
+    match unopened {
+        Unopened::NoMemory => Obstacle::Copies(Unopened::NoMemory),
+        Unopened::Unusable(reason) => Obstacle::Copies(Unopened::Unusable(reason)),
+        unopened => Obstacle::Tables(unopened),
+    }
+}
+
+/// Why the tables of the copies are not opened. A name that is taken keeps a call from making a table.
+fn why_refused(refused: Refused<MemoryStore>) -> Obstacle {
+    let Refused { mut conn, cause } = refused;
+    let has_taken = is_taken(conn.schema());
+    match unopened_tables(&mut conn, cause) {
+        Unopened::Unusable(reason) => {
+            if has_taken {
+                Obstacle::Tables(Unopened::Unusable(reason))
+            } else {
+                Obstacle::Copies(Unopened::Unusable(reason))
+            }
+        }
+        unopened => obstacle_of(unopened),
+    }
+}
+
+/// The treasury that the copies show.
+fn start_copies(
+    alloc: Global,
+    conn: Connection<MemoryStore>,
+) -> Result<Treasury<MemoryStore>, Obstacle>
     requires { conn.in_transaction ≡ false }
 {
     match check_tables(alloc, conn.schema(), false) {
         Ok(()) => {}
-        Err(unopened) => return Err(unopened),
+        Err(unopened) => return Err(obstacle_of(unopened)),
     }
     let store = match Store::open(alloc, conn) {
         Ok(store) => store,
         Err(refused) => return Err(why_refused(refused)),
     };
     match Treasury::start(alloc, store) {
-        Ok(_treasury) => Ok(()),
-        Err(refused) => Err(unstarted(refused.cause, OTHER_ROWS)),
+        Ok(treasury) => Ok(treasury),
+        Err(refused) => Err(obstacle_of(unstarted(refused.cause, OTHER_ROWS))),
+    }
+}
+
+/// How much the treasury has that the copies show.
+fn counts_on(alloc: Global, conn: Connection<MemoryStore>) -> Result<Counts, Obstacle>
+    requires { conn.in_transaction ≡ false }
+{
+    let treasury = match start_copies(alloc, conn) {
+        Ok(treasury) => treasury,
+        Err(obstacle) => return Err(obstacle),
+    };
+    let counts = match treasury.state() {
+        Some(state) => counts_of(alloc, state),
+        None => None,
+    };
+    match counts {
+        Some(counts) => Ok(counts),
+        None => Err(Obstacle::Copies(Unopened::NoMemory)),
+    }
+}
+
+/// Whether the file alone is a treasury that has more of something than with its log. A log of its own takes nothing
+/// back.
+fn shrinks(rt: &HostRuntime, path: &str, with_log: &Counts) -> bool {
+    counts_law();
+    let conn = match connect_alone(rt, path) {
+        Ok(conn) => conn,
+        Err(_) => return false,
+    };
+    match counts_on(rt.alloc(), conn) {
+        Ok(alone) => !is_kept(&alone, with_log),
+        Err(_) => false,
+    }
+}
+
+/// Whether the file alone is a database without tables, as `init` leaves it for a moment.
+fn is_bare_alone(rt: &HostRuntime, path: &str) -> bool {
+    match connect_alone(rt, path) {
+        Ok(conn) => is_bare(conn.schema()),
+        Err(_) => false,
     }
 }
 
@@ -129,12 +232,58 @@ fn start_copies(alloc: Global, conn: Connection<MemoryStore>) -> Result<(), Unop
 pub fn rehearse(rt: &HostRuntime, path: &str) -> Result<(), Unopened> {
     let conn = match connect_copies(rt, path) {
         Ok(conn) => conn,
-        Err(Untried::Foreign) => return Err(Unopened::Unusable(FOREIGN)),
-        Err(Untried::Copies(_)) => return Ok(()),
+        Err(Obstacle::Foreign) => return Err(Unopened::Unusable(FOREIGN)),
+        Err(_) => return Ok(()),
+    };
+    if is_bare(conn.schema()) && is_bare_alone(rt, path) {
+        return Err(Unopened::NoTreasury(UNMADE));
+    }
+    match counts_on(rt.alloc(), conn) {
+        Ok(counts) => {
+            if shrinks(rt, path, &counts) {
+                Err(Unopened::Unusable(SHRINKING))
+            } else {
+                Ok(())
+            }
+        }
+        Err(Obstacle::Tables(unopened)) => Err(unopened),
+        Err(_) => Ok(()),
+    }
+}
+
+/// Tries the opening of a file that no log stands beside: what refuses it by what it holds. Where the copy cannot be
+/// made, nothing is known.
+pub fn rehearse_alone(rt: &HostRuntime, path: &str) -> Result<(), Unopened> {
+    let conn = match connect_alone(rt, path) {
+        Ok(conn) => conn,
+        Err(_) => return Ok(()),
     };
     match start_copies(rt.alloc(), conn) {
-        Ok(()) | Err(Unopened::NoMemory | Unopened::Unusable(_)) => Ok(()),
-        Err(unopened) => Err(unopened),
+        Ok(_treasury) => Ok(()),
+        Err(Obstacle::Tables(unopened)) => Err(unopened),
+        Err(_) => Ok(()),
+    }
+}
+
+/// Why no tables are made in a file beside a log that has some of a treasury's: 43, or 41 where the log takes back what
+/// the file has.
+fn why_not_again(
+    rt: &HostRuntime,
+    path: &str,
+    conn: Connection<MemoryStore>,
+    there: &'static str,
+) -> Unopened
+    requires { conn.in_transaction ≡ false }
+{
+    match counts_on(rt.alloc(), conn) {
+        Ok(counts) => {
+            if shrinks(rt, path, &counts) {
+                Unopened::Unusable(SHRINKING)
+            } else {
+                Unopened::NoTreasury(there)
+            }
+        }
+        Err(_) => Unopened::NoTreasury(there),
     }
 }
 
@@ -143,12 +292,13 @@ pub fn why_not_made(rt: &HostRuntime, path: &str, there: &'static str) -> Unopen
     match connect_copies(rt, path) {
         Ok(conn) => {
             if has_one(conn.schema()) {
-                Unopened::NoTreasury(there)
+                why_not_again(rt, path, conn, there)
             } else {
                 Unopened::Unusable(BESIDE)
             }
         }
-        Err(Untried::Foreign) => Unopened::Unusable(FOREIGN),
-        Err(Untried::Copies(unopened)) => unopened,
+        Err(Obstacle::Copies(unopened)) => unopened,
+        Err(Obstacle::Tables(unopened)) => unopened,
+        Err(Obstacle::Foreign) => Unopened::Unusable(FOREIGN),
     }
 }

@@ -66,6 +66,11 @@ pub(crate) fn has_receipts(schema: &Schema) -> bool
     false
 }
 
+/// Whether the database has no table, no index and no view.
+pub fn is_bare(schema: &Schema) -> bool {
+    schema.tables.is_empty() && schema.indexes.is_empty() && schema.views.is_empty()
+}
+
 /// Whether a table of the database has the name of a treasury's.
 pub fn has_one(schema: &Schema) -> bool {
     for table in schema.tables.as_slice() {
