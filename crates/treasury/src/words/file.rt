@@ -40,6 +40,9 @@ pub const CANNOT_OPEN: &str =
 /// Said of a file that another program has open.
 pub const IN_USE: &str = "the file is in use; try again when the other program has closed it";
 
+/// Said of a file that is read otherwise than a database.
+pub const DAMAGED: &str = "the file is not an SQLite database, or is damaged";
+
 /// Said of tables that name no version.
 const NO_VERSION: &str = "its table format has no row, more than one, or no number in it";
 
@@ -190,9 +193,7 @@ fn why_unopened(error: Error) -> Unopened {
         Error::SqliteFailure(ErrorCode::NotADatabase) => {
             Unopened::Unusable("the file is not an SQLite database whose rows obey its schema")
         }
-        Error::SqliteFailure(ErrorCode::DatabaseCorrupt) => {
-            Unopened::Unusable("the file is not an SQLite database, or is damaged")
-        }
+        Error::SqliteFailure(ErrorCode::DatabaseCorrupt) => Unopened::Unusable(DAMAGED),
         Error::SqliteFailure(ErrorCode::DiskFull) => Unopened::Unusable("the disk is full"),
         _ => Unopened::Unusable("the disk failed while the file was opened"),
     }

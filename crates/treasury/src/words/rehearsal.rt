@@ -6,7 +6,9 @@ ghost use Rattle.std.specs.Prelude.{◌≡◌, false, IfOk};
 
 use crate::laws::counts_law;
 use crate::words::beside::log_name;
-use crate::words::file::{IN_USE, OTHER_ROWS, Unopened, read_at_most, unopened_tables, unstarted};
+use crate::words::file::{
+    DAMAGED, IN_USE, OTHER_ROWS, Unopened, read_at_most, unopened_tables, unstarted,
+};
 use crate::words::shrinking::{Counts, counts_of, is_kept};
 use crate::words::tables::{check_tables, has_one, is_bare, is_taken};
 use crate::words::waiting::is_in_use;
@@ -166,6 +168,14 @@ fn why_refused(refused: Refused<MemoryStore>) -> Obstacle {
     }
 }
 
+/// Why the rows of the copies are not loaded. Memory gives back what it was given, so a read that fails met damage.
+fn why_unstarted(cause: Cause) -> Obstacle {
+    match cause {
+        Cause::Store => Obstacle::Tables(Unopened::Unusable(DAMAGED)),
+        _ => obstacle_of(unstarted(cause, OTHER_ROWS)),
+    }
+}
+
 /// The treasury that the copies show.
 fn start_copies(
     alloc: Global,
@@ -183,7 +193,7 @@ fn start_copies(
     };
     match Treasury::start(alloc, store) {
         Ok(treasury) => Ok(treasury),
-        Err(refused) => Err(obstacle_of(unstarted(refused.cause, OTHER_ROWS))),
+        Err(refused) => Err(why_unstarted(refused.cause)),
     }
 }
 

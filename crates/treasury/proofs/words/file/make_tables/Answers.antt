@@ -6,4 +6,4 @@ pub returns-in-Err : goal.returns-in-Err
 returns-in-Err g c = keeps_untouched _ (image_at g.S.Start) _ c.untouched.ensures
 
 pub returns : goal.returns
-returns g c = c.make_on.ensures (image_at g.S.Start) c.in-Ok-connect.ensures.opened
+returns g c = c.make_on-made.ensures (image_at g.S.Start) c.in-Ok-connect.ensures.opened

@@ -7,5 +7,5 @@ pub returns-in-Err : goal.returns-in-Err
 returns-in-Err g c = keeps_untouched _ (image_at g.S.Start) _ c.untouched.ensures
 
 pub returns : goal.returns
-returns g c = started_by _ (λ r. r.left) c.start_on.result (image_at g.S.Start) c.in-Ok-connect.conn
-    c.in-Ok-connect.ensures.opened c.start_on.ensures
+returns g c = started_by _ (λ r. r.left) c.start_on-started.result (image_at g.S.Start) c.in-Ok-connect.conn
+    c.in-Ok-connect.ensures.opened c.start_on-started.ensures

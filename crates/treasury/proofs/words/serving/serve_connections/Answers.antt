@@ -6,5 +6,7 @@ serving-preserved g c = has_served_more g.S.Store c.args.treasury.now c.serving.
     c.serving.invariant c.serve_connection.ensures
 
 pub returns-in-Err-serve_connection : goal.returns-in-Err-serve_connection
-returns-in-Err-serve_connection g c = has_served_more g.S.Store c.args.treasury.now c.serving.treasury
-    c.serve_connection.new.treasury c.serving.invariant c.serve_connection.ensures
+returns-in-Err-serve_connection g c = record {
+  served = has_served_more g.S.Store c.args.treasury.now c.serving.treasury c.serve_connection.new.treasury
+      c.serving.invariant c.serve_connection.ensures;
+}

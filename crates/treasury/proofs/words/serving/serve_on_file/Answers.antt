@@ -31,9 +31,9 @@ returns-in-Ok-clause-says g c = λ image values started.
 
 pub returns-in-Err-clause-says : goal.returns-in-Err-clause-says
 returns-in-Err-clause-says g c = λ image values started.
-    ends_otherwise _ image c.serve_port-ending.result (spoken c.refused_file-2.result) _
+    ends_otherwise _ image c.serve_port-ending.result (spoken c.refused_file-in-Err.result) _
     (c.is_changed.ensures (search rules))
-    (inl (c.refused_file-2.ensures, inr (c.in-Err.store, refl)))
+    (inl (c.refused_file-in-Err.ensures, inr (c.in-Err.store, refl)))
     (keeps_unheard _ image c.serve_port-ending.result c.args.treasury c.serve_port-ending.new.treasury _
     c.serve_port-ending.ensures.heard
     (λ same. keeps_unclosed _ g.met.D.Disk.seen_may_stay image c.args.treasury c.in-Err.store started

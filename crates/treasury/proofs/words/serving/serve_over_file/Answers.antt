@@ -28,17 +28,13 @@ returns-in-Err-clause-says g c =
           (keeps_untouched _ (image_at g.S.Start) _ c.in-Err.ensures),
     ))
 
-pub returns-in-Err-open_treasury-clause-announced : goal.returns-in-Err-open_treasury-clause-announced
-returns-in-Err-open_treasury-clause-announced g c =
-    subst (λ ending. IsAnnounced g.W.Write.contents c.args.output.now c.args.output.now ending)
-    (sym c.refused_by-2.ensures.ending) refl
-
-pub returns-in-Err-open_treasury-clause-says : goal.returns-in-Err-open_treasury-clause-says
-returns-in-Err-open_treasury-clause-says g c =
+pub returns-clause-says : goal.returns-clause-says
+returns-clause-says g c =
     subst (λ ending. SaysServing _ (image_at g.S.Start) (rows_of (found_of c.args.values.now)) ending
-    (spoken c.refused_by-2.result.said) c.refused_by-2.result.left) (sym c.refused_by-2.ensures.ending)
+    (spoken c.refused_by-in-Err-open_treasury.result.said) c.refused_by-in-Err-open_treasury.result.left)
+    (sym c.refused_by-in-Err-open_treasury.ensures.ending)
     (inr (
-      c.refused_by-2.ensures.refused,
-      subst (λ left. KeepsFile _ (image_at g.S.Start) left) (sym c.refused_by-2.ensures.left)
+      c.refused_by-in-Err-open_treasury.ensures.refused,
+      subst (λ left. KeepsFile _ (image_at g.S.Start) left) (sym c.refused_by-in-Err-open_treasury.ensures.left)
           c.in-Err-open_treasury.ensures,
     ))
