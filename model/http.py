@@ -1,0 +1,174 @@
+"""HTTP: what is read of a connection, and what is replied: FORMATS, "HTTP"."""
+
+import re
+from collections import namedtuple
+
+from model.journals import read_date
+from model.refusals import Refused, refuse_if
+
+MAX_HEAD, MAX_HEADERS, MAX_BODY = 16_384, 32, 8_388_608
+# A head, with its headers as pairs of a name in small letters and a value, and where it ends
+Head = namedtuple("Head", "method target headers end")
+
+EMPTY_LINES = re.compile(rb"(?:\r?\n)*")
+TOKEN = re.compile(rb"[!#$%&'*+.^_`|~0-9A-Za-z-]*")
+TARGET = re.compile(rb"[\x21-\x7e\x80-\xff]*")
+VALUE = re.compile(rb"[\t\x20-\x7e\x80-\xff]*")
+HOST = re.compile(rb"(?:[lL][oO][cC][aA][lL][hH][oO][sS][tT]|127\.0\.0\.1|\[::1\])(?::[0-9]*)?")
+LENGTH = re.compile(rb"0*([0-9]{1,7})")
+PATHS = {
+    "balance": re.compile(r"/balance/(?P<branch>[^/]+)/(?P<day>[^/]+)"),
+    "journal": re.compile(r"/journal/(?P<branch>[^/]+)"),
+    "transit": re.compile(r"/transit/(?P<day>[^/]+)"),
+}
+
+
+class Cut(Exception):
+    """The bytes end inside a request. If that is in its head, the shortest head that begins with them has so many bytes
+    more, and inside a target it is not asked how many."""
+
+    def __init__(self, missing=0):
+        super().__init__(missing)
+        self.missing = missing
+
+
+def line_end(data, place, missing):
+    """FORMATS, "HTTP": the place behind a line's end, CR LF or LF; behind that, so many bytes are missing at least."""
+    if data.startswith((b"\n", b"\r\n"), place):
+        return data.index(b"\n", place) + 1
+    if data[place:] in (b"", b"\r"):
+        raise Cut(1 + missing)
+    raise Refused(44)
+
+
+def word(pattern, data, place, end, missing):
+    """A part of a head that has a byte at least, and the byte that ends it; and the place behind that byte."""
+    found = pattern.match(data, place)
+    if found.end() == len(data):
+        raise Cut(missing + (1 if missing and not found[0] else 0))
+    refuse_if(not found[0] or not data.startswith(end, found.end()), 44)
+    return found[0], found.end() + 1
+
+
+def read_version(data, place):
+    """FORMATS, "HTTP": a head is that of HTTP/1.0 or HTTP/1.1."""
+    version = data[place : place + 8]
+    if len(version) < 8 and b"HTTP/1.1".startswith(version):
+        raise Cut(8 - len(version) + 2)
+    refuse_if(version not in (b"HTTP/1.0", b"HTTP/1.1"), 44)
+    return line_end(data, place + 8, 1)
+
+
+def read_head(data):
+    """FORMATS, "HTTP": the head of a request (44)."""
+    place = EMPTY_LINES.match(data).end()
+    if data[place:] == b"\r":
+        raise Cut(15)
+    method, place = word(TOKEN, data, place, b" ", 13)
+    target, place = word(TARGET, data, place, b" ", 0)
+    try:
+        method, target = method.decode(), target.decode()
+    except UnicodeDecodeError:
+        raise Refused(44) from None
+    place = read_version(data, place)
+    headers = []
+    while data[place : place + 1] not in (b"", b"\r", b"\n"):
+        refuse_if(len(headers) == MAX_HEADERS, 44)
+        name, place = word(TOKEN, data, place, b":", 3)
+        value = VALUE.match(data, place)
+        place = line_end(data, value.end(), 1)
+        headers.append((name.lower(), value[0].strip(b" \t")))
+    return Head(method, target, headers, line_end(data, place, 0))
+
+
+def read_whole_head(data):
+    """RULES, "Limits": a head within its limit (44, also if the bytes end where no head within it could begin so)."""
+    try:
+        head = read_head(data)
+    except Cut as cut:
+        refuse_if(len(data) + cut.missing > MAX_HEAD, 44)
+        raise
+    refuse_if(head.end > MAX_HEAD, 44)
+    return head
+
+
+def values(head, name):
+    """The values of all headers of a name."""
+    return [value for other, value in head.headers if other == name]
+
+
+def is_foreign(head):
+    """FORMATS, "HTTP": whether one of the three headers is not missing, and not there once with one of its values."""
+    hosts, origins, sites = values(head, b"host"), values(head, b"origin"), values(head, b"sec-fetch-site")
+    return (
+        bool(hosts and not (len(hosts) == 1 and HOST.fullmatch(hosts[0])))
+        or bool(origins and not (len(hosts) == 1 and origins == [b"http://" + hosts[0]]))
+        or bool(sites and sites not in ([b"same-origin"], [b"none"]))
+    )
+
+
+def read_body(head, data):
+    """FORMATS, "HTTP": the body of a `POST` (44)."""
+    lengths = values(head, b"content-length")
+    refuse_if(len(lengths) != 1 or values(head, b"transfer-encoding"), 44)
+    length = LENGTH.fullmatch(lengths[0])
+    refuse_if(not length or int(length[1]) > MAX_BODY, 44)
+    end = head.end + int(length[1])
+    if len(data) < end:
+        raise Cut
+    return data[head.end : end]
+
+
+def report_asked(head):
+    """FORMATS, "HTTP": the request of a path (44 for a date that is none), or None if there is no such route."""
+    path = head.target.partition("?")[0]
+    for do, form in PATHS.items():
+        found = form.fullmatch(path)
+        if head.method == "GET" and found:
+            keys = {"do": do, **found.groupdict()}
+            if "day" in keys:
+                keys["day"] = read_date(keys["day"])
+                refuse_if(keys["day"] is None, 44)
+            return keys
+    return None
+
+
+def status_of(number):
+    """FORMATS, "HTTP": the status of an answer; `number` is a refusal's, 0 or None."""
+    if not number:
+        return "200 OK"
+    if number <= 18:
+        return "422 Unprocessable Entity"
+    return {43: "500 Internal Server Error", 44: "400 Bad Request"}.get(number, "409 Conflict")
+
+
+def answer(treasury, data):
+    """FORMATS, "HTTP": status and body for the bytes of a connection."""
+    try:
+        head = read_whole_head(data)
+        if is_foreign(head):
+            return "403 Forbidden", "forbidden\n"
+        if (head.method, head.target.partition("?")[0]) == ("POST", "/commands"):
+            number, lines = treasury.outcome(read_body(head, data))
+        else:
+            keys = report_asked(head)
+            if keys is None:
+                return "404 Not Found", "not found\n"
+            number, lines = treasury.perform(keys)
+    except Refused as refused:
+        number, lines = refused.number, [refused.answer()]
+    return status_of(number), "".join(lines)
+
+
+def reply(treasury, data):
+    """FORMATS, "HTTP": all bytes of the reply; none if the request is cut off and could have become one."""
+    try:
+        status, body = answer(treasury, data)
+    except Cut:
+        return b""
+    body = body.encode()
+    head = (
+        f"HTTP/1.1 {status}\r\nContent-Type: text/plain; charset=utf-8\r\n"
+        f"Content-Length: {len(body)}\r\nConnection: close\r\n\r\n"
+    )
+    return head.encode() + body

@@ -1,0 +1,164 @@
+"""The treasury as a whole.
+
+    t = Treasury()                  a federation that has nothing yet
+    t.answer(line)                  bytes: the whole answer to one line of JSON (without its end), with a report's lines
+    t.command(words, files)         (status, standard output) of a command line over the file that this treasury stands
+                                    for, after `init`; `words` stand behind `treasury`, with `--db FILE` or without it;
+                                    `files` has the bytes of each journal by its name
+    t.http(request)                 bytes: the whole reply to the bytes of one connection; the client closes its sending
+                                    side after them
+    t.rows()                        a file's tables: for each name the rows as tuples, in key order
+    t.journal(branch)               bytes: the printed journal
+    t.copy()                        an independent copy
+"""
+
+import re
+
+from model import http, reports, tables, transfers, words
+from model.amounts import declare_commodity, read_amount
+from model.books import Book, import_journal
+from model.closing import close
+from model.refusals import Refused, Repeated, refuse_if
+from model.requests import read_request
+
+BRANCH_NAME = re.compile("[a-z][a-z0-9-]{0,31}")
+MAX_BRANCHES = 32
+
+
+class Treasury:
+    """RULES, "Branches", "Commodities", "Commands": the state, and what changes it."""
+
+    def __init__(self):
+        self.styles, self.books, self.transfers = [], {}, {}
+
+    def copy(self):
+        """An independent copy."""
+        other = Treasury()
+        other.styles = list(self.styles)
+        other.books = {name: book.copy() for name, book in self.books.items()}
+        other.transfers = {key: transfer.copy() for key, transfer in self.transfers.items()}
+        return other
+
+    def answer(self, line):
+        """RULES, "Runs"; FORMATS, "Answer lines": the answer to one line; a line of blanks alone has none."""
+        if not line.strip(b" \t"):
+            return b""
+        number, lines = self.outcome(line)
+        return "".join(lines + (["ok\n"] if number is None else [])).encode()
+
+    def outcome(self, line):
+        """The answer to a text of JSON, as that of `perform`."""
+        try:
+            keys = read_request(line)
+        except Refused as refused:
+            return refused.number, [refused.answer()]
+        return self.perform(keys)
+
+    def perform(self, keys):
+        """RULES, "Commands": performs a request that is read. Answers None and the lines of a report; 0 and the line of
+        what is done or repeated; or a refusal's number and line, which changes nothing."""
+        try:
+            return DO[keys["do"]](self, keys)
+        except Repeated:
+            return 0, ["repeated\n"]
+        except Refused as refused:
+            return refused.number, [refused.answer()]
+
+    def find_book(self, name):
+        """RULES, "Branches": the branch of that name (20)."""
+        refuse_if(name not in self.books, 20)
+        return self.books[name]
+
+    def branch(self, keys):
+        """RULES, "Orders": `branch`: 21, repeated, 23."""
+        name = keys["name"]
+        refuse_if(not BRANCH_NAME.fullmatch(name), 21)
+        if name in self.books:
+            raise Repeated
+        refuse_if(len(self.books) >= MAX_BRANCHES, 23)
+        self.books[name] = Book(name)
+        return 0, ["ok\n"]
+
+    def commodity(self, keys):
+        """RULES, "Orders": `commodity`."""
+        style = declare_commodity(self.styles, keys["sample"])
+        if style is None:
+            raise Repeated
+        self.styles.append(style)
+        return 0, ["ok\n"]
+
+    def import_(self, keys):
+        """RULES, "Orders": `import`."""
+        new, repeated = import_journal(keys["branch"], keys["journal"], self.styles, self.find_book)
+        return 0, [f"ok {new} new, {repeated} repeated\n"]
+
+    def dispatch(self, keys):
+        """RULES, "Orders": `dispatch`."""
+        amount = read_amount(keys["amount"], self.styles)
+        texts = (keys["id"], keys["from"], keys["to"], keys["day"], amount, keys["account"])
+        transfers.dispatch(self.transfers, self.styles, self.find_book, *texts)
+        return 0, ["ok\n"]
+
+    def receive(self, keys):
+        """RULES, "Orders": `receive`."""
+        amount = read_amount(keys["amount"], self.styles) if "amount" in keys else None
+        texts = (keys["id"], keys["branch"], keys["day"], keys["account"], keys.get("part"), amount)
+        transfers.receive(self.transfers, self.styles, self.find_book, *texts)
+        return 0, ["ok\n"]
+
+    def lock(self, keys):
+        """RULES, "Orders": `lock`: 20, repeated, 35."""
+        return 0, ["ok\n" if self.find_book(keys["branch"]).lock(keys["day"]) else "repeated\n"]
+
+    def close(self, keys):
+        """RULES, "Orders": `close`."""
+        close(self.find_book(keys["branch"]), self.styles, keys["day"], keys.get("accounts"), keys.get("into"))
+        return 0, ["ok\n"]
+
+    def balance_report(self, keys):
+        """RULES, "Reports": balance."""
+        return None, reports.balance_report(self.find_book(keys["branch"]), self.styles, keys["day"])
+
+    def register_report(self, keys):
+        """RULES, "Reports": register."""
+        book = self.find_book(keys["branch"])
+        return None, reports.register_report(book, self.styles, keys["account"], keys.get("tag"))
+
+    def transit_report(self, keys):
+        """RULES, "Reports": transit."""
+        return None, transfers.transit_report(self.transfers, self.styles, keys["day"])
+
+    def journal_report(self, keys):
+        """RULES, "Reports": journal."""
+        return None, reports.journal_report(self.find_book(keys["branch"]))
+
+    def command(self, line, files):
+        """RULES, "The program": exit status and standard output of a command over a file that holds this treasury."""
+        return words.command(self, line, files)
+
+    def http(self, request):
+        """FORMATS, "HTTP": the reply to the bytes of a connection."""
+        return http.reply(self, request)
+
+    def rows(self):
+        """FORMATS, "Tables"."""
+        return tables.rows(self)
+
+    def journal(self, branch):
+        """FORMATS, "Journal report"."""
+        return "".join(reports.journal_report(self.books[branch])).encode()
+
+
+DO = {
+    "branch": Treasury.branch,
+    "commodity": Treasury.commodity,
+    "import": Treasury.import_,
+    "dispatch": Treasury.dispatch,
+    "receive": Treasury.receive,
+    "lock": Treasury.lock,
+    "close": Treasury.close,
+    "balance": Treasury.balance_report,
+    "register": Treasury.register_report,
+    "transit": Treasury.transit_report,
+    "journal": Treasury.journal_report,
+}
