@@ -139,6 +139,7 @@ def print_symbol(symbol):
     return symbol if IS_BARE.fullmatch(symbol) else f'"{symbol}"'
 
 
+@lru_cache(maxsize=65536)
 def print_amount(style, quantity, decimals=None):
     """FORMATS, "Amounts", "Canonical text"; a unit cost has decimals of its own."""
     decimals = style.decimals if decimals is None else decimals
