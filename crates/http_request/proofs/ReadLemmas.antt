@@ -17,7 +17,8 @@ use Rattle.httparse.proofs.GrammarLemmas.{ReadsRequest-append}
 use Rattle.http_request.specs.Head.{IsHead}
 use Rattle.http_request.specs.Found.{HasHead, IsBad, EndsEarly}
 use Rattle.http_request.specs.Path.{path_of}
-use Rattle.http_request.specs.Routes.{Routed, commands, balance, journal, transit, LeadsTo, HasNoRoute}
+use Rattle.http_request.specs.Routes.{Routed, commands, balance, journal, transit, branches, commodities}
+use Rattle.http_request.specs.Routes.{accounts, transfers, LeadsTo, HasNoRoute}
 use Rattle.http_request.specs.declared.routes.Route.{Route}
 use Rattle.http_request.specs.Length.{body_length}
 use Rattle.http_request.specs.Foreign.{is_foreign}
@@ -25,7 +26,7 @@ use Rattle.http_request.specs.Call.{Reads, IsStopped, is_foreign_head, length_of
 use Rattle.http_request.specs.Calling.{shown, call_at, CallsFor, CallsBy, LacksBytes}
 use Rattle.http_request.specs.declared.call.Call.{Call}
 use Rattle.http_request.specs.declared.call.Call.TheVariants.{Unreadable, Foreign, Nowhere, Command, Balance, Journal}
-use Rattle.http_request.specs.declared.call.Call.TheVariants.{Transit}
+use Rattle.http_request.specs.declared.call.Call.TheVariants.{Transit, Branches, Commodities, Accounts, Transfers}
 use Rattle.http_request.proofs.LengthLemmas.{body_bound}
 
 -- ---- routes
@@ -44,6 +45,10 @@ no_method method path none commands leads = none (subst IsToken (sym leads.0) po
 no_method method path none (balance branch date) leads = none (subst IsToken (sym leads.0) get_token)
 no_method method path none (journal branch) leads = none (subst IsToken (sym leads.0) get_token)
 no_method method path none (transit date) leads = none (subst IsToken (sym leads.0) get_token)
+no_method method path none branches leads = none (subst IsToken (sym leads.0) get_token)
+no_method method path none commodities leads = none (subst IsToken (sym leads.0) get_token)
+no_method method path none (accounts branch) leads = none (subst IsToken (sym leads.0) get_token)
+no_method method path none (transfers date) leads = none (subst IsToken (sym leads.0) get_token)
 
 -- what needs its body is a command
 pub is_command : (method path : List ℕ) → CallsFor method path None → LeadsTo method path commands
@@ -52,6 +57,10 @@ is_command method path (inr (commands, leads, is)) = leads
 is_command method path (inr (balance branch date, leads, is)) = absurd cc
 is_command method path (inr (journal branch, leads, is)) = absurd cc
 is_command method path (inr (transit date, leads, is)) = absurd cc
+is_command method path (inr (branches, leads, is)) = absurd cc
+is_command method path (inr (commodities, leads, is)) = absurd cc
+is_command method path (inr (accounts branch, leads, is)) = absurd cc
+is_command method path (inr (transfers date, leads, is)) = absurd cc
 
 -- ---- heads
 
@@ -165,6 +174,38 @@ module _ (r0 r1 : Option (List ℕ)) (text : List ℕ) (headers : List HeaderSpa
             calls = (h.head, h.rest, leading (transit date) leads);
             stops = h.stops;
           })
+      by_route branches leads is = subst (Reads r0 r1) (let same : Branches ≡ call = cc in same)
+          (record {
+            seen = text;
+            read = h.read;
+            bounded = (let b = h.bounded in omega arith);
+            calls = (h.head, h.rest, leading branches leads);
+            stops = h.stops;
+          })
+      by_route commodities leads is = subst (Reads r0 r1) (let same : Commodities ≡ call = cc in same)
+          (record {
+            seen = text;
+            read = h.read;
+            bounded = (let b = h.bounded in omega arith);
+            calls = (h.head, h.rest, leading commodities leads);
+            stops = h.stops;
+          })
+      by_route (accounts branch) leads is = subst (Reads r0 r1) (let same : Accounts branch ≡ call = cc in same)
+          (record {
+            seen = text;
+            read = h.read;
+            bounded = (let b = h.bounded in omega arith);
+            calls = (h.head, h.rest, leading (accounts branch) leads);
+            stops = h.stops;
+          })
+      by_route (transfers date) leads is = subst (Reads r0 r1) (let same : Transfers date ≡ call = cc in same)
+          (record {
+            seen = text;
+            read = h.read;
+            bounded = (let b = h.bounded in omega arith);
+            calls = (h.head, h.rest, leading (transfers date) leads);
+            stops = h.stops;
+          })
 
   module _ (r2 : Option (List ℕ)) (own : is_foreign (map (header_bytes text) (take spans.headers headers)) ≡ false)
       (leads : LeadsTo (span_bytes text spans.method) (path_of (span_bytes text spans.path)) commands) where
@@ -273,3 +314,12 @@ pub call_told : (call : Option Call) (m n p q : List ℕ) → m ≡ n → p ≡ 
 call_told call m n p q same alike calls =
     subst (λ (t : List ℕ). CallsFor n (path_of t) call) alike
     (subst (λ (t : List ℕ). CallsFor t (path_of p) call) same calls)
+
+-- what a route calls for, and what nothing does
+pub calls_told : {E : Type 0} (result : Result (Option Call) E) (m p : List ℕ) (route : Route)
+    → LeadsTo m p (shown route) → IfOk result (λ call. call ≡ call_at (shown route)) → IfOk result (CallsFor m p)
+calls_told (Ok call) m p route leads is = inr (shown route, leads, is)
+calls_told (Err e) m p route leads is = tt
+
+pub calls_nowhere : (m p : List ℕ) → HasNoRoute m p → CallsFor m p (Some Nowhere)
+calls_nowhere m p none = inl (refl, none)

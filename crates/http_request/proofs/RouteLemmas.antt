@@ -14,7 +14,8 @@ use Rattle.matchit.specs.Seek.{with_suffix}
 use Rattle.matchit.specs.Rows.{RowsOf}
 use Rattle.matchit.specs.Router.{RouteOf}
 use Rattle.http_request.specs.declared.routes.Place.{Place}
-use Rattle.http_request.specs.Routes.{is_part, Routed, commands, balance, journal, transit, LeadsTo}
+use Rattle.http_request.specs.Routes.{is_part, Routed, commands, balance, journal, transit, branches, commodities}
+use Rattle.http_request.specs.Routes.{accounts, transfers, LeadsTo}
 use Rattle.http_request.specs.Rows.{route_rows, row, place_of}
 
 -- ---- one row at a time
@@ -98,6 +99,32 @@ seek-lits (y ∷ lits) t k p bytes =
     (ap (λ v. cond v ((lits ++ t, k) ∷ []) []) (byte_is y 256 l (omega arith)))
     (ap (λ v. cond v ((lits ++ t, k) ∷ []) []) (byte_is y 257 l (omega arith)))
     ∙ (ap (λ v. seek 0 (cond v ((lits ++ t, k) ∷ []) []) (lits ++ p)) (same_byte y) ∙ seek-lits lits t k p b.1)
+
+-- the rows that go on with these bytes, and with no part before
+abbrev steps : {K : Type 0} → List ℕ → RowsOf K → RowsOf K
+steps [] rs = rs
+steps (y ∷ ys) rs = steps ys (step y rs)
+
+abbrev no_rows : {K : Type 0} → RowsOf K → Bool
+no_rows [] = true
+no_rows (r ∷ rs) = false
+
+abbrev are_literal : {K : Type 0} → List ℕ → RowsOf K → Bool
+are_literal [] rs = true
+are_literal (y ∷ ys) rs = no_rows (step 256 rs) && (no_rows (step 257 rs) && are_literal ys (step y rs))
+
+are_none : {K : Type 0} (rs : RowsOf K) → no_rows rs ≡ true → rs ≡ []
+are_none [] e = refl
+are_none (r ∷ rs) e = absurd cc
+
+-- any rows that go on with these bytes
+seek-literal : {K : Type 0} (lits p : List ℕ) (rs : RowsOf K) → are_literal lits rs ≡ true
+    → seek 0 rs (lits ++ p) ≡ seek 0 (steps lits rs) p
+seek-literal [] p rs e = refl
+seek-literal (y ∷ ys) p rs e =
+    let a = both _ _ e in
+    let b = both _ _ a.1 in
+    seek-lit rs y (ys ++ p) (are_none _ a.0) (are_none _ b.0) ∙ seek-literal ys p (step y rs) b.1
 
 -- one row that goes on with a part
 param-first : {K : Type 0} (t : List ℕ) (k : K) (b : ℕ) (rest : List ℕ) → b < 256
@@ -189,15 +216,23 @@ pub commands_found : first route_rows (codes "/commands")
 unfolding seek param_step
 commands_found = refl
 
+pub branches_found : first route_rows (codes "/branches")
+    ≡ Some (row (codes "/branches") (codes "/branches") [] (place_of branches)).1
+unfolding seek param_step
+branches_found = refl
+
+pub commodities_found : first route_rows (codes "/commodities")
+    ≡ Some (row (codes "/commodities") (codes "/commodities") [] (place_of commodities)).1
+unfolding seek param_step
+commodities_found = refl
+
 pub journal_found : (part : List ℕ) → is_part part ≡ true → get_or part 0 0 < 256
     → (r : RouteOf Place) × (first route_rows (codes "/journal/" ++ part) ≡ Some r)
     × (r.value ≡ place_of (journal part))
 journal_found [] good byte = absurd cc
 journal_found (b ∷ bs) good byte = (
   _,
-  seek-lit route_rows 47 (codes "journal/" ++ (b ∷ bs)) refl refl
-      ∙ (seek-lit (step 47 route_rows) 106 (codes "ournal/" ++ (b ∷ bs)) refl refl
-      ∙ (seek-lits (codes "ournal/") (256 ∷ []) _ (b ∷ bs) refl ∙ param-last _ b bs byte (no_slash (b ∷ bs) good))),
+  seek-literal (codes "/journal/") (b ∷ bs) route_rows refl ∙ param-last _ b bs byte (no_slash (b ∷ bs) good),
   refl,
 )
 
@@ -207,9 +242,27 @@ pub transit_found : (part : List ℕ) → is_part part ≡ true → get_or part 
 transit_found [] good byte = absurd cc
 transit_found (b ∷ bs) good byte = (
   _,
-  seek-lit route_rows 47 (codes "transit/" ++ (b ∷ bs)) refl refl
-      ∙ (seek-lit (step 47 route_rows) 116 (codes "ransit/" ++ (b ∷ bs)) refl refl
-      ∙ (seek-lits (codes "ransit/") (256 ∷ []) _ (b ∷ bs) refl ∙ param-last _ b bs byte (no_slash (b ∷ bs) good))),
+  seek-literal (codes "/transit/") (b ∷ bs) route_rows refl ∙ param-last _ b bs byte (no_slash (b ∷ bs) good),
+  refl,
+)
+
+pub accounts_found : (part : List ℕ) → is_part part ≡ true → get_or part 0 0 < 256
+    → (r : RouteOf Place) × (first route_rows (codes "/accounts/" ++ part) ≡ Some r)
+    × (r.value ≡ place_of (accounts part))
+accounts_found [] good byte = absurd cc
+accounts_found (b ∷ bs) good byte = (
+  _,
+  seek-literal (codes "/accounts/") (b ∷ bs) route_rows refl ∙ param-last _ b bs byte (no_slash (b ∷ bs) good),
+  refl,
+)
+
+pub transfers_found : (part : List ℕ) → is_part part ≡ true → get_or part 0 0 < 256
+    → (r : RouteOf Place) × (first route_rows (codes "/transfers/" ++ part) ≡ Some r)
+    × (r.value ≡ place_of (transfers part))
+transfers_found [] good byte = absurd cc
+transfers_found (b ∷ bs) good byte = (
+  _,
+  seek-literal (codes "/transfers/") (b ∷ bs) route_rows refl ∙ param-last _ b bs byte (no_slash (b ∷ bs) good),
   refl,
 )
 
@@ -221,11 +274,9 @@ balance_found [] two good fine byte other = absurd cc
 balance_found (b ∷ bs) [] good fine byte other = absurd cc
 balance_found (b ∷ bs) (c ∷ cs) good fine byte other = (
   _,
-  seek-lit route_rows 47 (codes "balance/" ++ (b ∷ bs) ++ 47 ∷ (c ∷ cs)) refl refl
-      ∙ (seek-lit (step 47 route_rows) 98 (codes "alance/" ++ (b ∷ bs) ++ 47 ∷ (c ∷ cs)) refl refl
-      ∙ (seek-lits (codes "alance/") (256 ∷ 47 ∷ 256 ∷ []) _ ((b ∷ bs) ++ 47 ∷ (c ∷ cs)) refl
+  seek-literal (codes "/balance/") ((b ∷ bs) ++ 47 ∷ (c ∷ cs)) route_rows refl
       ∙ (param-mid (256 ∷ []) _ b bs (c ∷ cs) byte (no_slash (b ∷ bs) good) ∙ param-last _ c cs other
-      (no_slash (c ∷ cs) fine)))),
+      (no_slash (c ∷ cs) fine)),
   refl,
 )
 
@@ -233,12 +284,20 @@ balance_found (b ∷ bs) (c ∷ cs) good fine byte other = (
 pub found_place : (method path : List ℕ) (route : Routed) → ((i : ℕ) → get_or path i 0 < 256)
     → LeadsTo method path route → (r : RouteOf Place) × (first route_rows path ≡ Some r) × (r.value ≡ place_of route)
 found_place method path commands bytes (m, is) = (_, ap (first route_rows) is ∙ commands_found, refl)
+found_place method path branches bytes (m, is) = (_, ap (first route_rows) is ∙ branches_found, refl)
+found_place method path commodities bytes (m, is) = (_, ap (first route_rows) is ∙ commodities_found, refl)
 found_place method path (journal part) bytes (m, is, good) =
     let byte : get_or part 0 0 < 256 = subst (λ (n : ℕ). n < 256) (ap (λ (t : List ℕ). get_or t 9 0) is) (bytes 9) in
     let r = journal_found part good byte in (r.0, ap (first route_rows) is ∙ r.1, r.2)
 found_place method path (transit part) bytes (m, is, good) =
     let byte : get_or part 0 0 < 256 = subst (λ (n : ℕ). n < 256) (ap (λ (t : List ℕ). get_or t 9 0) is) (bytes 9) in
     let r = transit_found part good byte in (r.0, ap (first route_rows) is ∙ r.1, r.2)
+found_place method path (accounts part) bytes (m, is, good) =
+    let byte : get_or part 0 0 < 256 = subst (λ (n : ℕ). n < 256) (ap (λ (t : List ℕ). get_or t 10 0) is) (bytes 10) in
+    let r = accounts_found part good byte in (r.0, ap (first route_rows) is ∙ r.1, r.2)
+found_place method path (transfers part) bytes (m, is, good) =
+    let byte : get_or part 0 0 < 256 = subst (λ (n : ℕ). n < 256) (ap (λ (t : List ℕ). get_or t 11 0) is) (bytes 11) in
+    let r = transfers_found part good byte in (r.0, ap (first route_rows) is ∙ r.1, r.2)
 found_place method path (balance [] two) bytes (m, is, good, fine) = absurd cc
 found_place method path (balance (b ∷ bs) two) bytes (m, is, good, fine) =
     let byte : b < 256 = subst (λ (n : ℕ). n < 256) (ap (λ (t : List ℕ). get_or t 9 0) is) (bytes 9) in

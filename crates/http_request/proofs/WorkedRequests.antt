@@ -1,7 +1,7 @@
 -- Paths, lengths and what is foreign, worked out by hand.
 use Rattle.std.specs.Prelude.{◌≡◌, ℕ, true, false, List, [], ◌∷◌, Some, None, codes, refl}
 use Rattle.http_request.specs.Path.{path_of}
-use Rattle.http_request.specs.Routes.{LeadsTo, commands, balance, is_part}
+use Rattle.http_request.specs.Routes.{LeadsTo, commands, balance, branches, transfers, is_part}
 use Rattle.http_request.specs.Length.{body_length}
 use Rattle.http_request.specs.Foreign.{is_loopback, is_origin_of, is_foreign}
 
@@ -14,6 +14,11 @@ query = (refl, refl)
 pub parts : LeadsTo (codes "GET") (codes "/balance/%6eorth/2024.1.5") (balance (codes "%6eorth") (codes "2024.1.5"))
     × (is_part (codes "2024/01/05") ≡ false) × (is_part [] ≡ false)
 parts = ((refl, refl, refl, refl), refl, refl)
+
+-- reports on all branches
+pub lists : LeadsTo (codes "GET") (codes "/branches") branches
+    × LeadsTo (codes "GET") (codes "/transfers/9999-12-31") (transfers (codes "9999-12-31"))
+lists = ((refl, refl), (refl, refl, refl))
 
 pub posted : LeadsTo (codes "POST") (codes "/commands") commands
 posted = (refl, refl)

@@ -7,12 +7,13 @@ use Rattle.httparse.specs.Spans.{name_and_value}
 use Rattle.http_request.specs.Head.{IsHead, NeverHead, CanEnd}
 use Rattle.http_request.specs.Spaces.{spaces}
 use Rattle.http_request.specs.Path.{path_of}
-use Rattle.http_request.specs.Routes.{Routed, commands, balance, journal, transit, LeadsTo, HasNoRoute}
+use Rattle.http_request.specs.Routes.{Routed, commands, balance, journal, transit, branches, commodities}
+use Rattle.http_request.specs.Routes.{accounts, transfers, LeadsTo, HasNoRoute}
 use Rattle.http_request.specs.Length.{body_length}
 use Rattle.http_request.specs.Foreign.{is_foreign}
 use Rattle.http_request.specs.declared.call.Call.{Call}
 use Rattle.http_request.specs.declared.call.Call.TheVariants.{Unreadable, Foreign, Nowhere, Command, Balance, Journal}
-use Rattle.http_request.specs.declared.call.Call.TheVariants.{Transit}
+use Rattle.http_request.specs.declared.call.Call.TheVariants.{Transit, Branches, Commodities, Accounts, Transfers}
 
 -- how long the body of a command is
 abbrev pub length_of : RequestHead → Option ℕ
@@ -47,6 +48,10 @@ Calls seen (Command body) =
 Calls seen (Balance branch date) = LeadTo seen (balance branch date)
 Calls seen (Journal branch) = LeadTo seen (journal branch)
 Calls seen (Transit date) = LeadTo seen (transit date)
+Calls seen Branches = LeadTo seen branches
+Calls seen Commodities = LeadTo seen commodities
+Calls seen (Accounts branch) = LeadTo seen (accounts branch)
+Calls seen (Transfers date) = LeadTo seen (transfers date)
 
 -- the most bytes that are read of a connection: those of a head, and those of a body
 abbrev pub most_read : ℕ

@@ -1,11 +1,13 @@
 -- Mirrors code: how a call is read, part by part.
 use Rattle.std.specs.Prelude.{◌≡◌, ◌⊎◌, ℕ, List, Option, Some, None}
 use Rattle.http_request.specs.Body.{HasBody, LacksBody}
-use Rattle.http_request.specs.Routes.{Routed, commands, balance, journal, transit, LeadsTo, HasNoRoute}
+use Rattle.http_request.specs.Routes.{Routed, commands, balance, journal, transit, branches, commodities}
+use Rattle.http_request.specs.Routes.{accounts, transfers, LeadsTo, HasNoRoute}
 use Rattle.http_request.specs.declared.call.Call.{Call}
 use Rattle.http_request.specs.declared.routes.Route.{Route}
 use Rattle.http_request.specs.declared.routes.Route.TheVariants as made
 use Rattle.http_request.specs.declared.call.Call.TheVariants.{Unreadable, Nowhere, Command, Balance, Journal, Transit}
+use Rattle.http_request.specs.declared.call.Call.TheVariants.{Branches, Commodities, Accounts, Transfers}
 
 -- a route, with the parts of its path
 abbrev pub shown : Route → Routed
@@ -13,6 +15,10 @@ shown made.Commands = commands
 shown (made.Balance branch date) = balance branch.now date.now
 shown (made.Journal branch) = journal branch.now
 shown (made.Transit date) = transit date.now
+shown made.Branches = branches
+shown made.Commodities = commodities
+shown (made.Accounts branch) = accounts branch.now
+shown (made.Transfers date) = transfers date.now
 
 -- what a route calls for; none where it is the one of commands, whose body has to be read
 abbrev pub call_at : Routed → Option Call
@@ -20,6 +26,10 @@ call_at commands = None
 call_at (balance branch date) = Some (Balance branch date)
 call_at (journal branch) = Some (Journal branch)
 call_at (transit date) = Some (Transit date)
+call_at branches = Some Branches
+call_at commodities = Some Commodities
+call_at (accounts branch) = Some (Accounts branch)
+call_at (transfers date) = Some (Transfers date)
 
 -- what a method and a path call for, with the same exception
 abbrev pub CallsFor : List ℕ → List ℕ → Option Call → Type 0

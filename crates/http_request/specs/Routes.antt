@@ -12,6 +12,10 @@ pub data Routed : Type 0 where
   balance : List ℕ → List ℕ → Routed
   journal : List ℕ → Routed
   transit : List ℕ → Routed
+  branches : Routed
+  commodities : Routed
+  accounts : List ℕ → Routed
+  transfers : List ℕ → Routed
 
 -- a method and a path lead to a route
 abbrev pub LeadsTo : List ℕ → List ℕ → Routed → Type 0
@@ -22,6 +26,12 @@ LeadsTo method path (balance branch date) =
 LeadsTo method path (journal branch) =
     (method ≡ codes "GET") × (path ≡ codes "/journal/" ++ branch) × (is_part branch ≡ true)
 LeadsTo method path (transit date) = (method ≡ codes "GET") × (path ≡ codes "/transit/" ++ date) × (is_part date ≡ true)
+LeadsTo method path branches = (method ≡ codes "GET") × (path ≡ codes "/branches")
+LeadsTo method path commodities = (method ≡ codes "GET") × (path ≡ codes "/commodities")
+LeadsTo method path (accounts branch) =
+    (method ≡ codes "GET") × (path ≡ codes "/accounts/" ++ branch) × (is_part branch ≡ true)
+LeadsTo method path (transfers date) =
+    (method ≡ codes "GET") × (path ≡ codes "/transfers/" ++ date) × (is_part date ≡ true)
 
 -- they lead to none
 abbrev pub HasNoRoute : List ℕ → List ℕ → Type 0

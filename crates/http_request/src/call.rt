@@ -19,4 +19,12 @@ pub enum Call {
     Journal { branch: Text },
     /// What is on its way between branches: `GET /transit/{date}`.
     Transit { date: Text },
+    /// The branches: `GET /branches`.
+    Branches,
+    /// The commodities: `GET /commodities`.
+    Commodities,
+    /// The accounts of a branch: `GET /accounts/{branch}`.
+    Accounts { branch: Text },
+    /// The transfers of which something is open: `GET /transfers/{date}`.
+    Transfers { date: Text },
 }

@@ -41,6 +41,16 @@ fn call_at(alloc: Global, route: Route<'_>) -> Result<Option<Call>, Cause>
             let date = Text::of(alloc, date)?;
             Ok(Some(Call::Transit { date }))
         }
+        Route::Branches => Ok(Some(Call::Branches)),
+        Route::Commodities => Ok(Some(Call::Commodities)),
+        Route::Accounts { branch } => {
+            let branch = Text::of(alloc, branch)?;
+            Ok(Some(Call::Accounts { branch }))
+        }
+        Route::Transfers { date } => {
+            let date = Text::of(alloc, date)?;
+            Ok(Some(Call::Transfers { date }))
+        }
     }
 }
 

@@ -21,6 +21,10 @@ enum Place {
     Commands,
     Journal,
     Transit,
+    Branches,
+    Commodities,
+    Accounts,
+    Transfers,
 }
 
 /// A route, with the parts of its path.
@@ -30,6 +34,10 @@ pub enum Route<'p> {
     Balance { branch: &'p str, date: &'p str },
     Journal { branch: &'p str },
     Transit { date: &'p str },
+    Branches,
+    Commodities,
+    Accounts { branch: &'p str },
+    Transfers { date: &'p str },
 }
 
 /// A router with the routes.
@@ -37,9 +45,13 @@ fn make_routes(alloc: Global) -> Result<Router<Place>, InsertError>
     ensures { IfOk result (λ router. router ≡ route_rows) }
 {
     let mut router = Router::new(alloc);
+    router.insert("/accounts/{branch}", Place::Accounts)?;
     router.insert("/balance/{branch}/{date}", Place::Balance)?;
+    router.insert("/branches", Place::Branches)?;
     router.insert("/commands", Place::Commands)?;
+    router.insert("/commodities", Place::Commodities)?;
     router.insert("/journal/{branch}", Place::Journal)?;
+    router.insert("/transfers/{date}", Place::Transfers)?;
     router.insert("/transit/{date}", Place::Transit)?;
     Ok(router)
 }
@@ -112,6 +124,16 @@ fn route_at<'p>(place: Place, method: &Method, path: &'p str) -> Option<Route<'p
         },
         Place::Transit if is_get => match part_behind(path, "/transit/") {
             Some(date) => Some(Route::Transit { date }),
+            None => None,
+        },
+        Place::Branches if is_get && path == "/branches" => Some(Route::Branches),
+        Place::Commodities if is_get && path == "/commodities" => Some(Route::Commodities),
+        Place::Accounts if is_get => match part_behind(path, "/accounts/") {
+            Some(branch) => Some(Route::Accounts { branch }),
+            None => None,
+        },
+        Place::Transfers if is_get => match part_behind(path, "/transfers/") {
+            Some(date) => Some(Route::Transfers { date }),
             None => None,
         },
         _ => None,

@@ -37,7 +37,7 @@ use Rattle.treasury_store.specs.declared.store.Store.{Store}
 use Rattle.treasury_store.specs.Store.{TablesAre, IsOf, empty_state}
 use Rattle.treasury_store.specs.Treasury.{Treasury, IsTreasuryOf}
 use Rattle.treasury_store.proofs.OpenLemmas.{ours_second, not_first, second_more}
-use Rattle.treasury_api.specs.declared.request.Request.{Request}
+use Rattle.treasury_requests.specs.declared.request.Spelled.{Spelled}
 use Rattle.treasury_api.specs.Answer.{answer_text}
 use Rattle.treasury_api.specs.Asked.{AsksOf}
 use Rattle.treasury_api.specs.Replied.{standing}
@@ -210,7 +210,7 @@ module _ {D : Type 0} (g : disk.Ghosts D) where
       subst (λ (c : Held (FileStore D g)). IsUnclosed g c it) same shut
 
   -- its treasury answers a request, and the file is closed
-  pub over : (image : Image) (request : Request) (old new : Treasury (FileStore D g)) (text : List ℕ) (refused : Bool)
+  pub over : (image : Image) (request : Spelled) (old new : Treasury (FileStore D g)) (text : List ℕ) (refused : Bool)
       (closed : Files D)
       → IsStarted g image old → SaysTo over_files old request text refused new → IsClosedAs g new.store.conn closed
       → AnswersOver g image request (record { text = text; refused = refused }) (Closed closed)
@@ -244,7 +244,7 @@ module _ {D : Type 0} (g : disk.Ghosts D) where
 
   module _ (stays : SeenMayStay g) where
     -- or the file cannot be closed: what may come back has the rows of the state, or of the one where the request leads
-    pub may_have_done : (image : Image) (request : Request) (old new : Treasury (FileStore D g)) (text : List ℕ)
+    pub may_have_done : (image : Image) (request : Spelled) (old new : Treasury (FileStore D g)) (text : List ℕ)
         (refused : Bool) (it : FileStore D g)
         → IsStarted g image old → SaysTo over_files old request text refused new
         → LeavesRequest over_files old new request → IsUnclosed g new.store.conn it
@@ -329,7 +329,7 @@ module _ {D : Type 0} (g : disk.Ghosts D) where
         inl ((file_state t.store.conn).now, settles g stays t.store.conn trees left_so held.1 may, held.0))
 
   -- what keeps a file has done nothing of a request
-  pub keeps_undone : (image : Image) (request : Request) (left : Left D g) → KeepsFile g image left
+  pub keeps_undone : (image : Image) (request : Spelled) (left : Left D g) → KeepsFile g image left
       → MayHaveDone g image request left
   keeps_undone image request left keeps = record {
     finds = λ clean next may f holds. keeps.finds clean next may (rows f) holds.held;
@@ -338,7 +338,7 @@ module _ {D : Type 0} (g : disk.Ghosts D) where
   }
 
   -- a file that serves no word keeps what it held, whatever the cause is
-  pub says_refused : (image : Image) (request : Request) (said : Spoken) (left : Left D g) → IsFileRefused said
+  pub says_refused : (image : Image) (request : Spelled) (said : Spoken) (left : Left D g) → IsFileRefused said
       → KeepsFile g image left → SaysOver g image request said left
   says_refused image request said left (inl memory) keeps = inl (inl memory, keeps)
   says_refused image request said left (inr (inl store)) keeps =
@@ -364,12 +364,12 @@ module _ {D : Type 0} (g : disk.Ghosts D) where
   }
 
   -- what is said to one request is said to an equal one
-  pub said_alike : (image : Image) (one other : Request) (said : Spoken) (left : Left D g) → one ≡ other
+  pub said_alike : (image : Image) (one other : Spelled) (said : Spoken) (left : Left D g) → one ≡ other
       → SaysOver g image one said left → SaysOver g image other said left
-  said_alike image one other said left same says = subst (λ (r : Request). SaysOver g image r said left) same says
+  said_alike image one other said left same says = subst (λ (r : Spelled). SaysOver g image r said left) same says
 
   -- there is no memory for a request, and no file was opened
-  pub says_before : (image : Image) (request : Request) (said : Said) (cause : Cause) (a : Answered D g)
+  pub says_before : (image : Image) (request : Spelled) (said : Said) (cause : Cause) (a : Answered D g)
       → a ≡ record { said = said; left = Untouched } → cause ≡ OutOfMemory → IsRefusedBy cause (spoken said)
       → SaysOver g image request (spoken a.said) a.left
   says_before image request said cause a is memory refused =
@@ -380,15 +380,15 @@ module _ {D : Type 0} (g : disk.Ghosts D) where
       ))
 
   -- a journal cannot be read, and no file was opened
-  pub journal_before : (image : Image) (branch : List ℕ) (has : Option (List ℕ)) (said : Said) (cause : Cause)
-      (a : Answered D g) → a ≡ record { said = said; left = Untouched }
+  pub journal_before : (image : Image) (branch : List ℕ) (dry : Bool) (has : Option (List ℕ)) (said : Said)
+      (cause : Cause) (a : Answered D g) → a ≡ record { said = said; left = Untouched }
       → (cause ≡ ReadFault) ⊎ (cause ≡ OutOfMemory) → IsRefusedBy cause (spoken said)
-      → SaysToJournal g image branch has (spoken a.said) a.left
-  journal_before image branch has said cause a is (inl fault) refused =
-      subst (λ (b : Answered D g). SaysToJournal g image branch has (spoken b.said) b.left) (sym is)
+      → SaysToJournal g image branch dry has (spoken a.said) a.left
+  journal_before image branch dry has said cause a is (inl fault) refused =
+      subst (λ (b : Answered D g). SaysToJournal g image branch dry has (spoken b.said) b.left) (sym is)
       (inl (inl (subst (λ (c : Cause). IsRefusedBy c (spoken said)) fault refused), refl))
-  journal_before image branch has said cause a is (inr memory) refused =
-      subst (λ (b : Answered D g). SaysToJournal g image branch has (spoken b.said) b.left) (sym is)
+  journal_before image branch dry has said cause a is (inr memory) refused =
+      subst (λ (b : Answered D g). SaysToJournal g image branch dry has (spoken b.said) b.left) (sym is)
       (inl (inr (subst (λ (c : Cause). IsRefusedBy c (spoken said)) memory refused), refl))
 
   -- a word is told 40

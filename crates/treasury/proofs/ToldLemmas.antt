@@ -1,7 +1,7 @@
 -- Words over a file, one after another: their commands are a run of the machine of commands.
 use Rattle.std.proofs.Common.{◌≡◌, List, [], ◌∷◌, true, ℕ, sym, inl, inr}
 use Rattle.treasury_core.specs.Federation.{Federation}
-use Rattle.treasury_api.specs.declared.request.Request.{Request}
+use Rattle.treasury_requests.specs.declared.request.Spelled.{Spelled}
 use Rattle.treasury_api.specs.Step.{Standing}
 use Rattle.treasury.specs.Word.{AnswersWord, Told, AreTold, turns_of_words}
 use Rattle.treasury.specs.OverFile.{AreToldBut, turns_of_told}
@@ -14,7 +14,7 @@ words_run f (w ∷ ws) end (mid, (reply, (answers, refused)), rest) =
     request_run f w.request w.text reply mid (turns_of_words mid.now ws end rest) end answers
     (words_run mid.now ws end rest)
 
-pub refused_leaves : (s : Standing) (request : Request) (text : List ℕ) (t : Standing)
+pub refused_leaves : (s : Standing) (request : Spelled) (text : List ℕ) (t : Standing)
     → AnswersWord s request text true t → t.now ≡ s.now
 refused_leaves s request text t (reply, (answers, refused)) =
     request_leaves s request text reply t answers (sym refused)

@@ -1,13 +1,13 @@
 -- What words ask for, worked out by hand, whatever name the program is called by.
-use Rattle.std.specs.Prelude.{◌≡◌, ℕ, List, [], ◌∷◌, Some, option_and_then, codes, refl}
+use Rattle.std.specs.Prelude.{◌≡◌, ℕ, true, false, List, [], ◌∷◌, Some, option_and_then, option_map, codes, refl}
 use Rattle.clap.specs.declared.error.kind.ErrorKind.TheVariants.{UnknownArgument, InvalidSubcommand, ArgumentConflict}
 use Rattle.clap.specs.declared.error.kind.ErrorKind.TheVariants.{MissingRequiredArgument, ValueValidation, DisplayHelp}
 use Rattle.clap.specs.declared.error.kind.ErrorKind.TheVariants.{DisplayVersion}
 use Rattle.clap.specs.declared.error.kind.ErrorKind.TheVariants.{DisplayHelpOnMissingArgumentOrSubcommand}
 use Rattle.clap.proofs.OnLiterals.{clap_on_literals}
-use Rattle.treasury_api.specs.declared.request.Request.TheVariants.{Branch, Journal}
+use Rattle.treasury_requests.specs.declared.request.Request.TheVariants.{Branch, Journal, Branches}
 use Rattle.treasury.specs.Words.{objections, named}
-use Rattle.treasury.specs.Spelling.{request_in}
+use Rattle.treasury.specs.Spelling.{request_in, is_dry_run}
 
 pub run_is_asked_for : (name : List ℕ) → objections (name ∷ codes "run" ∷ []) ≡ []
 unfolding clap_on_literals objections
@@ -86,3 +86,42 @@ pub branch_is_asked_for : (name : List ℕ)
     ≡ Some (Branch (codes "north"))
 unfolding clap_on_literals named
 branch_is_asked_for name = refl
+
+pub branches_are_asked_for : (name : List ℕ)
+    → option_and_then (λ p. request_in p.0 p.1) (named (name ∷ codes "branches" ∷ codes "--db" ∷ codes "t.db" ∷ []))
+    ≡ Some Branches
+unfolding clap_on_literals named
+branches_are_asked_for name = refl
+
+-- a dry run is asked for by the flag alone, wherever it stands, and once
+
+pub dry_run_is_asked_for : (name : List ℕ)
+    → option_map (λ p. is_dry_run p.1)
+    (named (name ∷ codes "branch" ∷ codes "--dry-run" ∷ codes "--db=t.db" ∷ codes "north" ∷ [])) ≡ Some true
+unfolding clap_on_literals named
+dry_run_is_asked_for name = refl
+
+pub dry_run_is_not_asked_for : (name : List ℕ)
+    → option_map (λ p. is_dry_run p.1) (named (name ∷ codes "branch" ∷ codes "--db=t.db" ∷ codes "north" ∷ []))
+    ≡ Some false
+unfolding clap_on_literals named
+dry_run_is_not_asked_for name = refl
+
+pub branch_of_a_dry_run : (name : List ℕ)
+    → option_and_then (λ p. request_in p.0 p.1)
+    (named (name ∷ codes "branch" ∷ codes "--db=t.db" ∷ codes "north" ∷ codes "--dry-run" ∷ []))
+    ≡ Some (Branch (codes "north"))
+unfolding clap_on_literals named
+branch_of_a_dry_run name = refl
+
+pub dry_run_has_no_value : (name : List ℕ)
+    → objections (name ∷ codes "branch" ∷ codes "--db=t.db" ∷ codes "north" ∷ codes "--dry-run" ∷ codes "yes" ∷ [])
+    ≡ UnknownArgument ∷ []
+unfolding clap_on_literals objections
+dry_run_has_no_value name = refl
+
+pub report_has_no_dry_run : (name : List ℕ)
+    → objections (name ∷ codes "journal" ∷ codes "--db=t.db" ∷ codes "--branch=north" ∷ codes "--dry-run" ∷ [])
+    ≡ UnknownArgument ∷ []
+unfolding clap_on_literals objections
+report_has_no_dry_run name = refl

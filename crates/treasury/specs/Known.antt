@@ -3,6 +3,7 @@ use Rattle.std.specs.Prelude.{ℕ, pos, true, false, codes, List, [], ◌∷◌,
 use Rattle.clap.specs.Walk.{Rule}
 use Rattle.clap.specs.Simple.{App, Shape, new_rule, new_shape}
 use Rattle.clap.specs.declared.builder.value_parser.ValueParser.TheVariants.{Signed}
+use Rattle.clap.specs.declared.builder.action.ArgAction.TheVariants.{SetTrue}
 
 -- an option that may be given, `--NAME VALUE`; one that has to be; and a value that stands by itself and has to be
 -- given
@@ -18,6 +19,10 @@ number name most = record (option name) { parser = Some (Signed (pos 0) (pos mos
 
 abbrev pub operand : List ℕ → Rule
 operand name = record (new_rule name) { value_names = 1; required = true }
+
+-- a flag that may be given, `--NAME`
+abbrev pub flag : List ℕ → Rule
+flag name = record (new_rule name) { long = Some name; action = Some SetTrue }
 
 -- a word over a database file: `--db FILE`, and what else it takes
 abbrev pub word : List ℕ → List Rule → Shape
@@ -36,18 +41,25 @@ account = option (codes "account")
 abbrev pub id : Rule
 id = option (codes "id")
 
+-- `--dry-run`
+abbrev pub dry_run : Rule
+dry_run = flag (codes "dry-run")
+
 -- the words by which a treasury begins
 abbrev pub begins : List Shape
 begins =
     word (codes "init") []
-    ∷ word (codes "branch") (operand (codes "name") ∷ [])
-    ∷ word (codes "commodity") (operand (codes "sample") ∷ [])
+    ∷ word (codes "branch") (operand (codes "name") ∷ dry_run ∷ [])
+    ∷ word (codes "branches") []
+    ∷ word (codes "commodity") (operand (codes "sample") ∷ dry_run ∷ [])
+    ∷ word (codes "commodities") []
     ∷ []
 
 -- those of every month
 abbrev pub months : List Shape
 months =
-    word (codes "import") (branch ∷ operand (codes "journal") ∷ [])
+    word (codes "import") (branch ∷ operand (codes "journal") ∷ dry_run ∷ [])
+    ∷ word (codes "accounts") (branch ∷ [])
     ∷ word (codes "balance") (branch ∷ day ∷ [])
     ∷ word (codes "register") (branch ∷ account ∷ optional (codes "tag") ∷ [])
     ∷ []
@@ -56,16 +68,18 @@ months =
 abbrev pub transfers : List Shape
 transfers =
     word (codes "dispatch") (id ∷ option (codes "from") ∷ option (codes "to") ∷ day ∷ option (codes "amount") ∷ account
-    ∷ [])
-    ∷ word (codes "receive") (id ∷ branch ∷ day ∷ account ∷ optional (codes "part") ∷ optional (codes "amount") ∷ [])
+    ∷ dry_run ∷ [])
+    ∷ word (codes "receive") (id ∷ branch ∷ day ∷ account ∷ optional (codes "part") ∷ optional (codes "amount")
+    ∷ dry_run ∷ [])
+    ∷ word (codes "transfers") (day ∷ [])
     ∷ word (codes "transit") (day ∷ [])
     ∷ []
 
 -- those of a month's or a year's end, the one that stays, and the one that is over no file
 abbrev pub ends : List Shape
 ends =
-    word (codes "lock") (branch ∷ day ∷ [])
-    ∷ word (codes "close") (branch ∷ day ∷ optional (codes "accounts") ∷ optional (codes "into") ∷ [])
+    word (codes "lock") (branch ∷ day ∷ dry_run ∷ [])
+    ∷ word (codes "close") (branch ∷ day ∷ optional (codes "accounts") ∷ optional (codes "into") ∷ dry_run ∷ [])
     ∷ word (codes "journal") (branch ∷ [])
     ∷ word (codes "serve") (number (codes "port") 65535 ∷ number (codes "requests") 4294967295 ∷ [])
     ∷ new_shape (codes "run")

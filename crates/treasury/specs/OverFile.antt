@@ -33,12 +33,13 @@ use Rattle.treasury_store.specs.Creating.{has_one, has_all}
 use Rattle.treasury_store.specs.Opening.{AreOurs, IsFirst, IsFirstNumbered, IsSecond}
 use Rattle.treasury_store.specs.Upgrading.{Upgrades}
 use Rattle.treasury_store.specs.Shown.{ShowsTables}
-use Rattle.treasury_api.specs.declared.request.Request.{Request}
-use Rattle.treasury_api.specs.declared.request.Request.TheVariants.{Import}
+use Rattle.treasury_requests.specs.declared.request.Spelled.{Spelled}
+use Rattle.treasury_requests.specs.declared.request.Request.{Request}
+use Rattle.treasury_requests.specs.declared.request.Request.TheVariants.{Import}
 use Rattle.treasury_api.specs.Answer.{answer_text}
 use Rattle.treasury_api.specs.Step.{Standing}
 use Rattle.treasury_api.specs.OneRequest.{command_of}
-use Rattle.treasury.specs.Spelling.{request_in}
+use Rattle.treasury.specs.Spelling.{request_in, is_dry_run, given}
 use Rattle.treasury.specs.Word.{AnswersWord, Told}
 use Rattle.treasury.specs.declared.words.left.Left.{Left}
 use Rattle.treasury.specs.declared.words.left.Left.TheVariants.{Untouched, Closed}
@@ -121,7 +122,7 @@ module _ {D : Type 0} (g : disk.Ghosts D) where
   -- A file was opened and closed, and that is what is left. What its connection showed first is what the image holds,
   -- and that has a treasury. Of whichever state these are the rows: the request is answered as by that state, and the
   -- file that is closed holds the rows of the state where the answer leads.
-  pub record AnswersOver (image : Image) (request : Request) (said : Spoken) (left : Left D g) : Type 0 where
+  pub record AnswersOver (image : Image) (request : Spelled) (said : Spoken) (left : Left D g) : Type 0 where
     pub opened : Held (FileStore D g)
     pub closed : Files D
     pub is_left : left ≡ Closed closed
@@ -146,14 +147,14 @@ module _ {D : Type 0} (g : disk.Ghosts D) where
         → LeavesState closed empty_state
 
   -- trees of a database with the rows of the state where a request leads that is answered by a state
-  abbrev pub HaveRowsBehind : Trees → Federation → Request → Type 0
+  abbrev pub HaveRowsBehind : Trees → Federation → Spelled → Type 0
   HaveRowsBehind trees f request =
       (text : List ℕ) × (refused : Bool) × (end : Standing)
       × AnswersWord (record { now = f; failed = false }) request text refused end × AreTreesOf trees (rows end.now)
 
   -- What the next word may find holds the rows that the files held; what may come back of a database that a failure
   -- shut has these, or the rows of the state where the request leads.
-  pub record MayHaveDone (image : Image) (request : Request) (left : Left D g) : Type 0 where
+  pub record MayHaveDone (image : Image) (request : Spelled) (left : Left D g) : Type 0 where
     pub finds : IsCleanIn g left → (next : Image) → MayBe g image left next → (f : Federation) → HoldsOf image f
         → ∥ HoldsRows next (rows f) ∥₁
     pub comes_back : IsCleanIn g left → (trees : Trees) → MayComeBack g left trees → (f : Federation) → HoldsOf image f
@@ -168,7 +169,7 @@ module _ {D : Type 0} (g : disk.Ghosts D) where
 
   -- The request is answered over a file. Or the file is refused: by 40 or 43, and it is left as it was; or by 41, and
   -- the request may have been done.
-  abbrev pub SaysOver : Image → Request → Spoken → Left D g → Type 0
+  abbrev pub SaysOver : Image → Spelled → Spoken → Left D g → Type 0
   SaysOver image request said left =
       ((IsRefusedBy OutOfMemory said ⊎ IsRefusedBy Damaged said) × KeepsFile g image left)
       ⊎ ((IsRefusedBy Store said × MayHaveDone image request left) ⊎ AnswersOver image request said left)
@@ -179,24 +180,25 @@ module _ {D : Type 0} (g : disk.Ghosts D) where
 
   -- The same of `import`, whose journal is read first: it is refused, or what its reader has, where that is known, up
   -- to the limit.
-  abbrev pub SaysToJournal : Image → List ℕ → Option (List ℕ) → Spoken → Left D g → Type 0
-  SaysToJournal image branch has said left =
+  abbrev pub SaysToJournal : Image → List ℕ → Bool → Option (List ℕ) → Spoken → Left D g → Type 0
+  SaysToJournal image branch dry has said left =
       (IsJournalRefused said × (left ≡ Untouched))
       ⊎ ((journal : List ℕ) × IfSome has (λ bytes. journal ≡ take most_journal bytes)
-      × SaysOver image (Import branch journal) said left)
+      × SaysOver image (given dry (Import branch journal)) said left)
 
   abbrev pub SaysToImport : Image → List Row → Spoken → Left D g → Type 0
   SaysToImport image values said left =
       (((first_of (codes "branch") values ≡ None) ⊎ (first_of (codes "journal") values ≡ None))
       × IsRefusedBefore NoRequest said left)
       ⊎ ((branch : List ℕ) × (has : Option (List ℕ)) × (first_of (codes "branch") values ≡ Some branch)
-      × SaysToJournal image branch has said left)
+      × SaysToJournal image branch (is_dry_run values) has said left)
 
   -- and of a word whose values spell its request
   abbrev pub SaysToForm : Image → List ℕ → List Row → Spoken → Left D g → Type 0
   SaysToForm image word values said left =
       ((request_in word values ≡ None) × IsRefusedBefore NoRequest said left)
-      ⊎ ((request : Request) × (request_in word values ≡ Some request) × SaysOver image request said left)
+      ⊎ ((request : Request) × (request_in word values ≡ Some request)
+      × SaysOver image (given (is_dry_run values) request) said left)
 
   -- any word but `run`, by its values
   abbrev pub SaysToWord : Image → List ℕ → List Row → Spoken → Left D g → Type 0

@@ -1,15 +1,19 @@
 -- The request that a word over a database file spells (own rule; docs/RULES.md, "The program"): the one that a line of
 -- `run` spells whose keys have the word's values.
-use Rattle.std.specs.Prelude.{ℕ, List, codes, Option, Some, None, option_map, option_and_then, if◌then◌else◌}
+use Rattle.std.specs.Prelude.{ℕ, Bool, false, List, codes, Option, Some, None, option_map, option_and_then}
+use Rattle.std.specs.Prelude.{if◌then◌else◌}
 use Rattle.std.specs.Str.{bytes_eq}
 use Rattle.clap.specs.Walk.{Row, first_of}
 use Rattle.money_core.specs.declared.day.Day.{Day}
 use Rattle.journal_lines.specs.DateReading.{date_of}
-use Rattle.treasury_api.specs.declared.request.WrittenPart.{WrittenPart}
-use Rattle.treasury_api.specs.declared.request.Request.{Request}
-use Rattle.treasury_api.specs.declared.request.Request.TheVariants.{Branch, Commodity, Dispatch, Receive, Lock, Close}
-use Rattle.treasury_api.specs.declared.request.Request.TheVariants.{Balance, Register, Transit, Journal}
-use Rattle.treasury_api.specs.Request.{written}
+use Rattle.treasury_requests.specs.declared.request.WrittenPart.{WrittenPart}
+use Rattle.treasury_requests.specs.declared.request.Spelled.{Spelled}
+use Rattle.treasury_requests.specs.declared.request.Request.{Request}
+use Rattle.treasury_requests.specs.declared.request.Request.TheVariants.{Branch, Commodity, Dispatch, Receive}
+use Rattle.treasury_requests.specs.declared.request.Request.TheVariants.{Lock, Close}
+use Rattle.treasury_requests.specs.declared.request.Request.TheVariants.{Balance, Register, Transit, Journal}
+use Rattle.treasury_requests.specs.declared.request.Request.TheVariants.{Branches, Commodities, Accounts, Transfers}
+use Rattle.treasury_requests.specs.Request.{written}
 
 -- the day that is given, where it is a date
 abbrev pub day_in : List Row → Option Day
@@ -40,6 +44,15 @@ receive_in rows =
     option_map (λ part. Receive id branch day account part) (part_in rows)) (first_of (codes "account") rows))
     (day_in rows)) (first_of (codes "branch") rows)) (first_of (codes "id") rows)
 
+-- what the word of a list of what there is spells
+abbrev pub list_in : List ℕ → List Row → Option Request
+list_in word rows =
+    if bytes_eq word (codes "branches") then Some Branches
+    else if bytes_eq word (codes "commodities") then Some Commodities
+    else if bytes_eq word (codes "accounts") then option_map Accounts (first_of (codes "branch") rows)
+    else if bytes_eq word (codes "transfers") then option_map Transfers (day_in rows)
+    else None
+
 -- what the word of a report spells
 abbrev pub report_in : List ℕ → List Row → Option Request
 report_in word rows =
@@ -51,7 +64,7 @@ report_in word rows =
     (first_of (codes "branch") rows)
     else if bytes_eq word (codes "transit") then option_map Transit (day_in rows)
     else if bytes_eq word (codes "journal") then option_map Journal (first_of (codes "branch") rows)
-    else None
+    else list_in word rows
 
 -- what any word spells but `init`, which spells none, and `import`, whose journal stands in a file
 abbrev pub request_in : List ℕ → List Row → Option Request
@@ -67,3 +80,16 @@ request_in word rows =
     option_map (λ day. Close branch day (first_of (codes "accounts") rows) (first_of (codes "into") rows))
     (day_in rows)) (first_of (codes "branch") rows)
     else report_in word rows
+
+-- the value of a flag says that it is given
+abbrev pub is_set : Option (List ℕ) → Bool
+is_set None = false
+is_set (Some text) = bytes_eq text (codes "true")
+
+-- `--dry-run` is given
+abbrev pub is_dry_run : List Row → Bool
+is_dry_run rows = is_set (first_of (codes "dry-run") rows)
+
+-- the request of a word, as a dry run or in earnest
+abbrev pub given : Bool → Request → Spelled
+given dry request = record { request = request; is_dry_run = dry }

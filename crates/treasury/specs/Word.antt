@@ -7,18 +7,18 @@ use Rattle.treasury_core.specs.declared.command.Answer.{Answer}
 use Rattle.treasury_core.specs.Federation.{Federation}
 use Rattle.treasury_core.specs.History.{Turn}
 use Rattle.treasury_store.specs.Treasury.{Treasury}
-use Rattle.treasury_api.specs.declared.request.Request.{Request}
+use Rattle.treasury_requests.specs.declared.request.Spelled.{Spelled}
 use Rattle.treasury_api.specs.Step.{Standing}
 use Rattle.treasury_api.specs.OneRequest.{AnswersRequest, RepliesOn, is_refusal, command_of}
 
 -- the request of a word is answered with a text, and leads on; it is said whether the reply is a refusal
-abbrev pub AnswersWord : Standing → Request → List ℕ → Bool → Standing → Type 0
+abbrev pub AnswersWord : Standing → Spelled → List ℕ → Bool → Standing → Type 0
 AnswersWord s request said fails t =
     (reply : Result Answer Refusal) × (AnswersRequest s request said reply t × (fails ≡ is_refusal reply))
 
 -- a word over a file: its request, what is said to it, and whether that is a refusal
 pub record Told : Type 0 where
-  pub request : Request
+  pub request : Spelled
   pub text : List ℕ
   pub refused : Bool
 
@@ -35,5 +35,5 @@ turns_of_words f (w ∷ ws) end (mid, (reply, (answers, refused)), rest) =
     command_of answers ++ turns_of_words mid.now ws end rest
 
 -- what the request of a word makes of a treasury
-abbrev pub SaysTo : {S : Type 0} → Ghosts S → Treasury S → Request → List ℕ → Bool → Treasury S → Type 0
+abbrev pub SaysTo : {S : Type 0} → Ghosts S → Treasury S → Spelled → List ℕ → Bool → Treasury S → Type 0
 SaysTo g old request text refused new = RepliesOn g old request text (λ reply. refused ≡ is_refusal reply) new

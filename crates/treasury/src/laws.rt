@@ -14,7 +14,7 @@ ghost use Rattle.treasury_core.specs.History.{Turn, state_after};
 ghost use Rattle.treasury_api.specs.Step.{Standing};
 ghost use Rattle.treasury_api.specs.History.{KeepBooksTo};
 ghost use Rattle.treasury_api.specs.Web.{AreServed, turns_of_calls};
-ghost use Rattle.treasury_api.specs.declared.request.Request.{Request};
+ghost use Rattle.treasury_requests.specs.declared.request.Spelled.{Spelled};
 ghost use Rattle.treasury.specs.Word.{AnswersWord, Told, AreTold, turns_of_words};
 ghost use Rattle.treasury_store.specs.Tables.{no_schema};
 ghost use Rattle.treasury_store.specs.Store.{empty_state};
@@ -35,7 +35,7 @@ use treasury_core::{headline_law, joined_law};
 pub fn words_law()
     ensures headline { (f : Federation) (words : List Told) (end : Federation) → IsGoodState f
         → (told : AreTold f words end) → KeepBooksTo f (turns_of_words f words end told) end }
-    ensures refused { (s : Standing) (request : Request) (text : List ℕ) (t : Standing)
+    ensures refused { (s : Standing) (request : Spelled) (text : List ℕ) (t : Standing)
         → AnswersWord s request text true t → t.now ≡ s.now }
 {
     headline_law();

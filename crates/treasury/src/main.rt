@@ -2,9 +2,7 @@
 //! memory.
 #![tactic(auto)]
 
-mod explain;
 mod laws;
-mod notes;
 mod words;
 
 use sqlite::Wary;

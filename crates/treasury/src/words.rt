@@ -44,7 +44,7 @@ use crate::words::over_file::{Answered, answer_over_file};
 use crate::words::pipe::is_unread;
 use crate::words::said::{Said, room_for_line};
 use crate::words::serving::{Serving, is_unwritten, serve_over_file};
-use crate::words::spelling::value_of;
+use crate::words::spelling::{is_dry_run, value_of};
 use crate::words::waiting::wait_for;
 use clap::error::ErrorKind;
 use clap::{ArgMatches, Error};
@@ -189,7 +189,8 @@ fn turn_on(rt: &HostRuntime, values: &ArgMatches<'_>) -> Option<File> {
     wait_for(rt, path)
 }
 
-/// Writes to standard error what is said beside an answer, and what a look at the word's files adds to it.
+/// Writes to standard error what is said beside an answer, what a look at the word's files adds to it, and of a dry run
+/// that it was one.
 fn tell(rt: &HostRuntime, values: &ArgMatches<'_>, said: &Said) {
     let reason = said.reason.as_slice();
     let looks = looks_of(rt, values, said.answer.as_slice(), reason);
@@ -198,6 +199,9 @@ fn tell(rt: &HostRuntime, values: &ArgMatches<'_>, said: &Said) {
     }
     if let Ok(text) = str::from_utf8(looks.as_slice()) {
         let _ = rt.eprint(text);
+    }
+    if is_dry_run(values) {
+        let _ = rt.eprint("treasury: a dry run: nothing was entered\n");
     }
 }
 

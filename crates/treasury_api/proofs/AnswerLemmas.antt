@@ -22,18 +22,23 @@ use Rattle.treasury_core.specs.Federation.{Federation}
 use Rattle.treasury_store.specs.Store.{AnswersState}
 use Rattle.treasury_store.specs.Treasury.{Treasury, IsTreasuryOf}
 use Rattle.sqlite.specs.Store.{Ghosts}
-use Rattle.treasury_api.specs.declared.request.Request.{Request}
-use Rattle.treasury_api.specs.declared.request.Request.TheVariants.{Branch as ForBranch, Commodity as ForCommodity}
-use Rattle.treasury_api.specs.declared.request.Request.TheVariants.{Import as ForImport, Dispatch as ForDispatch}
-use Rattle.treasury_api.specs.declared.request.Request.TheVariants.{Receive as ForReceive, Lock as ForLock}
-use Rattle.treasury_api.specs.declared.request.Request.TheVariants.{Close as ForClose, Balance as ForBalance}
-use Rattle.treasury_api.specs.declared.request.Request.TheVariants.{Register as ForRegister, Transit as ForTransit}
-use Rattle.treasury_api.specs.declared.request.Request.TheVariants.{Journal as ForJournal}
+use Rattle.treasury_requests.specs.declared.request.Spelled.{Spelled}
+use Rattle.treasury_requests.specs.declared.request.Request.{Request}
+use Rattle.treasury_requests.specs.declared.request.Request.TheVariants.{Branch as ForBranch, Commodity as ForCommodity}
+use Rattle.treasury_requests.specs.declared.request.Request.TheVariants.{Import as ForImport, Dispatch as ForDispatch}
+use Rattle.treasury_requests.specs.declared.request.Request.TheVariants.{Receive as ForReceive, Lock as ForLock}
+use Rattle.treasury_requests.specs.declared.request.Request.TheVariants.{Close as ForClose, Balance as ForBalance}
+use Rattle.treasury_requests.specs.declared.request.Request.TheVariants.{Register as ForRegister, Transit as ForTransit}
+use Rattle.treasury_requests.specs.declared.request.Request.TheVariants.{Journal as ForJournal}
+use Rattle.treasury_requests.specs.declared.request.Request.TheVariants.{Branches as ForBranches}
+use Rattle.treasury_requests.specs.declared.request.Request.TheVariants.{Commodities as ForCommodities}
+use Rattle.treasury_requests.specs.declared.request.Request.TheVariants.{Accounts as ForAccounts}
+use Rattle.treasury_requests.specs.declared.request.Request.TheVariants.{Transfers as ForTransfers}
 use Rattle.treasury_api.specs.declared.asking.Asked.{Asked}
-use Rattle.treasury_api.specs.declared.asking.Asked.TheVariants.{Command, Report}
+use Rattle.treasury_api.specs.declared.asking.Asked.TheVariants.{Command, DryRun, Report}
 use Rattle.treasury_api.specs.declared.report.Report.TheVariants as report
 use Rattle.treasury_api.specs.Asked.{asked_by_sample, asked_by_amount, asked_by_part, asked_by_receipt, cut_list}
-use Rattle.treasury_api.specs.Asked.{JournalAsks, RequestAsks, AsksOf}
+use Rattle.treasury_api.specs.Asked.{JournalAsks, RequestAsks, or_dry_run, SpelledAsks, AsksOf}
 use Rattle.treasury_api.specs.declared.report.Report.{Report as AnyReport}
 use Rattle.treasury_api.specs.Report.{report_text, has_its_branch}
 use Rattle.treasury_api.specs.Step.{is_failure}
@@ -42,6 +47,7 @@ use Rattle.treasury_api.specs.Serving.{IsReady, OrMemory}
 use Rattle.money_core.proofs.ReadingLemmas.{one_of_causes}
 use Rattle.money_core.specs.declared.unit.Unit.{Unit as Commodity}
 use Rattle.treasury_api.proofs.ReplyLemmas.{refused}
+use Rattle.treasury_api.proofs.SpelledLemmas.{spelled_refusal}
 
 -- every text has a list or a first fault
 abbrev pub ReadsAll : Type 0
@@ -77,11 +83,21 @@ request_asks law styles (ForBalance name day) = (Ok (Report (report.Balance name
 request_asks law styles (ForRegister name account tag) = (Ok (Report (report.Register name account tag)), refl)
 request_asks law styles (ForTransit day) = (Ok (Report (report.Transit day)), refl)
 request_asks law styles (ForJournal name) = (Ok (Report (report.Journal name)), refl)
+request_asks law styles ForBranches = (Ok (Report report.Branches), refl)
+request_asks law styles ForCommodities = (Ok (Report report.Commodities), refl)
+request_asks law styles (ForAccounts name) = (Ok (Report (report.Accounts name)), refl)
+request_asks law styles (ForTransfers day) = (Ok (Report (report.Transfers day)), refl)
+
+pub spelled_asks : ReadsAll → (styles : List Style) (request : Spelled)
+    → (asked : Result Asked Refusal) × SpelledAsks styles request asked
+spelled_asks law styles request =
+    let said = request_asks law styles request.request in
+    (or_dry_run request.is_dry_run said.0, (said.0, (said.1, refl)))
 
 -- ---- a treasury that holds its state, or does not
 
 -- the treasury on which a request is answered: it asks something, and is replied to
-abbrev pub IsAnswered : {S T : Type 0} → Ghosts S → Bool → Treasury S → Federation → Request → Result T Refusal → List ℕ
+abbrev pub IsAnswered : {S T : Type 0} → Ghosts S → Bool → Treasury S → Federation → Spelled → Result T Refusal → List ℕ
     → List ℕ → Type 0
 IsAnswered g failed new f request result before written =
     (asked : Result Asked Refusal) × (AsksOf failed f.styles request asked
@@ -89,7 +105,7 @@ IsAnswered g failed new f request result before written =
 
 -- the state could not be had: the reply is 40, 41 or 42, whatever is asked
 pub unheld : {S T : Type 0} → ReadsAll
-    → (g : Ghosts S) (failed : Bool) (new : Treasury S) (f : Federation) (request : Request) (cause : Cause)
+    → (g : Ghosts S) (failed : Bool) (new : Treasury S) (f : Federation) (request : Spelled) (cause : Cause)
     (held : Result (Unit {0}) Cause) (result : Result T Refusal) (before written : List ℕ)
     → held ≡ Err cause → result ≡ Err (Plain cause) → IsTreasuryOf g new f → (held ≡ Err Damaged → ⊥)
     → (failed ≡ false → AnswersState held new.store.failed)
@@ -109,7 +125,7 @@ unheld law g true new f request cause held result before written is refuses of u
     cause_of : (r : Result (Unit {0}) Cause) (x y : Cause) → r ≡ Err x → r ≡ Err y → x ≡ y
     cause_of r x y h k = cc
 unheld law g false new f request cause held result before written is refuses of undamaged answers closed same =
-    let asked = request_asks law f.styles request in (
+    let asked = spelled_asks law f.styles request in (
       asked.0,
       (
         asked.1,
@@ -138,22 +154,27 @@ held_unfailed true x held is closed = absurd (let k = (closed cc).0 in cc)
 
 -- ---- the reply, by what is asked
 
-pub answered : {S T : Type 0} (g : Ghosts S) (failed : Bool) (new : Treasury S) (f : Federation) (request : Request)
+pub answered : {S T : Type 0} (g : Ghosts S) (failed : Bool) (new : Treasury S) (f : Federation) (request : Spelled)
     (asked : Result Asked Refusal) (result : Result T Refusal) (before written : List ℕ)
-    → failed ≡ false → RequestAsks f.styles request asked → IsReplied g false new f asked result before written
+    → failed ≡ false → SpelledAsks f.styles request asked → IsReplied g false new f asked result before written
     → IsAnswered g failed new f request result before written
 answered g failed new f request asked result before written unfailed asks replied =
     subst (λ (b : Bool). IsAnswered g b new f request result before written) (sym unfailed) (asked, (asks, replied))
 
 -- what is asked, where the texts are read
-pub meant : (styles others : List Style) (request : Request) (asked other : Asked) → styles ≡ others → asked ≡ other
-    → OrMemory (RequestAsks styles request) (Ok asked) → RequestAsks others request (Ok other)
+pub meant : (styles others : List Style) (request : Spelled) (asked other : Asked) → styles ≡ others → asked ≡ other
+    → OrMemory (SpelledAsks styles request) (Ok asked) → SpelledAsks others request (Ok other)
 meant styles others request asked other same is (inl memory) = absurd cc
 meant styles others request asked other same is (inr asks) =
-    subst (λ (x : List Style). RequestAsks x request (Ok other)) same
-    (subst (λ (x : Asked). RequestAsks styles request (Ok x)) is asks)
+    subst (λ (x : List Style). SpelledAsks x request (Ok other)) same
+    (subst (λ (x : Asked). SpelledAsks styles request (Ok x)) is asks)
 
 -- a command that was read can be performed
+pub dry_run_fits : (styles others : List Style) (asked : Asked) (c : AnyCommand) → styles ≡ others → asked ≡ DryRun c
+    → IsReady styles (Ok asked) → Fits others c
+dry_run_fits styles others asked c same is ready =
+    subst (λ (x : List Style). Fits x c) same (subst (λ (x : Asked). IsReady styles (Ok x)) is ready)
+
 pub command_fits : (styles others : List Style) (asked : Asked) (c : AnyCommand) → styles ≡ others → asked ≡ Command c
     → IsReady styles (Ok asked) → Fits others c
 command_fits styles others asked c same is ready =
@@ -202,24 +223,28 @@ texts_stay styles (ForBalance name day) refusal asks = absurd cc
 texts_stay styles (ForRegister name account tag) refusal asks = absurd cc
 texts_stay styles (ForTransit day) refusal asks = absurd cc
 texts_stay styles (ForJournal name) refusal asks = absurd cc
+texts_stay styles ForBranches refusal asks = absurd cc
+texts_stay styles ForCommodities refusal asks = absurd cc
+texts_stay styles (ForAccounts name) refusal asks = absurd cc
+texts_stay styles (ForTransfers day) refusal asks = absurd cc
 
 -- a refusal of the texts, or want of memory for them
 pub refused_texts : {S T : Type 0} → ReadsAll
-    → (g : Ghosts S) (failed : Bool) (new : Treasury S) (f : Federation) (request : Request) (refusal : Refusal)
+    → (g : Ghosts S) (failed : Bool) (new : Treasury S) (f : Federation) (request : Spelled) (refusal : Refusal)
     (result : Result T Refusal) (before written : List ℕ)
-    → failed ≡ false → OrMemory (RequestAsks f.styles request) (Err refusal) → result ≡ Err refusal
+    → failed ≡ false → OrMemory (SpelledAsks f.styles request) (Err refusal) → result ≡ Err refusal
     → IsTreasuryOf g new f → new.store.failed ≡ false → written ≡ before
     → IsAnswered g failed new f request result before written
 refused_texts law g failed new f request refusal result before written unfailed (inl memory) is of still same =
     let k : refusal ≡ Plain OutOfMemory = cc in
-    let asked = request_asks law f.styles request in
+    let asked = spelled_asks law f.styles request in
     answered g failed new f request asked.0 result before written unfailed asked.1
     (refused g false new f asked.0 refusal result before written is (inr (inl (ap (λ (x : Refusal). Err x) k)))
     of (still ∙ ap (λ (x : Refusal). is_failure (Err x)) (sym k)) same)
 refused_texts law g failed new f request refusal result before written unfailed (inr asks) is of still same =
     answered g failed new f request (Err refusal) result before written unfailed asks
     (refused g false new f (Err refusal) refusal result before written is (inl refl)
-    of (still ∙ sym (texts_stay f.styles request refusal asks)) same)
+    of (still ∙ sym (texts_stay f.styles request.request refusal (spelled_refusal f.styles request refusal asks))) same)
 
 -- ---- a report
 

@@ -5,6 +5,7 @@ use Rattle.std.proofs.Common.{subst, inl, inr, if◌then◌else◌, option_map, 
 use Rattle.std.specs.Prelude.{codes}
 use Rattle.std.specs.Str.{is_utf8}
 use Rattle.serde_json.specs.Data.{Data}
+use Rattle.serde_json.specs.Find.{get, as_str}
 use Rattle.serde_json.specs.Read.{read}
 use Rattle.money_core.specs.declared.day.Day.{Day}
 use Rattle.money_core.specs.declared.style.Style.{Style}
@@ -25,17 +26,26 @@ use Rattle.journal_format.proofs.ReadLemmas.{read_printable}
 use Rattle.treasury_core.specs.declared.command.Command.{Command as AnyCommand}
 use Rattle.treasury_core.specs.declared.command.Command.TheVariants as cmd
 use Rattle.treasury_core.specs.Good.{IsFile, Fits}
-use Rattle.treasury_api.specs.declared.request.Request.{Request}
-use Rattle.treasury_api.specs.declared.request.Request.TheVariants.{Branch as ForBranch, Commodity as ForCommodity}
-use Rattle.treasury_api.specs.declared.request.Request.TheVariants.{Import as ForImport, Dispatch as ForDispatch}
-use Rattle.treasury_api.specs.declared.request.Request.TheVariants.{Receive as ForReceive, Lock as ForLock}
-use Rattle.treasury_api.specs.declared.request.Request.TheVariants.{Close as ForClose, Balance as ForBalance}
-use Rattle.treasury_api.specs.declared.request.Request.TheVariants.{Register as ForRegister, Transit as ForTransit}
-use Rattle.treasury_api.specs.declared.request.Request.TheVariants.{Journal as ForJournal}
+use Rattle.treasury_requests.specs.declared.request.Spelled.{Spelled}
+use Rattle.treasury_requests.specs.declared.request.Request.{Request}
+use Rattle.treasury_requests.specs.declared.request.Request.TheVariants.{Branch as ForBranch, Commodity as ForCommodity}
+use Rattle.treasury_requests.specs.declared.request.Request.TheVariants.{Import as ForImport, Dispatch as ForDispatch}
+use Rattle.treasury_requests.specs.declared.request.Request.TheVariants.{Receive as ForReceive, Lock as ForLock}
+use Rattle.treasury_requests.specs.declared.request.Request.TheVariants.{Close as ForClose, Balance as ForBalance}
+use Rattle.treasury_requests.specs.declared.request.Request.TheVariants.{Register as ForRegister, Transit as ForTransit}
+use Rattle.treasury_requests.specs.declared.request.Request.TheVariants.{Journal as ForJournal}
+use Rattle.treasury_requests.specs.declared.request.Request.TheVariants.{Branches as ForBranches}
+use Rattle.treasury_requests.specs.declared.request.Request.TheVariants.{Commodities as ForCommodities}
+use Rattle.treasury_requests.specs.declared.request.Request.TheVariants.{Accounts as ForAccounts}
+use Rattle.treasury_requests.specs.declared.request.Request.TheVariants.{Transfers as ForTransfers}
 use Rattle.treasury_api.specs.declared.asking.Asked.TheVariants.{Command}
-use Rattle.treasury_api.specs.Request.{text_at, day_at, is_form, dispatch_at, receive_at, written, part_at, register_at}
-use Rattle.treasury_api.specs.Request.{tagged_at, one_chosen, close_at, chosen_at, both_at, report_form, close_form}
-use Rattle.treasury_api.specs.Request.{form, request_of, spelled, HasDayNumbers}
+use Rattle.treasury_requests.specs.Request.{text_at, day_at, is_form, dispatch_at, receive_at, written, part_at}
+use Rattle.treasury_requests.specs.Request.{register_at}
+use Rattle.treasury_requests.specs.Request.{tagged_at, one_chosen, close_at, chosen_at, both_at, report_form, list_form}
+use Rattle.treasury_requests.specs.Request.{close_form}
+use Rattle.treasury_requests.specs.Request.{form, request_of, spelled, HasDayNumbers, dry_run_key, yes_or_no}
+use Rattle.treasury_requests.specs.Request.{in_earnest, with_key, spelled_by, is_report}
+use Rattle.treasury_api.proofs.SpelledLemmas.{spelled_command}
 use Rattle.treasury_api.specs.Asked.{asked_by_sample, asked_by_amount, asked_by_part, cut_list, RequestAsks, Asks}
 
 -- ---- the days of a request that is spelled
@@ -179,6 +189,18 @@ tagged_days d request h =
     let tag = by_text (λ tag. ForRegister branch.0 account.0 (Some tag)) (text_at (codes "tag") d) request account.1 in
     subst HasDayNumbers tag.1 tt
 
+list_days : (word : List ℕ) (d : Data) (request : Request) → list_form word d ≡ Some request → HasDayNumbers request
+list_days word d request e =
+    one_of (is_form (codes "branches") 1 word d) _ _ request (HasDayNumbers request) e
+    (λ h. let same : ForBranches ≡ request = cc in subst HasDayNumbers same tt) (λ e1.
+    one_of (is_form (codes "commodities") 1 word d) _ _ request (HasDayNumbers request) e1
+    (λ h. let same : ForCommodities ≡ request = cc in subst HasDayNumbers same tt) (λ e2.
+    one_of (is_form (codes "accounts") 2 word d) _ _ request (HasDayNumbers request) e2
+    (λ h. let b = by_text ForAccounts (text_at (codes "branch") d) request h in subst HasDayNumbers b.1 tt) (λ e3.
+    one_of (is_form (codes "transfers") 2 word d) _ _ request (HasDayNumbers request) e3
+    (λ h. let l = by_day (codes "day") d ForTransfers request h in subst HasDayNumbers l.1.0 l.1.1)
+    (λ e4. absurd cc))))
+
 report_days : (word : List ℕ) (d : Data) (request : Request) → report_form word d ≡ Some request → HasDayNumbers request
 report_days word d request e =
     one_of (is_form (codes "balance") 3 word d) _ _ request (HasDayNumbers request) e
@@ -191,7 +213,7 @@ report_days word d request e =
     (λ h. let l = by_day (codes "day") d ForTransit request h in subst HasDayNumbers l.1.0 l.1.1) (λ e4.
     one_of (is_form (codes "journal") 2 word d) _ _ request (HasDayNumbers request) e4
     (λ h. let b = by_text ForJournal (text_at (codes "branch") d) request h in subst HasDayNumbers b.1 tt)
-    (λ e5. absurd cc)))))
+    (list_days word d request)))))
 
 close_days : (d : Data) (request : Request) → close_at d ≡ Some request → HasDayNumbers request
 close_days d request h =
@@ -260,19 +282,55 @@ form_days word d request e =
     let l = by_day (codes "day") d (ForLock b.0) request b.1 in subst HasDayNumbers l.1.0 l.1.1) (λ e7.
     close_form_days word d request e7)))))))
 
-request_days : (o : Option Data) (request : Request) → option_and_then request_of o ≡ Some request
-    → HasDayNumbers request
-request_days None request e = absurd cc
-request_days (Some d) request e = by_word (text_at (codes "do") d) e
+key_days : (request : Request) (dry report : Bool) (spelled : Spelled) → HasDayNumbers request
+    → (if report then None else Some (record { request = request; is_dry_run = dry })) ≡ Some spelled
+    → HasDayNumbers spelled.request
+key_days request dry true spelled days e = absurd cc
+key_days request dry false spelled days e =
+    subst (λ (s : Spelled). HasDayNumbers s.request)
+    (same (record { request = request; is_dry_run = dry }) spelled e) days
   where
-    by_word : (w : Option (List ℕ)) → option_and_then (λ word. form word d) w ≡ Some request → HasDayNumbers request
-    by_word None e = absurd cc
-    by_word (Some word) e = form_days word d request e
+    same : (a b : Spelled) → Some a ≡ Some b → a ≡ b
+    same a b e = cc
 
-spelled_days : (bytes : List ℕ) (request : Request) → spelled bytes ≡ Some request → HasDayNumbers request
+by_key_days : (said : Option Data) (request : Request) (spelled : Spelled) → HasDayNumbers request
+    → spelled_by said request ≡ Some spelled → HasDayNumbers spelled.request
+by_key_days None request spelled days e =
+    subst (λ (s : Spelled). HasDayNumbers s.request) (same (in_earnest request) spelled e) days
+  where
+    same : (a b : Spelled) → Some a ≡ Some b → a ≡ b
+    same a b e = cc
+by_key_days (Some d) request spelled days e = by_choice (option_and_then yes_or_no (as_str d)) e
+  where
+    by_choice : (o : Option Bool) → option_and_then (with_key request) o ≡ Some spelled → HasDayNumbers spelled.request
+    by_choice None e = absurd cc
+    by_choice (Some dry) e = key_days request dry (is_report request) spelled days e
+
+request_days : (o : Option Data) (spelled : Spelled) → option_and_then request_of o ≡ Some spelled
+    → HasDayNumbers spelled.request
+request_days None spelled e = absurd cc
+request_days (Some d) spelled e = by_word (text_at (codes "do") d) e
+  where
+    by_form : (word : List ℕ) (f : Option Request) → form word d ≡ f
+        → option_and_then (spelled_by (get dry_run_key d)) f ≡ Some spelled → HasDayNumbers spelled.request
+    by_form word None is e = absurd cc
+    by_form word (Some request) is e =
+        by_key_days (get dry_run_key d) request spelled (form_days word d request is) e
+
+    by_word : (w : Option (List ℕ))
+        → option_and_then (λ word. option_and_then (spelled_by (get dry_run_key d)) (form word d)) w ≡ Some spelled
+        → HasDayNumbers spelled.request
+    by_word None e = absurd cc
+    by_word (Some word) e = by_form word (form word d) refl e
+
+spelled_days : (bytes : List ℕ) (request : Spelled) → spelled bytes ≡ Some request → HasDayNumbers request.request
 unfolding spelled
-spelled_days bytes request e = one_of (is_utf8 bytes) _ _ request (HasDayNumbers request) e
-    (λ h. request_days (read bytes) request h) (λ h. absurd cc)
+spelled_days bytes request e = by_utf8 (is_utf8 bytes) e
+  where
+    by_utf8 : (t : Bool) → (if t then option_and_then request_of (read bytes) else None) ≡ Some request
+        → HasDayNumbers request.request
+    by_utf8 true e = request_days (read bytes) request e
+    by_utf8 false e = absurd cc
 
 -- ---- the command that is asked for
 
@@ -337,9 +395,15 @@ request_fits styles (ForBalance name day) c days h = absurd cc
 request_fits styles (ForRegister name account tag) c days h = absurd cc
 request_fits styles (ForTransit day) c days h = absurd cc
 request_fits styles (ForJournal name) c days h = absurd cc
+request_fits styles ForBranches c days h = absurd cc
+request_fits styles ForCommodities c days h = absurd cc
+request_fits styles (ForAccounts name) c days h = absurd cc
+request_fits styles (ForTransfers day) c days h = absurd cc
 
 pub asked_fits : (failed : Bool) (styles : List Style) (line : List ℕ) (c : AnyCommand)
     → Asks failed styles line (Ok (Command c)) → Fits styles c
 asked_fits true styles line c (inl asks) = absurd (let e = asks.1.1 in cc)
-asked_fits false styles line c (inl asks) = request_fits styles asks.0 c (spelled_days line asks.0 asks.1.0) asks.1.1
+asked_fits false styles line c (inl asks) =
+    request_fits styles asks.0.request c (spelled_days line asks.0 asks.1.0)
+    (spelled_command styles asks.0 c asks.1.1)
 asked_fits failed styles line c (inr none) = absurd (let e = none.1 in cc)

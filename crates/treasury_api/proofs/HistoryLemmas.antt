@@ -14,7 +14,7 @@ use Rattle.treasury_core.proofs.ReplyLemmas.{run_good}
 use Rattle.treasury_core.specs.History.{Replies as CommandReplies, IsRun as IsCommandRun, state_after}
 use Rattle.treasury_core.specs.History.{IsRefusedOrRepeated}
 use Rattle.treasury_api.specs.declared.asking.Asked.{Asked}
-use Rattle.treasury_api.specs.declared.asking.Asked.TheVariants.{Command, Report}
+use Rattle.treasury_api.specs.declared.asking.Asked.TheVariants.{Command, DryRun, Report}
 use Rattle.treasury_api.specs.Asked.{Asks}
 use Rattle.treasury_api.specs.Answer.{answer_text}
 use Rattle.treasury_api.specs.Step.{Standing, after, next, is_failure, reply_text, MayReply, Answers}
@@ -120,6 +120,7 @@ commands_run start (t ∷ ts) h = with_first t.asked t.reply h.0 h.1.0 h.2 (λ s
         → IsCommandRun start.now (command_if asked r ++ commands_of ts)
     with_first (Ok (Command c)) r asks replies follow rest =
         commanded (is_failure r) c r refl asks replies (rest (next start (Ok (Command c)) r) follow)
+    with_first (Ok (DryRun c)) r asks replies follow rest = rest (next start (Ok (DryRun c)) r) follow
     with_first (Ok (Report report)) r asks replies follow rest = rest (next start (Ok (Report report)) r) follow
     with_first (Err refusal) r asks replies follow rest = rest (next start (Err refusal) r) follow
 
@@ -141,6 +142,7 @@ commands_end start (t ∷ ts) = with_first t.asked t.reply (λ s. commands_end s
         → ((s : Standing) → (end_of s ts).now ≡ state_after s.now (commands_of ts))
         → (end_of (next start asked r) ts).now ≡ state_after start.now (command_if asked r ++ commands_of ts)
     with_first (Ok (Command c)) r rest = commanded (is_failure r) c r refl (rest (next start (Ok (Command c)) r))
+    with_first (Ok (DryRun c)) r rest = rest (next start (Ok (DryRun c)) r)
     with_first (Ok (Report report)) r rest = rest (next start (Ok (Report report)) r)
     with_first (Err refusal) r rest = rest (next start (Err refusal) r)
 
@@ -163,6 +165,7 @@ reply_leaves f (Ok (Command c)) (Ok Done) h = absurd h
 reply_leaves f (Ok (Command c)) (Ok Repeated) h = refl
 reply_leaves f (Ok (Command c)) (Ok (Entered n m)) h = absurd h
 reply_leaves f (Ok (Command c)) (Err refusal) h = refl
+reply_leaves f (Ok (DryRun c)) r h = refl
 reply_leaves f (Ok (Report report)) r h = refl
 reply_leaves f (Err refusal) r h = refl
 
@@ -190,6 +193,7 @@ told_leaves f (Ok (Command c)) (Ok Done) h = not_done f _ h
 told_leaves f (Ok (Command c)) (Ok Repeated) h = refl
 told_leaves f (Ok (Command c)) (Ok (Entered n m)) h = not_entered f n m _ h
 told_leaves f (Ok (Command c)) (Err refusal) h = refl
+told_leaves f (Ok (DryRun c)) r h = refl
 told_leaves f (Ok (Report report)) r h = refl
 told_leaves f (Err refusal) r h = refl
 

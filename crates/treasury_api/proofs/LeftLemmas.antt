@@ -31,17 +31,24 @@ use Rattle.treasury_store.specs.Store.{TablesAre, AnswersState}
 use Rattle.treasury_store.specs.Treasury.{Treasury, IsTreasuryOf, AddsNothing, FailsBy, is_by_rules}
 use Rattle.treasury_store.specs.Treasury.{MayReply as MayPerform}
 use Rattle.treasury_store.specs.Left.{LeavesRows, LeavesEither, LeavesSame, LeavesStep}
-use Rattle.treasury_api.specs.declared.request.Request.{Request}
-use Rattle.treasury_api.specs.declared.request.Request.TheVariants.{Branch as ForBranch, Commodity as ForCommodity}
-use Rattle.treasury_api.specs.declared.request.Request.TheVariants.{Import as ForImport, Dispatch as ForDispatch}
-use Rattle.treasury_api.specs.declared.request.Request.TheVariants.{Receive as ForReceive, Lock as ForLock}
-use Rattle.treasury_api.specs.declared.request.Request.TheVariants.{Close as ForClose, Balance as ForBalance}
-use Rattle.treasury_api.specs.declared.request.Request.TheVariants.{Register as ForRegister, Transit as ForTransit}
-use Rattle.treasury_api.specs.declared.request.Request.TheVariants.{Journal as ForJournal}
+use Rattle.treasury_requests.specs.declared.request.Spelled.{Spelled}
+use Rattle.treasury_requests.specs.declared.request.Request.{Request}
+use Rattle.treasury_requests.specs.declared.request.Request.TheVariants.{Branch as ForBranch, Commodity as ForCommodity}
+use Rattle.treasury_requests.specs.declared.request.Request.TheVariants.{Import as ForImport, Dispatch as ForDispatch}
+use Rattle.treasury_requests.specs.declared.request.Request.TheVariants.{Receive as ForReceive, Lock as ForLock}
+use Rattle.treasury_requests.specs.declared.request.Request.TheVariants.{Close as ForClose, Balance as ForBalance}
+use Rattle.treasury_requests.specs.declared.request.Request.TheVariants.{Register as ForRegister, Transit as ForTransit}
+use Rattle.treasury_requests.specs.declared.request.Request.TheVariants.{Journal as ForJournal}
+use Rattle.treasury_requests.specs.declared.request.Request.TheVariants.{Branches as ForBranches}
+use Rattle.treasury_requests.specs.declared.request.Request.TheVariants.{Commodities as ForCommodities}
+use Rattle.treasury_requests.specs.declared.request.Request.TheVariants.{Accounts as ForAccounts}
+use Rattle.treasury_requests.specs.declared.request.Request.TheVariants.{Transfers as ForTransfers}
 use Rattle.treasury_api.specs.declared.asking.Asked.{Asked}
 use Rattle.treasury_api.specs.declared.asking.Asked.TheVariants.{Command}
 use Rattle.treasury_api.specs.Asked.{asked_by_sample, asked_by_amount, asked_by_part, JournalAsks, RequestAsks, AsksOf}
+use Rattle.treasury_api.specs.Asked.{or_dry_run, SpelledAsks}
 use Rattle.treasury_api.specs.Serving.{IsHeldFor, OrMemory}
+use Rattle.treasury_api.proofs.SpelledLemmas.{spelled_refusal}
 use Rattle.treasury_api.specs.Left.{FailsWith, IsUnread, IsOpenBut, LeavesAsked, LeavesRequest}
 use Rattle.treasury_api.proofs.ReplyLemmas.{at_held, refusal_is, fits_of}
 
@@ -72,6 +79,15 @@ request_once styles (ForBalance name day) one other a b = a ∙ sym b
 request_once styles (ForRegister name account tag) one other a b = a ∙ sym b
 request_once styles (ForTransit day) one other a b = a ∙ sym b
 request_once styles (ForJournal name) one other a b = a ∙ sym b
+request_once styles ForBranches one other a b = a ∙ sym b
+request_once styles ForCommodities one other a b = a ∙ sym b
+request_once styles (ForAccounts name) one other a b = a ∙ sym b
+request_once styles (ForTransfers day) one other a b = a ∙ sym b
+
+spelled_once : (styles : List Style) (request : Spelled) (one other : Result Asked Refusal)
+    → SpelledAsks styles request one → SpelledAsks styles request other → one ≡ other
+spelled_once styles request one other (said, (asks, is)) (again, (also, same)) =
+    is ∙ (ap (or_dry_run request.is_dry_run) (request_once styles request.request said again asks also) ∙ sym same)
 
 -- ---- what is left
 
@@ -83,24 +99,24 @@ pub leaves_first : {S : Type 0} (g : Ghosts S) (h : Held S) (t u : Tables) → L
 leaves_first g h t u left clean trees may = inl (left clean trees may)
 
 -- nothing was committed
-pub left_same : {S : Type 0} (g : Ghosts S) (old new : Treasury S) (request : Request)
+pub left_same : {S : Type 0} (g : Ghosts S) (old new : Treasury S) (request : Spelled)
     → LeavesSame g old.store.conn new.store.conn → LeavesRequest g old new request
 left_same g old new request same clean is_open f of asked asks =
     leaves_first g new.store.conn (rows f) _ (same is_open (rows f) of.store.tables)
 
 -- a command, behind the loading of the state
-pub left_command : {S : Type 0} (g : Ghosts S) (old mid new : Treasury S) (request : Request) (c : AnyCommand)
+pub left_command : {S : Type 0} (g : Ghosts S) (old mid new : Treasury S) (request : Spelled) (c : AnyCommand)
     → (HasCleanDisk (state g new.store.conn) → HasCleanDisk (state g mid.store.conn))
     → (HasCleanDisk (state g mid.store.conn) → IsTrue (state g old.store.conn).is_open
     → IsTrue (state g mid.store.conn).is_open)
     → (HasCleanDisk (state g mid.store.conn) → (f : Federation) → IsTreasuryOf g old f → IsTreasuryOf g mid f)
     → old.store.failed ≡ false → IsHeldFor mid c
-    → ((f : Federation) → IsTreasuryOf g mid f → RequestAsks f.styles request (Ok (Command c)))
+    → ((f : Federation) → IsTreasuryOf g mid f → SpelledAsks f.styles request (Ok (Command c)))
     → LeavesStep g mid new c → LeavesRequest g old new request
 left_command g old mid new request c cleaner opens of_mid unfailed held means step clean is_open f of asked asks =
     let there = of_mid (cleaner clean) f of in
     let same : Ok (Command c) ≡ asked =
-    request_once f.styles request (Ok (Command c)) asked (means f there)
+    spelled_once f.styles request (Ok (Command c)) asked (means f there)
     (subst (λ (b : Bool). AsksOf b f.styles request asked) unfailed asks) in
     subst (λ (a : Result Asked Refusal). LeavesAsked g new.store.conn f a) same
     (step (opens (cleaner clean) is_open) f there (fits_of g mid f c there held))
@@ -275,12 +291,17 @@ texts_ruled styles (ForBalance name day) refusal asks = absurd cc
 texts_ruled styles (ForRegister name account tag) refusal asks = absurd cc
 texts_ruled styles (ForTransit day) refusal asks = absurd cc
 texts_ruled styles (ForJournal name) refusal asks = absurd cc
+texts_ruled styles ForBranches refusal asks = absurd cc
+texts_ruled styles ForCommodities refusal asks = absurd cc
+texts_ruled styles (ForAccounts name) refusal asks = absurd cc
+texts_ruled styles (ForTransfers day) refusal asks = absurd cc
 
-pub ruled_texts : (styles : List Style) (request : Request) (refusal : Refusal)
-    → OrMemory (RequestAsks styles request) (Err refusal) → is_by_rules refusal ≡ true
+pub ruled_texts : (styles : List Style) (request : Spelled) (refusal : Refusal)
+    → OrMemory (SpelledAsks styles request) (Err refusal) → is_by_rules refusal ≡ true
 ruled_texts styles request refusal (inl memory) =
     let k : refusal ≡ Plain OutOfMemory = cc in ap (λ (x : Refusal). is_by_rules x) k
-ruled_texts styles request refusal (inr asks) = texts_ruled styles request refusal asks
+ruled_texts styles request refusal (inr asks) =
+    texts_ruled styles request.request refusal (spelled_refusal styles request refusal asks)
 
 -- and so is that of a report
 pub ruled_report : (cause : Cause) → (cause ≡ UnknownBranch) ⊎ (cause ≡ OutOfMemory) → is_by_rules (Plain cause) ≡ true

@@ -1,14 +1,16 @@
-pub mod RequestLemmas
 pub mod WriteLemmas
 pub mod LineLemmas
 pub mod RunLemmas
 pub mod AppendLemmas
 pub mod PrintableLemmas
 pub mod ListLemmas
+pub mod ListedLemmas
+pub mod SpelledLemmas
 pub mod AskedLemmas
 pub mod ReplyLemmas
 pub mod AnswerLemmas
 pub mod LeftLemmas
+pub mod ForeseenLemmas
 pub mod ServeLemmas
 pub mod HistoryLemmas
 pub mod OneRequestLemmas
@@ -17,6 +19,5 @@ pub mod WebLemmas
 pub mod RunEndLemmas
 pub mod WorkedValues
 pub mod WorkedHistory
-pub mod WorkedReports
 pub mod WorkedReplies
 pub mod WrongTurns

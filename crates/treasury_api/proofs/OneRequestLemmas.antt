@@ -11,11 +11,11 @@ use Rattle.treasury_core.specs.declared.command.Answer.{Answer}
 use Rattle.treasury_core.specs.Federation.{Federation}
 use Rattle.treasury_core.specs.History.{Turn, IsRun, state_after}
 use Rattle.treasury_store.specs.Treasury.{Treasury, IsTreasuryOf}
-use Rattle.treasury_api.specs.declared.request.Request.{Request}
+use Rattle.treasury_requests.specs.declared.request.Spelled.{Spelled}
 use Rattle.treasury_api.specs.declared.asking.Asked.{Asked}
-use Rattle.treasury_api.specs.declared.asking.Asked.TheVariants.{Command, Report}
-use Rattle.treasury_api.specs.Request.{HasDayNumbers}
-use Rattle.treasury_api.specs.Asked.{AsksOf, RequestAsks}
+use Rattle.treasury_api.specs.declared.asking.Asked.TheVariants.{Command, DryRun, Report}
+use Rattle.treasury_requests.specs.Request.{HasDayNumbers}
+use Rattle.treasury_api.specs.Asked.{AsksOf, SpelledAsks}
 use Rattle.treasury_api.specs.Answer.{answer_text}
 use Rattle.treasury_api.specs.Step.{Standing, MayReply, after, is_failure}
 use Rattle.treasury_api.specs.History.{command_if}
@@ -23,6 +23,7 @@ use Rattle.treasury_api.specs.OneRequest.{AnswersRequest, RepliesOn, request_tex
 use Rattle.treasury_api.specs.Replied.{standing, body_of, IsLineOf}
 use Rattle.treasury_api.proofs.AnswerLemmas.{IsAnswered}
 use Rattle.treasury_api.proofs.AskedLemmas.{request_fits}
+use Rattle.treasury_api.proofs.SpelledLemmas.{spelled_command}
 use Rattle.treasury_api.proofs.HistoryLemmas.{command_replied, failure_leaves}
 use Rattle.treasury_api.proofs.ServeLemmas.{after_plain, leads, refused_only, data_line}
 
@@ -31,6 +32,7 @@ written_text : (f : Federation) (failed : Bool) (asked : Result Asked Refusal) (
     → MayReply (record { now = f; failed = failed }) asked (Ok answer) → written ≡ [] ++ body_of f asked answer
     → written ≡ request_text f asked (Ok answer)
 written_text f failed (Ok (Command c)) answer written replies said = said
+written_text f failed (Ok (DryRun c)) answer written replies said = said
 written_text f failed (Ok (Report report)) answer written replies said = said
 written_text f failed (Err refusal) answer written replies said = refused_only f failed refusal answer _ replies
 
@@ -38,13 +40,14 @@ written_text f failed (Err refusal) answer written replies said = refused_only f
 refusal_line : (f : Federation) (asked : Result Asked Refusal) (refusal : Refusal)
     → answer_text f.styles (Err refusal) ≡ request_text f asked (Err refusal)
 refusal_line f (Ok (Command c)) refusal = refl
+refusal_line f (Ok (DryRun c)) refusal = refl
 refusal_line f (Ok (Report report)) refusal = refl
 refusal_line f (Err e) refusal = refl
 
 -- a request that is done, repeated or reported
-pub said_done : {S : Type 0} (g : Ghosts S) (old new : Treasury S) (written : List ℕ) (request : Request)
+pub said_done : {S : Type 0} (g : Ghosts S) (old new : Treasury S) (written : List ℕ) (request : Spelled)
     (Tells : Result Answer Refusal → Type 0) (made : Result (Unit {0}) Refusal) (x : Unit {0}) → made ≡ Ok x
-    → HasDayNumbers request
+    → HasDayNumbers request.request
     → (HasCleanDisk (state g new.store.conn) → HasCleanDisk (state g old.store.conn))
     → (HasCleanDisk (state g new.store.conn) → (f : Federation) → IsTreasuryOf g old f
     → IsAnswered g old.store.failed new f request made [] written)
@@ -93,9 +96,9 @@ IsToldAs f refusal text Tells =
     × Tells (Err (Plain OutOfMemory)))
 
 -- a request that is refused: by its line, or by that of 40 in its place
-pub said_as : {S : Type 0} (g : Ghosts S) (old new : Treasury S) (written text : List ℕ) (request : Request)
+pub said_as : {S : Type 0} (g : Ghosts S) (old new : Treasury S) (written text : List ℕ) (request : Spelled)
     (Tells : Result Answer Refusal → Type 0) (made : Result (Unit {0}) Refusal) (refusal : Refusal) → made ≡ Err refusal
-    → HasDayNumbers request
+    → HasDayNumbers request.request
     → (HasCleanDisk (state g new.store.conn) → HasCleanDisk (state g old.store.conn))
     → (HasCleanDisk (state g new.store.conn) → (f : Federation) → IsTreasuryOf g old f
     → IsAnswered g old.store.failed new f request made [] written)
@@ -164,9 +167,9 @@ said_as g old new written text request Tells made refusal refused days clean ans
         )
 
 -- the same where it is told alike of both lines
-pub said_refusal : {S : Type 0} (g : Ghosts S) (old new : Treasury S) (written text : List ℕ) (request : Request)
+pub said_refusal : {S : Type 0} (g : Ghosts S) (old new : Treasury S) (written text : List ℕ) (request : Spelled)
     (Tells : Result Answer Refusal → Type 0) (made : Result (Unit {0}) Refusal) (refusal : Refusal) → made ≡ Err refusal
-    → HasDayNumbers request
+    → HasDayNumbers request.request
     → (HasCleanDisk (state g new.store.conn) → HasCleanDisk (state g old.store.conn))
     → (HasCleanDisk (state g new.store.conn) → (f : Federation) → IsTreasuryOf g old f
     → IsAnswered g old.store.failed new f request made [] written)
@@ -189,9 +192,10 @@ abbrev pub IsRunTo : Federation → List Turn → Federation → Type 0
 IsRunTo f turns end = IsRun f turns × (end ≡ state_after f turns)
 
 -- the command of a request, if it is one, and those behind it
-behind : (f : Federation) (request : Request) (asked : Result Asked Refusal) (r : Result Answer Refusal)
+behind : (f : Federation) (request : Spelled) (asked : Result Asked Refusal) (r : Result Answer Refusal)
     (turns : List Turn) (end : Federation)
-    → HasDayNumbers request → RequestAsks f.styles request asked → MayReply (record { now = f; failed = false }) asked r
+    → HasDayNumbers request.request → SpelledAsks f.styles request asked
+    → MayReply (record { now = f; failed = false }) asked r
     → IsRunTo (after f asked r) turns end → IsRunTo f (command_if asked r ++ turns) end
 behind f request (Ok (Command c)) r turns end days asks replies rest = commanded (is_failure r) refl
   where
@@ -200,17 +204,18 @@ behind f request (Ok (Command c)) r turns end days asks replies rest = commanded
     commanded true failed = subst (λ (g : Federation). IsRunTo g turns end) (failure_leaves f c r failed) rest
     commanded false failed = (
       (
-        request_fits f.styles request c days asks,
+        request_fits f.styles request.request c days (spelled_command f.styles request c asks),
         command_replied (record { now = f; failed = false }) c r failed replies,
         rest.0,
       ),
       rest.1,
     )
+behind f request (Ok (DryRun c)) r turns end days asks replies rest = rest
 behind f request (Ok (Report report)) r turns end days asks replies rest = rest
 behind f request (Err refusal) r turns end days asks replies rest = rest
 
 -- the command of a request that is answered, if it is one, and those behind it
-pub request_run : (f : Federation) (request : Request) (text : List ℕ) (reply : Result Answer Refusal) (t : Standing)
+pub request_run : (f : Federation) (request : Spelled) (text : List ℕ) (reply : Result Answer Refusal) (t : Standing)
     (turns : List Turn) (end : Federation)
     → (answers : AnswersRequest (record { now = f; failed = false }) request text reply t) → IsRunTo t.now turns end
     → IsRunTo f (command_of answers ++ turns) end
@@ -223,10 +228,11 @@ refusal_leaves : (f : Federation) (asked : Result Asked Refusal) (r : Result Ans
     → after f asked r ≡ f
 refusal_leaves f asked (Ok answer) refused = absurd cc
 refusal_leaves f (Ok (Command c)) (Err refusal) refused = refl
+refusal_leaves f (Ok (DryRun c)) (Err refusal) refused = refl
 refusal_leaves f (Ok (Report report)) (Err refusal) refused = refl
 refusal_leaves f (Err fault) (Err refusal) refused = refl
 
-pub request_leaves : (s : Standing) (request : Request) (text : List ℕ) (reply : Result Answer Refusal) (t : Standing)
+pub request_leaves : (s : Standing) (request : Spelled) (text : List ℕ) (reply : Result Answer Refusal) (t : Standing)
     → AnswersRequest s request text reply t → is_refusal reply ≡ true → t.now ≡ s.now
 request_leaves s request text reply t answers refused =
     ap (λ (x : Standing). x.now) answers.left ∙ refusal_leaves s.now answers.asked reply refused

@@ -16,7 +16,7 @@ use Rattle.treasury_core.specs.History.{Replies as Steps}
 use Rattle.treasury_store.specs.Treasury.{Treasury, IsTreasuryOf, Performs, FailsBy, AddsNothing}
 use Rattle.treasury_store.specs.Treasury.{MayReply as MayPerform}
 use Rattle.treasury_api.specs.declared.asking.Asked.{Asked}
-use Rattle.treasury_api.specs.declared.asking.Asked.TheVariants.{Command, Report}
+use Rattle.treasury_api.specs.declared.asking.Asked.TheVariants.{Command, DryRun, Report}
 use Rattle.treasury_api.specs.Answer.{answer_text, IsPrintableRefusal}
 use Rattle.treasury_api.specs.Step.{MayReply, after, is_failure}
 use Rattle.treasury_api.specs.Replied.{IsReplied, IsPrintableIn, body_of}
@@ -25,7 +25,7 @@ use Rattle.treasury_api.proofs.PrintableLemmas.{decided_printable}
 
 -- ---- whether a call of the database has failed
 
-failure_is : (r : Result Answer Refusal) → is_failure r ≡ true → r ≡ Err (Plain Failed)
+pub failure_is : (r : Result Answer Refusal) → is_failure r ≡ true → r ≡ Err (Plain Failed)
 failure_is (Ok answer) h = absurd cc
 failure_is (Err (Plain Failed)) h = refl
 failure_is (Err (Plain _)) h = absurd cc
@@ -46,6 +46,7 @@ failed_by r failed by = either (is_failure r) refl failed by
 
 after_refusal : (f : Federation) (asked : Result Asked Refusal) (refusal : Refusal) → after f asked (Err refusal) ≡ f
 after_refusal f (Ok (Command c)) refusal = refl
+after_refusal f (Ok (DryRun c)) refusal = refl
 after_refusal f (Ok (Report report)) refusal = refl
 after_refusal f (Err e) refusal = refl
 
@@ -122,7 +123,7 @@ performed {T = T} g new f c r result before written performs fails text = record
     under_styles (Err e) t = t
 
 -- under the commodities of the state in memory
-in_memory : {S : Type 0} (t : Treasury S) (s : Federation) (refusal : Refusal) → t.held ≡ Some s
+pub in_memory : {S : Type 0} (t : Treasury S) (s : Federation) (refusal : Refusal) → t.held ≡ Some s
     → IsPrintableRefusal s.styles refusal → IsPrintableIn t refusal
 in_memory t s (Plain cause) held printable = tt
 in_memory t s (Text fault) held printable = (s, (held, printable))

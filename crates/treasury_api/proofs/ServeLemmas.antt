@@ -23,18 +23,23 @@ use Rattle.treasury_core.specs.Rows.{rows}
 use Rattle.treasury_store.specs.Kept.{ShutsByFault}
 use Rattle.treasury_store.specs.Treasury.{Treasury, IsTreasuryOf}
 use Rattle.treasury_store.proofs.LeftLemmas.{shuts_same}
-use Rattle.treasury_api.specs.declared.request.Request.{Request}
-use Rattle.treasury_api.specs.declared.request.Request.TheVariants.{Branch as ForBranch, Commodity as ForCommodity}
-use Rattle.treasury_api.specs.declared.request.Request.TheVariants.{Import as ForImport, Dispatch as ForDispatch}
-use Rattle.treasury_api.specs.declared.request.Request.TheVariants.{Receive as ForReceive, Lock as ForLock}
-use Rattle.treasury_api.specs.declared.request.Request.TheVariants.{Close as ForClose, Balance as ForBalance}
-use Rattle.treasury_api.specs.declared.request.Request.TheVariants.{Register as ForRegister, Transit as ForTransit}
-use Rattle.treasury_api.specs.declared.request.Request.TheVariants.{Journal as ForJournal}
+use Rattle.treasury_requests.specs.declared.request.Spelled.{Spelled}
+use Rattle.treasury_requests.specs.declared.request.Request.{Request}
+use Rattle.treasury_requests.specs.declared.request.Request.TheVariants.{Branch as ForBranch, Commodity as ForCommodity}
+use Rattle.treasury_requests.specs.declared.request.Request.TheVariants.{Import as ForImport, Dispatch as ForDispatch}
+use Rattle.treasury_requests.specs.declared.request.Request.TheVariants.{Receive as ForReceive, Lock as ForLock}
+use Rattle.treasury_requests.specs.declared.request.Request.TheVariants.{Close as ForClose, Balance as ForBalance}
+use Rattle.treasury_requests.specs.declared.request.Request.TheVariants.{Register as ForRegister, Transit as ForTransit}
+use Rattle.treasury_requests.specs.declared.request.Request.TheVariants.{Journal as ForJournal}
+use Rattle.treasury_requests.specs.declared.request.Request.TheVariants.{Branches as ForBranches}
+use Rattle.treasury_requests.specs.declared.request.Request.TheVariants.{Commodities as ForCommodities}
+use Rattle.treasury_requests.specs.declared.request.Request.TheVariants.{Accounts as ForAccounts}
+use Rattle.treasury_requests.specs.declared.request.Request.TheVariants.{Transfers as ForTransfers}
 use Rattle.treasury_api.specs.declared.asking.Asked.{Asked}
-use Rattle.treasury_api.specs.declared.asking.Asked.TheVariants.{Command, Report}
+use Rattle.treasury_api.specs.declared.asking.Asked.TheVariants.{Command, DryRun, Report}
 use Rattle.treasury_api.specs.declared.report.Report.{Report as AnyReport}
-use Rattle.treasury_api.specs.Request.{spelled, is_report}
-use Rattle.treasury_api.specs.Asked.{AsksOf, Asks, asked_by_sample, asked_by_amount, asked_by_part}
+use Rattle.treasury_requests.specs.Request.{spelled, is_report}
+use Rattle.treasury_api.specs.Asked.{AsksOf, Asks, RequestAsks, asked_by_sample, asked_by_amount, asked_by_part}
 use Rattle.treasury_api.specs.Report.{report_text, has_its_branch}
 use Rattle.treasury_api.specs.Answer.{answer_text, IsPlainAnswer}
 use Rattle.treasury_api.specs.Step.{Answers, MayReply, after, next, reply_text, is_failure}
@@ -43,7 +48,8 @@ use Rattle.treasury_api.specs.Replied.{standing, body_of, IsLineOf, IsLineIn, Se
 use Rattle.treasury_api.specs.Serving.{end_of_report}
 use Rattle.treasury_api.specs.WebReply.{cause_of}
 use Rattle.treasury_api.specs.WebServing.{IsLineBy, IsToldBy}
-use Rattle.treasury_api.proofs.AnswerLemmas.{ReadsAll, IsAnswered, request_asks}
+use Rattle.treasury_api.proofs.AnswerLemmas.{ReadsAll, IsAnswered, spelled_asks}
+use Rattle.treasury_api.proofs.SpelledLemmas.{spelled_command, spelled_report, spelled_dry_run}
 use Rattle.treasury_api.proofs.ReplyLemmas.{state_is, same_line, refusal_is}
 use Rattle.treasury_api.proofs.LeftLemmas.{LeavesShown, leaves_first}
 
@@ -52,11 +58,11 @@ line_asks : ReadsAll → (failed : Bool) (styles : List Style) (line : List ℕ)
     → (asked : Result Asked Refusal) × Asks failed styles line asked
 line_asks law failed styles line = by_request (spelled line) refl
   where
-    of_request : (b : Bool) (request : Request) → (asked : Result Asked Refusal) × AsksOf b styles request asked
+    of_request : (b : Bool) (request : Spelled) → (asked : Result Asked Refusal) × AsksOf b styles request asked
     of_request true request = (Err (Plain Closed), refl)
-    of_request false request = request_asks law styles request
+    of_request false request = spelled_asks law styles request
 
-    by_request : (o : Option Request) → spelled line ≡ o
+    by_request : (o : Option Spelled) → spelled line ≡ o
         → (asked : Result Asked Refusal) × Asks failed styles line asked
     by_request (Some request) e = let a = of_request failed request in (a.0, inl (request, (e, a.1)))
     by_request None e = (Err (Plain NoRequest), inr (e, refl))
@@ -122,6 +128,7 @@ line_of t (ClaimFailed failure) cause text (s, (held, by)) =
 
 pub after_plain : (f : Federation) (asked : Result Asked Refusal) (refusal : Refusal) → f ≡ after f asked (Err refusal)
 after_plain f (Ok (Command c)) refusal = refl
+after_plain f (Ok (DryRun c)) refusal = refl
 after_plain f (Ok (Report report)) refusal = refl
 after_plain f (Err e) refusal = refl
 
@@ -134,7 +141,7 @@ stays t f asked cause harmless =
     (λ (b : Bool). record { now = after f asked (Err (Plain cause)); failed = b }) same
 
 pub unread : {S : Type 0} → ReadsAll → (g : Ghosts S) → LeavesShown g
-    → (t : Treasury S) (line text : List ℕ) (cause : Cause) (read : Result Request Cause) → read ≡ Err cause
+    → (t : Treasury S) (line text : List ℕ) (cause : Cause) (read : Result Spelled Cause) → read ≡ Err cause
     → (read ≡ Err NoRequest → spelled line ≡ None)
     → (cause ≡ NoRequest) ⊎ (cause ≡ OutOfMemory) → text ≡ answer_text [] (Err (Plain cause)) → Serves g t line text t
 unread law g shown t line text cause read is none causes said = record {
@@ -176,21 +183,56 @@ unread law g shown t line text cause read is none causes said = record {
 
 -- ---- a request that is answered
 
--- a report asks for a report
-asks_report : (failed : Bool) (styles : List Style) (request : Request) (c : AnyCommand)
-    → AsksOf failed styles request (Ok (Command c)) → is_report request ≡ false
+-- what asks for a command is no report
+command_asks : (styles : List Style) (request : Request) (c : AnyCommand) → RequestAsks styles request (Ok (Command c))
+    → is_report request ≡ false
+command_asks styles (ForBalance name day) c asks = absurd cc
+command_asks styles (ForRegister name account tag) c asks = absurd cc
+command_asks styles (ForTransit day) c asks = absurd cc
+command_asks styles (ForJournal name) c asks = absurd cc
+command_asks styles ForBranches c asks = absurd cc
+command_asks styles ForCommodities c asks = absurd cc
+command_asks styles (ForAccounts name) c asks = absurd cc
+command_asks styles (ForTransfers day) c asks = absurd cc
+command_asks styles (ForBranch name) c asks = refl
+command_asks styles (ForCommodity sample) c asks = refl
+command_asks styles (ForImport name journal) c asks = refl
+command_asks styles (ForDispatch id from to day text account) c asks = refl
+command_asks styles (ForReceive id name day account part) c asks = refl
+command_asks styles (ForLock name day) c asks = refl
+command_asks styles (ForClose name day accounts into) c asks = refl
+
+dry_run_asks : (styles : List Style) (request : Request) (c : AnyCommand) → RequestAsks styles request (Ok (DryRun c))
+    → is_report request ≡ false
+dry_run_asks styles (ForBalance name day) c asks = absurd cc
+dry_run_asks styles (ForRegister name account tag) c asks = absurd cc
+dry_run_asks styles (ForTransit day) c asks = absurd cc
+dry_run_asks styles (ForJournal name) c asks = absurd cc
+dry_run_asks styles ForBranches c asks = absurd cc
+dry_run_asks styles ForCommodities c asks = absurd cc
+dry_run_asks styles (ForAccounts name) c asks = absurd cc
+dry_run_asks styles (ForTransfers day) c asks = absurd cc
+dry_run_asks styles (ForBranch name) c asks = refl
+dry_run_asks styles (ForCommodity sample) c asks = refl
+dry_run_asks styles (ForImport name journal) c asks = refl
+dry_run_asks styles (ForDispatch id from to day text account) c asks = refl
+dry_run_asks styles (ForReceive id name day account part) c asks = refl
+dry_run_asks styles (ForLock name day) c asks = refl
+dry_run_asks styles (ForClose name day accounts into) c asks = refl
+
+asks_report : (failed : Bool) (styles : List Style) (request : Spelled) (c : AnyCommand)
+    → AsksOf failed styles request (Ok (Command c)) → is_report request.request ≡ false
 asks_report true styles request c asks = absurd cc
-asks_report false styles (ForBalance name day) c asks = absurd cc
-asks_report false styles (ForRegister name account tag) c asks = absurd cc
-asks_report false styles (ForTransit day) c asks = absurd cc
-asks_report false styles (ForJournal name) c asks = absurd cc
-asks_report false styles (ForBranch name) c asks = refl
-asks_report false styles (ForCommodity sample) c asks = refl
-asks_report false styles (ForImport name journal) c asks = refl
-asks_report false styles (ForDispatch id from to day text account) c asks = refl
-asks_report false styles (ForReceive id name day account part) c asks = refl
-asks_report false styles (ForLock name day) c asks = refl
-asks_report false styles (ForClose name day accounts into) c asks = refl
+asks_report false styles request c asks =
+    command_asks styles request.request c (spelled_command styles request c asks)
+
+asks_dry_run : (failed : Bool) (styles : List Style) (request : Spelled) (c : AnyCommand)
+    → AsksOf failed styles request (Ok (DryRun c)) → is_report request.request ≡ false
+asks_dry_run true styles request c asks = absurd cc
+asks_dry_run false styles request c asks = elim (spelled_dry_run styles request c asks) [
+  | inl command ↦ command_asks styles request.request c command
+  | inr dry ↦ dry_run_asks styles request.request c dry
+]
 
 by_sample : (o : Option Style) (report : AnyReport) (P : Type 0) → Ok (Report report) ≡ asked_by_sample o → P
 by_sample None report P e = absurd cc
@@ -206,24 +248,33 @@ by_part : (id name account key : List ℕ) (day : Day) (r : Result (Commodity ×
 by_part id name account key day (Ok (unit, qty)) report P e = absurd cc
 by_part id name account key day (Err cause) report P e = absurd cc
 
-no_report : (failed : Bool) (styles : List Style) (request : Request) (report : AnyReport)
-    → AsksOf failed styles request (Ok (Report report)) → is_report request ≡ true
-no_report true styles request report asks = absurd cc
-no_report false styles (ForBranch name) report asks = absurd cc
-no_report false styles (ForCommodity sample) report asks = by_sample (style_of sample) report _ asks
-no_report false styles (ForImport name journal) report (inl reads) = absurd (let e = reads.1.1 in cc)
-no_report false styles (ForImport name journal) report (inr fault) = absurd (let e = fault.1.1 in cc)
-no_report false styles (ForDispatch id from to day text account) report asks =
+report_asks : (styles : List Style) (request : Request) (report : AnyReport)
+    → RequestAsks styles request (Ok (Report report)) → is_report request ≡ true
+report_asks styles (ForBranch name) report asks = absurd cc
+report_asks styles (ForCommodity sample) report asks = by_sample (style_of sample) report _ asks
+report_asks styles (ForImport name journal) report (inl reads) = absurd (let e = reads.1.1 in cc)
+report_asks styles (ForImport name journal) report (inr fault) = absurd (let e = fault.1.1 in cc)
+report_asks styles (ForDispatch id from to day text account) report asks =
     by_amount id from to account day (amount styles text) report _ asks
-no_report false styles (ForReceive id name day account None) report asks = absurd cc
-no_report false styles (ForReceive id name day account (Some part)) report asks =
+report_asks styles (ForReceive id name day account None) report asks = absurd cc
+report_asks styles (ForReceive id name day account (Some part)) report asks =
     by_part id name account part.key day (amount styles part.amount) report _ asks
-no_report false styles (ForLock name day) report asks = absurd cc
-no_report false styles (ForClose name day accounts into) report asks = absurd cc
-no_report false styles (ForBalance name day) report asks = refl
-no_report false styles (ForRegister name account tag) report asks = refl
-no_report false styles (ForTransit day) report asks = refl
-no_report false styles (ForJournal name) report asks = refl
+report_asks styles (ForLock name day) report asks = absurd cc
+report_asks styles (ForClose name day accounts into) report asks = absurd cc
+report_asks styles (ForBalance name day) report asks = refl
+report_asks styles (ForRegister name account tag) report asks = refl
+report_asks styles (ForTransit day) report asks = refl
+report_asks styles (ForJournal name) report asks = refl
+report_asks styles ForBranches report asks = refl
+report_asks styles ForCommodities report asks = refl
+report_asks styles (ForAccounts name) report asks = refl
+report_asks styles (ForTransfers day) report asks = refl
+
+no_report : (failed : Bool) (styles : List Style) (request : Spelled) (report : AnyReport)
+    → AsksOf failed styles request (Ok (Report report)) → is_report request.request ≡ true
+no_report true styles request report asks = absurd cc
+no_report false styles request report asks =
+    report_asks styles request.request report (spelled_report styles request report asks)
 
 -- what is replied leads on
 pub leads : {S : Type 0} (old new : Treasury S) (f : Federation) (asked : Result Asked Refusal)
@@ -231,8 +282,8 @@ pub leads : {S : Type 0} (old new : Treasury S) (f : Federation) (asked : Result
     → standing new (after f asked r) ≡ next (standing old f) asked r
 leads old new f asked r left = ap (λ (b : Bool). record { now = after f asked r; failed = b }) left
 
-spelled_some : (line : List ℕ) (request : Request) → spelled line ≡ Some request → IsSome (spelled line)
-spelled_some line request is = subst (λ (o : Option Request). IsSome o) (sym is) cc
+spelled_some : (line : List ℕ) (request : Spelled) → spelled line ≡ Some request → IsSome (spelled line)
+spelled_some line request is = subst (λ (o : Option Spelled). IsSome o) (sym is) cc
 
 -- a report whose branch is there is replied to by `ok`
 done_only : (f : Federation) (failed : Bool) (report : AnyReport) (answer : Answer)
@@ -253,16 +304,20 @@ refused_only f failed refusal answer P (inr (inl e)) = absurd cc
 refused_only f failed refusal answer P (inr (inr e)) = absurd (let k = e.1 in cc)
 
 -- the text of an answer: the line that ends a report stands behind it
-whole_text : (f : Federation) (failed : Bool) (request : Request) (asked : Result Asked Refusal) (answer : Answer)
+whole_text : (f : Federation) (failed : Bool) (request : Spelled) (asked : Result Asked Refusal) (answer : Answer)
     (written text : List ℕ) → AsksOf failed f.styles request asked
     → MayReply (record { now = f; failed = failed }) asked (Ok answer) → written ≡ [] ++ body_of f asked answer
-    → text ≡ written ++ end_of_report request → text ≡ reply_text f asked (Ok answer)
+    → text ≡ written ++ end_of_report request.request → text ≡ reply_text f asked (Ok answer)
 whole_text f failed request (Ok (Command c)) answer written text asks replies said ended =
-    let none : end_of_report request ≡ [] =
+    let none : end_of_report request.request ≡ [] =
     ap (λ (t : Bool). if t then answer_text [] (Ok Done) else []) (asks_report failed f.styles request c asks) in
     ended ∙ (ap (λ (xs : List ℕ). written ++ xs) none ∙ (append-nil written ∙ said))
+whole_text f failed request (Ok (DryRun c)) answer written text asks replies said ended =
+    let none : end_of_report request.request ≡ [] =
+    ap (λ (t : Bool). if t then answer_text [] (Ok Done) else []) (asks_dry_run failed f.styles request c asks) in
+    ended ∙ (ap (λ (xs : List ℕ). written ++ xs) none ∙ (append-nil written ∙ said))
 whole_text f failed request (Ok (Report report)) answer written text asks replies said ended =
-    let last : end_of_report request ≡ answer_text [] (Ok Done) =
+    let last : end_of_report request.request ≡ answer_text [] (Ok Done) =
     ap (λ (t : Bool). if t then answer_text [] (Ok Done) else []) (no_report failed f.styles request report asks) in
     ended ∙ (ap (λ (xs : List ℕ). written ++ xs) (last ∙ same_line f.styles Done) ∙
     (ap (λ (xs : List ℕ). xs ++ answer_text f.styles (Ok Done)) said
@@ -272,7 +327,7 @@ whole_text f failed request (Err refusal) answer written text asks replies said 
     refused_only f failed refusal answer _ replies
 
 -- what else a request makes of a treasury
-pub record Beside {S : Type 0} (g : Ghosts S) (old new : Treasury S) (request : Request)
+pub record Beside {S : Type 0} (g : Ghosts S) (old new : Treasury S) (request : Spelled)
     (made : Result (Unit {0}) Refusal) : Type 0 where
   pub shuts : ShutsByFault g old.store.conn new.store.conn
   pub closed : IsTrue old.store.failed → (made ≡ Err (Plain Closed)) × (new ≡ old)
@@ -293,12 +348,12 @@ done_not : (r : Result (Unit {0}) Refusal) (x : Unit {0}) (e : Refusal) → r �
 done_not r x e h k = cc
 
 -- an answer with its end
-pub served : {S : Type 0} (g : Ghosts S) (old new : Treasury S) (line written text : List ℕ) (request : Request)
+pub served : {S : Type 0} (g : Ghosts S) (old new : Treasury S) (line written text : List ℕ) (request : Spelled)
     (made : Result (Unit {0}) Refusal) (x : Unit {0}) → spelled line ≡ Some request → made ≡ Ok x
     → Beside g old new request made
     → (HasCleanDisk (state g new.store.conn) → (f : Federation) → IsTreasuryOf g old f
     → IsAnswered g old.store.failed new f request made [] written)
-    → text ≡ written ++ end_of_report request → Serves g old line text new
+    → text ≡ written ++ end_of_report request.request → Serves g old line text new
 served g old new line written text request made x is ok beside answers ended = record {
   answers = λ k f of. by_reply k f of (answers k f of);
   shuts = beside.shuts;
@@ -339,12 +394,12 @@ served g old new line written text request made x is ok beside answers ended = r
         )
 
 -- want of memory in place of the end of a report
-pub served_memory : {S : Type 0} (g : Ghosts S) (old new : Treasury S) (line written text : List ℕ) (request : Request)
+pub served_memory : {S : Type 0} (g : Ghosts S) (old new : Treasury S) (line written text : List ℕ) (request : Spelled)
     (made : Result (Unit {0}) Refusal) (x : Unit {0}) → spelled line ≡ Some request → made ≡ Ok x
     → Beside g old new request made
     → (HasCleanDisk (state g new.store.conn) → (f : Federation) → IsTreasuryOf g old f
     → IsAnswered g old.store.failed new f request made [] written)
-    → is_report request ≡ true → text ≡ answer_text [] (Err (Plain OutOfMemory)) → Serves g old line text new
+    → is_report request.request ≡ true → text ≡ answer_text [] (Err (Plain OutOfMemory)) → Serves g old line text new
 served_memory g old new line written text request made x is ok beside answers report said = record {
   answers = λ k f of. by_reply k f of (answers k f of);
   shuts = beside.shuts;
@@ -362,6 +417,8 @@ served_memory g old new line written text request made x is ok beside answers re
         → LeavesReply g old new f asked (Err (Plain OutOfMemory)) → Told f
     by_asked f (Ok (Command c)) answer asks replies of left leaves =
         absurd (let e : true ≡ false = sym report ∙ asks_report old.store.failed f.styles request c asks in cc)
+    by_asked f (Ok (DryRun c)) answer asks replies of left leaves =
+        absurd (let e : true ≡ false = sym report ∙ asks_dry_run old.store.failed f.styles request c asks in cc)
     by_asked f (Ok (Report asked)) answer asks replies of left leaves = (
       f,
       (
@@ -415,7 +472,7 @@ data_line g new f (ClaimFailed failure) text of (s, (held, inl memory)) =
 data_line g new f (ClaimFailed failure) text of (s, (held, inr said)) =
     inl (said ∙ ap (λ (x : Federation). answer_text x.styles (Err (ClaimFailed failure))) (state_is g new s f of held))
 
-pub served_refusal : {S : Type 0} (g : Ghosts S) (old new : Treasury S) (line written text : List ℕ) (request : Request)
+pub served_refusal : {S : Type 0} (g : Ghosts S) (old new : Treasury S) (line written text : List ℕ) (request : Spelled)
     (made : Result (Unit {0}) Refusal) (refusal : Refusal) → spelled line ≡ Some request → made ≡ Err refusal
     → Beside g old new request made
     → (HasCleanDisk (state g new.store.conn) → (f : Federation) → IsTreasuryOf g old f

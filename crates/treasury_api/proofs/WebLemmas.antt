@@ -7,7 +7,7 @@ use Rattle.sqlite.specs.Store.{Ghosts}
 use Rattle.sqlite.specs.Held.{Held, state}
 use Rattle.http_request.specs.declared.call.Call.{Call}
 use Rattle.http_request.specs.declared.call.Call.TheVariants.{Unreadable, Foreign, Nowhere, Command, Balance, Journal}
-use Rattle.http_request.specs.declared.call.Call.TheVariants.{Transit}
+use Rattle.http_request.specs.declared.call.Call.TheVariants.{Transit, Branches, Commodities, Accounts, Transfers}
 use Rattle.http_request.specs.Call.{IsStopped}
 use Rattle.money_core.specs.declared.cause.Cause.{Cause}
 use Rattle.money_core.specs.declared.cause.Cause.TheVariants.{OutOfMemory, ReadFault, WriteFault, Request as NoRequest}
@@ -21,7 +21,7 @@ use Rattle.treasury_core.specs.History.{Turn}
 use Rattle.treasury_store.specs.Kept.{ShutsByFault}
 use Rattle.treasury_store.specs.Treasury.{Treasury, IsTreasuryOf}
 use Rattle.treasury_store.proofs.LeftLemmas.{shuts_same}
-use Rattle.treasury_api.specs.declared.request.Request.{Request}
+use Rattle.treasury_requests.specs.declared.request.Spelled.{Spelled}
 use Rattle.treasury_api.specs.declared.asking.Asked.{Asked}
 use Rattle.treasury_api.specs.Answer.{answer_text}
 use Rattle.treasury_api.specs.Step.{Standing, after}
@@ -121,6 +121,10 @@ no_answer (Command text) status body own other is said = (is, said)
 no_answer (Balance branch date) status body own other is said = (is, said)
 no_answer (Journal branch) status body own other is said = (is, said)
 no_answer (Transit date) status body own other is said = (is, said)
+no_answer Branches status body own other is said = (is, said)
+no_answer Commodities status body own other is said = (is, said)
+no_answer (Accounts branch) status body own other is said = (is, said)
+no_answer (Transfers date) status body own other is said = (is, said)
 
 -- one that asks nothing
 pub nothing_answered : {S : Type 0} (g : Ghosts S) (t : Treasury S) (call : Call) (status : ℕ) (body : List ℕ)
@@ -131,14 +135,14 @@ nothing_answered g t call status body own other none is said =
       clean = λ k. k;
       answers = λ k f of.
           (f, (of, inl (sym none, no_answer call status body own other is said, refl)));
-      left = subst (λ (o : Option Request). MatchOption o (t ≡ t) (LeavesRequest g t t)) none refl;
+      left = subst (λ (o : Option Spelled). MatchOption o (t ≡ t) (LeavesRequest g t t)) none refl;
       open_but = λ k is_open f of. inl is_open;
       shuts = shuts_same g t.store.conn;
       closed = λ failed. refl;
     }
 
 -- one that asks for a request
-pub request_answered : {S : Type 0} (g : Ghosts S) (old new : Treasury S) (call : Call) (request : Request) (status : ℕ)
+pub request_answered : {S : Type 0} (g : Ghosts S) (old new : Treasury S) (call : Call) (request : Spelled) (status : ℕ)
     (body : List ℕ) → Some request ≡ asked_by call
     → RepliesOn g old request body (λ (reply : Result Answer Refusal). status ≡ status_of reply) new
     → LeavesRequest g old new request → IsOpenBut503 g old status new → ShutsByFault g old.store.conn new.store.conn
@@ -146,7 +150,7 @@ pub request_answered : {S : Type 0} (g : Ghosts S) (old new : Treasury S) (call 
 request_answered g old new call request status body asks replies left open_but shuts closed = record {
   clean = replies.clean;
   answers = λ k f of. let r = replies.answers k f of in (r.0, (r.1.0, inr (request, sym asks, r.1.1)));
-  left = subst (λ (o : Option Request). MatchOption o (new ≡ old) (LeavesRequest g old new)) asks left;
+  left = subst (λ (o : Option Spelled). MatchOption o (new ≡ old) (LeavesRequest g old new)) asks left;
   open_but = open_but;
   shuts = shuts;
   closed = closed;
@@ -155,7 +159,7 @@ request_answered g old new call request status body asks replies left open_but s
 -- ---- calls one after another
 
 -- a request that is answered, whether or not a call of the database has failed, and commands behind it
-request_run_of : (failed : Bool) (f : Federation) (request : Request) (text : List ℕ) (reply : Result Answer Refusal)
+request_run_of : (failed : Bool) (f : Federation) (request : Spelled) (text : List ℕ) (reply : Result Answer Refusal)
     (t : Standing) (turns : List Turn) (end : Federation)
     → (answers : AnswersRequest (record { now = f; failed = failed }) request text reply t) → IsRunTo t.now turns end
     → IsRunTo f (command_of answers ++ turns) end

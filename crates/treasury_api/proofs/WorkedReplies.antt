@@ -5,7 +5,8 @@ use Rattle.money_core.specs.declared.cause.Cause.TheVariants as cause
 use Rattle.book_core.specs.declared.refusal.Refusal.TheVariants.{Plain, Text}
 use Rattle.treasury_core.specs.declared.command.Answer.TheVariants.{Done, Entered, Repeated}
 use Rattle.http_request.specs.declared.call.Call.TheVariants.{Unreadable, Foreign, Nowhere, Balance, Journal, Transit}
-use Rattle.treasury_api.specs.declared.request.Request.TheVariants as asking
+use Rattle.treasury_requests.specs.declared.request.Request.TheVariants as asking
+use Rattle.treasury_requests.specs.Request.{in_earnest}
 use Rattle.treasury_api.specs.Web.{asked_by}
 use Rattle.treasury_api.specs.WebReply.{status_of, whole_reply}
 
@@ -45,6 +46,6 @@ unfolding digits
 forbidden = refl
 
 -- parts of a path are taken as they stand
-pub parts : (asked_by (Journal (codes "%6eorth")) ≡ Some (asking.Journal (codes "%6eorth")))
+pub parts : (asked_by (Journal (codes "%6eorth")) ≡ Some (in_earnest (asking.Journal (codes "%6eorth"))))
     × (asked_by Unreadable ≡ None) × (asked_by Foreign ≡ None) × (asked_by Nowhere ≡ None)
 parts = (refl, refl, refl, refl)

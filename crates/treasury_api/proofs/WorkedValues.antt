@@ -6,9 +6,9 @@ use Rattle.money_core.specs.declared.style.Style.{Style}
 use Rattle.money_core.specs.declared.cause.Cause.TheVariants.{OutOfMemory}
 use Rattle.book_core.specs.declared.refusal.Refusal.TheVariants.{Plain, Text}
 use Rattle.treasury_api.specs.Answer.{answer_text}
-use Rattle.treasury_api.specs.Request.{spelled}
+use Rattle.treasury_requests.specs.Request.{spelled, in_earnest}
 use Rattle.treasury_api.specs.Transcript.{requests_in}
-use Rattle.treasury_api.specs.declared.request.Request.TheVariants.{Branch}
+use Rattle.treasury_requests.specs.declared.request.Request.TheVariants.{Branch}
 
 -- LF or CR LF ends a line, the last line may lack its end, and lines of blanks alone are skipped
 pub line_ends : requests_in (codes "a\r\n \t\n\n\r\n b \n\rc") ≡ codes "a" ∷ codes " b " ∷ codes "\rc" ∷ []
@@ -22,7 +22,7 @@ pub only_one_carriage_return : requests_in (codes "\r\r\n") ≡ codes "\r" ∷ [
 only_one_carriage_return = refl
 
 -- a request's keys come in any order
-pub branch_request : spelled (codes "{\"name\":\"north\",\"do\":\"branch\"}") ≡ Some (Branch (codes "north"))
+pub branch_request : spelled (codes "{\"name\":\"north\",\"do\":\"branch\"}") ≡ Some (in_earnest (Branch (codes "north")))
 unfolding serde_json_on_literals spelled is_utf8 chars
 branch_request = refl
 
@@ -37,7 +37,7 @@ unfolding serde_json_on_literals spelled is_utf8 chars
 further_key = refl
 
 -- of a key that is written twice the last value counts
-pub key_twice : spelled (codes "{\"do\":\"branch\",\"name\":1,\"name\":\"y\"}") ≡ Some (Branch (codes "y"))
+pub key_twice : spelled (codes "{\"do\":\"branch\",\"name\":1,\"name\":\"y\"}") ≡ Some (in_earnest (Branch (codes "y")))
 unfolding serde_json_on_literals spelled is_utf8 chars
 key_twice = refl
 

@@ -17,8 +17,8 @@ use Rattle.treasury_core.specs.Step.{after}
 use Rattle.treasury_core.specs.History.{Turn, Replies}
 use Rattle.treasury_core.proofs.HeadlineLemmas.{keeps_books}
 use Rattle.treasury_api.specs.declared.asking.Asked.TheVariants.{Command}
-use Rattle.treasury_api.specs.declared.request.Request.TheVariants.{Branch}
-use Rattle.treasury_api.specs.Request.{spelled}
+use Rattle.treasury_requests.specs.declared.request.Request.TheVariants.{Branch}
+use Rattle.treasury_requests.specs.Request.{spelled, in_earnest}
 use Rattle.treasury_api.specs.Answer.{answer_text}
 use Rattle.treasury_api.specs.Step.{Standing, at_first, next}
 use Rattle.treasury_api.specs.History.{KeepBooksTo}
@@ -199,12 +199,12 @@ refused_call body =
 abbrev pub end_of_call : Standing
 end_of_call = next at_first (Ok (Command (cmd.Branch (codes "north")))) (Err (Plain OutOfMemory))
 
-abbrev pub is_served : (body : List ℕ) → spelled body ≡ Some (Branch (codes "north"))
+abbrev pub is_served : (body : List ℕ) → spelled body ≡ Some (in_earnest (Branch (codes "north")))
     → AreServed at_first (refused_call body ∷ []) end_of_call
 is_served body spells = (
   end_of_call,
   inr (
-    Branch (codes "north"),
+    in_earnest (Branch (codes "north")),
     spells,
     (
       Err (Plain OutOfMemory),
@@ -212,7 +212,7 @@ is_served body spells = (
         record {
           asked = Ok (Command (cmd.Branch (codes "north")));
           days = tt;
-          asks = refl;
+          asks = (Ok (Command (cmd.Branch (codes "north"))), (refl, refl));
           replies = inr (inl refl);
           text = refl;
           left = refl;
@@ -225,7 +225,7 @@ is_served body spells = (
 )
 
 -- its one turn is the command that was called for, refused with 40: it is refused, and not the other command
-pub one_turn : (body : List ℕ) (spells : spelled body ≡ Some (Branch (codes "north")))
+pub one_turn : (body : List ℕ) (spells : spelled body ≡ Some (in_earnest (Branch (codes "north"))))
     → turns_of_calls at_first (refused_call body ∷ []) end_of_call (is_served body spells)
     ≡ record { command = cmd.Branch (codes "north"); reply = Err (Plain OutOfMemory) } ∷ []
 one_turn body spells = refl
@@ -234,7 +234,7 @@ abbrev name_size : AnyCommand → ℕ
 name_size (cmd.Branch name) = length name
 name_size _ = 0
 
-pub one_is_wrong : (body : List ℕ) (spells : spelled body ≡ Some (Branch (codes "north")))
+pub one_is_wrong : (body : List ℕ) (spells : spelled body ≡ Some (in_earnest (Branch (codes "north"))))
     → HasRefused (turns_of_calls at_first (refused_call body ∷ []) end_of_call (is_served body spells))
     × HasOther (turns_of_calls at_first (refused_call body ∷ []) end_of_call (is_served body spells))
 one_is_wrong body spells = (inl refl, inl (refl, λ same. named (ap (λ (t : Turn). name_size t.command) same)))

@@ -17,14 +17,17 @@ use Rattle.journal_format.specs.declared.txn.Located.{Located}
 use Rattle.journal_format.specs.Pieces.{Reads}
 use Rattle.journal_format.specs.Fault.{IsFirstFault}
 use Rattle.treasury_core.specs.declared.command.Command.TheVariants as cmd
-use Rattle.treasury_api.specs.declared.request.WrittenPart.{WrittenPart}
-use Rattle.treasury_api.specs.declared.request.Request.{Request}
-use Rattle.treasury_api.specs.declared.request.Request.TheVariants.{Branch, Commodity, Import, Dispatch, Receive, Lock}
-use Rattle.treasury_api.specs.declared.request.Request.TheVariants.{Close, Balance, Register, Transit, Journal}
+use Rattle.treasury_requests.specs.declared.request.WrittenPart.{WrittenPart}
+use Rattle.treasury_requests.specs.declared.request.Spelled.{Spelled}
+use Rattle.treasury_requests.specs.declared.request.Request.{Request}
+use Rattle.treasury_requests.specs.declared.request.Request.TheVariants.{Branch, Commodity, Import, Dispatch}
+use Rattle.treasury_requests.specs.declared.request.Request.TheVariants.{Receive, Lock}
+use Rattle.treasury_requests.specs.declared.request.Request.TheVariants.{Close, Balance, Register, Transit, Journal}
+use Rattle.treasury_requests.specs.declared.request.Request.TheVariants.{Branches, Commodities, Accounts, Transfers}
 use Rattle.treasury_api.specs.declared.asking.Asked.{Asked}
-use Rattle.treasury_api.specs.declared.asking.Asked.TheVariants.{Command, Report}
+use Rattle.treasury_api.specs.declared.asking.Asked.TheVariants.{Command, DryRun, Report}
 use Rattle.treasury_api.specs.declared.report.Report.TheVariants as report
-use Rattle.treasury_api.specs.Request.{spelled}
+use Rattle.treasury_requests.specs.Request.{spelled}
 
 -- a sample asks for a commodity in its style; a text that is none asks for nothing
 abbrev pub asked_by_sample : Option Style → Result Asked Refusal
@@ -83,14 +86,36 @@ RequestAsks styles (Balance name day) asked = asked ≡ Ok (Report (report.Balan
 RequestAsks styles (Register name account tag) asked = asked ≡ Ok (Report (report.Register name account tag))
 RequestAsks styles (Transit day) asked = asked ≡ Ok (Report (report.Transit day))
 RequestAsks styles (Journal name) asked = asked ≡ Ok (Report (report.Journal name))
+RequestAsks styles Branches asked = asked ≡ Ok (Report report.Branches)
+RequestAsks styles Commodities asked = asked ≡ Ok (Report report.Commodities)
+RequestAsks styles (Accounts name) asked = asked ≡ Ok (Report (report.Accounts name))
+RequestAsks styles (Transfers day) asked = asked ≡ Ok (Report (report.Transfers day))
+
+-- a dry run of a command asks what it would be answered; a report, and a text that has a fault, are the same either way
+abbrev pub as_dry_run : Result Asked Refusal → Result Asked Refusal
+as_dry_run (Ok (Command c)) = Ok (DryRun c)
+as_dry_run (Ok (DryRun c)) = Ok (DryRun c)
+as_dry_run (Ok (Report report)) = Ok (Report report)
+as_dry_run (Err refusal) = Err refusal
+
+-- what is asked, or the dry run of it
+abbrev pub or_dry_run : Bool → Result Asked Refusal → Result Asked Refusal
+or_dry_run false asked = asked
+or_dry_run true asked = as_dry_run asked
+
+-- what a request asks, which may be a dry run
+abbrev pub SpelledAsks : List Style → Spelled → Result Asked Refusal → Type 0
+SpelledAsks styles spelled asked =
+    (said : Result Asked Refusal)
+    × (RequestAsks styles spelled.request said × (asked ≡ or_dry_run spelled.is_dry_run said))
 
 -- what a request asks of a treasury: what its texts say, or nothing, by 42, where a call of its database has failed
-abbrev pub AsksOf : Bool → List Style → Request → Result Asked Refusal → Type 0
-AsksOf false styles request asked = RequestAsks styles request asked
+abbrev pub AsksOf : Bool → List Style → Spelled → Result Asked Refusal → Type 0
+AsksOf false styles request asked = SpelledAsks styles request asked
 AsksOf true styles request asked = asked ≡ Err (Plain Closed)
 
 -- what a line asks: what its request does, or nothing where it spells none
 abbrev pub Asks : Bool → List Style → List ℕ → Result Asked Refusal → Type 0
 Asks failed styles line asked =
-    ((request : Request) × ((spelled line ≡ Some request) × AsksOf failed styles request asked))
+    ((request : Spelled) × ((spelled line ≡ Some request) × AsksOf failed styles request asked))
     ⊎ ((spelled line ≡ None) × (asked ≡ Err (Plain NoRequest)))

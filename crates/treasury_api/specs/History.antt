@@ -7,7 +7,7 @@ use Rattle.treasury_core.specs.Federation.{Federation}
 use Rattle.treasury_core.specs.Headline.{KeepsBooks}
 use Rattle.treasury_core.specs.History.{Turn as CommandTurn, IsRun as IsCommandRun, state_after, IsRefusedOrRepeated}
 use Rattle.treasury_api.specs.declared.asking.Asked.{Asked}
-use Rattle.treasury_api.specs.declared.asking.Asked.TheVariants.{Command, Report}
+use Rattle.treasury_api.specs.declared.asking.Asked.TheVariants.{Command, DryRun, Report}
 use Rattle.treasury_api.specs.Asked.{Asks}
 use Rattle.treasury_api.specs.Step.{Standing, Answers, next, is_failure, reply_text, Replies}
 use Rattle.treasury_api.specs.Transcript.{requests_in}
@@ -49,10 +49,11 @@ pub record IsRun (start : Standing) (input output : List ℕ) (end : Standing) (
   pub written : output ≡ texts_of start turns
   pub left : end ≡ end_of start turns
 
--- the command that is asked for, with its reply; none where it is answered 41, or where a report is asked for, or
--- nothing
+-- the command that is asked for, with its reply; none where it is answered 41, or where a dry run or a report is asked
+-- for, or nothing
 abbrev pub command_if : Result Asked Refusal → Result Answer Refusal → List CommandTurn
 command_if (Ok (Command c)) r = if is_failure r then [] else record { command = c; reply = r } ∷ []
+command_if (Ok (DryRun c)) r = []
 command_if (Ok (Report report)) r = []
 command_if (Err refusal) r = []
 

@@ -13,7 +13,7 @@ use Rattle.treasury_core.specs.Federation.{Federation}
 use Rattle.treasury_core.specs.Rows.{rows}
 use Rattle.treasury_store.specs.Treasury.{Treasury, IsTreasuryOf}
 use Rattle.treasury_store.specs.Left.{LeavesRows, LeavesEither}
-use Rattle.treasury_api.specs.declared.request.Request.{Request}
+use Rattle.treasury_requests.specs.declared.request.Spelled.{Spelled}
 use Rattle.treasury_api.specs.declared.asking.Asked.{Asked}
 use Rattle.treasury_api.specs.Asked.{AsksOf}
 use Rattle.treasury_api.specs.Step.{Standing, reply, after}
@@ -46,7 +46,7 @@ LeavesAsked g h f asked = LeavesEither g h (rows f) (rows (end_state f asked))
 
 -- a request on an open treasury of a state: whatever is left are the rows of that state, or of the one where what it
 -- asks leads
-abbrev pub LeavesRequest : {S : Type 0} → Ghosts S → Treasury S → Treasury S → Request → Type 0
+abbrev pub LeavesRequest : {S : Type 0} → Ghosts S → Treasury S → Treasury S → Spelled → Type 0
 LeavesRequest g old new request =
     HasCleanDisk (state g new.store.conn) → IsTrue (state g old.store.conn).is_open → (f : Federation)
     → IsTreasuryOf g old f

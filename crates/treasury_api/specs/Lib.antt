@@ -1,10 +1,9 @@
 -- What a reader has to believe, in reading order
-pub mod Request
-pub mod Form
 pub mod Transcript
 pub mod RunEnd
 pub mod Asked
 pub mod Report
+pub mod Lists
 pub mod Answer
 pub mod Step
 pub mod History

@@ -12,7 +12,7 @@ use Rattle.treasury_core.specs.Federation.{Federation}
 use Rattle.treasury_store.specs.Kept.{ShutsByFault}
 use Rattle.treasury_store.specs.Treasury.{Treasury, IsTreasuryOf}
 use Rattle.treasury_api.specs.declared.asking.Asked.{Asked}
-use Rattle.treasury_api.specs.declared.asking.Asked.TheVariants.{Command, Report}
+use Rattle.treasury_api.specs.declared.asking.Asked.TheVariants.{Command, DryRun, Report}
 use Rattle.treasury_api.specs.Report.{report_text}
 use Rattle.treasury_api.specs.Answer.{answer_text, IsPrintableRefusal}
 use Rattle.treasury_api.specs.Step.{Standing, MayReply, Answers, after, is_failure}
@@ -25,6 +25,7 @@ standing t f = record { now = f; failed = t.store.failed }
 -- what is answered to what is asked, but for the line that ends a report
 abbrev pub body_of : Federation → Result Asked Refusal → Answer → List ℕ
 body_of f (Ok (Command c)) answer = answer_text f.styles (Ok answer)
+body_of f (Ok (DryRun c)) answer = answer_text f.styles (Ok answer)
 body_of f (Ok (Report report)) answer = report_text f report
 body_of f (Err refusal) answer = []
 

@@ -11,8 +11,8 @@ use Rattle.treasury_core.specs.Federation.{Federation}
 use Rattle.treasury_core.specs.Step.{reply as command_reply, after as after_command}
 use Rattle.treasury_store.specs.Store.{empty_state}
 use Rattle.treasury_api.specs.declared.asking.Asked.{Asked}
-use Rattle.treasury_api.specs.declared.asking.Asked.TheVariants.{Command, Report}
-use Rattle.treasury_api.specs.Request.{spelled}
+use Rattle.treasury_api.specs.declared.asking.Asked.TheVariants.{Command, DryRun, Report}
+use Rattle.treasury_requests.specs.Request.{spelled}
 use Rattle.treasury_api.specs.Asked.{Asks}
 use Rattle.treasury_api.specs.Answer.{answer_text}
 use Rattle.treasury_api.specs.declared.report.Report.{Report as AnyReport}
@@ -22,21 +22,24 @@ use Rattle.treasury_api.specs.Report.{report_text, has_its_branch}
 abbrev pub report_reply : Federation → AnyReport → Result Answer Refusal
 report_reply f report = if not (has_its_branch f report) then Err (Plain UnknownBranch) else Ok Done
 
--- the reply to what is asked
+-- the reply to what is asked; a dry run is replied to as its command is
 abbrev pub reply : Federation → Result Asked Refusal → Result Answer Refusal
 reply f (Ok (Command c)) = command_reply f c
+reply f (Ok (DryRun c)) = command_reply f c
 reply f (Ok (Report report)) = report_reply f report
 reply f (Err refusal) = Err refusal
 
--- the state after the reply: only a command changes it
+-- the state after the reply: only a command that is performed changes it
 abbrev pub after : Federation → Result Asked Refusal → Result Answer Refusal → Federation
 after f (Ok (Command c)) r = after_command f c r
+after f (Ok (DryRun c)) r = f
 after f (Ok (Report report)) r = f
 after f (Err refusal) r = f
 
 -- the lines of the report that is asked for
 abbrev pub report_lines : Federation → Result Asked Refusal → List ℕ
 report_lines f (Ok (Command c)) = []
+report_lines f (Ok (DryRun c)) = []
 report_lines f (Ok (Report report)) = report_text f report
 report_lines f (Err refusal) = []
 

@@ -9,7 +9,7 @@ use Rattle.sqlite.specs.State.{HasCleanDisk}
 use Rattle.sqlite.specs.Held.{state}
 use Rattle.http_request.specs.declared.call.Call.{Call}
 use Rattle.http_request.specs.declared.call.Call.TheVariants.{Unreadable, Foreign, Nowhere, Command, Balance, Journal}
-use Rattle.http_request.specs.declared.call.Call.TheVariants.{Transit}
+use Rattle.http_request.specs.declared.call.Call.TheVariants.{Transit, Branches, Commodities, Accounts, Transfers}
 use Rattle.http_request.specs.Call.{Reads, IsStopped}
 use Rattle.money_core.specs.declared.cause.Cause.{Cause}
 use Rattle.money_core.specs.declared.cause.Cause.TheVariants.{OutOfMemory, ReadFault, WriteFault, Request as NoRequest}
@@ -21,9 +21,9 @@ use Rattle.treasury_core.specs.Federation.{Federation}
 use Rattle.treasury_core.specs.History.{Turn}
 use Rattle.treasury_store.specs.Kept.{ShutsByFault}
 use Rattle.treasury_store.specs.Treasury.{Treasury, IsTreasuryOf}
-use Rattle.treasury_api.specs.declared.request.Request.{Request}
-use Rattle.treasury_api.specs.declared.request.Request.TheVariants as asking
-use Rattle.treasury_api.specs.Request.{spelled}
+use Rattle.treasury_requests.specs.declared.request.Spelled.{Spelled}
+use Rattle.treasury_requests.specs.declared.request.Request.TheVariants as asking
+use Rattle.treasury_requests.specs.Request.{spelled, in_earnest}
 use Rattle.treasury_api.specs.Answer.{answer_text}
 use Rattle.treasury_api.specs.Step.{Standing}
 use Rattle.treasury_api.specs.Left.{LeavesRequest}
@@ -32,14 +32,18 @@ use Rattle.treasury_api.specs.OneRequest.{AnswersRequest, command_of}
 use Rattle.treasury_api.specs.WebReply.{status_of, whole_reply}
 
 -- the request that is called for; none where nothing is, as by a date that is none
-abbrev pub asked_by : Call → Option Request
+abbrev pub asked_by : Call → Option Spelled
 asked_by Unreadable = None
 asked_by Foreign = None
 asked_by Nowhere = None
 asked_by (Command body) = spelled body
-asked_by (Balance branch date) = option_map (asking.Balance branch) (date_of date)
-asked_by (Journal branch) = Some (asking.Journal branch)
-asked_by (Transit date) = option_map asking.Transit (date_of date)
+asked_by (Balance branch date) = option_map (λ day. in_earnest (asking.Balance branch day)) (date_of date)
+asked_by (Journal branch) = Some (in_earnest (asking.Journal branch))
+asked_by (Transit date) = option_map (λ day. in_earnest (asking.Transit day)) (date_of date)
+asked_by Branches = Some (in_earnest asking.Branches)
+asked_by Commodities = Some (in_earnest asking.Commodities)
+asked_by (Accounts branch) = Some (in_earnest (asking.Accounts branch))
+asked_by (Transfers date) = option_map (λ day. in_earnest (asking.Transfers day)) (date_of date)
 
 -- the reply to a call that asks nothing: 403 where it is foreign, 404 where it has no route, else 44
 abbrev pub IsNoAnswer : Call → ℕ → List ℕ → Type 0
@@ -51,7 +55,7 @@ IsNoAnswer call status body = (status ≡ 400) × (body ≡ answer_text [] (Err 
 abbrev pub AnswersCall : Standing → Call → ℕ → List ℕ → Standing → Type 0
 AnswersCall s call status body t =
     ((asked_by call ≡ None) × IsNoAnswer call status body × (t ≡ s))
-    ⊎ ((request : Request) × (asked_by call ≡ Some request)
+    ⊎ ((request : Spelled) × (asked_by call ≡ Some request)
     × ((reply : Result Answer Refusal) × (AnswersRequest s request body reply t × (status ≡ status_of reply))))
 
 -- A database that was open under a treasury of a state is open behind each reply but 503.

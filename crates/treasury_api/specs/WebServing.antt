@@ -7,8 +7,8 @@ use Rattle.book_core.specs.declared.refusal.Refusal.{Refusal}
 use Rattle.book_core.specs.declared.refusal.Refusal.TheVariants.{Plain}
 use Rattle.treasury_core.specs.Federation.{Federation}
 use Rattle.treasury_store.specs.Treasury.{Treasury}
-use Rattle.treasury_api.specs.declared.request.Request.{Request}
-use Rattle.treasury_api.specs.Request.{HasDayNumbers}
+use Rattle.treasury_requests.specs.declared.request.Spelled.{Spelled}
+use Rattle.treasury_requests.specs.Request.{HasDayNumbers}
 use Rattle.treasury_api.specs.Answer.{answer_text}
 use Rattle.treasury_api.specs.declared.web.status.Status.{Status}
 use Rattle.treasury_api.specs.declared.web.status.Status.TheVariants.{Done, BadRequest, Forbidden, NotFound, Conflict}
@@ -27,9 +27,9 @@ code_of Internal = 500
 code_of Unavailable = 503
 
 -- the days of a request, if there is one
-abbrev pub HasDays : Option Request → Type 0
+abbrev pub HasDays : Option Spelled → Type 0
 HasDays None = ⊤
-HasDays (Some request) = HasDayNumbers request
+HasDays (Some spelled) = HasDayNumbers spelled.request
 
 -- the line of a refusal, or that of 40 in place of one that is not plain; and whose it is
 abbrev pub IsLineBy : List Style → Refusal → Cause → List ℕ → Type 0

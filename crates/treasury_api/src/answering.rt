@@ -11,21 +11,22 @@ ghost use Rattle.treasury_store.specs.Left.{LeavesStep};
 ghost use Rattle.treasury_store.specs.Treasury.{IsTreasuryOf, IsListed};
 ghost use Rattle.treasury_api.specs.declared.asking.Asked.{Asked as Meant};
 ghost use Rattle.treasury_api.specs.Asked.{AsksOf};
-ghost use Rattle.treasury_api.specs.Request.{HasDayNumbers};
+ghost use Rattle.treasury_requests.specs.Request.{HasDayNumbers};
 ghost use Rattle.treasury_api.specs.Left.{FailsWith, IsUnread, IsOpenBut, LeavesRequest};
 ghost use Rattle.treasury_api.specs.Replied.{IsReplied, IsPrintableIn};
 ghost use Rattle.treasury_api.specs.Serving.{IsHeldFor};
 
 use crate::answers::{MOST_PLAIN, answer_line};
 use crate::asking::{Asked, asked_by};
+use crate::foreseeing::answer_dry_run;
 use crate::report::push_report;
-use crate::request::Request;
 use book_core::Refusal;
 use journal_format::reading_law;
 use money_core::{Cause, Styles};
 use sqlite::Alter;
 use std::alloc::Global;
 use treasury_core::Command;
+use treasury_requests::Spelled;
 use treasury_store::{Treasury, left_law};
 
 /// Performs a command, and appends the line of its answer, for which the room is made before.
@@ -68,18 +69,18 @@ fn answer_command<S: Alter>(
 }
 
 /// Does what a request asks of the treasury, and appends its answer: the line of a command that is accepted or
-/// repeated, or the lines of a report, without the `ok` behind them.
+/// repeated, or would be in a dry run, which performs nothing; or the lines of a report, without the `ok` behind them.
 ///
 /// It refuses as the texts of the request, the command or the report are refused, and 40 to 43 as the treasury; the
 /// vector is then as it was. The room for the line of a command is made before it is performed. A call of the database
 /// fails just where it answers 41, and then every later call answers 42 and changes nothing.
 pub fn answer<S: Alter>(
     alloc: Global,
-    request: &Request,
+    request: &Spelled,
     treasury: &mut Treasury<S>,
     out: &mut Vec<u8>,
 ) -> Result<(), Refusal>
-    requires { HasDayNumbers request.now }
+    requires { HasDayNumbers request.now.request }
     ensures replies { HasCleanDisk (state S.Store treasury.new.store.conn) → (f : Federation)
         → IsTreasuryOf S.Store treasury.old f
         → (asked : Result Meant Refused) × (AsksOf treasury.old.store.failed f.styles request.now asked
@@ -122,6 +123,7 @@ pub fn answer<S: Alter>(
     state.is_good();
     match asked_by(alloc, state.styles(), request) {
         Ok(Asked::Command(command)) => answer_command(alloc, treasury, command, out),
+        Ok(Asked::DryRun(command)) => answer_dry_run(alloc, state, &command, out),
         Ok(Asked::Report(report)) => match push_report(alloc, state, &report, out) {
             Ok(()) => Ok(()),
             Err(cause) => Err(Refusal::Plain(cause)),

@@ -7,22 +7,24 @@ ghost use Rattle.money_core.specs.Sampling.{style_of};
 ghost use Rattle.money_core.specs.Reading.{amount};
 ghost use Rattle.journal_lines.specs.Date.{IsDayNumber};
 ghost use Rattle.treasury_api.specs.Asked.{asked_by_sample, asked_by_amount, asked_by_part, asked_by_receipt, cut_list};
-ghost use Rattle.treasury_api.specs.Asked.{JournalAsks, RequestAsks};
-ghost use Rattle.treasury_api.specs.Request.{HasDayNumbers};
+ghost use Rattle.treasury_api.specs.Asked.{JournalAsks, RequestAsks, SpelledAsks, or_dry_run};
+ghost use Rattle.treasury_requests.specs.Request.{HasDayNumbers};
 ghost use Rattle.treasury_api.specs.Serving.{IsReady, OrMemory};
 
 use crate::report::Report;
-use crate::request::{Request, WrittenPart};
 use book_core::Refusal;
 use journal_format::read_journal;
 use money_core::{Cause, Copied, Day, Items, Styles, Text, read_amount, read_style};
 use std::alloc::Global;
 use treasury_core::{AskedPart, Choice, Close, Command, Dispatch, Receive};
+use treasury_requests::{Request, Spelled, WrittenPart};
 
 /// What is asked of the treasury.
 #[derive(Drop)]
 pub enum Asked {
     Command(Command),
+    /// What the command would be answered; it is not performed.
+    DryRun(Command),
     Report(Report),
 }
 
@@ -242,12 +244,15 @@ fn asked_by_request(alloc: Global, styles: &Styles, request: Request) -> Result<
         })),
         Request::Transit { day } => Ok(Asked::Report(Report::Transit { day })),
         Request::Journal { branch } => Ok(Asked::Report(Report::Journal { branch })),
+        Request::Branches => Ok(Asked::Report(Report::Branches)),
+        Request::Commodities => Ok(Asked::Report(Report::Commodities)),
+        Request::Accounts { branch } => Ok(Asked::Report(Report::Accounts { branch })),
+        Request::Transfers { day } => Ok(Asked::Report(Report::Transfers { day })),
     }
 }
 
-/// What the request asks: a command that fits the commodities, or a report. Or the first fault of its texts; 40 for
-/// want of memory. Each of these refusals can be printed.
-pub fn asked_by(alloc: Global, styles: &Styles, request: &Request) -> Result<Asked, Refusal>
+/// What the request asks, if it is no dry run; it is read where it stands.
+fn meant_by(alloc: Global, styles: &Styles, request: &Request) -> Result<Asked, Refusal>
     requires { HasDayNumbers request.now }
     ensures asks { OrMemory (RequestAsks styles.now request.now) result }
     ensures ready { IsReady styles.now result }
@@ -262,5 +267,32 @@ pub fn asked_by(alloc: Global, styles: &Styles, request: &Request) -> Result<Ask
             Ok(request) => asked_by_request(alloc, styles, request),
             Err(_) => Err(NO_MEMORY),
         },
+    }
+}
+
+/// What is asked, or the dry run of it.
+fn or_dry_run(is_dry_run: bool, asked: Asked) -> Asked
+    ensures { Ok result ≡ or_dry_run is_dry_run (Ok asked) }
+{
+    if !is_dry_run {
+        return asked;
+    }
+    match asked {
+        Asked::Command(command) => Asked::DryRun(command),
+        Asked::DryRun(command) => Asked::DryRun(command),
+        Asked::Report(report) => Asked::Report(report),
+    }
+}
+
+/// What the request asks: a command that fits the commodities, to be performed or as a dry run, or a report. Or the
+/// first fault of its texts; 40 for want of memory. Each of these refusals can be printed.
+pub fn asked_by(alloc: Global, styles: &Styles, request: &Spelled) -> Result<Asked, Refusal>
+    requires { HasDayNumbers request.now.request }
+    ensures asks { OrMemory (SpelledAsks styles.now request.now) result }
+    ensures ready { IsReady styles.now result }
+{
+    match meant_by(alloc, styles, &request.request) {
+        Ok(asked) => Ok(or_dry_run(request.is_dry_run, asked)),
+        Err(refusal) => Err(refusal),
     }
 }

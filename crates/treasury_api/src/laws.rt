@@ -3,6 +3,7 @@
 ghost use Rattle.std.specs.Prelude.{◌≡◌, List, ℕ, Result, Ok};
 ghost use Rattle.book_core.specs.declared.refusal.Refusal.{Refusal as Refused};
 ghost use Rattle.treasury_core.specs.declared.command.Answer.{Answer};
+ghost use Rattle.treasury_core.specs.declared.command.Command.{Command};
 ghost use Rattle.treasury_core.specs.Federation.{Federation};
 ghost use Rattle.treasury_core.specs.History.{IsRun as IsCommandRun, state_after};
 ghost use Rattle.treasury_api.specs.declared.report.Report.{Report};
@@ -10,12 +11,17 @@ ghost use Rattle.treasury_api.specs.Transcript.{IsTranscript};
 ghost use Rattle.treasury_api.specs.Step.{Standing, after, Answers};
 ghost use Rattle.treasury_api.specs.History.{Turn, AreTurns, end_of, IsRun, commands_of};
 ghost use Rattle.treasury_api.specs.History.{RefusalsLeave, IsRefusalOrRepeat, RefusedLinesLeave};
+ghost use Rattle.money_core.specs.declared.day.Day.{Day as Number};
+ghost use Rattle.treasury_reports.specs.TransfersReport.{AddUpToTransit};
+ghost use Rattle.treasury_api.specs.Lists.{AreRepeated};
 
 use crate::asking::Asked;
+use book_core::Ledger;
 use treasury_core::{
-    closed_law, closing_law, entered_law, joined_law, other_journal_law, own_journal_law,
+    State, closed_law, closing_law, entered_law, joined_law, other_journal_law, own_journal_law,
     printed_journal_law, rows_law, transit_law, unchanged_law,
 };
+use treasury_reports::{samples_law, transfers_law};
 
 /// A law of transcripts: each has turns, one for each request, whose texts are its output; and such turns have it as
 /// their transcript. Costs nothing.
@@ -48,7 +54,7 @@ pub fn commands_law()
 
 /// Laws of what is refused or repeated: along turns each such reply leaves the state, and so does every line whose
 /// answer is a refusal or `repeated`. Along a run so does each answer that stands in its output as such a line. A
-/// report leaves the state whatever is replied. Costs nothing.
+/// report or a dry run leaves the state whatever is replied. Costs nothing.
 pub fn refusal_law()
     ensures turns { (start : Standing) (turns : List Turn) → AreTurns start turns → RefusalsLeave start turns }
     ensures answered { (s : Standing) (line text : List ℕ) (t : Standing)
@@ -57,4 +63,18 @@ pub fn refusal_law()
         → IsRun start input output end turns → RefusedLinesLeave start turns }
     ensures report { (f : Federation) (report : Report) (r : Result Answer Refused)
         → after f (Ok (Asked.Report report)) r ≡ f }
+    ensures dry_run { (f : Federation) (command : Command) (r : Result Answer Refused)
+        → after f (Ok (Asked.DryRun command)) r ≡ f }
 {}
+
+/// Laws of what is listed of a state: what is open of the transfers adds up to what the transit report has, and each
+/// line of the commodities report, as a sample, asks for its commodity, which is answered `repeated`. Costs nothing.
+pub fn lists_law<L: Ledger>(state: &State<L>)
+    ensures transit { (day : Number) → AddUpToTransit state.now.transfers day }
+    ensures samples { AreRepeated state.now }
+{
+    transfers_law();
+    let styles = state.styles();
+    styles.are_styles();
+    samples_law(styles);
+}

@@ -4,21 +4,19 @@
 mod answering;
 mod answers;
 mod asking;
-mod bytes;
+mod foreseeing;
 mod laws;
 mod lines;
 mod report;
-mod request;
 mod running;
 mod web;
 
 pub use answering::answer;
 pub use answers::{MOST_PLAIN, answer_line};
 pub use asking::Asked;
-pub use bytes::Bytes;
-pub use laws::{commands_law, refusal_law, run_law};
+pub use foreseeing::additions_ahead;
+pub use laws::{commands_law, lists_law, refusal_law, run_law};
 pub use lines::write_whole;
 pub use report::Report;
-pub use request::{Form, PartForm, Request, WrittenPart, read_command, request_of};
 pub use running::{refuse, run_lines};
 pub use web::{calls_law, serve_one};

@@ -3,11 +3,15 @@
 ghost use Rattle.std.specs.Prelude.{◌≡◌, ◌↔◌, ◌⊎◌, ◌++◌, false, Err, OnOk, OnErr, IfErr, option_copied};
 ghost use Rattle.treasury_api.specs.Report.{report_text, has_its_branch};
 
+use crate::laws::lists_law;
 use book_core::Ledger;
 use money_core::{Cause, Day, Text};
 use std::alloc::Global;
 use treasury_core::State;
-use treasury_reports::{balance_report, journal_report, register_report, transit_report};
+use treasury_reports::{
+    accounts_report, balance_report, branches_report, commodities_report, journal_report,
+    register_report, transfers_report, transit_report,
+};
 
 /// A report that is asked for.
 #[derive(Drop)]
@@ -31,6 +35,18 @@ pub enum Report {
     /// The journal of the branch of that name.
     Journal {
         branch: Text,
+    },
+    /// The branches, with their locks.
+    Branches,
+    /// The commodities.
+    Commodities,
+    /// The accounts of the branch of that name.
+    Accounts {
+        branch: Text,
+    },
+    /// The transfers of which something is open through the day.
+    Transfers {
+        day: Day,
     },
 }
 
@@ -58,6 +74,7 @@ pub fn push_report<L: Ledger>(
     ensures err { OnErr result (out.new.items ≡ out.old.items) }
     ensures causes { IfErr result (λ cause. (cause ≡ Cause.UnknownBranch) ⊎ (cause ≡ Cause.OutOfMemory)) }
 {
+    lists_law(state);
     match report {
         Report::Balance { branch, day } => balance_report(alloc, state, branch.as_str(), *day, out),
         Report::Register {
@@ -74,5 +91,9 @@ pub fn push_report<L: Ledger>(
         ),
         Report::Transit { day } => transit_report(alloc, state, *day, out),
         Report::Journal { branch } => journal_report(alloc, state, branch.as_str(), out),
+        Report::Branches => branches_report(alloc, state, out),
+        Report::Commodities => commodities_report(alloc, state, out),
+        Report::Accounts { branch } => accounts_report(alloc, state, branch.as_str(), out),
+        Report::Transfers { day } => transfers_report(alloc, state, *day, out),
     }
 }

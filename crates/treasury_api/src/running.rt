@@ -7,7 +7,7 @@ ghost use Rattle.sqlite.specs.Held.{state};
 ghost use Rattle.treasury_core.specs.Federation.{Federation};
 ghost use Rattle.treasury_store.specs.Kept.{ShutsByFault};
 ghost use Rattle.treasury_store.specs.Treasury.{IsTreasuryOf};
-ghost use Rattle.treasury_api.specs.Request.{HasDayNumbers, is_report, spelled};
+ghost use Rattle.treasury_requests.specs.Request.{HasDayNumbers, is_report, spelled};
 ghost use Rattle.treasury_api.specs.Answer.{IsPrintableRefusal};
 ghost use Rattle.treasury_api.specs.Kept.{Runs};
 ghost use Rattle.treasury_api.specs.Replied.{IsPrintableIn, IsLineOf, Serves, standing};
@@ -18,7 +18,6 @@ ghost use Rattle.treasury_api.specs.WebServing.{IsLineBy, IsToldBy};
 use crate::answering::answer;
 use crate::answers::{MOST_PLAIN, answer_line};
 use crate::lines::{Machine, run_machine};
-use crate::request::{Request, read_line};
 use book_core::Refusal;
 use journal_format::reading_law;
 use money_core::{Cause, Styles};
@@ -26,6 +25,7 @@ use sqlite::Alter;
 use std::alloc::{AllocError, Global};
 use std::io::{Read, Write};
 use treasury_core::Answer;
+use treasury_requests::{Request, Spelled, read_line};
 use treasury_store::{Treasury, left_law};
 
 /// Appends the line `ok` that ends a report. Other answers have their line.
@@ -128,20 +128,20 @@ fn is_memory_left(alloc: Global) -> bool {
 
 /// The request that a line spells, as `read_line` reads it. Answers 40 for a command where too little memory is left
 /// for what it may write: while rows are written want of memory could only end the database.
-fn read_within_memory(alloc: Global, line: &[u8]) -> Result<Request, Cause>
+fn read_within_memory(alloc: Global, line: &[u8]) -> Result<Spelled, Cause>
     ensures ok { IfOk result (λ request. spelled line.now ≡ Some request) }
-    ensures days { IfOk result HasDayNumbers }
+    ensures days { IfOk result (λ spelled. HasDayNumbers spelled.request) }
     ensures refused { result ≡ Err Cause.Request → spelled line.now ≡ None }
     ensures causes { IfErr result (λ cause. (cause ≡ Cause.Request) ⊎ (cause ≡ Cause.OutOfMemory)) }
 {
-    let request = match read_line(alloc, line) {
-        Ok(request) => request,
+    let spelled = match read_line(alloc, line) {
+        Ok(spelled) => spelled,
         Err(cause) => return Err(cause),
     };
-    if !request.is_report() && !is_memory_left(alloc) {
+    if !spelled.request.is_report() && !is_memory_left(alloc) {
         return Err(Cause::OutOfMemory);
     }
-    Ok(request)
+    Ok(spelled)
 }
 
 impl<S: Alter> Machine for Treasury<S> {
@@ -160,7 +160,7 @@ impl<S: Alter> Machine for Treasury<S> {
         };
         let mut text = Vec::new(alloc);
         match answer(alloc, &request, self, &mut text) {
-            Ok(()) => match end_report(alloc, &request, &mut text) {
+            Ok(()) => match end_report(alloc, &request.request, &mut text) {
                 Ok(()) => Ok(text),
                 Err(_) => Ok(refuse(alloc, self, Refusal::Plain(Cause::OutOfMemory), room)),
             },

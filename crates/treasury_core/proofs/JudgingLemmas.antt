@@ -107,7 +107,7 @@ all_found_at : (t : Transfer) (ts us : List Transfer) → AreBehind t.id us
 all_found_at t ts [] h k = tt
 all_found_at t ts (u ∷ us) h k = (found_at t u ts h.0 k.0, all_found_at t ts us h.1 k.1)
 
-all_found : (ts : List Transfer) → AreAscending ts
+pub all_found : (ts : List Transfer) → AreAscending ts
     → AllByRecursion (λ (t : Transfer). find (has_id t.id) ts ≡ Some t) ts
 all_found [] h = tt
 all_found (t ∷ ts) h = (

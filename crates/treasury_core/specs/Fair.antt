@@ -1,4 +1,4 @@
--- Mirrors code: a transfer by itself, as sums over transfers ask for it.
+-- A transfer by itself: what holds of each transfer of a good state (own rule; docs/RULES.md, "Transfers").
 use Rattle.std.specs.Prelude.{◌≡◌, ℕ, nat_eq, true, false, List, [], ◌∷◌, pos, int_le, ⊤}
 use Rattle.std.specs.Str.{bytes_eq}
 use Rattle.treasury_core.specs.declared.transfer.Transfer.{Transfer}

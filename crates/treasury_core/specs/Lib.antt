@@ -9,6 +9,7 @@ pub mod Closing
 pub mod Joined
 pub mod Step
 pub mod Good
+pub mod Fair
 pub mod Rows
 pub mod Sound
 pub mod Closed
@@ -20,4 +21,3 @@ pub mod Counted
 pub mod Judged
 pub mod Room
 pub mod Drafted
-pub mod Fair

@@ -12,6 +12,7 @@ ghost use Rattle.treasury_core.specs.Step.{is_lock, goes_back, records_in_file, 
 ghost use Rattle.treasury_core.specs.Good.{Fits, IsFile, IsGoodBranch, IsGoodState};
 ghost use Rattle.treasury_core.specs.Seen.{branch_of};
 ghost use Rattle.treasury_core.specs.Kept.{IsKept};
+ghost use Rattle.treasury_core.specs.History.{Replies};
 
 use crate::close::decide_close;
 use crate::command::{Answer, Command};
@@ -402,4 +403,22 @@ pub fn decide<L: Ledger>(
 {
     state.is_good();
     decided(alloc, state, command)
+}
+
+/// What a command would be answered in this state; nothing else happens.
+///
+/// It asks that the command fits the state's styles. Where memory is refused, it answers 40.
+pub fn foresee<L: Ledger>(
+    alloc: Global,
+    state: &State<L>,
+    command: &Command,
+) -> Result<Answer, Refusal>
+    requires { Fits state.now.styles command.now }
+    // The reply of the step, or 40.
+    ensures { Replies state.now command.now result }
+{
+    match decide(alloc, state, command) {
+        Ok((answer, _)) => Ok(answer),
+        Err(refusal) => Err(refusal),
+    }
 }

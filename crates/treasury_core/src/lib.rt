@@ -33,7 +33,7 @@ pub use applying::apply;
 pub use choice::Choice;
 pub use closing::closing_entry;
 pub use command::{Answer, AskedPart, Close, Command, Dispatch, Receive};
-pub use decision::{MAX_BRANCHES, decide};
+pub use decision::{MAX_BRANCHES, decide, foresee};
 pub use delta::{Addition, Delta};
 pub use law::{
     accepted_closing_law, closed_law, closing_law, entered_law, good_law, growing_law,
@@ -45,4 +45,4 @@ pub use record::Record;
 pub use rows::{BranchRow, ClaimRow, EntryRow, LegRow, PartRow, Parts, TransferRow, UnitRow};
 pub use state::{Branch, State};
 pub use transfer::{Part, Receipt, Transfer};
-pub use transit::open_amount;
+pub use transit::{open_amount, open_of};

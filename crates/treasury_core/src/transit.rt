@@ -54,8 +54,19 @@ fn open_from(transfer: &Transfer, day: Day) -> i64
     }
 }
 
-/// What is open of a transfer, if it goes that way.
-fn open_of(transfer: &Transfer, from: &str, to: &str, unit: Unit, day: Day) -> i64
+/// What is open of a transfer through the day, in smallest units: nothing before its dispatch.
+pub fn open_of(transfer: &Transfer, day: Day) -> i64
+    requires { IsFair transfer.now }
+    ensures { result ≡ open_of transfer.now day }
+{
+    if day.0 < transfer.day.0 {
+        return 0;
+    }
+    open_from(transfer, day)
+}
+
+/// The same, if it goes that way.
+fn open_on_way(transfer: &Transfer, from: &str, to: &str, unit: Unit, day: Day) -> i64
     requires { IsFair transfer.now }
     ensures { result ≡ (if is_between from.now to.now unit transfer.now then open_of transfer.now day else pos 0) }
 {
@@ -66,10 +77,7 @@ fn open_of(transfer: &Transfer, from: &str, to: &str, unit: Unit, day: Day) -> i
     if !is_meant {
         return 0;
     }
-    if day.0 < transfer.day.0 {
-        return 0;
-    }
-    open_from(transfer, day)
+    open_of(transfer, day)
 }
 
 /// The open amount between two branches, in smallest units.
@@ -80,7 +88,7 @@ fn open_between(transfers: &[Transfer], from: &str, to: &str, unit: Unit, day: D
 {
     let mut sum: i64 = 0;
     for transfer in transfers {
-        let share = open_of(transfer, from, to, unit, day);
+        let share = open_on_way(transfer, from, to, unit, day);
         sum += share;
     }
     sum

@@ -7,4 +7,7 @@ pub mod FilterLemmas
 pub mod OpenLemmas
 pub mod RegisterLemmas
 pub mod NameLemmas
+pub mod ListLemmas
+pub mod SampleLemmas
 pub mod WorkedReports
+pub mod WorkedLists

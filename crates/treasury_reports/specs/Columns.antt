@@ -1,5 +1,5 @@
 -- Columns of a report: texts right-aligned by characters (own rule; docs/FORMATS.md, "Balance report", "Register
--- report", "Transit report").
+-- report", "Transit report", "Branches report", "Transfers report").
 use Rattle.std.specs.Prelude.{ℕ, ◌-◌, ℤ, Bool, ◌&&◌, not, nat_le, nat_lt, List, ◌++◌, count_by, replicate}
 use Rattle.money_core.specs.declared.style.Style.{Style}
 use Rattle.money_core.specs.declared.unit.Unit.{Unit as Commodity}
@@ -16,6 +16,10 @@ char_count text = count_by (λ b. not (is_continuation b)) text
 -- the text right-aligned in so many characters; a longer one as it stands
 abbrev pub right_aligned : ℕ → List ℕ → List ℕ
 right_aligned width text = replicate (width - char_count text) 32 ++ text
+
+-- how wide the number of an entry, or of entries, stands in a report
+abbrev pub number_width : ℕ
+number_width = 6
 
 -- how wide an amount stands in a report
 abbrev pub amount_width : ℕ

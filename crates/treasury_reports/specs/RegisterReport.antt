@@ -14,7 +14,7 @@ use Rattle.journal_format.specs.declared.txn.Txn.{Txn}
 use Rattle.treasury_core.specs.declared.record.Record.{Record}
 use Rattle.treasury_core.specs.Federation.{Federation, records_of}
 use Rattle.treasury_reports.specs.declared.listed.Listed.{Listed}
-use Rattle.treasury_reports.specs.Columns.{right_aligned, amount_column}
+use Rattle.treasury_reports.specs.Columns.{right_aligned, number_width, amount_column}
 
 -- where the first `=` of what is asked for stands; its length where there is none
 abbrev pub cut : List ℕ → ℕ
@@ -80,10 +80,6 @@ legs_in xs = map (λ (x : Listed). x.leg) xs
 abbrev pub description_column : List ℕ → List ℕ
 description_column [] = []
 description_column (b ∷ bs) = codes "  " ++ (b ∷ bs)
-
--- how wide the number of an entry stands
-abbrev pub number_width : ℕ
-number_width = 6
 
 -- day, entry number, amount, sum so far, account and description of a listed leg
 unfoldable pub register_line : List Style → Listed → ℤ → List ℕ

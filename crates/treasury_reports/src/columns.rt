@@ -1,6 +1,6 @@
 //! Columns of a report.
 
-ghost use Rattle.std.specs.Prelude.{◌≡◌, ◌++◌, OnOk};
+ghost use Rattle.std.specs.Prelude.{◌≡◌, ◌++◌, decimal, OnOk};
 ghost use Rattle.std.specs.Result.{IsOkUnless};
 ghost use Rattle.money_core.specs.AmountText.{IsDeclared};
 ghost use Rattle.treasury_reports.specs.Columns.{is_continuation, char_count, right_aligned, amount_column};
@@ -10,6 +10,9 @@ use std::alloc::{AllocError, Global};
 
 /// How wide an amount stands in a report, in characters.
 const AMOUNT_WIDTH: usize = 20;
+
+/// How wide the number of an entry, or of entries, stands in a report, in characters.
+const NUMBER_WIDTH: usize = 6;
 
 /// Whether the byte goes on with a character, in UTF-8.
 fn is_continuation(byte: u8) -> bool
@@ -34,6 +37,14 @@ pub fn push_right_aligned(out: &mut Vec<u8>, width: usize, text: &[u8]) -> Resul
         out.push(b' ')?;
     }
     out.extend_from_slice(text)
+}
+
+/// Appends the number of an entry, or of entries, in its column.
+pub fn push_number(alloc: Global, number: usize, out: &mut Vec<u8>) -> Result<(), AllocError>
+    ensures { OnOk result (out.new.items ≡ out.old.items ++ right_aligned 6 (decimal number)) }
+{
+    let text = format!(in alloc; "{number}")?;
+    push_right_aligned(out, NUMBER_WIDTH, text.as_bytes())
 }
 
 /// Appends a quantity of a commodity, in smallest units, as an amount in its column.

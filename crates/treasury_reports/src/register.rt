@@ -1,7 +1,7 @@
 //! The register report of an account.
 
 ghost use Rattle.std.specs.Prelude.{◌≡◌, ◌↔◌, ◌⊎◌, ◌++◌, ◌<◌, ◌≤◌, ◌+ℤ◌, [], length, slice_set, unsigned_abs, false};
-ghost use Rattle.std.specs.Prelude.{decimal, IfOk, OnOk, OnErr, IfErr, Err, option_copied};
+ghost use Rattle.std.specs.Prelude.{IfOk, OnOk, OnErr, IfErr, Err, option_copied};
 ghost use Rattle.std.specs.Result.{IsOkUnless};
 ghost use Rattle.std.specs.List.{AllByRecursion};
 ghost use Rattle.money_core.specs.Amount.{limit};
@@ -11,28 +11,16 @@ ghost use Rattle.treasury_core.specs.Federation.{has_branch, entries};
 ghost use Rattle.treasury_core.specs.Good.{IsGoodRecord};
 ghost use Rattle.treasury_reports.specs.RegisterReport.{register_line, register_lines, register_text};
 ghost use Rattle.treasury_reports.specs.RegisterReport.{description_column, by_day, listed_from};
-ghost use Rattle.treasury_reports.specs.Columns.{right_aligned};
 ghost use Rattle.treasury_reports.specs.Lent.{IsListable, HaveRoom, sum_at};
 
 use crate::branch::records_of;
-use crate::columns::{push_amount, push_right_aligned};
+use crate::columns::{push_amount, push_number};
 use crate::listed::{Listed, listed_of, sort_by_day};
 use book_core::Ledger;
 use journal_lines::print_date;
 use money_core::{Cause, Styles, Unit};
 use std::alloc::{AllocError, Global};
 use treasury_core::{Record, State};
-
-/// How wide the number of an entry stands, in characters.
-const NUMBER_WIDTH: usize = 6;
-
-/// Appends the number of an entry in its column.
-fn push_number(alloc: Global, number: usize, out: &mut Vec<u8>) -> Result<(), AllocError>
-    ensures { OnOk result (out.new.items ≡ out.old.items ++ right_aligned 6 (decimal number)) }
-{
-    let text = format!(in alloc; "{number}")?;
-    push_right_aligned(out, NUMBER_WIDTH, text.as_bytes())
-}
 
 /// Appends a description behind two spaces, where it is not empty.
 fn push_description(description: &[u8], out: &mut Vec<u8>) -> Result<(), AllocError>

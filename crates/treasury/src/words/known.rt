@@ -5,10 +5,10 @@ ghost use Rattle.clap.specs.Walk.{rule_of};
 ghost use Rattle.clap.specs.Simple.{app_of, new_app};
 ghost use Rattle.clap.specs.declared.builder.command.Command.TheViews.{out-Command};
 ghost use Rattle.treasury.specs.Known.{known, word, option, optional, operand, number, branch, day, account, id};
-ghost use Rattle.treasury.specs.Known.{begins, months, transfers, ends};
+ghost use Rattle.treasury.specs.Known.{dry_run, begins, months, transfers, ends};
 ghost use Rattle.treasury.specs.Knowing.{IsWord, HasMore};
 
-use clap::{Arg, Command, value_parser};
+use clap::{Arg, ArgAction, Command, value_parser};
 use std::alloc::{AllocError, Global};
 
 /// The version that `--version` shows.
@@ -41,10 +41,19 @@ const ABOUT_BRANCH: &str = "Adds a branch with an empty book";
 
 const EXAMPLE_BRANCH: &str = "Example:\n  treasury branch --db books.db north";
 
+const ABOUT_BRANCHES: &str =
+    "Reports the branches, with their locks and how many entries they have";
+
+const EXAMPLE_BRANCHES: &str = "Example:\n  treasury branches --db books.db";
+
 const ABOUT_COMMODITY: &str = "Adds a commodity in the style of a sample amount";
 
 const EXAMPLE_COMMODITY: &str =
     "Examples:\n  treasury commodity --db books.db '1,000.00 EUR'\n  treasury commodity --db books.db '$1,000.00'";
+
+const ABOUT_COMMODITIES: &str = "Reports the commodities, by their samples";
+
+const EXAMPLE_COMMODITIES: &str = "Example:\n  treasury commodities --db books.db";
 
 const ABOUT_IMPORT: &str = "Enters a journal's new transactions into a branch's book";
 
@@ -56,6 +65,10 @@ A transaction that the branch has already is a repeat: it is counted and not ent
 One without a mark is known by its whole text: once edited, it is a new transaction.
 One with a mark, a comment line '; bookid:MARK' below its header, is known by the mark: with another text it is
 refused. MARK is 1 to 100 letters, digits or -._: (with anything else the line is an ordinary comment)."#;
+
+const ABOUT_ACCOUNTS: &str = "Reports the accounts of a branch's entries";
+
+const EXAMPLE_ACCOUNTS: &str = "Example:\n  treasury accounts --db books.db --branch north";
 
 const ABOUT_BALANCE: &str = "Reports a branch's balances through a day";
 
@@ -80,6 +93,15 @@ const EXAMPLE_RECEIVE: &str = r#"Examples:
 
 Without a part everything that is left is received, and the transfer is settled. A transfer that comes in parts has a key
 for each of them: the same key with the same day, account and amount again is a repeat."#;
+
+const ABOUT_TRANSFERS: &str = "Reports the transfers of which something is open through a day";
+
+const EXAMPLE_TRANSFERS: &str = r#"Examples:
+  treasury transfers --db books.db --day 2024-12-31
+  treasury transfers --db books.db --day 9999-12-31
+
+Each line has the day of dispatch, the amount, what is open of it, the branches and the ID. On 9999-12-31 that is what
+may still be received."#;
 
 const ABOUT_TRANSIT: &str = "Reports what is on its way between branches through a day";
 
@@ -118,8 +140,12 @@ const EXAMPLE_SERVE: &str = r#"Example:
 Standard output says `listening` once connections can be made, and standard error the address: with PORT 0 the system
 chooses one. After N connections it ends. FILE is in use until then. Routes:
   POST /commands             its body is a request, one JSON object, as a line of `run`
+  GET /accounts/BRANCH       the accounts of the branch's entries
   GET /balance/BRANCH/DAY    the branch's balances through the day
+  GET /branches              the branches, with their locks and how many entries they have
+  GET /commodities           the commodities, by their samples
   GET /journal/BRANCH        the branch's journal
+  GET /transfers/DAY         the transfers of which something is open through the day
   GET /transit/DAY           what is on its way between branches through the day"#;
 
 const ABOUT_RUN: &str = "Answers the requests on standard input, in memory alone";
@@ -138,12 +164,17 @@ const EXAMPLE_RUN: &str = r#"Each line is a request, one JSON object. Requests:
   {"do":"close","branch":NAME,"day":DAY}         revenues and expenses to zero through the day, and a lock;
                                                  with "accounts":"ACCOUNT;ACCOUNT" these and their subaccounts instead,
                                                  with "into":ACCOUNT into that account
+With "dry-run":"yes" such a request is answered as it would be now, and nothing is entered; "no" is as without it.
 
 Reports:
+  {"do":"branches"}                              the branches, with their locks and how many entries they have
+  {"do":"commodities"}                           the commodities, by their samples
+  {"do":"accounts","branch":NAME}                the accounts of the branch's entries
   {"do":"balance","branch":NAME,"day":DAY}       the branch's balances through the day
   {"do":"register","branch":NAME,"account":ACCOUNT}
                                                  the postings of the account and its subaccounts, with running sums;
                                                  with "tag":TAG or "tag":"TAG=VALUE" of transactions that have it
+  {"do":"transfers","day":DAY}                   the transfers of which something is open through the day, with IDs
   {"do":"transit","day":DAY}                     what is on its way between branches through the day
   {"do":"journal","branch":NAME}                 the branch's journal
 
@@ -183,6 +214,8 @@ const PART_HELP: &str =
     "A part and its key: 1 to 32 letters, digits or -._; without it everything that is left";
 
 const PART_AMOUNT_HELP: &str = "The amount of the part";
+
+const DRY_RUN_HELP: &str = "Answers what the command would be answered; nothing is entered";
 
 /// An option that may be given, with a value.
 fn optional<'a>(alloc: Global, name: &'a str, value: &'a str, help: &'a str) -> Arg<'a>
@@ -238,6 +271,17 @@ fn account_option<'a>(alloc: Global, help: &'a str) -> Arg<'a>
     option(alloc, "account", "ACCOUNT", help)
 }
 
+/// The flag of a dry run.
+fn dry_run_flag<'a>(alloc: Global) -> Arg<'a>
+    ensures rule { rule_of result ≡ dry_run }
+    ensures local { result.global ≡ false }
+{
+    Arg::new(alloc, "dry-run")
+        .long("dry-run")
+        .action(ArgAction::SetTrue)
+        .help(DRY_RUN_HELP)
+}
+
 /// A word over a database file.
 fn word<'a>(
     alloc: Global,
@@ -262,32 +306,51 @@ fn init<'a>(alloc: Global) -> Result<Command<'a>, AllocError>
 
 /// The word `branch`.
 fn branch<'a>(alloc: Global) -> Result<Command<'a>, AllocError>
-    ensures { IfOk result (IsWord (codes "branch") (operand (codes "name") ∷ [])) }
+    ensures { IfOk result (IsWord (codes "branch") (operand (codes "name") ∷ dry_run ∷ [])) }
 {
-    word(alloc, "branch", ABOUT_BRANCH, EXAMPLE_BRANCH)?.arg(operand(
-        alloc, "name", "NAME", NAME_HELP,
-    ))
+    word(alloc, "branch", ABOUT_BRANCH, EXAMPLE_BRANCH)?
+        .arg(operand(alloc, "name", "NAME", NAME_HELP))?
+        .arg(dry_run_flag(alloc))
+}
+
+/// The word `branches`.
+fn branches<'a>(alloc: Global) -> Result<Command<'a>, AllocError>
+    ensures { IfOk result (IsWord (codes "branches") ([])) }
+{
+    word(alloc, "branches", ABOUT_BRANCHES, EXAMPLE_BRANCHES)
 }
 
 /// The word `commodity`.
 fn commodity<'a>(alloc: Global) -> Result<Command<'a>, AllocError>
-    ensures { IfOk result (IsWord (codes "commodity") (operand (codes "sample") ∷ [])) }
+    ensures { IfOk result (IsWord (codes "commodity") (operand (codes "sample") ∷ dry_run ∷ [])) }
 {
-    word(alloc, "commodity", ABOUT_COMMODITY, EXAMPLE_COMMODITY)?.arg(operand(
-        alloc,
-        "sample",
-        "SAMPLE",
-        SAMPLE_HELP,
-    ))
+    word(alloc, "commodity", ABOUT_COMMODITY, EXAMPLE_COMMODITY)?
+        .arg(operand(alloc, "sample", "SAMPLE", SAMPLE_HELP))?
+        .arg(dry_run_flag(alloc))
+}
+
+/// The word `commodities`.
+fn commodities<'a>(alloc: Global) -> Result<Command<'a>, AllocError>
+    ensures { IfOk result (IsWord (codes "commodities") ([])) }
+{
+    word(alloc, "commodities", ABOUT_COMMODITIES, EXAMPLE_COMMODITIES)
 }
 
 /// The word `import`.
 fn import<'a>(alloc: Global) -> Result<Command<'a>, AllocError>
-    ensures { IfOk result (IsWord (codes "import") (branch ∷ operand (codes "journal") ∷ [])) }
+    ensures { IfOk result (IsWord (codes "import") (branch ∷ operand (codes "journal") ∷ dry_run ∷ [])) }
 {
     word(alloc, "import", ABOUT_IMPORT, EXAMPLE_IMPORT)?
         .arg(branch_option(alloc))?
-        .arg(operand(alloc, "journal", "JOURNAL", JOURNAL_HELP))
+        .arg(operand(alloc, "journal", "JOURNAL", JOURNAL_HELP))?
+        .arg(dry_run_flag(alloc))
+}
+
+/// The word `accounts`.
+fn accounts<'a>(alloc: Global) -> Result<Command<'a>, AllocError>
+    ensures { IfOk result (IsWord (codes "accounts") (branch ∷ [])) }
+{
+    word(alloc, "accounts", ABOUT_ACCOUNTS, EXAMPLE_ACCOUNTS)?.arg(branch_option(alloc))
 }
 
 /// The word `balance`.
@@ -322,12 +385,13 @@ fn sending<'a>(alloc: Global) -> Result<Command<'a>, AllocError>
 /// The word `dispatch`.
 fn dispatch<'a>(alloc: Global) -> Result<Command<'a>, AllocError>
     ensures { IfOk result (IsWord (codes "dispatch")
-        (id ∷ option (codes "from") ∷ option (codes "to") ∷ day ∷ option (codes "amount") ∷ account ∷ [])) }
+        (id ∷ option (codes "from") ∷ option (codes "to") ∷ day ∷ option (codes "amount") ∷ account ∷ dry_run ∷ [])) }
 {
     sending(alloc)?
         .arg(day_option(alloc))?
         .arg(option(alloc, "amount", "AMOUNT", "The amount that is sent"))?
-        .arg(account_option(alloc, "The account that pays"))
+        .arg(account_option(alloc, "The account that pays"))?
+        .arg(dry_run_flag(alloc))
 }
 
 /// The word `receive`, with what comes where.
@@ -343,12 +407,20 @@ fn coming<'a>(alloc: Global) -> Result<Command<'a>, AllocError>
 /// The word `receive`.
 fn receive<'a>(alloc: Global) -> Result<Command<'a>, AllocError>
     ensures { IfOk result (IsWord (codes "receive")
-        (id ∷ branch ∷ day ∷ account ∷ optional (codes "part") ∷ optional (codes "amount") ∷ [])) }
+        (id ∷ branch ∷ day ∷ account ∷ optional (codes "part") ∷ optional (codes "amount") ∷ dry_run ∷ [])) }
 {
     coming(alloc)?
         .arg(account_option(alloc, "The account that is paid"))?
         .arg(optional(alloc, "part", "KEY", PART_HELP))?
-        .arg(optional(alloc, "amount", "AMOUNT", PART_AMOUNT_HELP))
+        .arg(optional(alloc, "amount", "AMOUNT", PART_AMOUNT_HELP))?
+        .arg(dry_run_flag(alloc))
+}
+
+/// The word `transfers`.
+fn transfers<'a>(alloc: Global) -> Result<Command<'a>, AllocError>
+    ensures { IfOk result (IsWord (codes "transfers") (day ∷ [])) }
+{
+    word(alloc, "transfers", ABOUT_TRANSFERS, EXAMPLE_TRANSFERS)?.arg(day_option(alloc))
 }
 
 /// The word `transit`.
@@ -360,9 +432,19 @@ fn transit<'a>(alloc: Global) -> Result<Command<'a>, AllocError>
 
 /// The word `lock`.
 fn lock<'a>(alloc: Global) -> Result<Command<'a>, AllocError>
-    ensures { IfOk result (IsWord (codes "lock") (branch ∷ day ∷ [])) }
+    ensures { IfOk result (IsWord (codes "lock") (branch ∷ day ∷ dry_run ∷ [])) }
 {
     word(alloc, "lock", ABOUT_LOCK, EXAMPLE_LOCK)?
+        .arg(branch_option(alloc))?
+        .arg(day_option(alloc))?
+        .arg(dry_run_flag(alloc))
+}
+
+/// The word `close`, with what is closed when.
+fn closing<'a>(alloc: Global) -> Result<Command<'a>, AllocError>
+    ensures { IfOk result (IsWord (codes "close") (branch ∷ day ∷ [])) }
+{
+    word(alloc, "close", ABOUT_CLOSE, EXAMPLE_CLOSE)?
         .arg(branch_option(alloc))?
         .arg(day_option(alloc))
 }
@@ -370,13 +452,12 @@ fn lock<'a>(alloc: Global) -> Result<Command<'a>, AllocError>
 /// The word `close`.
 fn close<'a>(alloc: Global) -> Result<Command<'a>, AllocError>
     ensures { IfOk result (IsWord (codes "close")
-        (branch ∷ day ∷ optional (codes "accounts") ∷ optional (codes "into") ∷ [])) }
+        (branch ∷ day ∷ optional (codes "accounts") ∷ optional (codes "into") ∷ dry_run ∷ [])) }
 {
-    word(alloc, "close", ABOUT_CLOSE, EXAMPLE_CLOSE)?
-        .arg(branch_option(alloc))?
-        .arg(day_option(alloc))?
+    closing(alloc)?
         .arg(optional(alloc, "accounts", "LIST", ACCOUNTS_HELP))?
-        .arg(optional(alloc, "into", "ACCOUNT", INTO_HELP))
+        .arg(optional(alloc, "into", "ACCOUNT", INTO_HELP))?
+        .arg(dry_run_flag(alloc))
 }
 
 /// The word `journal`.
@@ -386,33 +467,65 @@ fn journal<'a>(alloc: Global) -> Result<Command<'a>, AllocError>
     word(alloc, "journal", ABOUT_JOURNAL, EXAMPLE_JOURNAL)?.arg(branch_option(alloc))
 }
 
-/// With the words by which a treasury begins.
-fn with_begins<'a>(alloc: Global, command: Command<'a>) -> Result<Command<'a>, AllocError>
-    ensures { IfOk result (HasMore begins command.entry) }
+/// With the words for a treasury, a branch and the branches.
+fn with_branches<'a>(alloc: Global, command: Command<'a>) -> Result<Command<'a>, AllocError>
+    ensures { IfOk result (HasMore (word (codes "init") []
+        ∷ word (codes "branch") (operand (codes "name") ∷ dry_run ∷ [])
+        ∷ word (codes "branches") [] ∷ []) command.entry) }
 {
     command
         .subcommand(init(alloc)?)?
         .subcommand(branch(alloc)?)?
-        .subcommand(commodity(alloc)?)
+        .subcommand(branches(alloc)?)
+}
+
+/// With the words by which a treasury begins.
+fn with_begins<'a>(alloc: Global, command: Command<'a>) -> Result<Command<'a>, AllocError>
+    ensures { IfOk result (HasMore begins command.entry) }
+{
+    with_branches(alloc, command)?
+        .subcommand(commodity(alloc)?)?
+        .subcommand(commodities(alloc)?)
+}
+
+/// With the words for what comes into a book, and for its accounts.
+fn with_imports<'a>(alloc: Global, command: Command<'a>) -> Result<Command<'a>, AllocError>
+    ensures { IfOk result (HasMore (word (codes "import") (branch ∷ operand (codes "journal") ∷ dry_run ∷ [])
+        ∷ word (codes "accounts") (branch ∷ []) ∷ []) command.entry) }
+{
+    command
+        .subcommand(import(alloc)?)?
+        .subcommand(accounts(alloc)?)
 }
 
 /// With the words of every month.
 fn with_months<'a>(alloc: Global, command: Command<'a>) -> Result<Command<'a>, AllocError>
     ensures { IfOk result (HasMore months command.entry) }
 {
-    command
-        .subcommand(import(alloc)?)?
+    with_imports(alloc, command)?
         .subcommand(balance(alloc)?)?
         .subcommand(register(alloc)?)
+}
+
+/// With the words by which money goes and comes.
+fn with_moves<'a>(alloc: Global, command: Command<'a>) -> Result<Command<'a>, AllocError>
+    ensures { IfOk result (HasMore (word (codes "dispatch")
+        (id ∷ option (codes "from") ∷ option (codes "to") ∷ day ∷ option (codes "amount") ∷ account ∷ dry_run ∷ [])
+        ∷ word (codes "receive")
+        (id ∷ branch ∷ day ∷ account ∷ optional (codes "part") ∷ optional (codes "amount") ∷ dry_run ∷ [])
+        ∷ []) command.entry) }
+{
+    command
+        .subcommand(dispatch(alloc)?)?
+        .subcommand(receive(alloc)?)
 }
 
 /// With the words of transfers.
 fn with_transfers<'a>(alloc: Global, command: Command<'a>) -> Result<Command<'a>, AllocError>
     ensures { IfOk result (HasMore transfers command.entry) }
 {
-    command
-        .subcommand(dispatch(alloc)?)?
-        .subcommand(receive(alloc)?)?
+    with_moves(alloc, command)?
+        .subcommand(transfers(alloc)?)?
         .subcommand(transit(alloc)?)
 }
 
@@ -454,9 +567,9 @@ fn run<'a>(alloc: Global) -> Command<'a>
 
 /// With the words that lock a branch.
 fn with_locks<'a>(alloc: Global, command: Command<'a>) -> Result<Command<'a>, AllocError>
-    ensures { IfOk result (HasMore (word (codes "lock") (branch ∷ day ∷ [])
-        ∷ word (codes "close") (branch ∷ day ∷ optional (codes "accounts") ∷ optional (codes "into") ∷ []) ∷ [])
-        command.entry) }
+    ensures { IfOk result (HasMore (word (codes "lock") (branch ∷ day ∷ dry_run ∷ [])
+        ∷ word (codes "close") (branch ∷ day ∷ optional (codes "accounts") ∷ optional (codes "into") ∷ dry_run ∷ [])
+        ∷ []) command.entry) }
 {
     command.subcommand(lock(alloc)?)?.subcommand(close(alloc)?)
 }

@@ -1,6 +1,5 @@
 //! What more can be said of a word that is refused by 41 or 45, by a look at its files.
 
-use crate::explain::pieces::{push_line, push_named};
 use crate::words::beside::{has_log, log_name};
 use crate::words::file::read_at_most;
 use crate::words::spelling::value_of;
@@ -10,6 +9,7 @@ use std::alloc::Global;
 use std::fs::{self, File, OpenOptions};
 use std::io::{Error, ErrorKind};
 use std::os::unix::fs::MetadataExt;
+use treasury_told::explain::{push_line, push_named};
 
 /// The numbers by which a system says that a process, or the machine, has no file descriptor left.
 const NO_DESCRIPTOR: [i32; 2] = [24, 23];

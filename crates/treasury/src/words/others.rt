@@ -1,12 +1,12 @@
 //! What a database has beside the tables of a treasury, which standard error notes.
 
-use crate::explain::pieces::{push_number, push_shown};
-use crate::notes::MOST;
 use crate::words::tables::{is_ours, push_name};
 use money_core::Cause;
 use sqlite_schema::names::same_name;
 use sqlite_schema::schema::Schema;
 use std::alloc::Global;
+use treasury_told::explain::{push_number, push_shown};
+use treasury_told::notes::MOST;
 
 /// How the names begin that SQLite gives: of the indexes of keys, and of tables such as those of `ANALYZE`.
 const OF_SQLITE: &[u8] = b"sqlite_";

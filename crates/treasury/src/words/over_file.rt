@@ -6,8 +6,8 @@ ghost use Rattle.clap.specs.Matches.{found_of};
 ghost use Rattle.clap.specs.Walk.{rows_of};
 ghost use Rattle.sqlite_wal.specs.Recovery.{Image};
 ghost use Rattle.sqlite_wal.specs.Files.{image_at};
-ghost use Rattle.treasury_api.specs.declared.request.Request.TheVariants.{Import};
-ghost use Rattle.treasury_api.specs.Request.{HasDayNumbers};
+ghost use Rattle.treasury_requests.specs.declared.request.Request.TheVariants.{Import};
+ghost use Rattle.treasury_requests.specs.Request.{HasDayNumbers};
 ghost use Rattle.treasury_api.specs.Left.{LeavesRequest};
 ghost use Rattle.treasury.specs.declared.words.left.Left.TheVariants.{Untouched};
 ghost use Rattle.treasury.specs.Left.{KeepsFile};
@@ -16,14 +16,12 @@ ghost use Rattle.treasury.specs.OverFile.{IsRefusedBy, IsFileRefused, SaysToInit
 ghost use Rattle.treasury.specs.OverFile.{SaysToImport, SaysToForm, SaysToWord};
 ghost use Rattle.treasury.specs.Started.{spoken, IsRoom, IsStarted, refusal_of, IsClosedOrShut};
 
-use crate::explain::{explain, sentence};
-use crate::notes::{held_before, notes_of};
 use crate::words::file::{
     UNCLOSED, Unopened, Unserved, close_treasury, make_tables, open_treasury, read_journal,
 };
 use crate::words::left::Left;
 use crate::words::said::{Said, done, refused, room_for_line};
-use crate::words::spelling::{fault_of, form_of_word, value_of};
+use crate::words::spelling::{fault_of, form_of_word, is_dry_run, value_of};
 use book_core::Refusal;
 use clap::ArgMatches;
 use money_core::{Cause, Text};
@@ -32,8 +30,12 @@ use sqlite_disk::Disk;
 use std::alloc::Global;
 use std::fs;
 use std::io::Read;
-use treasury_api::{Bytes, Request, answer, refuse, request_of};
+use treasury_api::{additions_ahead, answer, refuse};
+use treasury_requests::{Bytes, Request, Spelled, request_of};
 use treasury_store::Treasury;
+use treasury_told::dry_run::notes_of_dry_run;
+use treasury_told::explain::{explain, sentence};
+use treasury_told::notes::{HeldBefore, held_before, notes_of};
 
 /// What is said to a word over a file, and what it leaves of the file.
 #[derive(Drop)]
@@ -112,15 +114,50 @@ pub fn lacking(alloc: Global, room: Vec<u8>, word: &str) -> Said
 fn reason_of<S: Alter>(
     alloc: Global,
     treasury: &Treasury<S>,
-    request: &Request,
+    request: &Spelled,
     source: &str,
     refusal: &Refusal,
 ) -> Vec<u8> {
     let mut reason = Vec::new(alloc);
     if let Some(state) = treasury.state() {
-        let _ = explain(alloc, state, request, source, refusal, &mut reason);
+        let _ = explain(alloc, state, &request.request, source, refusal, &mut reason);
     }
     reason
+}
+
+/// What is said of a dry run that is not refused, as far as there is memory for it.
+fn notes_ahead<S: Alter>(
+    alloc: Global,
+    treasury: &Treasury<S>,
+    request: &Spelled,
+    source: &str,
+) -> Vec<u8>
+    requires { HasDayNumbers request.now.request }
+{
+    let Some(state) = treasury.state() else {
+        return Vec::new(alloc);
+    };
+    match additions_ahead(alloc, state, request) {
+        Some(added) => notes_of_dry_run(alloc, state, &request.request, source, added.additions()),
+        None => Vec::new(alloc),
+    }
+}
+
+/// What is said beside an answer that is no refusal, as far as there is memory for it.
+fn notes_on<S: Alter>(
+    alloc: Global,
+    treasury: &Treasury<S>,
+    request: &Spelled,
+    source: &str,
+    held: Option<HeldBefore>,
+) -> Vec<u8>
+    requires { HasDayNumbers request.now.request }
+{
+    if request.is_dry_run {
+        notes_ahead(alloc, treasury, request, source)
+    } else {
+        notes_of(alloc, treasury.state(), &request.request, source, held)
+    }
 }
 
 /// What a treasury answers to the request of a word: as to a line of `run`, but a report has no `ok` behind its lines.
@@ -128,21 +165,21 @@ fn reason_of<S: Alter>(
 pub fn answer_word<S: Alter>(
     alloc: Global,
     room: Vec<u8>,
-    request: &Request,
+    request: &Spelled,
     source: &str,
     treasury: &mut Treasury<S>,
 ) -> Said
     requires room { IsRoom room }
-    requires days { HasDayNumbers request.now }
+    requires days { HasDayNumbers request.now.request }
     ensures says { SaysTo S.Store treasury.old request.now result.answer.items result.is_refused treasury.new }
     ensures left { LeavesRequest S.Store treasury.old treasury.new request.now }
 {
     let mut text = Vec::new(alloc);
-    let held = held_before(treasury, request);
+    let held = held_before(treasury.state(), &request.request);
     match answer(alloc, request, treasury, &mut text) {
         Ok(()) => Said {
             answer: text,
-            reason: notes_of(alloc, treasury, request, source, held),
+            reason: notes_on(alloc, treasury, request, source, held),
             is_refused: false,
         },
         Err(refusal) => {
@@ -175,12 +212,12 @@ fn answer_on_file<D: Disk + Drop>(
     alloc: Global,
     room: Vec<u8>,
     path: &str,
-    request: &Request,
+    request: &Spelled,
     source: &str,
     treasury: Treasury<FileStore<D>>,
 ) -> Answered<D>
     requires room { IsRoom room }
-    requires days { HasDayNumbers request.now }
+    requires days { HasDayNumbers request.now.request }
     ensures says { (image : Image) → IsStarted D.Disk image treasury
         → SaysOver D.Disk image request.now (spoken result.said) result.left }
     // What is handed back is what was closed, or could not be.
@@ -229,12 +266,12 @@ fn answer_request<S: Start>(
     rt: &HostRuntime,
     room: Vec<u8>,
     path: &str,
-    request: &Request,
+    request: &Spelled,
     source: &str,
     start: S,
 ) -> Answered<FileFrom<S>>
     requires room { IsRoom room }
-    requires days { HasDayNumbers request.now }
+    requires days { HasDayNumbers request.now.request }
     ensures { SaysOver ⟦<FileFrom<S> as Disk>⟧ (image_at S.Start) request.now (spoken result.said) result.left }
 {
     match open_treasury(rt, path, start) {
@@ -263,11 +300,12 @@ fn answer_journal<R: Read + Drop, S: Start>(
     path: &str,
     branch: &str,
     source: &str,
+    is_dry_run: bool,
     reader: R,
     start: S,
 ) -> Answered<FileFrom<S>>
     requires { IsRoom room }
-    ensures { SaysToJournal ⟦<FileFrom<S> as Disk>⟧ (image_at S.Start) branch.now (R.remaining reader)
+    ensures { SaysToJournal ⟦<FileFrom<S> as Disk>⟧ (image_at S.Start) branch.now is_dry_run (R.remaining reader)
         (spoken result.said) result.left }
 {
     let alloc = rt.alloc();
@@ -279,7 +317,13 @@ fn answer_journal<R: Read + Drop, S: Start>(
         }
     };
     match import_of(alloc, branch, bytes) {
-        Ok(request) => answer_request(rt, room, path, &request, source, start),
+        Ok(request) => {
+            let spelled = Spelled {
+                request,
+                is_dry_run,
+            };
+            answer_request(rt, room, path, &spelled, source, start)
+        }
         Err(cause) => before(refused(alloc, room, cause, source, sentence(cause))),
     }
 }
@@ -304,7 +348,10 @@ fn answer_import<S: Start>(
         return before(lacking(alloc, room, "import"));
     };
     match fs::open(rt, journal) {
-        Ok(file) => answer_journal(rt, room, path, branch, journal, file, start),
+        Ok(file) => {
+            let is_dry_run = is_dry_run(values);
+            answer_journal(rt, room, path, branch, journal, is_dry_run, file, start)
+        }
         Err(_) => {
             let reason = "the journal's file cannot be read";
             before(refused(alloc, room, Cause::ReadFault, journal, reason))
@@ -330,7 +377,13 @@ fn answer_form<S: Start>(
         return before(refused(alloc, room, Cause::Request, word, fault_of(values)));
     };
     match request_of(alloc, form) {
-        Ok(request) => answer_request(rt, room, path, &request, "", start),
+        Ok(request) => {
+            let spelled = Spelled {
+                request,
+                is_dry_run: is_dry_run(values),
+            };
+            answer_request(rt, room, path, &spelled, "", start)
+        }
         Err(cause) => before(refused(alloc, room, cause, word, sentence(cause))),
     }
 }

@@ -6,12 +6,12 @@ ghost use Rattle.treasury_api.specs.Answer.{answer_text};
 ghost use Rattle.treasury.specs.OverFile.{IsRefusedBy};
 ghost use Rattle.treasury.specs.Started.{spoken, IsRoom};
 
-use crate::explain::push_reason;
 use book_core::Refusal;
 use money_core::{Cause, Styles};
 use std::alloc::{AllocError, Global};
 use treasury_api::{MOST_PLAIN, answer_line};
 use treasury_core::Answer;
+use treasury_told::explain::push_reason;
 
 /// What is said to a word.
 #[derive(Drop)]

@@ -30,6 +30,7 @@ use money_core::Cause;
 use sqlite::{Alter, FileFrom, FileStore, Start};
 use sqlite_disk::Disk;
 use std::alloc::Global;
+use std::cell::Cell;
 use std::io::{self, Read, Write};
 use std::net::{TcpListener, TcpStream};
 use treasury_api::{serve_one, write_whole};
@@ -166,17 +167,21 @@ fn meet<S: Alter>(
 ) -> (Met, Option<Sight>)
     ensures { HasServed S.Store treasury.old treasury.new }
 {
+    let is_get = Cell::new(false);
     let mut reader = Guarded {
         rt,
         watch,
         reader: Asking::new(rt, stream),
         is_changed: false,
+        is_begun: false,
+        is_get: &is_get,
     };
     let mut writer = Noting {
         rt,
         watch,
         writer: Replying::new(rt, stream),
         is_begun: false,
+        is_get: &is_get,
         left: watch.left,
     };
     let met = match serve_call(rt.alloc(), &mut reader, &mut writer, treasury) {

@@ -4,20 +4,32 @@ ghost use Rattle.std.specs.Prelude.{◌≡◌, codes, option_map, option_copied,
 ghost use Rattle.clap.specs.Matches.{found_of};
 ghost use Rattle.clap.specs.Walk.{first_of, rows_of};
 ghost use Rattle.journal_lines.specs.Date.{IsDayNumber};
-ghost use Rattle.treasury_api.specs.Form.{shown, shown_part};
-ghost use Rattle.treasury_api.specs.Request.{HasDayNumbers};
-ghost use Rattle.treasury.specs.Spelling.{day_in, dispatch_in, part_in, receive_in, report_in, request_in};
+ghost use Rattle.treasury_requests.specs.Form.{shown, shown_part};
+ghost use Rattle.treasury_requests.specs.Request.{HasDayNumbers};
+ghost use Rattle.treasury.specs.Spelling.{day_in, dispatch_in, part_in, receive_in, list_in, report_in};
+ghost use Rattle.treasury.specs.Spelling.{request_in};
+ghost use Rattle.treasury.specs.Spelling.{is_dry_run};
 
 use clap::ArgMatches;
 use journal_lines::read_date;
 use money_core::Day;
-use treasury_api::{Form, PartForm};
+use treasury_requests::{Form, PartForm};
 
 /// The value of that name.
 pub fn value_of<'a>(values: &ArgMatches<'a>, name: &str) -> Option<&'a str>
     ensures { option_map (λ s. s.now) result ≡ first_of name.now (rows_of (found_of values.now)) }
 {
     values.get_str(name)
+}
+
+/// Whether a dry run is asked for.
+pub fn is_dry_run(values: &ArgMatches<'_>) -> bool
+    ensures { result ≡ is_dry_run (rows_of (found_of values.now)) }
+{
+    match value_of(values, "dry-run") {
+        Some(text) => text == "true",
+        None => false,
+    }
 }
 
 /// The value that is a day.
@@ -87,6 +99,26 @@ fn receive_of<'a>(values: &ArgMatches<'a>) -> Option<Form<'a>>
     })
 }
 
+/// What the word of a list of what there is asks for.
+fn list_of<'a>(word: &str, values: &ArgMatches<'a>) -> Option<Form<'a>>
+    ensures value { option_map shown result ≡ list_in word.now (rows_of (found_of values.now)) }
+    ensures days { IfSome result (λ form. HasDayNumbers (shown form)) }
+{
+    if word == "branches" {
+        Some(Form::Branches)
+    } else if word == "commodities" {
+        Some(Form::Commodities)
+    } else if word == "accounts" {
+        let branch = value_of(values, "branch")?;
+        Some(Form::Accounts { branch })
+    } else if word == "transfers" {
+        let day = day_of(values)?;
+        Some(Form::Transfers { day })
+    } else {
+        None
+    }
+}
+
 /// What the word of a report asks for.
 fn report_of<'a>(word: &str, values: &ArgMatches<'a>) -> Option<Form<'a>>
     ensures value { option_map shown result ≡ report_in word.now (rows_of (found_of values.now)) }
@@ -112,7 +144,7 @@ fn report_of<'a>(word: &str, values: &ArgMatches<'a>) -> Option<Form<'a>>
         let branch = value_of(values, "branch")?;
         Some(Form::Journal { branch })
     } else {
-        None
+        list_of(word, values)
     }
 }
 

@@ -3,12 +3,12 @@
 ghost use Rattle.std.specs.Prelude.{◌≡◌};
 ghost use Rattle.treasury_store.specs.Creating.{has_receipt};
 
-use crate::explain::pieces::push_shown;
 use crate::words::file::Unopened;
 use money_core::Cause;
 use sqlite_schema::names::same_name;
 use sqlite_schema::schema::{Schema, Table};
 use std::alloc::Global;
+use treasury_told::explain::push_shown;
 
 /// The tables of a treasury, each with its columns (docs/FORMATS.md, "Tables"), less that of receipts in parts.
 const TABLES: &[(&str, &str)] = &[

@@ -1,6 +1,7 @@
 //! The files of a service, as it left them. Another program may write to them, or put others in their place: then no
 //! more is asked of the treasury, whose pages in memory are those of files that are gone.
 
+use std::cell::Cell;
 use std::fs;
 use std::io::{self, ErrorKind, Read, Write};
 use std::os::unix::fs::MetadataExt;
@@ -119,27 +120,38 @@ pub struct Guarded<'a, R> {
     pub watch: &'a Watch<'a>,
     pub reader: R,
     pub is_changed: bool,
+    /// Whether the first byte has come.
+    pub is_begun: bool,
+    /// Whether what came begins as a `GET` does: such a request is a report, or nothing.
+    pub is_get: &'a Cell<bool>,
 }
 
 impl<R: Read> Read for Guarded<'_, R> {
     fn read(&mut self, buf: &mut [u8]) -> io::Result<usize> {
         let count = self.reader.read(buf)?;
-        if self.watch.is_as_left(self.rt) {
-            return Ok(count);
+        if !self.watch.is_as_left(self.rt) {
+            self.is_changed = true;
+            return Err(changed());
         }
-        self.is_changed = true;
-        Err(changed())
+        if !self.is_begun && count > 0 {
+            self.is_begun = true;
+            self.is_get.set(buf.first() == Some(&b'G'));
+        }
+        Ok(count)
     }
 }
 
 /// Writes a reply, and looks at the files before its first byte: what was asked is done by then. Where they are others,
-/// nothing is written.
+/// nothing is written. Behind a report there is nothing to look at, since it writes to no file: that they are as they
+/// were left was seen when its last bytes came.
 #[derive(Drop)]
 pub struct Noting<'a, W> {
     pub rt: &'a HostRuntime,
     pub watch: &'a Watch<'a>,
     pub writer: W,
     pub is_begun: bool,
+    /// Whether what was asked begins as a `GET` does.
+    pub is_get: &'a Cell<bool>,
     /// What the service has left.
     pub left: Option<Sight>,
 }
@@ -148,7 +160,9 @@ impl<W: Write> Write for Noting<'_, W> {
     fn write(&mut self, buf: &[u8]) -> io::Result<usize> {
         if !self.is_begun {
             self.is_begun = true;
-            self.left = self.watch.look_behind(self.rt);
+            if !self.is_get.get() {
+                self.left = self.watch.look_behind(self.rt);
+            }
         }
         if self.left.is_none() {
             return Err(changed());

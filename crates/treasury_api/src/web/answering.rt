@@ -4,7 +4,7 @@ ghost use Rattle.std.specs.Prelude.{◌≡◌, ◌≤◌, [], Ok, Err, IfOk, OnE
 ghost use Rattle.std.specs.Result.{IsOkUnless};
 ghost use Rattle.book_core.specs.declared.refusal.Refusal.{Refusal as Refused};
 ghost use Rattle.treasury_store.specs.Kept.{ShutsByFault};
-ghost use Rattle.treasury_api.specs.Request.{HasDayNumbers};
+ghost use Rattle.treasury_requests.specs.Request.{HasDayNumbers, in_earnest};
 ghost use Rattle.treasury_api.specs.Answer.{answer_text};
 ghost use Rattle.treasury_api.specs.Left.{LeavesRequest};
 ghost use Rattle.treasury_api.specs.OneRequest.{RepliesOn};
@@ -14,7 +14,6 @@ ghost use Rattle.treasury_api.specs.WebServing.{code_of, HasDays};
 
 use crate::answering::answer;
 use crate::answers::{MOST_PLAIN, answer_line};
-use crate::request::{Request, read_line};
 use crate::running::refuse_by;
 use crate::web::reply::Reply;
 use crate::web::status::{Status, status_of};
@@ -24,21 +23,32 @@ use journal_lines::read_date;
 use money_core::{Cause, Styles, Text};
 use sqlite::Alter;
 use std::alloc::Global;
+use treasury_requests::{Request, Spelled, read_line};
 use treasury_store::Treasury;
 
+/// The request, which is no dry run.
+fn in_earnest(request: Request) -> Spelled
+    ensures { result ≡ in_earnest request }
+{
+    Spelled {
+        request,
+        is_dry_run: false,
+    }
+}
+
 /// The request for the balances of a branch, where the date is one.
-fn balance_at(branch: Text, date: Text) -> Option<Request>
+fn balance_at(branch: Text, date: Text) -> Option<Spelled>
     ensures asked { result ≡ asked_by (Call.Balance branch date) }
     ensures days { HasDays result }
 {
     match read_date(date.as_str().as_bytes()) {
-        Some(day) => Some(Request::Balance { branch, day }),
+        Some(day) => Some(in_earnest(Request::Balance { branch, day })),
         None => None,
     }
 }
 
 /// The request that is called for; `None` where nothing is. Answers 40 where there is no memory to read it.
-fn request_by(alloc: Global, call: Call) -> Result<Option<Request>, Cause>
+fn request_by(alloc: Global, call: Call) -> Result<Option<Spelled>, Cause>
     ensures asked { IfOk result (λ request. request ≡ asked_by call) }
     ensures days { IfOk result HasDays }
     ensures memory { IsOkUnless result Cause.OutOfMemory }
@@ -53,9 +63,16 @@ fn request_by(alloc: Global, call: Call) -> Result<Option<Request>, Cause>
             Err(_) => Err(Cause::OutOfMemory),
         },
         Call::Balance { branch, date } => Ok(balance_at(branch, date)),
-        Call::Journal { branch } => Ok(Some(Request::Journal { branch })),
+        Call::Journal { branch } => Ok(Some(in_earnest(Request::Journal { branch }))),
         Call::Transit { date } => match read_date(date.as_str().as_bytes()) {
-            Some(day) => Ok(Some(Request::Transit { day })),
+            Some(day) => Ok(Some(in_earnest(Request::Transit { day }))),
+            None => Ok(None),
+        },
+        Call::Branches => Ok(Some(in_earnest(Request::Branches))),
+        Call::Commodities => Ok(Some(in_earnest(Request::Commodities))),
+        Call::Accounts { branch } => Ok(Some(in_earnest(Request::Accounts { branch }))),
+        Call::Transfers { date } => match read_date(date.as_str().as_bytes()) {
+            Some(day) => Ok(Some(in_earnest(Request::Transfers { day }))),
             None => Ok(None),
         },
     }
@@ -119,11 +136,11 @@ fn no_request(alloc: Global, room: Vec<u8>) -> Reply
 /// The reply to a request. `room` is for the line of a refusal.
 fn answer_request<S: Alter>(
     alloc: Global,
-    request: &Request,
+    request: &Spelled,
     treasury: &mut Treasury<S>,
     room: Vec<u8>,
 ) -> Reply
-    requires days { HasDayNumbers request.now }
+    requires days { HasDayNumbers request.now.request }
     requires empty { room.items ≡ [] }
     requires room { MOST_PLAIN ≤ vec_capacity room }
     ensures replies { RepliesOn S.Store treasury.old request.now result.body.items

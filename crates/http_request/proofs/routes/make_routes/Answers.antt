@@ -8,4 +8,8 @@ returns c =
     let b = c.in_ok-insert-2.ensures in
     let d = c.in_ok-insert-3.ensures in
     let e = c.in_ok-insert-4.ensures in
-    rw (e.1, d.1, b.1, a.1, c.new-router.ensures)
+    let f = c.in_ok-insert-5.ensures in
+    let g = c.in_ok-insert-6.ensures in
+    let h = c.in_ok-insert-7.ensures in
+    let i = c.in_ok-insert-8.ensures in
+    rw (i.1, h.1, g.1, f.1, e.1, d.1, b.1, a.1, c.new-router.ensures)

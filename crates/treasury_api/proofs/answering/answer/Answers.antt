@@ -7,12 +7,15 @@ use Rattle.treasury_store.specs.Treasury.{Treasury, IsTreasuryOf}
 use Rattle.treasury_store.proofs.TreasuryLemmas.{ok_unfailed}
 use Rattle.treasury_store.proofs.LeftLemmas.{shuts_by, shuts_then}
 use Rattle.treasury_store.proofs.OwnRefusalLemmas.{listed_unheld}
-use Rattle.treasury_api.specs.Asked.{RequestAsks}
+use Rattle.treasury_api.specs.Asked.{SpelledAsks}
 use Rattle.treasury_api.specs.Report.{report_text, has_its_branch}
-use Rattle.treasury_api.specs.Serving.{OrMemory}
-use Rattle.treasury_api.specs.declared.asking.Asked.TheVariants.{Command, Report}
+use Rattle.treasury_api.specs.Serving.{OrMemory, IsForeseen}
+use Rattle.treasury_api.specs.declared.asking.Asked.TheVariants.{Command, DryRun, Report}
 use Rattle.treasury_api.proofs.ReplyLemmas.{state_is}
 use Rattle.treasury_api.proofs.AnswerLemmas.{unheld, held_unfailed, answered, meant, command_fits, refused_texts}
+use Rattle.treasury_api.proofs.AnswerLemmas.{dry_run_fits}
+use Rattle.treasury_api.proofs.ForeseenLemmas.{foreseen, foreseen_listed, foreseen_printable, foreseen_unfailed}
+use Rattle.treasury_api.proofs.ForeseenLemmas.{foreseen_same}
 use Rattle.treasury_api.proofs.AnswerLemmas.{reported, unreported, is_there}
 use Rattle.treasury_api.proofs.LeftLemmas.{left_same, left_command, open_unheld, open_done, open_then, fails_not}
 use Rattle.treasury_api.proofs.LeftLemmas.{fails_unheld, fails_ruled, unread_state, refused_closed, ruled_texts}
@@ -92,7 +95,7 @@ returns-clause-replies g c clean f of =
     let was = held_unfailed _ c.in-Ok.field-0 c.hold.result c.in-Ok.is c.hold.ensures.closed in
     refused_texts c.reading_law.ensures.some g.S.Store c.args.treasury.now.store.failed c.hold.new.self f
     c.args.request.now c.in-Err-asked_by.refusal _ _ _ was
-    (subst (λ (x : List Style). OrMemory (RequestAsks x c.args.request.now) (Err c.in-Err-asked_by.refusal))
+    (subst (λ (x : List Style). OrMemory (SpelledAsks x c.args.request.now) (Err c.in-Err-asked_by.refusal))
     (c.styles.ensures ∙ ap (λ (x : Federation). x.styles) same) c.in-Err-asked_by.ensures.asks)
     refl still_of (ok_unfailed c.in-Ok.field-0 _ (c.in-Ok.ensures.answers was)) refl
 
@@ -164,7 +167,7 @@ returns-in-Ok-Command-clause-shuts g c =
 pub returns-in-Ok-Command-clause-left : goal.returns-in-Ok-Command-clause-left
 returns-in-Ok-Command-clause-left g c =
     let means : (f : Federation) → IsTreasuryOf g.S.Store c.hold.new.self f
-    → RequestAsks f.styles c.args.request.now (Ok (Command c.in-Ok-Command.command)) = λ f of.
+    → SpelledAsks f.styles c.args.request.now (Ok (Command c.in-Ok-Command.command)) = λ f of.
     let same : c.in-Some.state.now ≡ f =
     state_is g.S.Store c.hold.new.self c.in-Some.state.now f of c.in-Some.ensures in
     meant _ _ _ _ _ (c.styles.ensures ∙ ap (λ (x : Federation). x.styles) same) c.in-Ok-Command.field-0-is
@@ -183,6 +186,67 @@ returns-in-Ok-Command-clause-left g c =
       ),
     )
     means c.answer_command.ensures.left
+
+-- ---- a dry run
+
+pub answer_dry_run-requires : goal.answer_dry_run-requires
+answer_dry_run-requires g c =
+    dry_run_fits _ _ _ _ c.styles.ensures c.in-Ok-DryRun.field-0-is c.in-Ok-DryRun.ensures.ready
+
+pub returns-in-Ok-DryRun-clause-replies : goal.returns-in-Ok-DryRun-clause-replies
+returns-in-Ok-DryRun-clause-replies g c clean f of =
+    let still_of = c.hold.ensures.of clean f of in
+    let same : c.in-Some.state.now ≡ f =
+    state_is g.S.Store c.hold.new.self c.in-Some.state.now f still_of c.in-Some.ensures in
+    let was = held_unfailed _ c.in-Ok.field-0 c.hold.result c.in-Ok.is c.hold.ensures.closed in
+    answered g.S.Store c.args.treasury.now.store.failed c.hold.new.self f c.args.request.now
+    (Ok (DryRun c.in-Ok-DryRun.command)) c.answer_dry_run.result _ _ was
+    (meant _ _ _ _ _ (c.styles.ensures ∙ ap (λ (x : Federation). x.styles) same) c.in-Ok-DryRun.field-0-is
+    c.in-Ok-DryRun.ensures.asks)
+    (foreseen g.S.Store c.hold.new.self f c.in-Ok-DryRun.command c.answer_dry_run.result c.args.out.now.items
+    c.answer_dry_run.new.out.items still_of (ok_unfailed c.in-Ok.field-0 _ (c.in-Ok.ensures.answers was))
+    (subst (λ (x : Federation). IsForeseen x c.in-Ok-DryRun.command c.answer_dry_run.result c.args.out.now.items
+    c.answer_dry_run.new.out.items) same c.answer_dry_run.ensures))
+
+pub returns-in-Ok-DryRun-clause-err : goal.returns-in-Ok-DryRun-clause-err
+returns-in-Ok-DryRun-clause-err g c = foreseen_same _ _ _ _ _ c.answer_dry_run.ensures
+
+pub returns-in-Ok-DryRun-clause-printable : goal.returns-in-Ok-DryRun-clause-printable
+returns-in-Ok-DryRun-clause-printable g c =
+    foreseen_printable c.hold.new.self c.in-Some.state.now c.in-Ok-DryRun.command c.answer_dry_run.result
+    c.args.out.now.items c.answer_dry_run.new.out.items c.in-Some.ensures c.is_good.ensures
+    (dry_run_fits _ _ _ _ c.styles.ensures c.in-Ok-DryRun.field-0-is c.in-Ok-DryRun.ensures.ready)
+    c.answer_dry_run.ensures
+
+pub returns-in-Ok-DryRun-clause-listed : goal.returns-in-Ok-DryRun-clause-listed
+returns-in-Ok-DryRun-clause-listed g c unfailed = foreseen_listed _ _ _ _ _ c.answer_dry_run.ensures
+
+pub returns-in-Ok-DryRun-clause-fails : goal.returns-in-Ok-DryRun-clause-fails
+returns-in-Ok-DryRun-clause-fails g c unfailed =
+    foreseen_unfailed _ _ _ _ _ _ (ok_unfailed c.in-Ok.field-0 _ (c.in-Ok.ensures.answers unfailed))
+    c.answer_dry_run.ensures
+
+pub returns-in-Ok-DryRun-clause-closed : goal.returns-in-Ok-DryRun-clause-closed
+returns-in-Ok-DryRun-clause-closed g c failed = absurd (let k = (c.in-Ok.ensures.closed failed).0 in cc)
+
+pub returns-in-Ok-DryRun-clause-strange : goal.returns-in-Ok-DryRun-clause-strange
+returns-in-Ok-DryRun-clause-strange g c clean unfailed unheld none = absurd (c.in-Ok.ensures.shown clean unheld none)
+
+pub returns-in-Ok-DryRun-clause-still_open : goal.returns-in-Ok-DryRun-clause-still_open
+returns-in-Ok-DryRun-clause-still_open g c clean is_open =
+    open_done g.S.Store c.args.treasury.now.store.conn c.hold.new.self.store.conn c.answer_dry_run.result
+    (inl (c.in-Ok.ensures.still_open clean is_open))
+
+pub returns-in-Ok-DryRun-clause-open_but : goal.returns-in-Ok-DryRun-clause-open_but
+returns-in-Ok-DryRun-clause-open_but g c clean is_open f of = inl (c.in-Ok.ensures.still_open clean is_open)
+
+pub returns-in-Ok-DryRun-clause-shuts : goal.returns-in-Ok-DryRun-clause-shuts
+returns-in-Ok-DryRun-clause-shuts g c =
+    shuts_by g.S.Store c.args.treasury.now.store.conn c.hold.new.self.store.conn _ c.hold.ensures.crash
+
+pub returns-in-Ok-DryRun-clause-left : goal.returns-in-Ok-DryRun-clause-left
+returns-in-Ok-DryRun-clause-left g c =
+    left_same g.S.Store c.args.treasury.now c.hold.new.self c.args.request.now c.hold.ensures.left
 
 -- ---- a report that is made
 

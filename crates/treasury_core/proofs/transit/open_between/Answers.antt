@@ -18,7 +18,7 @@ overflow_add-sum c =
     (open_of c.transfer-item.result c.args.day) (open_low c.transfer-item.result c.args.day fair) in
     let i = c.loop-transfer.invariant.sums in
     let j = c.loop-transfer.invariant.low in
-    let h = c.open_of-share.ensures in
+    let h = c.open_on_way-share.ensures in
     let s = c.requires.small in
     omega (arith, ints)
 
@@ -31,9 +31,9 @@ loop-transfer-preserved c =
     c.transfer-item.is c.requires.fair in
     let more = some_low (is_between c.args.from.now c.args.to.now c.args.unit c.transfer-item.result)
     (open_of c.transfer-item.result c.args.day) (open_low c.transfer-item.result c.args.day fair) in
-    let fits : FitsSigned w64 (to_z w64 c.loop-transfer.sum-bits +ℤ to_z w64 (of_z w64 c.open_of-share.result)) =
+    let fits : FitsSigned w64 (to_z w64 c.loop-transfer.sum-bits +ℤ to_z w64 (of_z w64 c.open_on_way-share.result)) =
     overflow_add-sum c in
     let i = c.loop-transfer.invariant.sums in
     let j = c.loop-transfer.invariant.low in
-    let h = c.open_of-share.ensures in
+    let h = c.open_on_way-share.ensures in
     record { sums = omega (arith, ints); low = omega (arith, ints) }

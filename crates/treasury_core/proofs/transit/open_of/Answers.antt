@@ -1,8 +1,7 @@
 use Rattle.std.proofs.Common.{◌≡◌, arith, sym, false}
 use Rattle.std.specs.Prelude.{int_le}
 use Rattle.std.proofs.lemmas.Int.{ints}
-use Rattle.treasury_core.specs.Transfer.{open_of, is_between}
-use Rattle.treasury_core.proofs.WayLemmas.{if_zero, open_before}
+use Rattle.treasury_core.proofs.WayLemmas.{open_before}
 use Rattle.treasury_core.proofs.transit.open_of.Goals as goal
 
 pub returns-then-day-transfer : goal.returns-then-day-transfer
@@ -10,5 +9,4 @@ returns-then-day-transfer c =
     let t = c.args.transfer.now in
     let h = c.if-day-transfer.true in
     let e : int_le t.day.0 c.args.day.0 ≡ false = grind (arith, ints) in
-    sym (if_zero (is_between c.args.from.now c.args.to.now c.args.unit t) (open_of t c.args.day)
-    (open_before t c.args.day c.requires e))
+    sym (open_before t c.args.day c.requires e)

@@ -1,9 +1,0 @@
-use Rattle.std.proofs.Common.{◌∙◌, sym, ap, Some, option_and_then}
-use Rattle.treasury_api.specs.Request.{request_of}
-use Rattle.treasury_api.proofs.RequestLemmas.{spelled-utf8}
-use Rattle.treasury_api.proofs.request.reading.read_command.Goals as goal
-
-pub returns-in-Ok-request_of-clause-ok : goal.returns-in-Ok-request_of-clause-ok
-returns-in-Ok-request_of-clause-ok c =
-    spelled-utf8 c.args.text.now c.utf8.text ∙ ap (option_and_then request_of) c.in-Ok.ensures.ok ∙ sym
-    c.in-Some.ensures.value ∙ sym (ap Some c.in-Ok-request_of.ensures.equal)

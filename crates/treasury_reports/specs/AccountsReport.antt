@@ -1,0 +1,13 @@
+-- The accounts of a branch (own rule; docs/FORMATS.md, "Accounts report").
+use Rattle.std.specs.Prelude.{ℕ, List, ◌++◌, codes}
+use Rattle.std.specs.List.{flat_map}
+use Rattle.treasury_core.specs.Federation.{Federation, book_of}
+use Rattle.treasury_reports.specs.BalanceReport.{book_accounts}
+
+-- an account's line
+abbrev pub account_line : List ℕ → List ℕ
+account_line account = account ++ codes "\n"
+
+-- the report: the accounts of all legs of a branch's book, each once, in byte order
+abbrev pub accounts_text : Federation → List ℕ → List ℕ
+accounts_text f name = flat_map account_line (book_accounts (book_of f name))

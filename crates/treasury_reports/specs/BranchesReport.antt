@@ -1,0 +1,27 @@
+-- The branches, with their locks (own rule; docs/FORMATS.md, "Branches report").
+use Rattle.std.specs.Prelude.{ℕ, ◌&&◌, Bool, if◌then◌else◌, List, ◌++◌, length, codes, decimal, pos, negsuc, int_le}
+use Rattle.std.specs.Prelude.{Option, Some, None}
+use Rattle.std.specs.List.{flat_map}
+use Rattle.money_core.specs.declared.day.Day.{Day}
+use Rattle.journal_lines.specs.Date.{printed_date}
+use Rattle.treasury_core.specs.Federation.{Branch, Federation}
+use Rattle.treasury_reports.specs.Columns.{right_aligned, number_width}
+
+-- a day from 0001-01-01 to 9999-12-31: a lock day that another program wrote may be none
+abbrev pub is_calendar : Day → Bool
+is_calendar day = int_le (negsuc 719161) day.0 && int_le day.0 (pos 2932896)
+
+-- a lock day, ten blanks where there is none
+abbrev pub lock_column : Option Day → List ℕ
+lock_column None = codes "          "
+lock_column (Some day) = if is_calendar day then printed_date day else codes "?         "
+
+-- lock day, number of entries and name of a branch
+unfoldable pub branch_line : Branch → List ℕ
+branch_line b =
+    lock_column b.locked ++ codes "  " ++ right_aligned number_width (decimal (length b.records)) ++ codes "  "
+    ++ b.name ++ codes "\n"
+
+-- the report: the branches, in order of declaration
+abbrev pub branches_text : Federation → List ℕ
+branches_text f = flat_map branch_line f.branches

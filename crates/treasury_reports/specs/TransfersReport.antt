@@ -1,0 +1,39 @@
+-- The transfers of which something is open (own rule; docs/FORMATS.md, "Transfers report").
+use Rattle.std.specs.Prelude.{◌≡◌, ℕ, Bool, not, List, ◌++◌, codes, filter, pos}
+use Rattle.std.specs.List.{flat_map}
+use Rattle.std.specs.Ordering.{int_eq}
+use Rattle.money_core.specs.declared.style.Style.{Style}
+use Rattle.money_core.specs.declared.unit.Unit.{Unit as Commodity}
+use Rattle.money_core.specs.declared.day.Day.{Day}
+use Rattle.journal_lines.specs.Date.{printed_date}
+use Rattle.treasury_core.specs.declared.transfer.Transfer.{Transfer}
+use Rattle.treasury_core.specs.Federation.{Federation}
+use Rattle.treasury_core.specs.Transfer.{open_of, open_amount}
+use Rattle.treasury_reports.specs.Columns.{amount_column}
+
+-- something of the transfer is open through the day
+abbrev pub is_pending : Day → Transfer → Bool
+is_pending day t = not (int_eq (open_of t day) (pos 0))
+
+-- the transfers of which something is, in byte order of their IDs
+abbrev pub pending : Day → List Transfer → List Transfer
+pending day ts = filter (is_pending day) ts
+
+-- which way a transfer goes
+abbrev pub way_text : Transfer → List ℕ
+way_text t = t.source ++ codes " to " ++ t.target
+
+-- day, amount, open amount, way and ID of a transfer
+unfoldable pub transfer_line : List Style → Day → Transfer → List ℕ
+transfer_line styles day t =
+    printed_date t.day ++ codes "  " ++ amount_column styles t.unit t.qty ++ codes "  "
+    ++ amount_column styles t.unit (open_of t day) ++ codes "  " ++ way_text t ++ codes "  " ++ t.id ++ codes "\n"
+
+-- the report
+unfoldable pub transfers_text : Federation → Day → List ℕ
+transfers_text f day = flat_map (transfer_line f.styles day) (pending day f.transfers)
+
+-- what is open of those that are listed is, from each branch to each and in each commodity, what the transit report has
+abbrev pub AddUpToTransit : List Transfer → Day → Type 0
+AddUpToTransit ts day = (from to : List ℕ) (unit : Commodity)
+    → open_amount (pending day ts) from to unit day ≡ open_amount ts from to unit day

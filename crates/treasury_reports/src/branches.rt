@@ -1,0 +1,89 @@
+//! The branches report of a federation.
+
+ghost use Rattle.std.specs.Prelude.{◌≡◌, ◌++◌, Some, IfOk, OnOk, OnErr};
+ghost use Rattle.std.specs.Result.{IsOkUnless};
+ghost use Rattle.std.specs.List.{flat_map};
+ghost use Rattle.treasury_core.specs.Seen.{branch_of, branches_of};
+ghost use Rattle.treasury_reports.specs.BranchesReport.{lock_column, branch_line, branches_text};
+
+use crate::columns::push_number;
+use book_core::Ledger;
+use journal_lines::{is_day_number, print_date};
+use money_core::{Cause, Day};
+use std::alloc::Global;
+use treasury_core::{Branch, State};
+
+/// Appends a lock day that is there. Tables that another program wrote may have one that no calendar has.
+fn push_day(alloc: Global, day: Day, out: &mut Vec<u8>) -> Result<(), Cause>
+    ensures ok { OnOk result (out.new.items ≡ out.old.items ++ lock_column (Some day)) }
+    ensures memory { IsOkUnless result Cause.OutOfMemory }
+{
+    if is_day_number(day) {
+        return print_date(alloc, day, out);
+    }
+    out.extend_from_slice(b"?         ")?;
+    Ok(())
+}
+
+/// Appends the lock day of a branch in its column.
+fn push_lock(alloc: Global, locked: Option<Day>, out: &mut Vec<u8>) -> Result<(), Cause>
+    ensures ok { OnOk result (out.new.items ≡ out.old.items ++ lock_column locked) }
+    ensures memory { IsOkUnless result Cause.OutOfMemory }
+{
+    match locked {
+        Some(day) => push_day(alloc, day, out),
+        None => {
+            out.extend_from_slice(b"          ")?;
+            Ok(())
+        }
+    }
+}
+
+/// Appends the line of a branch.
+fn push_branch<L: Ledger>(alloc: Global, branch: &Branch<L>, out: &mut Vec<u8>) -> Result<(), Cause>
+    ensures ok { OnOk result (out.new.items ≡ out.old.items ++ branch_line (branch_of branch.now)) }
+    ensures memory { IsOkUnless result Cause.OutOfMemory }
+{
+    push_lock(alloc, branch.locked, out)?;
+    out.extend_from_slice(b"  ")?;
+    push_number(alloc, branch.records.items().len(), out)?;
+    out.extend_from_slice(b"  ")?;
+    out.extend_from_slice(branch.name.as_str().as_bytes())?;
+    out.push(b'\n')?;
+    Ok(())
+}
+
+/// The lines of branches.
+fn text_of<L: Ledger>(alloc: Global, branches: &[Branch<L>]) -> Result<Vec<u8>, Cause>
+    ensures ok { IfOk result (λ text. text.items ≡ flat_map branch_line (branches_of branches.now)) }
+    ensures memory { IsOkUnless result Cause.OutOfMemory }
+{
+    let mut text = Vec::new(alloc);
+    'branches: for branch in branches {
+        push_branch(alloc, branch, &mut text)?;
+    }
+    Ok(text)
+}
+
+/// Appends the branches, in order of declaration: the day through which each is locked, the number of its entries, and
+/// its name.
+///
+/// Where memory is refused, it answers 40, and the vector is as it was.
+pub fn branches_report<L: Ledger>(
+    alloc: Global,
+    state: &State<L>,
+    out: &mut Vec<u8>,
+) -> Result<(), Cause>
+    ensures ok { OnOk result (out.new.items ≡ out.old.items ++ branches_text state.now) }
+    ensures err { OnErr result (out.new.items ≡ out.old.items) }
+    ensures memory { IsOkUnless result Cause.OutOfMemory }
+{
+    let text = match text_of(alloc, state.branches()) {
+        Ok(text) => text,
+        Err(cause) => return Err(cause),
+    };
+    match out.extend_from_slice(&text) {
+        Ok(()) => Ok(()),
+        Err(error) => Err(Cause::from(error)),
+    }
+}

@@ -1,0 +1,3 @@
+-- What a reader has to believe, in reading order
+pub mod Request
+pub mod Form

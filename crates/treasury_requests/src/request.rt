@@ -1,0 +1,274 @@
+//! What a treasury is asked: one variant for each word of `do`.
+
+mod form;
+mod reading;
+
+ghost use Rattle.std.specs.Prelude.{◌≡◌, IfOk};
+ghost use Rattle.std.specs.Result.{IsOkUnless};
+ghost use Rattle.treasury_requests.specs.Request.{is_report};
+
+use crate::bytes::Bytes;
+pub use form::{Form, PartForm};
+use money_core::{Cause, Copied, Day, Text};
+pub use reading::{read_command, read_line, request_of};
+
+/// A part of a transfer, with its texts as they were written.
+#[derive(Debug, Drop)]
+pub struct WrittenPart {
+    /// Its key, unique in the transfer.
+    pub key: Text,
+    pub amount: Text,
+}
+
+/// A request, with its texts as they were written and its days read.
+#[derive(Debug, Drop)]
+pub enum Request {
+    /// A new branch of that name.
+    Branch {
+        name: Text,
+    },
+    /// A new commodity, in the style that the sample amount shows.
+    Commodity {
+        sample: Text,
+    },
+    /// The transactions of a journal's text, into the branch of that name.
+    Import {
+        branch: Text,
+        journal: Bytes,
+    },
+    /// Money on its way from one branch to another, paid by the account of the first on that day.
+    Dispatch {
+        id: Text,
+        from: Text,
+        to: Text,
+        day: Day,
+        amount: Text,
+        account: Text,
+    },
+    /// Money that has come to the branch on that day, into its account: all that is left, or a part.
+    Receive {
+        id: Text,
+        branch: Text,
+        day: Day,
+        account: Text,
+        part: Option<WrittenPart>,
+    },
+    /// A lock of the branch of that name through the day.
+    Lock {
+        branch: Text,
+        day: Day,
+    },
+    /// The closing of the branch of that name at the day: of the accounts that are listed, joined by `;`, into that
+    /// one, each where it is given.
+    Close {
+        branch: Text,
+        day: Day,
+        accounts: Option<Text>,
+        into: Option<Text>,
+    },
+    /// The balances of the branch of that name through the day.
+    Balance {
+        branch: Text,
+        day: Day,
+    },
+    /// The register of an account in the branch of that name, with a tag if one is wanted.
+    Register {
+        branch: Text,
+        account: Text,
+        tag: Option<Text>,
+    },
+    /// What is on its way between branches through the day.
+    Transit {
+        day: Day,
+    },
+    /// The journal of the branch of that name.
+    Journal {
+        branch: Text,
+    },
+    /// The branches, with their locks.
+    Branches,
+    /// The commodities.
+    Commodities,
+    /// The accounts of the branch of that name.
+    Accounts {
+        branch: Text,
+    },
+    /// The transfers of which something is open through the day.
+    Transfers {
+        day: Day,
+    },
+}
+
+/// What a line spells: a request, and whether it is a dry run. A dry run of a command asks what the command would be
+/// answered, and changes nothing; a report is the same either way.
+#[derive(Debug, Drop)]
+pub struct Spelled {
+    pub request: Request,
+    pub is_dry_run: bool,
+}
+
+impl Request {
+    /// Whether a report is asked for, not a command.
+    pub fn is_report(&self) -> bool
+        ensures { result ≡ is_report self.now }
+    {
+        match self {
+            Request::Balance { .. } => true,
+            Request::Register { .. } => true,
+            Request::Transit { .. } => true,
+            Request::Journal { .. } => true,
+            Request::Branches => true,
+            Request::Commodities => true,
+            Request::Accounts { .. } => true,
+            Request::Transfers { .. } => true,
+            _ => false,
+        }
+    }
+}
+
+/// An equal text, if there is one.
+fn copied(text: &Option<Text>) -> Result<Option<Text>, Cause>
+    ensures equal { IfOk result (λ copy. copy ≡ text.now) }
+    ensures memory { IsOkUnless result Cause.OutOfMemory }
+{
+    match text {
+        Some(text) => {
+            let copy = text.copy()?;
+            Ok(Some(copy))
+        }
+        None => Ok(None),
+    }
+}
+
+impl Copied for WrittenPart {
+    fn copy(&self) -> Result<Self, Cause> {
+        let key = self.key.copy()?;
+        let amount = self.amount.copy()?;
+        Ok(WrittenPart { key, amount })
+    }
+}
+
+/// An equal part, if there is one.
+fn copied_part(part: &Option<WrittenPart>) -> Result<Option<WrittenPart>, Cause>
+    ensures equal { IfOk result (λ copy. copy ≡ part.now) }
+    ensures memory { IsOkUnless result Cause.OutOfMemory }
+{
+    match part {
+        Some(part) => {
+            let copy = part.copy()?;
+            Ok(Some(copy))
+        }
+        None => Ok(None),
+    }
+}
+
+impl Copied for Request {
+    fn copy(&self) -> Result<Self, Cause> {
+        match self {
+            Request::Branch { name } => {
+                let name = name.copy()?;
+                Ok(Request::Branch { name })
+            }
+            Request::Commodity { sample } => {
+                let sample = sample.copy()?;
+                Ok(Request::Commodity { sample })
+            }
+            Request::Import { branch, journal } => {
+                let branch = branch.copy()?;
+                let journal = journal.copy()?;
+                Ok(Request::Import { branch, journal })
+            }
+            Request::Dispatch {
+                id,
+                from,
+                to,
+                day,
+                amount,
+                account,
+            } => {
+                let id = id.copy()?;
+                let from = from.copy()?;
+                let to = to.copy()?;
+                let amount = amount.copy()?;
+                let account = account.copy()?;
+                Ok(Request::Dispatch {
+                    id,
+                    from,
+                    to,
+                    day: *day,
+                    amount,
+                    account,
+                })
+            }
+            Request::Receive {
+                id,
+                branch,
+                day,
+                account,
+                part,
+            } => {
+                let id = id.copy()?;
+                let branch = branch.copy()?;
+                let account = account.copy()?;
+                let part = copied_part(part)?;
+                Ok(Request::Receive {
+                    id,
+                    branch,
+                    day: *day,
+                    account,
+                    part,
+                })
+            }
+            Request::Lock { branch, day } => {
+                let branch = branch.copy()?;
+                Ok(Request::Lock { branch, day: *day })
+            }
+            Request::Close {
+                branch,
+                day,
+                accounts,
+                into,
+            } => {
+                let branch = branch.copy()?;
+                let accounts = copied(accounts)?;
+                let into = copied(into)?;
+                Ok(Request::Close {
+                    branch,
+                    day: *day,
+                    accounts,
+                    into,
+                })
+            }
+            Request::Balance { branch, day } => {
+                let branch = branch.copy()?;
+                Ok(Request::Balance { branch, day: *day })
+            }
+            Request::Register {
+                branch,
+                account,
+                tag,
+            } => {
+                let branch = branch.copy()?;
+                let account = account.copy()?;
+                let tag = copied(tag)?;
+                Ok(Request::Register {
+                    branch,
+                    account,
+                    tag,
+                })
+            }
+            Request::Transit { day } => Ok(Request::Transit { day: *day }),
+            Request::Journal { branch } => {
+                let branch = branch.copy()?;
+                Ok(Request::Journal { branch })
+            }
+            Request::Branches => Ok(Request::Branches),
+            Request::Commodities => Ok(Request::Commodities),
+            Request::Accounts { branch } => {
+                let branch = branch.copy()?;
+                Ok(Request::Accounts { branch })
+            }
+            Request::Transfers { day } => Ok(Request::Transfers { day: *day }),
+        }
+    }
+}

@@ -1,0 +1,321 @@
+//! Which transaction of a journal is refused by 24 to 28, and for what.
+
+use crate::explain::pieces::{push_amount, push_header, push_named, push_number, push_shown};
+use crate::explain::standing::{Holder, Standing, is_same_text, standings};
+use book_core::{Ledger, Leg, MAX_TURNOVER};
+use journal_balance::legs;
+use journal_format::{Txn, is_printable};
+use journal_lines::is_reserved;
+use money_core::{Cause, Copied, Day, Styles, Text, Unit};
+use std::alloc::Global;
+use treasury_core::{Branch, Record};
+
+/// The transactions of a text, and which of them is refused.
+#[derive(Drop)]
+pub struct AtFault {
+    pub list: Vec<Standing>,
+    /// The place in the list, from 0.
+    pub place: usize,
+    /// The commodity whose turnover passes its limit.
+    pub unit: Option<Unit>,
+}
+
+/// The account of the first leg on which only transfers post.
+fn reserved_account(alloc: Global, styles: &Styles, txn: &Txn) -> Result<Option<Text>, Cause> {
+    if !is_printable(txn, styles) {
+        return Ok(None);
+    }
+    let entry = legs(alloc, txn, styles)?;
+    for leg in entry.legs.items() {
+        if is_reserved(leg.account.as_str().as_bytes()) {
+            let account = leg.account.copy()?;
+            return Ok(Some(account));
+        }
+    }
+    Ok(None)
+}
+
+/// Whether the mark is held by a transaction of another text.
+fn is_clash(
+    alloc: Global,
+    styles: &Styles,
+    records: &[Record],
+    list: &[Standing],
+    standing: &Standing,
+) -> Result<bool, Cause> {
+    let held = match standing.holder {
+        Holder::Nobody => None,
+        Holder::Record(place) => match records.get(place) {
+            Some(record) => Some(&record.txn),
+            None => None,
+        },
+        Holder::Earlier(place) => match list.get(place) {
+            Some(earlier) => Some(&earlier.txn),
+            None => None,
+        },
+    };
+    match held {
+        Some(held) => match is_same_text(alloc, styles, held, &standing.txn) {
+            Ok(is_same) => Ok(!is_same),
+            Err(cause) => Err(cause),
+        },
+        None => Ok(false),
+    }
+}
+
+/// Whether only the treasury makes entries with that mark.
+pub fn is_own_mark(mark: &str) -> bool {
+    mark.starts_with("out:") || mark.starts_with("in:") || mark.starts_with("close:")
+}
+
+/// Whether the day is on or before the lock day.
+fn is_locked(lock: Option<Day>, day: Day) -> bool {
+    match lock {
+        Some(lock) => day.0 <= lock.0,
+        None => false,
+    }
+}
+
+/// Whether a transaction is refused by that cause, where no earlier one is refused.
+fn is_refused<L: Ledger>(
+    alloc: Global,
+    styles: &Styles,
+    branch: &Branch<L>,
+    list: &[Standing],
+    standing: &Standing,
+    cause: Cause,
+) -> Result<bool, Cause> {
+    if cause == Cause::MarkClash {
+        return is_clash(alloc, styles, branch.records.items(), list, standing);
+    }
+    if !standing.is_new() {
+        return Ok(false);
+    }
+    if cause == Cause::ReservedMark {
+        return Ok(is_own_mark(standing.mark.as_str()));
+    }
+    if cause == Cause::Locked {
+        return Ok(is_locked(branch.locked, standing.txn.day));
+    }
+    match reserved_account(alloc, styles, &standing.txn) {
+        Ok(account) => Ok(account.is_some()),
+        Err(cause) => Err(cause),
+    }
+}
+
+/// The place of the transaction that is refused by 24 to 27.
+fn refused_place<L: Ledger>(
+    alloc: Global,
+    styles: &Styles,
+    branch: &Branch<L>,
+    list: &[Standing],
+    cause: Cause,
+) -> Result<Option<usize>, Cause> {
+    for (place, standing) in list.iter().enumerate() {
+        match is_refused(alloc, styles, branch, list, standing, cause) {
+            Ok(true) => return Ok(Some(place)),
+            Ok(false) => {}
+            Err(cause) => return Err(cause),
+        }
+    }
+    Ok(None)
+}
+
+/// Adds what legs move to the turnover of each commodity.
+fn add_turnover(turnover: &mut Vec<u64>, legs: &[Leg]) {
+    for leg in legs {
+        if let Some(sum) = turnover.get_mut(usize::from(leg.unit.0)) {
+            *sum = sum.saturating_add(leg.qty.unsigned_abs());
+        }
+    }
+}
+
+/// The first commodity whose turnover is over its limit.
+fn passed(turnover: &[u64]) -> Option<Unit> {
+    for (number, sum) in turnover.iter().enumerate() {
+        if *sum > MAX_TURNOVER {
+            return match u16::try_from(number) {
+                Ok(number) => Some(Unit(number)),
+                Err(_) => None,
+            };
+        }
+    }
+    None
+}
+
+/// The turnover of records in each commodity.
+fn turnover_of(alloc: Global, styles: &Styles, records: &[Record]) -> Result<Vec<u64>, Cause> {
+    let mut turnover = Vec::new(alloc);
+    for _ in 0..styles.len() {
+        turnover.push(0u64)?;
+    }
+    for record in records {
+        add_turnover(&mut turnover, record.entry.legs.items());
+    }
+    Ok(turnover)
+}
+
+/// The place of the new transaction with which the turnover of a commodity exceeds its limit, and that commodity.
+fn passing_place(
+    alloc: Global,
+    styles: &Styles,
+    records: &[Record],
+    list: &[Standing],
+) -> Result<Option<(usize, Unit)>, Cause> {
+    let mut turnover = turnover_of(alloc, styles, records)?;
+    for (place, standing) in list.iter().enumerate() {
+        if standing.is_new() && is_printable(&standing.txn, styles) {
+            let entry = legs(alloc, &standing.txn, styles)?;
+            add_turnover(&mut turnover, entry.legs.items());
+            if let Some(unit) = passed(turnover.as_slice()) {
+                return Ok(Some((place, unit)));
+            }
+        }
+    }
+    Ok(None)
+}
+
+/// The transaction of a text that is refused by 24 to 28, where the branch refuses the text by that.
+pub fn find_at_fault<L: Ledger>(
+    alloc: Global,
+    styles: &Styles,
+    branch: &Branch<L>,
+    text: &[u8],
+    cause: Cause,
+) -> Result<Option<AtFault>, Cause> {
+    let records = branch.records.items();
+    let list = standings(alloc, styles, records, text)?;
+    if cause == Cause::Limit {
+        return match passing_place(alloc, styles, records, list.as_slice()) {
+            Ok(Some((place, unit))) => Ok(Some(AtFault {
+                list,
+                place,
+                unit: Some(unit),
+            })),
+            Ok(None) => Ok(None),
+            Err(cause) => Err(cause),
+        };
+    }
+    match refused_place(alloc, styles, branch, list.as_slice(), cause) {
+        Ok(Some(place)) => Ok(Some(AtFault {
+            list,
+            place,
+            unit: None,
+        })),
+        Ok(None) => Ok(None),
+        Err(cause) => Err(cause),
+    }
+}
+
+/// Appends what holds the mark: an entry of the branch, or an earlier transaction of the text.
+fn push_holder(
+    alloc: Global,
+    records: &[Record],
+    list: &[Standing],
+    holder: Holder,
+    out: &mut Vec<u8>,
+) -> Result<(), Cause> {
+    match holder {
+        Holder::Nobody => Ok(()),
+        Holder::Record(place) => match records.get(place) {
+            Some(record) => {
+                out.extend_from_slice(b"  held: ")?;
+                push_header(alloc, &record.txn, out)?;
+                out.extend_from_slice(b", entry ")?;
+                push_number(place.saturating_add(1), out)?;
+                out.extend_from_slice(b"\n")?;
+                Ok(())
+            }
+            None => Ok(()),
+        },
+        Holder::Earlier(place) => match list.get(place) {
+            Some(earlier) => {
+                out.extend_from_slice(b"  held: ")?;
+                push_header(alloc, &earlier.txn, out)?;
+                out.extend_from_slice(b", on line ")?;
+                push_number(earlier.line, out)?;
+                out.extend_from_slice(b"\n")?;
+                Ok(())
+            }
+            None => Ok(()),
+        },
+    }
+}
+
+/// The word that makes entries with that mark.
+fn maker_of(mark: &str) -> &'static [u8] {
+    if mark.starts_with("out:") {
+        b"  only treasury dispatch makes such an entry; a journal cannot\n"
+    } else if mark.starts_with("in:") {
+        b"  only treasury receive makes such an entry; a journal cannot\n"
+    } else {
+        b"  only treasury close makes such an entry; a journal cannot\n"
+    }
+}
+
+/// Appends the account of a transaction on which only transfers post.
+fn push_reserved(
+    alloc: Global,
+    styles: &Styles,
+    txn: &Txn,
+    out: &mut Vec<u8>,
+) -> Result<(), Cause> {
+    match reserved_account(alloc, styles, txn) {
+        Ok(Some(account)) => {
+            push_named(b"account", account.as_str().as_bytes(), out)?;
+            out.extend_from_slice(b"  only treasury dispatch and treasury receive post there\n")?;
+            Ok(())
+        }
+        Ok(None) => Ok(()),
+        Err(cause) => Err(cause),
+    }
+}
+
+/// Appends the commodity whose turnover passes its limit.
+fn push_turnover(
+    alloc: Global,
+    styles: &Styles,
+    name: &str,
+    unit: Unit,
+    out: &mut Vec<u8>,
+) -> Result<(), Cause> {
+    if let Some(style) = styles.style(unit) {
+        push_named(b"commodity", style.symbol.as_str().as_bytes(), out)?;
+    }
+    out.extend_from_slice(b"  with this transaction the turnover of ")?;
+    push_shown(name.as_bytes(), out)?;
+    out.extend_from_slice(b" exceeds its limit, ")?;
+    push_amount(alloc, styles, unit, MAX_TURNOVER as i64, out)?;
+    out.extend_from_slice(b"\n")?;
+    Ok(())
+}
+
+/// Appends what a transaction is refused for, after its header.
+pub fn push_at_fault<L: Ledger>(
+    alloc: Global,
+    styles: &Styles,
+    branch: &Branch<L>,
+    fault: &AtFault,
+    standing: &Standing,
+    cause: Cause,
+    out: &mut Vec<u8>,
+) -> Result<(), Cause> {
+    let mark = standing.mark.as_str();
+    if cause == Cause::MarkClash {
+        push_named(b"mark", mark.as_bytes(), out)?;
+        let records = branch.records.items();
+        return push_holder(alloc, records, fault.list.as_slice(), standing.holder, out);
+    }
+    if cause == Cause::ReservedMark {
+        push_named(b"mark", mark.as_bytes(), out)?;
+        out.extend_from_slice(maker_of(mark))?;
+        return Ok(());
+    }
+    if cause == Cause::ReservedAccount {
+        return push_reserved(alloc, styles, &standing.txn, out);
+    }
+    match fault.unit {
+        Some(unit) => push_turnover(alloc, styles, branch.name.as_str(), unit, out),
+        None => Ok(()),
+    }
+}

@@ -1,0 +1,166 @@
+//! The lines of a journal's text, as an explanation shows them.
+
+use crate::explain::pieces::{push_number, push_shown};
+use journal_lines::{
+    LineKind, Lines, behind_status, front_of, is_block_end, is_remark, kind, name_end, trim,
+    trim_start,
+};
+use money_core::Cause;
+
+/// What a posting's line has before its comment: the account's name, and what follows it.
+#[derive(Clone, Copy)]
+pub struct PostingParts<'a> {
+    pub name: &'a [u8],
+    pub rest: &'a [u8],
+}
+
+/// The line of that number.
+pub fn line_at(text: &[u8], line: usize) -> Option<&[u8]> {
+    for (number, bytes) in Lines::new(text) {
+        if number == line {
+            return Some(bytes);
+        }
+    }
+    None
+}
+
+/// Appends a line with its number before it.
+fn push_numbered(number: usize, bytes: &[u8], out: &mut Vec<u8>) -> Result<(), Cause> {
+    out.extend_from_slice(b"  ")?;
+    push_number(number, out)?;
+    out.extend_from_slice(b" |")?;
+    if !bytes.is_empty() {
+        out.extend_from_slice(b" ")?;
+        push_shown(bytes, out)?;
+    }
+    out.extend_from_slice(b"\n")?;
+    Ok(())
+}
+
+/// Appends the line of that number, with its number before it.
+pub fn push_source(text: &[u8], line: usize, out: &mut Vec<u8>) -> Result<(), Cause> {
+    match line_at(text, line) {
+        Some(bytes) => push_numbered(line, bytes, out),
+        None => Ok(()),
+    }
+}
+
+/// Whether the line is that of a posting, inside a transaction.
+pub fn is_posting(line: &[u8]) -> bool {
+    kind(line) == LineKind::Indented && !is_remark(line)
+}
+
+/// The parts of a posting's line.
+pub fn posting_parts(line: &[u8]) -> PostingParts<'_> {
+    let text = behind_status(trim_start(front_of(line)));
+    let end = name_end(text);
+    PostingParts {
+        name: &text[..end],
+        rest: trim(&text[end..]),
+    }
+}
+
+/// The amounts of a posting's line; what is not there is empty.
+#[derive(Clone, Copy)]
+pub struct Amounts<'a> {
+    pub amount: &'a [u8],
+    /// From its `@` on.
+    pub price: &'a [u8],
+    /// After its sign.
+    pub asserted: &'a [u8],
+}
+
+/// What stands before the byte outside quotes, and what stands from there on.
+fn cut_at(text: &[u8], mark: u8) -> (&[u8], &[u8]) {
+    let mut is_quoted = false;
+    for (at, byte) in text.iter().enumerate() {
+        if *byte == mark && !is_quoted {
+            return text.split_at(at);
+        }
+        if *byte == b'"' {
+            is_quoted = !is_quoted;
+        }
+    }
+    (text, &[])
+}
+
+/// What follows the sign of an assertion.
+fn behind_sign(text: &[u8]) -> &[u8] {
+    for (at, byte) in text.iter().enumerate() {
+        if *byte != b'=' && *byte != b'*' {
+            return trim(&text[at..]);
+        }
+    }
+    &[]
+}
+
+/// The amounts of a posting's line, by what follows the account's name.
+pub fn amounts_of(rest: &[u8]) -> Amounts<'_> {
+    let (value, claim) = cut_at(rest, b'=');
+    let (amount, price) = cut_at(value, b'@');
+    Amounts {
+        amount: trim(amount),
+        price: trim(price),
+        asserted: behind_sign(claim),
+    }
+}
+
+/// Appends the postings' lines without an amount of the transaction whose header stands at that line, at most two.
+pub fn push_blank_postings(text: &[u8], header: usize, out: &mut Vec<u8>) -> Result<(), Cause> {
+    let mut found = 0usize;
+    for (number, bytes) in Lines::new(text) {
+        if number > header {
+            if kind(bytes) != LineKind::Indented || found == 2 {
+                return Ok(());
+            }
+            if is_posting(bytes) && posting_parts(bytes).rest.is_empty() {
+                push_numbered(number, bytes, out)?;
+                found = found.saturating_add(1);
+            }
+        }
+    }
+    Ok(())
+}
+
+/// How many transactions and postings begin at a line or before it, the postings of the last transaction alone.
+#[derive(Clone, Copy)]
+pub struct Counted {
+    pub transactions: usize,
+    pub postings: usize,
+}
+
+/// The same with one more line, outside a block of comment lines.
+fn with_line(counted: Counted, line: &[u8]) -> Counted {
+    match kind(line) {
+        LineKind::Header => Counted {
+            transactions: counted.transactions.saturating_add(1),
+            postings: 0,
+        },
+        LineKind::Indented if !is_remark(line) => Counted {
+            transactions: counted.transactions,
+            postings: counted.postings.saturating_add(1),
+        },
+        _ => counted,
+    }
+}
+
+/// What is counted through the line of that number.
+pub fn counted_through(text: &[u8], line: usize) -> Counted {
+    let mut counted = Counted {
+        transactions: 0,
+        postings: 0,
+    };
+    let mut in_block = false;
+    for (number, bytes) in Lines::new(text) {
+        if in_block {
+            in_block = !is_block_end(bytes);
+        } else {
+            in_block = kind(bytes) == LineKind::Block;
+            counted = with_line(counted, bytes);
+        }
+        if number == line {
+            return counted;
+        }
+    }
+    counted
+}

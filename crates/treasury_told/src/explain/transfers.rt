@@ -1,0 +1,206 @@
+//! What is held of the transfer that a request is on, and the forms of its ID and of a part's key.
+
+use crate::explain::pieces::{
+    push_amount, push_day, push_line, push_named, push_named_amount, push_shown,
+};
+use book_core::Ledger;
+use money_core::{Cause, Day, Styles, Text, read_amount};
+use std::alloc::Global;
+use treasury_core::{Part, State, Transfer};
+use treasury_requests::{Request, WrittenPart};
+
+const ID_FORM: &[u8] = b"an ID is 1 to 64 ASCII letters, digits or -._";
+
+const KEY_FORM: &[u8] =
+    b"a key is 1 to 32 ASCII letters, digits or -._, and not `all`, which is that of everything that is left";
+
+/// The greatest number of bytes of an ID.
+const MAX_ID: usize = 64;
+
+/// The ID of the transfer that a request is on.
+fn id_of(request: &Request) -> Option<&Text> {
+    match request {
+        Request::Dispatch { id, .. } => Some(id),
+        Request::Receive { id, .. } => Some(id),
+        _ => None,
+    }
+}
+
+/// The part of a request.
+pub fn part_of(request: &Request) -> Option<&WrittenPart> {
+    match request {
+        Request::Receive { part, .. } => part.as_ref(),
+        _ => None,
+    }
+}
+
+/// Appends on which day something was received, and into which account.
+fn push_received(alloc: Global, day: Day, payee: &Text, out: &mut Vec<u8>) -> Result<(), Cause> {
+    out.extend_from_slice(b"received on ")?;
+    push_day(alloc, day, out)?;
+    out.extend_from_slice(b" into ")?;
+    push_shown(payee.as_str().as_bytes(), out)?;
+    Ok(())
+}
+
+/// Appends what is held of the receipt of all that the parts of a transfer left.
+fn push_receipt(alloc: Global, transfer: &Transfer, out: &mut Vec<u8>) -> Result<(), Cause> {
+    if let Some(receipt) = &transfer.receipt {
+        out.extend_from_slice(b", ")?;
+        if !transfer.parts.items().is_empty() {
+            out.extend_from_slice(b"the rest ")?;
+        }
+        push_received(alloc, receipt.day, &receipt.payee, out)?;
+    }
+    out.extend_from_slice(b"\n")?;
+    Ok(())
+}
+
+/// Appends what is held of a transfer.
+fn push_transfer(
+    alloc: Global,
+    styles: &Styles,
+    transfer: &Transfer,
+    out: &mut Vec<u8>,
+) -> Result<(), Cause> {
+    out.extend_from_slice(b"  held: ")?;
+    out.extend_from_slice(transfer.id.as_str().as_bytes())?;
+    out.extend_from_slice(b", ")?;
+    push_amount(alloc, styles, transfer.unit, transfer.qty, out)?;
+    out.extend_from_slice(b" from ")?;
+    out.extend_from_slice(transfer.source.as_str().as_bytes())?;
+    out.extend_from_slice(b" to ")?;
+    out.extend_from_slice(transfer.target.as_str().as_bytes())?;
+    out.extend_from_slice(b", sent on ")?;
+    push_day(alloc, transfer.day, out)?;
+    out.extend_from_slice(b" from ")?;
+    push_shown(transfer.payer.as_str().as_bytes(), out)?;
+    push_receipt(alloc, transfer, out)
+}
+
+/// Appends what is left of a transfer.
+fn push_left(
+    alloc: Global,
+    styles: &Styles,
+    transfer: &Transfer,
+    out: &mut Vec<u8>,
+) -> Result<(), Cause> {
+    let mut left = transfer.qty;
+    for part in transfer.parts.items() {
+        left = left.saturating_sub(part.qty);
+    }
+    if transfer.receipt.is_some() {
+        left = 0;
+    }
+    push_named_amount(alloc, styles, b"left", transfer.unit, left, out)
+}
+
+/// Appends what is held of a part of a transfer.
+fn push_part(
+    alloc: Global,
+    styles: &Styles,
+    transfer: &Transfer,
+    part: &Part,
+    out: &mut Vec<u8>,
+) -> Result<(), Cause> {
+    out.extend_from_slice(b"  part ")?;
+    out.extend_from_slice(part.key.as_str().as_bytes())?;
+    out.extend_from_slice(b": ")?;
+    push_amount(alloc, styles, transfer.unit, part.qty, out)?;
+    out.extend_from_slice(b", ")?;
+    push_received(alloc, part.day, &part.payee, out)?;
+    out.extend_from_slice(b"\n")?;
+    Ok(())
+}
+
+/// Appends what is held under the key that a request has, or that nothing is left for one without a part.
+fn push_key(
+    alloc: Global,
+    styles: &Styles,
+    transfer: &Transfer,
+    request: &Request,
+    out: &mut Vec<u8>,
+) -> Result<(), Cause> {
+    match part_of(request) {
+        Some(asked) => {
+            for part in transfer.parts.items() {
+                if part.key.as_str() == asked.key.as_str() {
+                    return push_part(alloc, styles, transfer, part, out);
+                }
+            }
+            Ok(())
+        }
+        None => match &transfer.receipt {
+            Some(_) => Ok(()),
+            None => push_left(alloc, styles, transfer, out),
+        },
+    }
+}
+
+/// Appends how the amount of a part was read, that is more than what is left, and what is left.
+fn push_asked(
+    alloc: Global,
+    styles: &Styles,
+    transfer: &Transfer,
+    request: &Request,
+    out: &mut Vec<u8>,
+) -> Result<(), Cause> {
+    if let Some(part) = part_of(request) {
+        let (unit, qty) = read_amount(part.amount.as_str(), styles)?;
+        push_named_amount(alloc, styles, b"asked", unit, qty, out)?;
+    }
+    push_left(alloc, styles, transfer, out)
+}
+
+/// The transfer that a request is on.
+pub fn transfer_of<'a, L: Ledger>(state: &'a State<L>, request: &Request) -> Option<&'a Transfer> {
+    let id = id_of(request)?;
+    for transfer in state.transfers() {
+        if transfer.id.as_str() == id.as_str() {
+            return Some(transfer);
+        }
+    }
+    None
+}
+
+/// Appends what is held of the transfer that a request is on; by the cause also what is held under its key, or what is
+/// asked and what is left.
+pub fn push_transfer_of<L: Ledger>(
+    alloc: Global,
+    state: &State<L>,
+    request: &Request,
+    cause: Cause,
+    out: &mut Vec<u8>,
+) -> Result<(), Cause> {
+    let Some(transfer) = transfer_of(state, request) else {
+        return Ok(());
+    };
+    let styles = state.styles();
+    push_transfer(alloc, styles, transfer, out)?;
+    match cause {
+        Cause::AlreadyReceived => push_key(alloc, styles, transfer, request, out),
+        Cause::TooMuch => push_asked(alloc, styles, transfer, request, out),
+        _ => Ok(()),
+    }
+}
+
+/// Whether a text has that many bytes at most, and at least one, each a letter, a digit, `-`, `.` or `_`.
+fn is_of_id_bytes(text: &[u8], most: usize) -> bool {
+    for byte in text {
+        if !byte.is_ascii_alphanumeric() && !matches!(*byte, b'-' | b'.' | b'_') {
+            return false;
+        }
+    }
+    !text.is_empty() && text.len() <= most
+}
+
+/// Appends the form of an ID, or, where that of a request is well formed, the key of its part and the form of a key.
+pub fn push_id(request: &Request, out: &mut Vec<u8>) -> Result<(), Cause> {
+    if let (Some(id), Some(part)) = (id_of(request), part_of(request)) {
+        if is_of_id_bytes(id.as_str().as_bytes(), MAX_ID) {
+            push_named(b"part", part.key.as_str().as_bytes(), out)?;
+            return push_line(KEY_FORM, out);
+        }
+    }
+    push_line(ID_FORM, out)
+}
