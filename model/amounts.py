@@ -4,7 +4,7 @@ import re
 from collections import namedtuple
 from functools import lru_cache
 
-from model.refusals import Refused, refuse_if
+from model.refusals import Refused, Repeated, refuse_if
 
 # A declared commodity: its symbol without quotes, its decimal mark, and how else its amounts are written
 Style = namedtuple("Style", "symbol decimals mark grouped left spaced")
@@ -27,13 +27,9 @@ SYMBOL_FIRST = re.compile(rf"(?:([-+])[ \t]*)?{SYMBOL}([ \t]*)([-+]?)[ \t]*([0-9
 NUMBER_FIRST = re.compile(rf"(?:([-+])[ \t]*)?([0-9.,]+)([ \t]*){SYMBOL}")
 
 
-def number_with(mark):
-    """FORMATS, "Amounts": a number under a decimal mark, as its whole part and its fraction."""
-    group = re.escape("." if mark == "," else ",")
-    return re.compile(rf"([0-9](?:{group}?[0-9])*)?(?:{re.escape(mark)}([0-9]*))?")
-
-
-NUMBERS = {".": number_with("."), ",": number_with(",")}
+# FORMATS, "Amounts": the group mark under each decimal mark, and a number as its whole part and its fraction
+GROUP = {".": ",", ",": "."}
+NUMBERS = {mark: re.compile(f"([0-9](?:[{GROUP[mark]}]?[0-9])*)?(?:[{mark}]([0-9]*))?") for mark in GROUP}
 
 
 def size(text):
@@ -81,10 +77,7 @@ def amount_form(text):
 
 def unit_of(styles, symbol):
     """The number of a declared commodity, or None."""
-    for unit, style in enumerate(styles):
-        if style.symbol == symbol:
-            return unit
-    return None
+    return next((unit for unit, style in enumerate(styles) if style.symbol == symbol), None)
 
 
 def read_parts(text, styles):
@@ -117,8 +110,7 @@ def read_sample(text):
     parts = number_parts(number, mark)
     refuse_if(parts is None or len(parts[1]) > MAX_DECIMALS, 8)
     refuse_if(up_to(parts[0] + parts[1], MAX_QUANTITY) > MAX_QUANTITY, 8)
-    other = "." if mark == "," else ","
-    return Style(symbol, len(parts[1]), mark, other in number, left, spaced)
+    return Style(symbol, len(parts[1]), mark, GROUP[mark] in number, left, spaced)
 
 
 def read_price(text, styles):
@@ -134,9 +126,11 @@ def read_price(text, styles):
     return Price(is_each, unit, digits, len(fraction))
 
 
-def print_symbol(symbol):
-    """FORMATS, "Canonical text" of an amount: in quotes if it could not be bare."""
-    return symbol if IS_BARE.fullmatch(symbol) else f'"{symbol}"'
+def print_with_symbol(style, number):
+    """FORMATS, "Canonical text" of an amount: the number and the symbol, which is in quotes if it could not be bare."""
+    symbol, space = style.symbol, " " if style.spaced else ""
+    symbol = symbol if IS_BARE.fullmatch(symbol) else f'"{symbol}"'
+    return symbol + space + number if style.left else number + space + symbol
 
 
 @lru_cache(maxsize=65536)
@@ -145,11 +139,15 @@ def print_amount(style, quantity, decimals=None):
     decimals = style.decimals if decimals is None else decimals
     digits = str(abs(quantity)).rjust(decimals + 1, "0")
     whole, fraction = digits[: len(digits) - decimals], digits[len(digits) - decimals :]
-    grouped = f"{int(whole):,}".replace(",", "." if style.mark == "," else ",") if style.grouped else whole
+    grouped = f"{int(whole):,}".replace(",", GROUP[style.mark]) if style.grouped else whole
     mark = style.mark if decimals or grouped != whole else ""
-    number = ("-" if quantity < 0 else "") + grouped + mark + fraction
-    space, symbol = " " if style.spaced else "", print_symbol(style.symbol)
-    return symbol + space + number if style.left else number + space + symbol
+    return print_with_symbol(style, ("-" if quantity < 0 else "") + grouped + mark + fraction)
+
+
+def print_sample(style):
+    """FORMATS, "Commodities report": a thousand in a style, with the decimal mark also if there are no decimals."""
+    thousand = f"1{GROUP[style.mark]}000" if style.grouped else "1000"
+    return print_with_symbol(style, thousand + style.mark + "0" * style.decimals)
 
 
 def print_price(price, styles):
@@ -158,11 +156,10 @@ def print_price(price, styles):
 
 
 def declare_commodity(styles, sample):
-    """RULES, "Commodities", and the order of `commodity`: (8), repeated (None), 22, 23."""
+    """RULES, "Commodities", and the order of `commodity`: (8), repeated, 22, 23."""
     style = read_sample(sample)
-    unit = unit_of(styles, style.symbol)
-    if unit is not None:
-        refuse_if(styles[unit] != style, 22)
-        return None
+    if style in styles:
+        raise Repeated
+    refuse_if(unit_of(styles, style.symbol) is not None, 22)
     refuse_if(len(styles) >= 16, 23)
-    return style
+    styles.append(style)

@@ -34,6 +34,10 @@ class Book:
             for number, leg in enumerate(entry.legs, 1):
                 yield entry, number, leg
 
+    def accounts(self):
+        """RULES, "Books": the accounts on which an entry has a leg."""
+        return {leg.account for entry in self.entries for leg in entry.legs}
+
     def balances(self, day):
         """RULES, "Books": each account's balances by commodity through a day."""
         sums = {}

@@ -5,16 +5,14 @@ from model.entries import Claim, Leg
 from model.journals import Posting, Transaction, is_account, is_reserved, print_date
 from model.refusals import Repeated, refuse_if
 
-CLOSED_BY_DEFAULT = {"income", "incomes", "revenue", "revenues", "expense", "expenses"}
+CLOSED_BY_DEFAULT = {b"income", b"incomes", b"revenue", b"revenues", b"expense", b"expenses"}
 RETAINED = "equity:retained earnings"
 MAX_LIST, MAX_POSTINGS = 880, 1_000
-UPPER = "ABCDEFGHIJKLMNOPQRSTUVWXYZ"
-ASCII_LOWER = str.maketrans(UPPER, UPPER.lower())
 
 
 def is_revenue_or_expense(account):
     """RULES, "Closing": by the first part of the name, ignoring ASCII case."""
-    return account.split(":", 1)[0].translate(ASCII_LOWER) in CLOSED_BY_DEFAULT
+    return account.split(":", 1)[0].encode().lower() in CLOSED_BY_DEFAULT
 
 
 def is_selected(account, listed):

@@ -6,6 +6,7 @@ what the model says and what was found, or None.
 
 import collections
 import os
+import pathlib
 import re
 import resource
 import shutil
@@ -16,6 +17,7 @@ import subprocess
 import tempfile
 import time
 
+from model.http import PATHS
 from model.random_texts import TOP
 from model.treasury import Treasury
 
@@ -24,7 +26,6 @@ FILE, WAL = "t.db", "t.db-wal"
 REFUSED_41, REFUSED_42 = b"refused 41 Store\n", b"refused 42 Closed\n"
 KEYS = {"unit": "nr", "branch": "nr", "entry": "branch, nr", "leg": "branch, entry, nr", "claim": "branch, entry, leg",
         "transfer": "id", "receipt": "transfer, part"}
-PATHS = {"balance": ("branch", "day"), "journal": ("branch",), "transit": ("day",)}
 with open(os.path.join(TOP, "docs", "FORMATS.md"), encoding="utf-8") as page:
     CREATE = re.findall(r"^CREATE TABLE .*$", page.read(), re.M)
 happened = collections.Counter()  # what came of faults and of calls in this process
@@ -46,16 +47,15 @@ def by_lines(program, steps, _rng=None, answers=None):
     """The lines of a run."""
     if answers is None:
         treasury = Treasury()
-        answers = [None if line is None else treasury.answer(line) for _, line in steps]
+        answers = [b"" if line is None else treasury.answer(line) for _, line in steps]
     end = b"\r\n" if len(steps) % 3 == 1 else b"\n"
     sent = end.join(line for _, line in steps if line is not None) + end * (len(steps) % 2)
     ran = subprocess.run([program, "run"], input=sent, capture_output=True, timeout=SECONDS)
     place = 0
     for at, wanted in enumerate(answers):
-        if wanted is not None:
-            if not ran.stdout.startswith(wanted, place):
-                return at, wanted, ran.stdout[place : place + max(200, len(wanted))]
-            place += len(wanted)
+        if not ran.stdout.startswith(wanted, place):
+            return at, wanted, ran.stdout[place : place + max(200, len(wanted))]
+        place += len(wanted)
     if (place, ran.returncode, ran.stderr) != (len(ran.stdout), 0, b""):
         return len(steps) - 1, (0, b""), (ran.returncode, ran.stdout[place:] + ran.stderr)
     return None
@@ -71,6 +71,8 @@ def words_of(item):
             files, last = {"a.journal": value.encode("utf-8", "surrogateescape")}, ["a.journal"]
         elif key in ("name", "sample"):
             last = ["--", value] if value.startswith("-") else [value]
+        elif key == "dry-run":
+            words += {"yes": ["--dry-run"], "no": []}.get(value, ["--dry-run=" + value])
         elif key != "do":
             words += [f"--{key}={value}"] if value[:1] in ("-", "") else ["--" + key, value]
     return words + last, files
@@ -163,8 +165,10 @@ def by_commands(folder, program, steps, rng):
         if fault == "version 1" and not treasury.rows()["receipt"]:
             make_version_1(folder, treasury.rows())
             happened[fault] += 1
-        before = treasury.copy()
+        before, file, is_dry = treasury.copy(), pathlib.Path(folder, FILE), not rng and "--dry-run" in words
+        kept = file.read_bytes() if is_dry else b""
         wanted = treasury.command(words, files)
+        happened["the command " + words[0] + " --dry-run" * ("--dry-run" in words)] += 1
         if fault == "full":
             size = os.path.getsize(os.path.join(folder, FILE))
             limit = limit_size(rng.choice((0, 4096, size, rng.randrange(size + 60000))))
@@ -181,6 +185,8 @@ def by_commands(folder, program, steps, rng):
         held = held_of(folder, fault, before, treasury, is_answered) if rng else treasury
         if held is None or not is_answered and not is_cut_off:
             return at, wanted, (status, found, fault, difference_of(treasury, folder))
+        if is_dry and file.read_bytes() != kept:
+            return at, "FILE as it was before a dry run", words
         treasury = held
     tables = difference_of(treasury, folder)
     return tables and (len(steps) - 1, *tables)
@@ -226,6 +232,8 @@ def by_http(folder, program, steps, rng):
             before = treasury.copy() if fault else None
             wanted = treasury.http(call)
             happened[f"a reply with {wanted[9:12].decode() or 'nothing'}"] += 1
+            if isinstance(item, dict):
+                happened[f"{call.split(b' ')[0].decode()} of {item.get('do')}"] += 1
             if fault == "full":
                 resource.prlimit(service.process.pid, resource.RLIMIT_FSIZE, (rng.randrange(120000), NO_LIMIT))
             found = service.ask(call, rng.random() ** 3 * 0.01 if fault == "killed" else None)

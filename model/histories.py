@@ -10,16 +10,19 @@ import json
 import random
 import re
 
+from model.amounts import GROUP, print_sample
 from model.random_texts import (
     LIMITS, ODD, STORIES, amount, bad_amount, day_text, forms, header, odd, odd_call, odd_json, odd_line,
-    odd_posting, posting, price, spelled, symbol_text,
+    odd_posting, posting, price, spelled,
 )
+from model.requests import REPORTS
 from model.treasury import Treasury
 
 FIRST_DAY, LAST_DAY = 19723, 2932896  # 2024-01-01 and 9999-12-31
 FORMS, ACCOUNTS = forms(), ODD["accounts"]
 PLACE = re.compile(r"<(other\.)?([a-z]+)([+-][0-9]+)?>")
-REPORTS = ("balance", "register", "transit", "journal")
+# What stands before the name of a request in what is counted, by its value of `dry-run`
+DRY = {None: "", "yes": "dry run of ", "no": "no dry run of "}
 # The kinds of history: how many branches and commodities they begin with, and what they ask for how often
 KINDS = {
     "plain": (3, 3, "enter*9 branch commodity dispatch*4 receive*6 lock close*2 report*4 again*3 nearly*3 form*2 json "
@@ -61,27 +64,30 @@ class History:
     # -- What is asked, and what is held
 
     def ask(self, request, situation=None, expected=None):
-        """Asks for something, and counts what came of it; a situation only if it came as expected."""
-        line = request if isinstance(request, bytes) else spelled(self.rng, request)
+        """Asks for something, and counts what came of it; a situation only if it came as expected. Now and then it is
+        asked for as a dry run first, or with a value of that key that is refused, which changes nothing."""
+        keys = {"do": "line", "dry-run": None} if isinstance(request, bytes) else request
+        if "dry-run" not in keys and self.chance(0.12):
+            self.ask({**keys, "dry-run": "yes" if self.chance(0.9) else odd(self.rng, "dry_runs")})
+        line = spelled(self.rng, request) if keys is request else request
         answer = self.treasury.answer(line)
-        kind, do = kind_of(answer), "line" if isinstance(request, bytes) else request.get("do")
+        kind = kind_of(answer)
         self.steps.append((request, line))
         self.answers.append(answer)
-        self.reached[f"{do} {kind}"] += 1
+        self.reached[f"{DRY.get(keys.get('dry-run'), 'odd dry run of ')}{keys.get('do')} {kind}"] += 1
         if situation and kind == expected:
             self.reached[situation] += 1
-        if kind == "refused 29" and do != "line":
-            number = self.names.index(request.get("branch", request.get("from")))
-            is_held = int(answer.split()[6]) <= sum(row[0] == number for row in self.rows["entry"])
+        if kind == "refused 29" and keys is request:
+            entries = self.treasury.books[keys.get("branch", keys.get("from"))].entries
+            is_held = int(answer.split()[6]) <= len(entries)
             self.reached["an assertion of an earlier entry fails" if is_held else "a new assertion fails"] += 1
-        if kind == "ok" and do not in REPORTS:
-            self.look()
+        self.look()
         return kind
 
     def look(self):
         """Looks at what is held."""
-        self.rows = self.treasury.rows()
-        self.names, self.units = [row[1] for row in self.rows["branch"]], self.rows["unit"]
+        self.names = list(self.treasury.books)
+        self.units = [(unit, *style) for unit, style in enumerate(self.treasury.styles)]
 
     def chance(self, share):
         return self.rng.random() < share
@@ -96,7 +102,7 @@ class History:
         return self.rng.choice(ACCOUNTS[:8]) if self.chance(0.5) else odd(self.rng, "accounts")
 
     def locked(self, name):
-        return self.rows["branch"][self.names.index(name)][2]
+        return self.treasury.books[name].locked
 
     def day(self, name=None):
         """A day that is probably open in the branch."""
@@ -133,7 +139,7 @@ class History:
     def branch(self):
         """A new name, one that is there, or one that is none."""
         names = [odd(self.rng, "names"), self.fresh("c"), self.branch_name(), odd(self.rng, "bad_names")]
-        self.ask({"do": "branch", "name": self.rng.choice(names)})
+        self.ask(self.spoiled({"do": "branch", "name": self.rng.choice(names)}))
 
     def commodity(self):
         """A new sample, one whose symbol is declared, with this style or nearly so, or one that is none."""
@@ -142,23 +148,21 @@ class History:
             title = "samples" if pick < 0.15 else "bad_samples"
             sample = odd(rng, title) if pick < 0.35 else "1.0 " + rng.choice("ABCDEFGH")
         else:
-            _, symbol, decimals, mark, grouped, left, spaced = rng.choice(self.units)
-            change = rng.randrange(10)
-            decimals = min(6, decimals + 1) if change == 0 else decimals
-            mark = (".", ",")[mark == "."] if change == 1 else mark
-            grouped, left, spaced = grouped ^ (change == 2), left ^ (change == 3), spaced ^ (change == 4)
-            digits = ("1" + (",", ".")[mark == ","] + "000" if grouped else "1000") + mark + "0" * decimals
-            parts = [symbol_text(rng, symbol), digits]
-            sample = (" " if spaced else "").join(parts if left else parts[::-1])
-        self.ask({"do": "commodity", "sample": sample})
+            style = rng.choice(self.treasury.styles)
+            decimals, mark = min(6, style.decimals + 1), GROUP[style.mark]
+            change = rng.choice(({"decimals": decimals}, {"mark": mark}, {"grouped": not style.grouped},
+                                 {"left": not style.left}, {"spaced": not style.spaced}, {}, {}, {}, {}, {}))
+            sample = print_sample(style._replace(**change))
+            if self.chance(0.1) and '"' not in sample:
+                sample = sample.replace(style.symbol, f'"{style.symbol}"')
+        self.ask(self.spoiled({"do": "commodity", "sample": sample}))
 
     # -- Journals
 
     def claim(self, name, account, unit, day, among=(), moved=0):
         """An assertion of what is there through a day, or nearly so; `among` are legs that come before it."""
-        sign, number = self.rng.choice(("=", "=", "==", "=*", "==*")), self.names.index(name)
-        days = {row[1]: row[2] for row in self.rows["entry"] if row[0] == number}
-        legs = [(days[row[1]], *row[3:]) for row in self.rows["leg"] if row[0] == number]
+        sign = self.rng.choice(("=", "=", "==", "=*", "==*"))
+        legs = [(entry.day, *leg) for entry, _, leg in self.treasury.books[name].posted()]
         found = sum(
             leg[3] for leg in legs + list(among) if leg[0] <= day and leg[2] == unit[0]
             and (leg[1] == account or "*" in sign and leg[1].startswith(account + ":"))
@@ -215,7 +219,7 @@ class History:
             lines.insert(rng.randrange(len(lines)), odd_line(rng, self.units))
         end = rng.choice(("\n", "\n", "\n", "\r\n"))
         text = "\n".join(lines).replace("\n", end) + rng.choice((end, ""))
-        self.enter_text(self.spoil("branch", name), text)
+        self.ask(self.spoiled({"do": "import", "branch": name, "journal": text}))
 
     def statement(self):
         """Assertions of many balances as they are on a day, which bind what comes late."""
@@ -256,7 +260,9 @@ class History:
             self.enter_text(name, text + "\n")
 
     def returned(self):
-        """What a branch has printed comes back, to it or to another."""
+        """What a branch has printed comes back, to it or to another; and so do the samples of the commodities."""
+        for style in self.treasury.styles:
+            self.ask({"do": "commodity", "sample": print_sample(style)}, "a printed sample comes back", "repeated")
         name, other = self.branch_name(), self.branch_name()
         text = self.treasury.journal(name).decode()
         if text and len(text) < 20000:
@@ -268,7 +274,7 @@ class History:
     def spoil(self, key, value, share=0.06):
         """The value of a key, or now and then another that is likely to be refused."""
         rng = self.rng
-        if key == "do" or not self.chance(share):
+        if key in ("do", "journal") or not self.chance(share):
             return value
         if key in ("branch", "from", "to"):
             return rng.choice(("nowhere", self.branch_name(), ""))
@@ -277,15 +283,19 @@ class History:
             return bad_amount(rng, self.unit()) if self.chance(0.4) else right
         if key in ("account", "into", "accounts") and self.chance(0.7):
             return odd(rng, "bad_accounts" if self.chance(0.7) else "reserved")
-        held = self.rows["receipt" if key == "part" else "transfer"]
+        transfers = self.treasury.transfers
+        held = [part for it in transfers.values() for part in it.receipts] if key == "part" else list(transfers)
         title = {"accounts": "lists", "into": "targets"}.get(key, key + "s")
-        return odd(rng, title, held=rng.choice(held)[key == "part"] if held else "t1")
+        return odd(rng, title, held=rng.choice(held) if held else "t1")
 
     def spoiled(self, request):
-        """A request some of whose values may be spoiled, and which may lack a key or have one too many."""
+        """A request some of whose values may be spoiled, and which may lack a key or have one too many; or a dry run
+        that is not followed by its command."""
         share = self.rng.choice((0, 0.06, 0.06, 0.06, 0.06, 0.5))
         request = {key: self.spoil(key, value, share) for key, value in request.items()}
-        if self.chance(0.01):
+        if self.chance(0.08):
+            request["dry-run"] = self.rng.choice(("yes", "no"))
+        if len(request) > 1 and self.chance(0.01):
             request.pop(self.rng.choice(list(request)))
         elif self.chance(0.01):
             request[self.rng.choice(("more", "part", "amount", "into", "tag"))] = "x"
@@ -303,28 +313,23 @@ class History:
     def dispatch(self):
         return self.ask(self.spoiled(self.sent()))
 
-    def left(self, transfer):
-        """What is left of a transfer."""
-        parts = sum(row[2] for row in self.rows["receipt"] if row[0] == transfer[0])
-        return 0 if transfer[7] is not None else transfer[4] - parts
-
     def receive(self):
         """A receipt of a transfer of which something is probably left: of all of it, or of a part."""
-        rng, every = self.rng, self.rows["transfer"]
-        waiting = [row for row in every if self.left(row)] if self.chance(0.9) else every
+        rng, transfers = self.rng, self.treasury.transfers
+        waiting = [key for key in transfers if transfers[key].left()] if self.chance(0.9) else list(transfers)
         if not waiting:
             return self.dispatch()
-        transfer = rng.choice(waiting)
-        left, target, unit = self.left(transfer), self.names[transfer[2]], self.units[transfer[3]]
-        day = max(transfer[5], self.day(target)) if self.chance(0.9) else transfer[5] + rng.choice((-1, 0, 1))
-        request = dict(do="receive", id=transfer[0], branch=target, day=self.text(day), account=self.account())
+        key = rng.choice(waiting)
+        held = transfers[key]
+        left, unit = held.left(), self.units[held.amount[0]]
+        day = max(held.day, self.day(held.target)) if self.chance(0.9) else held.day + rng.choice((-1, 0, 1))
+        request = dict(do="receive", id=key, branch=held.target, day=self.text(day), account=self.account())
         if self.chance(0.3 if self.kind == "assertions" else 0.75):
             part = rng.choice((left, left + 1, left - 1, 1, left // 2, rng.randrange(1, left + 2), left // 3 + 1))
             key = rng.choice(("p1", "p2", "all", "A", "p-1._", "x" * 32)) if self.chance(0.4) else self.fresh("p")
             request.update(part=key, amount=amount(rng, self.unit() if self.chance(0.05) else unit, part))
         kind = self.ask(self.spoiled(request))
-        parts = {row[0] for row in self.rows["receipt"]}
-        if kind == "ok" and "part" in request and len({row[2] for row in every if row[0] in parts}) >= 10:
+        if kind == "ok" and "part" in request and len({it.target for it in transfers.values() if it.parts()}) >= 10:
             self.reached["a part where ten branches have parts"] += 1
         return kind
 
@@ -385,8 +390,7 @@ class History:
         rng, name = self.rng, self.branch_name()
         day = min(self.day(name), FIRST_DAY + 90) + rng.choice((0, 0, 0, 5))
         request = {"do": "close", "branch": name, "day": self.text(day)}
-        number = self.names.index(name)
-        held = sorted({row[3] for row in self.rows["leg"] if row[0] == number}) or ["expenses:food"]
+        held = sorted(self.treasury.books[name].accounts()) or ["expenses:food"]
         if self.chance(0.6):
             one, other = rng.choice(held), rng.choice(held).rpartition(":")[0] or "expenses"
             listed = [rng.choice((one, one, other, self.account())) for _ in range(rng.choice((1, 1, 2, 3)))]
@@ -398,28 +402,27 @@ class History:
 
     def closings(self):
         """A closing of a list around a day, with what is refused before and behind it."""
-        name, unit = self.branch_name(), self.unit()
+        name, unit, own = self.branch_name(), self.unit(), self.fresh("expenses:own")
         day, text = (self.locked(name) or FIRST_DAY) + 4, ""
         for account in ("expenses:food", "expenses:food:out", "expenses:foodstuff", "Income:dues", "other:x"):
             for at in (day - 1, day, day + 1):
                 line = posting(self.rng, account, amount(self.rng, unit, self.quantity() + 1))
                 text += f"{self.text(at)} {self.fresh('c')}\n{line}\n    assets:cash\n"
-        late = f"{self.text(day)} late\n    expenses:food  {amount(self.rng, unit, 1)}\n    assets:cash\n"
-        self.tell("closings", day, {}, target=name, journal=json.dumps(text)[1:-1], late=late)
+        one, none = amount(self.rng, unit, 1), amount(self.rng, unit, 0)
+        late = f"{self.text(day)} late\n    expenses:food  {one}\n    assets:cash\n"
+        bound = f"{self.text(day + 4)} x\n    {own}  {one}\n    a:x\n{self.text(day + 9)} x\n    {own}  {none} ={one}\n"
+        self.tell("closings", day, {}, target=name, journal=json.dumps(text)[1:-1], late=late, bound=bound)
 
     # -- What else there is
 
     def report(self):
-        rng, request = self.rng, {"do": self.rng.choice(REPORTS)}
-        if request["do"] != "transit":
-            request["branch"] = self.branch_name()
-        if request["do"] in ("balance", "transit"):
-            request["day"] = self.text(self.day() if self.chance(0.9) else rng.choice((LAST_DAY, -719162)))
-        if request["do"] == "register":
-            accounts = ("assets", "expenses", "equity:conversion", "a", "assets:transit", self.account())
-            request["account"] = rng.choice(accounts)
-            request.update({"tag": odd(rng, "tags")} if self.chance(0.6) else {})
-        self.ask(self.spoiled(request))
+        rng, do = self.rng, self.rng.choice(list(REPORTS))
+        day = self.text(self.day() if self.chance(0.9) else rng.choice((LAST_DAY, -719162)))
+        accounts = ("assets", "expenses", "equity:conversion", "a", "assets:transit", self.account())
+        values = {"branch": self.branch_name(), "day": day, "account": rng.choice(accounts), "tag": odd(rng, "tags")}
+        needed, further = REPORTS[do]
+        keys = needed + (further if self.chance(0.6) else [])
+        self.ask(self.spoiled({"do": do, **{key: values[key] for key in keys}}))
 
     def earlier(self, count, kinds=None):
         """One of the latest requests, of some kinds or of all."""
@@ -450,12 +453,11 @@ class History:
 
     def call(self):
         """What a connection sends that has not the usual head; a run is asked for nothing."""
-        request = {"do": "balance", "branch": self.branch_name(), "day": "2024-01-31"}
-        if self.chance(0.3):
-            request = {"do": "branch", "name": self.fresh("http-")}
+        reading = {"do": "balance", "branch": self.branch_name(), "day": "2024-01-31"}
+        request = {"do": "branch", "name": self.fresh("http-")} if self.chance(0.3) else reading
         call = odd_call(self.rng, spelled(self.rng, request), self.branch_name())
         self.steps.append(((call,), None))
-        self.answers.append(None)
+        self.answers.append(b"")
 
     def limit(self):
         """A limit that is met, or passed by one."""

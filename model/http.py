@@ -3,8 +3,8 @@
 import re
 from collections import namedtuple
 
-from model.journals import read_date
 from model.refusals import Refused, refuse_if
+from model.requests import read_day
 
 MAX_HEAD, MAX_HEADERS, MAX_BODY = 16_384, 32, 8_388_608
 # A head, with its headers as pairs of a name in small letters and a value, and where it ends
@@ -16,10 +16,15 @@ TARGET = re.compile(rb"[\x21-\x7e\x80-\xff]*")
 VALUE = re.compile(rb"[\t\x20-\x7e\x80-\xff]*")
 HOST = re.compile(rb"(?:[lL][oO][cC][aA][lL][hH][oO][sS][tT]|127\.0\.0\.1|\[::1\])(?::[0-9]*)?")
 LENGTH = re.compile(rb"0*([0-9]{1,7})")
+# The reports that have a path, and the keys whose values are its further parts
 PATHS = {
-    "balance": re.compile(r"/balance/(?P<branch>[^/]+)/(?P<day>[^/]+)"),
-    "journal": re.compile(r"/journal/(?P<branch>[^/]+)"),
-    "transit": re.compile(r"/transit/(?P<day>[^/]+)"),
+    "accounts": ["branch"],
+    "balance": ["branch", "day"],
+    "branches": [],
+    "commodities": [],
+    "journal": ["branch"],
+    "transfers": ["day"],
+    "transit": ["day"],
 }
 
 
@@ -122,15 +127,10 @@ def read_body(head, data):
 def report_asked(head):
     """FORMATS, "HTTP": the request of a path (44 for a date that is none), or None if there is no such route."""
     path = head.target.partition("?")[0]
-    for do, form in PATHS.items():
-        found = form.fullmatch(path)
-        if head.method == "GET" and found:
-            keys = {"do": do, **found.groupdict()}
-            if "day" in keys:
-                keys["day"] = read_date(keys["day"])
-                refuse_if(keys["day"] is None, 44)
-            return keys
-    return None
+    do, *parts = path[1:].split("/")
+    if head.method != "GET" or path[:1] != "/" or do not in PATHS or len(parts) != len(PATHS[do]) or "" in parts:
+        return None
+    return read_day({"do": do, **dict(zip(PATHS[do], parts))})
 
 
 def status_of(number):

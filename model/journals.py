@@ -144,8 +144,7 @@ def read_header(line, count):
     """FORMATS, "Headers", and RULES, "Within a line": the row of a header."""
     text, semicolon, comment = line.partition(";")
     comment = comment.strip(BLANKS)
-    found = re.match(r"([^ \t]*)[ \t]*([*!]?)[ \t]*(.*)", text, re.S)
-    date, status, rest = found.groups()
+    date, status, rest = re.match(r"([^ \t]*)[ \t]*([*!]?)[ \t]*(.*)", text, re.S).groups()
     code = None
     is_open = rest.startswith("(") and ")" not in rest
     if rest.startswith("(") and not is_open:

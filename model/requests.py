@@ -8,19 +8,26 @@ from model.journals import read_date
 from model.refusals import Refused, refuse_if
 
 # The keys of each request besides `do`: those that it needs, and those that it may have
-KEYS = {
-    "branch": (["name"], []),
-    "commodity": (["sample"], []),
-    "import": (["branch", "journal"], []),
-    "dispatch": (["id", "from", "to", "day", "amount", "account"], []),
-    "receive": (["id", "branch", "day", "account"], ["part", "amount"]),
-    "lock": (["branch", "day"], []),
-    "close": (["branch", "day"], ["accounts", "into"]),
+COMMANDS = {
+    "branch": (["name"], ["dry-run"]),
+    "commodity": (["sample"], ["dry-run"]),
+    "import": (["branch", "journal"], ["dry-run"]),
+    "dispatch": (["id", "from", "to", "day", "amount", "account"], ["dry-run"]),
+    "receive": (["id", "branch", "day", "account"], ["part", "amount", "dry-run"]),
+    "lock": (["branch", "day"], ["dry-run"]),
+    "close": (["branch", "day"], ["accounts", "into", "dry-run"]),
+}
+REPORTS = {
+    "branches": ([], []),
+    "commodities": ([], []),
+    "accounts": (["branch"], []),
     "balance": (["branch", "day"], []),
     "register": (["branch", "account"], ["tag"]),
     "transit": (["day"], []),
+    "transfers": (["day"], []),
     "journal": (["branch"], []),
 }
+KEYS = {**COMMANDS, **REPORTS}
 MAX_NESTING = 127
 JSON_TEXTS = re.compile(r'"(?:[^"\\]|\\.)*"', re.S)
 WHOLE_PAIRS = re.compile(r"\\\\|\\u[dD][89abAB][0-9a-fA-F]{2}\\u[dD][c-fC-F][0-9a-fA-F]{2}")
@@ -65,7 +72,8 @@ def is_request(keys):
     needed, further = KEYS.get(keys.get("do"), (None, None))
     if needed is None or not set(needed) <= set(keys) <= {"do", *needed, *further}:
         return False
-    return keys["do"] != "receive" or ("part" in keys) == ("amount" in keys)
+    is_half = keys["do"] == "receive" and ("part" in keys) != ("amount" in keys)
+    return not is_half and keys.get("dry-run", "no") in ("yes", "no")
 
 
 def read_day(keys):

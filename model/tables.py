@@ -8,25 +8,16 @@ KINDS = {"=": 1, "==": 2, "=*": 3, "==*": 4}
 def rows(treasury):
     """FORMATS, "Tables": the rows of each table, in the order of its key."""
     numbers = {name: number for number, name in enumerate(treasury.books)}
-    books = list(enumerate(treasury.books.values()))
+    entries = [(numbers[book.name], entry) for book in treasury.books.values() for entry in book.entries]
     return {
         "format": [(2,)],
-        "unit": [
-            (number, style.symbol, style.decimals, style.mark, int(style.grouped), int(style.left), int(style.spaced))
-            for number, style in enumerate(treasury.styles)
-        ],
-        "branch": [(number, book.name, book.locked) for number, book in books],
-        "entry": [(number, it.nr, it.day, it.mark, it.body) for number, book in books for it in book.entries],
-        "leg": [
-            (number, entry.nr, nr, *leg)
-            for number, book in books
-            for entry in book.entries
-            for nr, leg in enumerate(entry.legs, 1)
-        ],
+        "unit": [(unit, *style[:3], *map(int, style[3:])) for unit, style in enumerate(treasury.styles)],
+        "branch": [(numbers[book.name], book.name, book.locked) for book in treasury.books.values()],
+        "entry": [(number, entry.nr, entry.day, entry.mark, entry.body) for number, entry in entries],
+        "leg": [(number, entry.nr, nr, *leg) for number, entry in entries for nr, leg in enumerate(entry.legs, 1)],
         "claim": [
             (number, entry.nr, claim.leg, KINDS[claim.sign], claim.unit, claim.quantity)
-            for number, book in books
-            for entry in book.entries
+            for number, entry in entries
             for claim in entry.claims
         ],
         "transfer": [transfer_row(key, treasury.transfers[key], numbers) for key in sorted(treasury.transfers)],
@@ -43,8 +34,5 @@ def transfer_row(key, transfer, numbers):
 
 def receipt_rows(key, transfer):
     """FORMATS, "Tables": the receipts under other keys."""
-    return [
-        (key, part, quantity, day, account)
-        for part, (day, account, quantity) in sorted(transfer.receipts.items())
-        if part != ALL
-    ]
+    receipts = [(part, *transfer.receipts[part]) for part in transfer.parts()]
+    return [(key, part, quantity, day, account) for part, day, account, quantity in receipts]

@@ -2,7 +2,6 @@
 
 import re
 
-from model.amounts import print_amount
 from model.entries import Leg
 from model.journals import Posting, Transaction, is_account, is_reserved
 from model.refusals import Repeated, refuse_if
@@ -15,15 +14,17 @@ ALL = "all"
 class Transfer:
     """A dispatch, and its receipts by key: day, account and quantity of each."""
 
-    def __init__(self, source, target, day, amount, account):
+    def __init__(self, source, target, day, amount, account, receipts=()):
         self.source, self.target, self.day, self.amount, self.account = source, target, day, amount, account
-        self.receipts = {}
+        self.receipts = dict(receipts)
 
     def copy(self):
         """An independent copy."""
-        other = Transfer(self.source, self.target, self.day, self.amount, self.account)
-        other.receipts = dict(self.receipts)
-        return other
+        return Transfer(self.source, self.target, self.day, self.amount, self.account, self.receipts)
+
+    def parts(self):
+        """RULES, "Transfers": the keys of its receipts, but for that of all that is left."""
+        return sorted(self.receipts.keys() - {ALL})
 
     def left(self):
         """RULES, "Transfers": the amount minus all receipts, whatever their day."""
@@ -97,16 +98,3 @@ def receive(transfers, styles, find_book, key, target, day, account, part, amoun
         mark, header = f"{mark}:{part}", f"{header} part {part}"
     enter(book, styles, mark, day, header, legs)
     held.receipts[ALL if part is None else part] = (day, account, amount[1])
-
-
-def transit_report(transfers, styles, day):
-    """FORMATS, "Transit report"."""
-    sums = {}
-    for held in transfers.values():
-        if held.day <= day:
-            row = (held.source, held.target, held.amount[0])
-            sums[row] = sums.get(row, 0) + held.open_through(day)
-    return [
-        f"{print_amount(styles[unit], sums[source, target, unit]):>20}  {source} to {target}\n"
-        for source, target, unit in sorted(sums)
-    ]

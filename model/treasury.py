@@ -19,7 +19,7 @@ from model.amounts import declare_commodity, read_amount
 from model.books import Book, import_journal
 from model.closing import close
 from model.refusals import Refused, Repeated, refuse_if
-from model.requests import read_request
+from model.requests import read_request, REPORTS
 
 BRANCH_NAME = re.compile("[a-z][a-z0-9-]{0,31}")
 MAX_BRANCHES = 32
@@ -57,19 +57,27 @@ class Treasury:
     def perform(self, keys):
         """RULES, "Commands": performs a request that is read. Answers None and the lines of a report; 0 and the line of
         what is done or repeated; or a refusal's number and line, which changes nothing."""
+        if keys.get("dry-run") == "yes":
+            return self.dry_run(keys)
         try:
-            return DO[keys["do"]](self, keys)
+            if keys["do"] in REPORTS:
+                return None, getattr(reports, keys["do"] + "_report")(self, keys)
+            return 0, [getattr(self, "do_" + keys["do"])(keys)]
         except Repeated:
             return 0, ["repeated\n"]
         except Refused as refused:
             return refused.number, [refused.answer()]
+
+    def dry_run(self, keys):
+        """RULES, "Dry run": what the command would be answered now; it is performed on a copy, so nothing changes."""
+        return self.copy().perform({**keys, "dry-run": "no"})
 
     def find_book(self, name):
         """RULES, "Branches": the branch of that name (20)."""
         refuse_if(name not in self.books, 20)
         return self.books[name]
 
-    def branch(self, keys):
+    def do_branch(self, keys):
         """RULES, "Orders": `branch`: 21, repeated, 23."""
         name = keys["name"]
         refuse_if(not BRANCH_NAME.fullmatch(name), 21)
@@ -77,60 +85,40 @@ class Treasury:
             raise Repeated
         refuse_if(len(self.books) >= MAX_BRANCHES, 23)
         self.books[name] = Book(name)
-        return 0, ["ok\n"]
+        return "ok\n"
 
-    def commodity(self, keys):
+    def do_commodity(self, keys):
         """RULES, "Orders": `commodity`."""
-        style = declare_commodity(self.styles, keys["sample"])
-        if style is None:
-            raise Repeated
-        self.styles.append(style)
-        return 0, ["ok\n"]
+        declare_commodity(self.styles, keys["sample"])
+        return "ok\n"
 
-    def import_(self, keys):
+    def do_import(self, keys):
         """RULES, "Orders": `import`."""
         new, repeated = import_journal(keys["branch"], keys["journal"], self.styles, self.find_book)
-        return 0, [f"ok {new} new, {repeated} repeated\n"]
+        return f"ok {new} new, {repeated} repeated\n"
 
-    def dispatch(self, keys):
+    def do_dispatch(self, keys):
         """RULES, "Orders": `dispatch`."""
         amount = read_amount(keys["amount"], self.styles)
         texts = (keys["id"], keys["from"], keys["to"], keys["day"], amount, keys["account"])
         transfers.dispatch(self.transfers, self.styles, self.find_book, *texts)
-        return 0, ["ok\n"]
+        return "ok\n"
 
-    def receive(self, keys):
+    def do_receive(self, keys):
         """RULES, "Orders": `receive`."""
         amount = read_amount(keys["amount"], self.styles) if "amount" in keys else None
         texts = (keys["id"], keys["branch"], keys["day"], keys["account"], keys.get("part"), amount)
         transfers.receive(self.transfers, self.styles, self.find_book, *texts)
-        return 0, ["ok\n"]
+        return "ok\n"
 
-    def lock(self, keys):
+    def do_lock(self, keys):
         """RULES, "Orders": `lock`: 20, repeated, 35."""
-        return 0, ["ok\n" if self.find_book(keys["branch"]).lock(keys["day"]) else "repeated\n"]
+        return "ok\n" if self.find_book(keys["branch"]).lock(keys["day"]) else "repeated\n"
 
-    def close(self, keys):
+    def do_close(self, keys):
         """RULES, "Orders": `close`."""
         close(self.find_book(keys["branch"]), self.styles, keys["day"], keys.get("accounts"), keys.get("into"))
-        return 0, ["ok\n"]
-
-    def balance_report(self, keys):
-        """RULES, "Reports": balance."""
-        return None, reports.balance_report(self.find_book(keys["branch"]), self.styles, keys["day"])
-
-    def register_report(self, keys):
-        """RULES, "Reports": register."""
-        book = self.find_book(keys["branch"])
-        return None, reports.register_report(book, self.styles, keys["account"], keys.get("tag"))
-
-    def transit_report(self, keys):
-        """RULES, "Reports": transit."""
-        return None, transfers.transit_report(self.transfers, self.styles, keys["day"])
-
-    def journal_report(self, keys):
-        """RULES, "Reports": journal."""
-        return None, reports.journal_report(self.find_book(keys["branch"]))
+        return "ok\n"
 
     def command(self, line, files):
         """RULES, "The program": exit status and standard output of a command over a file that holds this treasury."""
@@ -146,19 +134,4 @@ class Treasury:
 
     def journal(self, branch):
         """FORMATS, "Journal report"."""
-        return "".join(reports.journal_report(self.books[branch])).encode()
-
-
-DO = {
-    "branch": Treasury.branch,
-    "commodity": Treasury.commodity,
-    "import": Treasury.import_,
-    "dispatch": Treasury.dispatch,
-    "receive": Treasury.receive,
-    "lock": Treasury.lock,
-    "close": Treasury.close,
-    "balance": Treasury.balance_report,
-    "register": Treasury.register_report,
-    "transit": Treasury.transit_report,
-    "journal": Treasury.journal_report,
-}
+        return "".join(reports.journal_report(self, {"branch": branch})).encode()

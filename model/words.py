@@ -11,9 +11,10 @@ def read_words(words):
     """RULES, "The program": the keys of a command line's request, or None if its arguments are not understood."""
     if not words or words[0] not in KEYS:
         return None
-    do = words[0]
+    do, *left = words
     needed, further = KEYS[do]
-    keys, left, only_names = {}, list(words[1:]), True
+    options = {"db", *needed, *further} - {POSITIONAL.get(do)}
+    keys, only_names = {}, True
     while left:
         word = left.pop(0)
         if only_names and word == "--":
@@ -21,9 +22,11 @@ def read_words(words):
             continue
         if only_names and word.startswith("--"):
             key, equal, value = word[2:].partition("=")
-            if key in keys or key == POSITIONAL.get(do) or key not in needed + further + ["db"]:
+            if key in keys or key not in options or (key == "dry-run" and equal):
                 return None
-            if not equal:
+            if key == "dry-run":
+                value = "yes"
+            elif not equal:
                 if not left or (left[0].startswith("-") and left[0] != "-"):
                     return None
                 value = left.pop(0)
