@@ -4,16 +4,20 @@
 _treasury_options() {
     case $1 in
     init) echo --db --help ;;
-    branch) echo --db --help ;;
-    commodity) echo --db --help ;;
-    import) echo --db --branch --help ;;
+    branch) echo --db --dry-run --help ;;
+    branches) echo --db --help ;;
+    commodity) echo --db --dry-run --help ;;
+    commodities) echo --db --help ;;
+    import) echo --db --branch --dry-run --help ;;
+    accounts) echo --db --branch --help ;;
     balance) echo --db --branch --day --help ;;
     register) echo --db --branch --account --tag --help ;;
-    dispatch) echo --db --id --from --to --day --amount --account --help ;;
-    receive) echo --db --id --branch --day --account --part --amount --help ;;
+    dispatch) echo --db --id --from --to --day --amount --account --dry-run --help ;;
+    receive) echo --db --id --branch --day --account --part --amount --dry-run --help ;;
+    transfers) echo --db --day --help ;;
     transit) echo --db --day --help ;;
-    lock) echo --db --branch --day --help ;;
-    close) echo --db --branch --day --accounts --into --help ;;
+    lock) echo --db --branch --day --dry-run --help ;;
+    close) echo --db --branch --day --accounts --into --dry-run --help ;;
     journal) echo --db --branch --help ;;
     serve) echo --db --port --requests --help ;;
     run) echo --help ;;
@@ -22,8 +26,8 @@ _treasury_options() {
 
 _treasury() {
     local at=${COMP_WORDS[COMP_CWORD]} before=${COMP_WORDS[COMP_CWORD - 1]}
-    local commands="init branch commodity import balance register dispatch receive transit lock close journal serve run"
-    commands+=" help"
+    local commands="init branch branches commodity commodities import accounts balance register dispatch receive transfers"
+    commands+=" transit lock close journal serve run help"
     COMPREPLY=()
     if [ "$COMP_CWORD" = 1 ]; then
         mapfile -t COMPREPLY < <(compgen -W "$commands --help --version" -- "$at")

@@ -15,13 +15,13 @@ import urllib.parse
 KEYS = ("id", "from", "to", "day", "amount", "account")
 
 
-def send(url, request, cut):
-    """Sends the request on a connection of its own: the status and the answer."""
+def ask(url, method, path, body=None, cut=False):
+    """Asks on a connection of its own: the status and the answer."""
     parts = urllib.parse.urlsplit(url)
     kind = http.client.HTTPSConnection if parts.scheme == "https" else http.client.HTTPConnection
     connection = kind(parts.hostname, parts.port, timeout=120)
     login = base64.b64encode(os.environ.get("TREASURY_LOGIN", "").encode()).decode()
-    connection.request("POST", "/commands", json.dumps(request), {"Authorization": f"Basic {login}"})
+    connection.request(method, path, body, {"Authorization": f"Basic {login}"})
     if cut:
         connection.close()
         raise ConnectionError("the connection was cut")
@@ -30,9 +30,10 @@ def send(url, request, cut):
 
 
 def main(url, *words, cut=False):
+    request = json.dumps({"do": "dispatch", **dict(zip(KEYS, words, strict=True))})
     for wait in (1, 2, 4, 8, 16, 32, 64):
         try:
-            status, answer = send(url, {"do": "dispatch", **dict(zip(KEYS, words, strict=True))}, cut)
+            status, answer = ask(url, "POST", "/commands", request, cut)
         except (OSError, http.client.HTTPException) as error:
             status, answer = 503, f"{error}\n"
         if status not in (502, 503, 504):
