@@ -12,6 +12,7 @@ import types
 import shared
 
 DONE = re.compile(r"ok ([0-9]+) new, ([0-9]+) repeated\n")
+DRY_RUN = "--dry-run"
 # What an opening adds to the tables of version 1 (docs/FORMATS.md, "Tables").
 RECEIPT = (
     "CREATE TABLE receipt (transfer TEXT NOT NULL, part TEXT NOT NULL, qty INTEGER NOT NULL, "
@@ -33,6 +34,7 @@ OPENINGS = {
     "version_1_year": [
         ("treasury transit --db t.db --day 2024-12-31", ["           10.00 EUR  north to south"]),
         ("treasury receive --db t.db --id t9 --branch south --day 2025-01-02 --account assets:bank", ["ok"]),
+        ("treasury lock --db t.db --branch south --day 2025-01-31 --dry-run", ["ok"]),
     ],
 }
 
@@ -47,6 +49,8 @@ def second(tables):
 def repeated(words, answer):
     """Returns what a command is answered that is run once more, after this answer."""
     found = DONE.fullmatch(answer)
+    if DRY_RUN in words:
+        return answer
     if words[0] == "init" and answer == "ok\n":
         return "refused 43 Damaged\n"
     if found:
@@ -74,6 +78,8 @@ class Command:
         if (answer, status) != (self.answer, self.status):
             raise SystemExit(f"{self.title}: {answer!r} with status {status}")
         self.after = tables(folder)
+        if DRY_RUN in self.words and self.after not in self.befores:
+            raise SystemExit(f"{self.title}: it has entered something: {self.after}")
         if is_first and self.answer != "ok\n" and self.after != second(before):
             raise SystemExit(f"{self.title}: opened, it has {self.after}")
 
