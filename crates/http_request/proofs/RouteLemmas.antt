@@ -1,80 +1,165 @@
 -- Which paths have a route.
-use Rattle.std.proofs.Common.{zero, suc, ◌≡◌, ◌<◌, ◌≤◌, ◌≢◌, ◌+◌, ◌-◌, ◌&&◌, ◌||◌, ℕ, List, [], ◌∷◌, ◌++◌, Some, None}
-use Rattle.std.proofs.Common.{Option, Bool, true, false, not, cond, ◌==◌, ltb, length, get_or, arith, refl, sym, subst}
-use Rattle.std.proofs.Common.{ap, ◌∙◌, codes, drop, Bor}
-use Rattle.std.specs.Prelude.{nat_lt, nat_eq, MatchOption}
-use Rattle.std.specs.List.{list_any, list_all, ends_with}
-use Rattle.std.specs.Cmp.Lexicographic.{pointwise}
-use Rattle.std.proofs.lemmas.Grind.{common_steps}
-use Rattle.std.proofs.lemmas.List.{length_push, drop_at, get_or-drop, get_or-append-add, append_cancel_left, get_or_at}
-use Rattle.std.proofs.lemmas.List.{length-append}
+use Rattle.std.proofs.Common.{zero, suc, ◌≡◌, ◌<◌, ◌≢◌, ◌+◌, ◌-◌, ◌&&◌, ◌||◌, ℕ, List, [], ◌∷◌, ◌++◌, Some, None}
+use Rattle.std.proofs.Common.{Option, Bool, true, false, not, cond, ◌==◌, length, get_or, arith, refl, sym, subst}
+use Rattle.std.proofs.Common.{ap, ◌∙◌, codes, Bor}
+use Rattle.std.specs.Prelude.{MatchOption}
+use Rattle.std.specs.List.{list_any}
+use Rattle.std.proofs.lemmas.List.{append_cancel_left, get_or_at, length-append}
 use Rattle.std.proofs.lemmas.Bool.Decides.{nat_tests}
-use Rattle.matchit.specs.Seek.{first, seek, param_step, has_slash, segment, own, step, or_else, cuts, longest_suffix}
-use Rattle.matchit.specs.Seek.{with_suffix}
+use Rattle.matchit.specs.Seek.{first, seek, param_step, has_slash, own, step, or_else}
 use Rattle.matchit.specs.Rows.{RowsOf}
 use Rattle.matchit.specs.Router.{RouteOf}
-use Rattle.http_request.specs.declared.routes.Place.{Place}
+use Rattle.http_request.specs.declared.routes.Shape.{Shape}
 use Rattle.http_request.specs.Routes.{is_part, Routed, commands, balance, journal, transit, branches, commodities}
 use Rattle.http_request.specs.Routes.{accounts, transfers, LeadsTo}
-use Rattle.http_request.specs.Rows.{route_rows, row, place_of}
+use Rattle.http_request.specs.Rows.{shape_rows, name_row, parts_row, shape_of}
 
--- ---- one row at a time
+-- ---- a walk over rows
 
-both-none : {K : Type 0} (u v : Option K) → u ≡ None → v ≡ None → or_else u (or_else v None) ≡ None
-both-none u v e f = ap (λ x. or_else x (or_else v None)) e ∙ ap (λ x. or_else x None) f
-
-second : {K : Type 0} (u v : Option K) → u ≡ None → or_else u (or_else v None) ≡ v
-second u None e = ap (λ x. or_else x None) e
-second u (Some k) e = ap (λ x. or_else x (Some k)) e
-
+-- of three answers in turn, all but one are none
 first-only : {K : Type 0} (u v w : Option K) → v ≡ None → w ≡ None → or_else u (or_else v w) ≡ u
 first-only None v w e f = ap (λ x. or_else x w) e ∙ f
 first-only (Some k) v w e f = refl
 
-after : {K : Type 0} (t : Bool) (n : ℕ) (p : List ℕ) → ((m : ℕ) → seek {K = K} m [] p ≡ None)
-    → seek ((cond {A = ℕ × RowsOf K} t (0, []) (n, [])).0 - 1) (cond {A = ℕ × RowsOf K} t (0, []) (n, [])).1 p ≡ None
-after true n p ih = ih 0
-after false n p ih = ih (n - 1)
+second-only : {K : Type 0} (u v w : Option K) → u ≡ None → w ≡ None → or_else u (or_else v w) ≡ v
+second-only u None w e f = ap (λ x. or_else x w) e ∙ f
+second-only u (Some k) w e f = ap (λ x. or_else x (Some k)) e
+
+third-only : {K : Type 0} (u v w : Option K) → u ≡ None → v ≡ None → or_else u (or_else v w) ≡ w
+third-only u v w e f = ap (λ x. or_else x (or_else v w)) e ∙ ap (λ x. or_else x w) f
 
 -- no row
-pub seek-none : {K : Type 0} (n : ℕ) (p : List ℕ) → seek {K = K} n [] p ≡ None
+after : {K : Type 0} (t : Bool) (n : ℕ) (p : List ℕ) → ((m : ℕ) → seek {K = K} m [] p ≡ None)
+    → seek ((cond {A = ℕ × RowsOf K} t (0, []) (n, [])).0 - 1) (cond {A = ℕ × RowsOf K} t (0, []) (n, [])).1 p ≡ None
+after true n p none = none 0
+after false n p none = none (n - 1)
+
+no-row : {K : Type 0} (n : ℕ) (p : List ℕ) → seek {K = K} n [] p ≡ None
 unfolding seek param_step
-seek-none n [] = refl
-seek-none {K = K} zero (b ∷ p) =
-    both-none _ _ (seek-none {K = K} 0 p) (after (has_slash (b ∷ p)) (suc (length p)) p (λ m. seek-none {K = K} m p))
-seek-none (suc n) (b ∷ p) = seek-none n p
+no-row n [] = refl
+no-row {K = K} zero (b ∷ p) =
+    third-only _ _ _ (no-row {K = K} 0 p) (after (has_slash (b ∷ p)) (suc (length p)) p (λ m. no-row {K = K} m p))
+no-row (suc n) (b ∷ p) = no-row n p
+
+-- no row that goes on with a part
+no-part : {K : Type 0} (rs : RowsOf K) (b : ℕ) (p : List ℕ) → rs ≡ []
+    → seek ((param_step rs (b ∷ p)).0 - 1) (param_step rs (b ∷ p)).1 p ≡ None
+unfolding param_step
+no-part {K = K} rs b p e =
+    let P : RowsOf K → Type 0 = λ r. seek ((param_step r (b ∷ p)).0 - 1) (param_step r (b ∷ p)).1 p ≡ None in
+    subst P (sym e) (after (has_slash (b ∷ p)) (suc (length p)) p (λ m. no-row {K = K} m p))
 
 -- rows that all go on with a byte
-pub seek-lit : {K : Type 0} (rs : RowsOf K) (y : ℕ) (p : List ℕ) → step 256 rs ≡ [] → step 257 rs ≡ []
-    → seek 0 rs (y ∷ p) ≡ seek 0 (step y rs) p
-unfolding seek param_step
-seek-lit {K = K} rs y p e f =
-    let P : RowsOf K → Type 0 = λ r. seek ((param_step r (y ∷ p)).0 - 1) (param_step r (y ∷ p)).1 p ≡ None in
-    first-only _ _ _ (subst P (sym e) (after (has_slash (y ∷ p)) (suc (length p)) p (λ m. seek-none {K = K} m p)))
-    (ap own f)
+by-byte : {K : Type 0} (rs : RowsOf K) (b : ℕ) (p : List ℕ) → step 256 rs ≡ [] → step 257 rs ≡ []
+    → seek 0 rs (b ∷ p) ≡ seek 0 (step b rs) p
+unfolding seek
+by-byte rs b p e f = first-only _ _ _ (no-part _ b p e) (ap own f)
+
+-- rows that all go on with a part
+by-part : {K : Type 0} (rs : RowsOf K) (b : ℕ) (p : List ℕ) → step b rs ≡ [] → step 257 rs ≡ []
+    → seek 0 rs (b ∷ p) ≡ seek ((param_step (step 256 rs) (b ∷ p)).0 - 1) (param_step (step 256 rs) (b ∷ p)).1 p
+unfolding seek
+by-part rs b p e f = second-only _ _ _ (ap (λ r. seek 0 r p) e ∙ no-row 0 p) (ap own f)
+
+-- a row that takes all that is left
+takes-rest : {K : Type 0} (k : K) (b : ℕ) (p : List ℕ) → b < 256 → seek 0 ((257 ∷ [], k) ∷ []) (b ∷ p) ≡ Some k
+unfolding seek
+takes-rest k b p byte =
+    let other : (257 == b) ≡ false = grind (arith, nat_tests) in
+    third-only _ _ _ (ap (λ v. seek 0 (cond v (([], k) ∷ []) []) p) other ∙ no-row 0 p) (no-part _ b p refl)
 
 -- bytes that are passed over
-pub seek-past : {K : Type 0} (n : ℕ) (rs : RowsOf K) (a p : List ℕ) → length a ≡ n → seek n rs (a ++ p) ≡ seek 0 rs p
+passes : {K : Type 0} (n : ℕ) (rs : RowsOf K) (a p : List ℕ) → length a ≡ n → seek n rs (a ++ p) ≡ seek 0 rs p
 unfolding seek
-seek-past n rs [] p e = ap (λ m. seek m rs p) (sym e)
-seek-past zero rs (b ∷ a) p e = absurd (omega arith)
-seek-past (suc n) rs (b ∷ a) p e = seek-past n rs a p (omega arith)
+passes n rs [] p e = ap (λ m. seek m rs p) (sym e)
+passes zero rs (b ∷ a) p e = absurd (omega arith)
+passes (suc n) rs (b ∷ a) p e = passes n rs a p (omega arith)
 
--- a row that ends, behind bytes that are passed over
-pub seek-all : {K : Type 0} (n : ℕ) (k : K) (p : List ℕ) → length p ≡ n → seek n (([], k) ∷ []) p ≡ Some k
-unfolding seek
-seek-all n k [] e = refl
-seek-all zero k (b ∷ p) e = absurd (omega arith)
-seek-all (suc n) k (b ∷ p) e = seek-all n k p (omega arith)
+-- ---- the shape of a path
 
-no_token : (b t : ℕ) → b < 256 → 256 ≤ t → (t == b) ≡ false
-no_token b t h e = grind (arith, nat_tests)
+abbrev Rows : Type 0
+Rows = RowsOf (RouteOf Shape)
 
-byte_is : (b t : ℕ) → b < 256 → 256 ≤ t → (b == t) ≡ false
-byte_is b t h e = grind (arith, nat_tests)
+-- what is left of the rows behind a name and a slash
+abbrev rest_rows : Rows
+rest_rows = (257 ∷ [], parts_row) ∷ []
 
-same_byte : (b : ℕ) → (b == b) ≡ true
-same_byte b = grind (arith, nat_tests)
+-- a path with this front goes on there
+abbrev GoesOnAt : List ℕ → Type 0
+GoesOnAt front = (p : List ℕ) → first shape_rows (front ++ p) ≡ seek 0 rest_rows p
+
+-- a name with a slash behind it
+behind-name : (b : ℕ) (bs p : List ℕ) → step b (step 47 shape_rows) ≡ []
+    → param_step (step 256 (step 47 shape_rows)) ((b ∷ bs) ++ 47 ∷ p)
+    ≡ (suc (length bs), (47 ∷ 257 ∷ [], parts_row) ∷ [])
+    → first shape_rows (47 ∷ (b ∷ bs) ++ 47 ∷ p) ≡ seek 0 rest_rows p
+behind-name b bs p e cut =
+    let rs : Rows = (47 ∷ 257 ∷ [], parts_row) ∷ [] in
+    by-byte shape_rows 47 ((b ∷ bs) ++ 47 ∷ p) refl refl
+    ∙ (by-part (step 47 shape_rows) b (bs ++ 47 ∷ p) e refl
+    ∙ (ap (λ (q : ℕ × Rows). seek (q.0 - 1) q.1 (bs ++ 47 ∷ p)) cut
+    ∙ (passes (suc (length bs) - 1) rs bs (47 ∷ p) (omega arith) ∙ by-byte rs 47 p refl refl)))
+
+behind_balance : GoesOnAt (codes "/balance/")
+unfolding param_step
+behind_balance p = behind-name 98 (codes "alance") p refl refl
+
+behind_journal : GoesOnAt (codes "/journal/")
+unfolding param_step
+behind_journal p = behind-name 106 (codes "ournal") p refl refl
+
+behind_transit : GoesOnAt (codes "/transit/")
+unfolding param_step
+behind_transit p = behind-name 116 (codes "ransit") p refl refl
+
+behind_accounts : GoesOnAt (codes "/accounts/")
+unfolding param_step
+behind_accounts p = behind-name 97 (codes "ccounts") p refl refl
+
+behind_transfers : GoesOnAt (codes "/transfers/")
+unfolding param_step
+behind_transfers p = behind-name 116 (codes "ransfers") p refl refl
+
+-- the row of a shape is found for a path
+abbrev Finds : List ℕ → Shape → Type 0
+Finds path shape = (r : RouteOf Shape) × (first shape_rows path ≡ Some r) × (r.value ≡ shape)
+
+parts_found : (path front rest : List ℕ) → ((i : ℕ) → get_or path i 0 < 256) → path ≡ front ++ rest
+    → 0 < length rest → GoesOnAt front → Finds path parts_row.value
+parts_found path front [] bytes is some behind = absurd (omega arith)
+parts_found path front (b ∷ bs) bytes is some behind =
+    let at : get_or path (length front) 0 ≡ b =
+    ap (λ (t : List ℕ). get_or t (length front) 0) is ∙ get_or_at front b bs 0 (length front) refl in
+    let byte : b < 256 = subst (λ (n : ℕ). n < 256) at (bytes (length front)) in
+    (parts_row, ap (first shape_rows) is ∙ (behind (b ∷ bs) ∙ takes-rest parts_row b bs byte), refl)
+
+has_bytes : (part : List ℕ) → is_part part ≡ true → 0 < length part
+has_bytes [] e = absurd cc
+has_bytes (b ∷ bs) e = omega arith
+
+-- of a method and a path that lead to a route the shape is found
+pub found_shape : (method path : List ℕ) (route : Routed) → ((i : ℕ) → get_or path i 0 < 256)
+    → LeadsTo method path route → Finds path (shape_of route)
+unfolding seek param_step
+found_shape method path commands bytes (m, is) = (name_row, ap (first shape_rows) is, refl)
+found_shape method path branches bytes (m, is) = (name_row, ap (first shape_rows) is, refl)
+found_shape method path commodities bytes (m, is) = (name_row, ap (first shape_rows) is, refl)
+found_shape method path (journal part) bytes (m, is, good) =
+    parts_found path (codes "/journal/") part bytes is (has_bytes part good) behind_journal
+found_shape method path (transit part) bytes (m, is, good) =
+    parts_found path (codes "/transit/") part bytes is (has_bytes part good) behind_transit
+found_shape method path (accounts part) bytes (m, is, good) =
+    parts_found path (codes "/accounts/") part bytes is (has_bytes part good) behind_accounts
+found_shape method path (transfers part) bytes (m, is, good) =
+    parts_found path (codes "/transfers/") part bytes is (has_bytes part good) behind_transfers
+found_shape method path (balance branch date) bytes (m, is, good, fine) =
+    parts_found path (codes "/balance/") (branch ++ 47 ∷ date) bytes is
+    (let n = length-append branch (47 ∷ date) in omega arith) behind_balance
+
+pub some_same : {A : Type 0} (a b : A) → Some a ≡ Some b → a ≡ b
+some_same a b e = cc
+
+-- ---- parts that are cut at a slash
 
 both : (x y : Bool) → (x && y) ≡ true → (x ≡ true) × (y ≡ true)
 both true true e = (refl, refl)
@@ -85,233 +170,9 @@ either : (x y : Bool) → (x || y) ≡ false → (x ≡ false) × (y ≡ false)
 either true y e = absurd cc
 either false y e = (refl, e)
 
-below : (b : ℕ) → nat_lt b 256 ≡ true → b < 256
-below b e = grind (arith, nat_tests)
-
--- one row that goes on with these bytes
-pub seek-lits : {K : Type 0} (lits t : List ℕ) (k : K) (p : List ℕ) → list_all (λ b. nat_lt b 256) lits ≡ true
-    → seek 0 ((lits ++ t, k) ∷ []) (lits ++ p) ≡ seek 0 ((t, k) ∷ []) p
-seek-lits [] t k p bytes = refl
-seek-lits (y ∷ lits) t k p bytes =
-    let b = both _ _ bytes in
-    let l : y < 256 = below y b.0 in
-    seek-lit ((y ∷ (lits ++ t), k) ∷ []) y (lits ++ p)
-    (ap (λ v. cond v ((lits ++ t, k) ∷ []) []) (byte_is y 256 l (omega arith)))
-    (ap (λ v. cond v ((lits ++ t, k) ∷ []) []) (byte_is y 257 l (omega arith)))
-    ∙ (ap (λ v. seek 0 (cond v ((lits ++ t, k) ∷ []) []) (lits ++ p)) (same_byte y) ∙ seek-lits lits t k p b.1)
-
--- the rows that go on with these bytes, and with no part before
-abbrev steps : {K : Type 0} → List ℕ → RowsOf K → RowsOf K
-steps [] rs = rs
-steps (y ∷ ys) rs = steps ys (step y rs)
-
-abbrev no_rows : {K : Type 0} → RowsOf K → Bool
-no_rows [] = true
-no_rows (r ∷ rs) = false
-
-abbrev are_literal : {K : Type 0} → List ℕ → RowsOf K → Bool
-are_literal [] rs = true
-are_literal (y ∷ ys) rs = no_rows (step 256 rs) && (no_rows (step 257 rs) && are_literal ys (step y rs))
-
-are_none : {K : Type 0} (rs : RowsOf K) → no_rows rs ≡ true → rs ≡ []
-are_none [] e = refl
-are_none (r ∷ rs) e = absurd cc
-
--- any rows that go on with these bytes
-seek-literal : {K : Type 0} (lits p : List ℕ) (rs : RowsOf K) → are_literal lits rs ≡ true
-    → seek 0 rs (lits ++ p) ≡ seek 0 (steps lits rs) p
-seek-literal [] p rs e = refl
-seek-literal (y ∷ ys) p rs e =
-    let a = both _ _ e in
-    let b = both _ _ a.1 in
-    seek-lit rs y (ys ++ p) (are_none _ a.0) (are_none _ b.0) ∙ seek-literal ys p (step y rs) b.1
-
--- one row that goes on with a part
-param-first : {K : Type 0} (t : List ℕ) (k : K) (b : ℕ) (rest : List ℕ) → b < 256
-    → seek 0 ((256 ∷ t, k) ∷ []) (b ∷ rest)
-    ≡ seek ((param_step ((t, k) ∷ []) (b ∷ rest)).0 - 1) (param_step ((t, k) ∷ []) (b ∷ rest)).1 rest
-unfolding seek
-param-first {K = K} t k b rest h =
-    second _ _ (ap (λ v. seek 0 (cond v ((t, k) ∷ []) []) rest) (no_token b 256 h (omega arith)) ∙ seek-none {K = K} 0
-    rest)
-
--- the part is all that is left
-pub param-last : {K : Type 0} (k : K) (b : ℕ) (rest : List ℕ) → b < 256 → has_slash (b ∷ rest) ≡ false
-    → seek 0 ((256 ∷ [], k) ∷ []) (b ∷ rest) ≡ Some k
-unfolding param_step
-param-last {K = K} k b rest h whole =
-    let pair : Bool → ℕ × RowsOf K = λ t. cond t (0, []) (suc (length rest), ([], k) ∷ []) in
-    param-first [] k b rest h ∙ (ap (λ v. seek ((pair v).0 - 1) (pair v).1 rest) whole ∙ seek-all _ k rest
-    (omega arith))
-
--- the part up to a slash
-segment_part : (part rest : List ℕ) → has_slash part ≡ false → segment (part ++ 47 ∷ rest) ≡ part ++ 47 ∷ []
-segment_part [] rest none = refl
-segment_part (b ∷ bs) rest none = by_byte (b == 47) none (λ e. segment_part bs rest e)
-  where
-    by_byte : (v : Bool) → cond v true (has_slash bs) ≡ false
-        → (has_slash bs ≡ false → segment (bs ++ 47 ∷ rest) ≡ bs ++ 47 ∷ [])
-        → cond v (b ∷ []) (b ∷ segment (bs ++ 47 ∷ rest)) ≡ b ∷ (bs ++ 47 ∷ [])
-    by_byte true e more = absurd cc
-    by_byte false e more = ap (λ s. b ∷ s) (more e)
-
-ends_slash : (xs : List ℕ) → ends_with nat_eq (xs ++ 47 ∷ []) (47 ∷ []) ≡ true
-ends_slash xs =
-    let n : length (xs ++ 47 ∷ []) - 1 ≡ length xs = (let l = length_push xs 47 in omega arith) in
-    ap (λ m. pointwise nat_eq (47 ∷ []) (drop m (xs ++ 47 ∷ []))) n ∙ ap (pointwise nat_eq (47 ∷ []))
-    (drop_at xs (47 ∷ []) (length xs) refl)
-
-cuts_slash : (b : ℕ) (bs : List ℕ) → cuts ((b ∷ bs) ++ 47 ∷ []) (47 ∷ []) ≡ true
-cuts_slash b bs =
-    let l : ltb 1 (length ((b ∷ bs) ++ 47 ∷ [])) ≡ true =
-    (let n = length_push (b ∷ bs) 47 in let k : 1 < length ((b ∷ bs) ++ 47 ∷ []) =
-    grind (arith, common_steps, n) in grind (arith, nat_tests, k)) in
-    ap (λ v. v && ends_with nat_eq ((b ∷ bs) ++ 47 ∷ []) (47 ∷ [])) l ∙ ends_slash (b ∷ bs)
-
-step_mid : {K : Type 0} (t : List ℕ) (k : K) (b : ℕ) (bs rest : List ℕ) → has_slash (b ∷ bs) ≡ false
-    → param_step ((47 ∷ t, k) ∷ []) ((b ∷ bs) ++ 47 ∷ rest) ≡ (suc (length bs), (47 ∷ t, k) ∷ [])
-unfolding param_step
-step_mid {K = K} t k b bs rest none =
-    let path = (b ∷ bs) ++ 47 ∷ rest in
-    let rs : RowsOf K = (47 ∷ t, k) ∷ [] in
-    let seg = (b ∷ bs) ++ 47 ∷ [] in
-    let else_ : ℕ × RowsOf K = cond (has_slash path) (0, []) (length path, rs) in
-    let of_both : List ℕ → List ℕ → ℕ × RowsOf K = λ s l.
-    cond (ltb 0 (length l)) (length s - length l, with_suffix l rs) else_ in
-    let of_segment : List ℕ → ℕ × RowsOf K = λ s. of_both s (longest_suffix s rs) in
-    let found : longest_suffix seg rs ≡ 47 ∷ [] = ap (λ v. cond v (47 ∷ []) []) (cuts_slash b bs) in
-    let n : length seg - 1 ≡ suc (length bs) = (let l = length_push (b ∷ bs) 47 in grind (arith, common_steps, l)) in
-    ap of_segment (segment_part (b ∷ bs) rest none) ∙ (ap (of_both seg) found ∙ ap (λ m. (m, rs)) n)
-
--- a part, and what follows from its slash on
-pub param-mid : {K : Type 0} (t : List ℕ) (k : K) (b : ℕ) (bs rest : List ℕ) → b < 256 → has_slash (b ∷ bs) ≡ false
-    → seek 0 ((256 ∷ 47 ∷ t, k) ∷ []) ((b ∷ bs) ++ 47 ∷ rest) ≡ seek 0 ((t, k) ∷ []) rest
-param-mid {K = K} t k b bs rest h none =
-    param-first (47 ∷ t) k b (bs ++ 47 ∷ rest) h
-    ∙ (ap (λ (p : ℕ × RowsOf K). seek (p.0 - 1) p.1 (bs ++ 47 ∷ rest)) (step_mid t k b bs rest none)
-    ∙ (seek-past (suc (length bs) - 1) ((47 ∷ t, k) ∷ []) bs (47 ∷ rest) (omega arith)
-    ∙ seek-lits (47 ∷ []) t k rest refl))
-
--- ---- the routes
-
--- no slash, as matchit says it
-slash_alike : (part : List ℕ) → has_slash part ≡ list_any (λ b. b == 47) part
-slash_alike [] = refl
-slash_alike (b ∷ bs) = by_byte (b == 47) (slash_alike bs)
-  where
-    by_byte : (v : Bool) → has_slash bs ≡ list_any (λ c. c == 47) bs
-        → cond v true (has_slash bs) ≡ (v || list_any (λ c. c == 47) bs)
-    by_byte true more = refl
-    by_byte false more = more
-
 is_false : (v : Bool) → not v ≡ true → v ≡ false
 is_false true e = absurd cc
 is_false false e = refl
-
-pub no_slash : (part : List ℕ) → is_part part ≡ true → has_slash part ≡ false
-no_slash part e = slash_alike part ∙ is_false _ (both _ _ e).1
-
-pub commands_found : first route_rows (codes "/commands")
-    ≡ Some (row (codes "/commands") (codes "/commands") [] (place_of commands)).1
-unfolding seek param_step
-commands_found = refl
-
-pub branches_found : first route_rows (codes "/branches")
-    ≡ Some (row (codes "/branches") (codes "/branches") [] (place_of branches)).1
-unfolding seek param_step
-branches_found = refl
-
-pub commodities_found : first route_rows (codes "/commodities")
-    ≡ Some (row (codes "/commodities") (codes "/commodities") [] (place_of commodities)).1
-unfolding seek param_step
-commodities_found = refl
-
-pub journal_found : (part : List ℕ) → is_part part ≡ true → get_or part 0 0 < 256
-    → (r : RouteOf Place) × (first route_rows (codes "/journal/" ++ part) ≡ Some r)
-    × (r.value ≡ place_of (journal part))
-journal_found [] good byte = absurd cc
-journal_found (b ∷ bs) good byte = (
-  _,
-  seek-literal (codes "/journal/") (b ∷ bs) route_rows refl ∙ param-last _ b bs byte (no_slash (b ∷ bs) good),
-  refl,
-)
-
-pub transit_found : (part : List ℕ) → is_part part ≡ true → get_or part 0 0 < 256
-    → (r : RouteOf Place) × (first route_rows (codes "/transit/" ++ part) ≡ Some r)
-    × (r.value ≡ place_of (transit part))
-transit_found [] good byte = absurd cc
-transit_found (b ∷ bs) good byte = (
-  _,
-  seek-literal (codes "/transit/") (b ∷ bs) route_rows refl ∙ param-last _ b bs byte (no_slash (b ∷ bs) good),
-  refl,
-)
-
-pub accounts_found : (part : List ℕ) → is_part part ≡ true → get_or part 0 0 < 256
-    → (r : RouteOf Place) × (first route_rows (codes "/accounts/" ++ part) ≡ Some r)
-    × (r.value ≡ place_of (accounts part))
-accounts_found [] good byte = absurd cc
-accounts_found (b ∷ bs) good byte = (
-  _,
-  seek-literal (codes "/accounts/") (b ∷ bs) route_rows refl ∙ param-last _ b bs byte (no_slash (b ∷ bs) good),
-  refl,
-)
-
-pub transfers_found : (part : List ℕ) → is_part part ≡ true → get_or part 0 0 < 256
-    → (r : RouteOf Place) × (first route_rows (codes "/transfers/" ++ part) ≡ Some r)
-    × (r.value ≡ place_of (transfers part))
-transfers_found [] good byte = absurd cc
-transfers_found (b ∷ bs) good byte = (
-  _,
-  seek-literal (codes "/transfers/") (b ∷ bs) route_rows refl ∙ param-last _ b bs byte (no_slash (b ∷ bs) good),
-  refl,
-)
-
-pub balance_found : (one two : List ℕ) → is_part one ≡ true → is_part two ≡ true → get_or one 0 0 < 256
-    → get_or two 0 0 < 256
-    → (r : RouteOf Place) × (first route_rows (codes "/balance/" ++ one ++ 47 ∷ two) ≡ Some r)
-    × (r.value ≡ place_of (balance one two))
-balance_found [] two good fine byte other = absurd cc
-balance_found (b ∷ bs) [] good fine byte other = absurd cc
-balance_found (b ∷ bs) (c ∷ cs) good fine byte other = (
-  _,
-  seek-literal (codes "/balance/") ((b ∷ bs) ++ 47 ∷ (c ∷ cs)) route_rows refl
-      ∙ (param-mid (256 ∷ []) _ b bs (c ∷ cs) byte (no_slash (b ∷ bs) good) ∙ param-last _ c cs other
-      (no_slash (c ∷ cs) fine)),
-  refl,
-)
-
--- a method and a path that lead to a route have its place
-pub found_place : (method path : List ℕ) (route : Routed) → ((i : ℕ) → get_or path i 0 < 256)
-    → LeadsTo method path route → (r : RouteOf Place) × (first route_rows path ≡ Some r) × (r.value ≡ place_of route)
-found_place method path commands bytes (m, is) = (_, ap (first route_rows) is ∙ commands_found, refl)
-found_place method path branches bytes (m, is) = (_, ap (first route_rows) is ∙ branches_found, refl)
-found_place method path commodities bytes (m, is) = (_, ap (first route_rows) is ∙ commodities_found, refl)
-found_place method path (journal part) bytes (m, is, good) =
-    let byte : get_or part 0 0 < 256 = subst (λ (n : ℕ). n < 256) (ap (λ (t : List ℕ). get_or t 9 0) is) (bytes 9) in
-    let r = journal_found part good byte in (r.0, ap (first route_rows) is ∙ r.1, r.2)
-found_place method path (transit part) bytes (m, is, good) =
-    let byte : get_or part 0 0 < 256 = subst (λ (n : ℕ). n < 256) (ap (λ (t : List ℕ). get_or t 9 0) is) (bytes 9) in
-    let r = transit_found part good byte in (r.0, ap (first route_rows) is ∙ r.1, r.2)
-found_place method path (accounts part) bytes (m, is, good) =
-    let byte : get_or part 0 0 < 256 = subst (λ (n : ℕ). n < 256) (ap (λ (t : List ℕ). get_or t 10 0) is) (bytes 10) in
-    let r = accounts_found part good byte in (r.0, ap (first route_rows) is ∙ r.1, r.2)
-found_place method path (transfers part) bytes (m, is, good) =
-    let byte : get_or part 0 0 < 256 = subst (λ (n : ℕ). n < 256) (ap (λ (t : List ℕ). get_or t 11 0) is) (bytes 11) in
-    let r = transfers_found part good byte in (r.0, ap (first route_rows) is ∙ r.1, r.2)
-found_place method path (balance [] two) bytes (m, is, good, fine) = absurd cc
-found_place method path (balance (b ∷ bs) two) bytes (m, is, good, fine) =
-    let byte : b < 256 = subst (λ (n : ℕ). n < 256) (ap (λ (t : List ℕ). get_or t 9 0) is) (bytes 9) in
-    let at : get_or path (9 + (length (b ∷ bs) + 1)) 0 ≡ get_or two 0 0 =
-    sym (get_or-drop 9 path (length (b ∷ bs) + 1) 0) ∙
-    (ap (λ (t : List ℕ). get_or (drop 9 t) (length (b ∷ bs) + 1) 0) is ∙ get_or-append-add (b ∷ bs) (47 ∷ two) 1 0)
-    in
-    let other : get_or two 0 0 < 256 = subst (λ (n : ℕ). n < 256) at (bytes (9 + (length (b ∷ bs) + 1))) in
-    let r = balance_found (b ∷ bs) two good fine byte other in (r.0, ap (first route_rows) is ∙ r.1, r.2)
-
-pub some_same : {A : Type 0} (a b : A) → Some a ≡ Some b → a ≡ b
-some_same a b e = cc
-
--- ---- parts that are cut at a slash
 
 no_slash_at : (part : List ℕ) → list_any (λ b. b == 47) part ≡ false → (i : ℕ) → i < length part → get_or part i 0 ≢ 47
 no_slash_at [] none i l = absurd (omega arith)

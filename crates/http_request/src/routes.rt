@@ -1,12 +1,12 @@
 //! The routes, and the one that a method and a path lead to.
 
-ghost use Rattle.std.specs.Prelude.{◌≡◌, ◌≢◌, ◌++◌, ◌∷◌, ◌&&◌, ℕ, List, Ok, None, true, false, IfOk, IfSome};
+ghost use Rattle.std.specs.Prelude.{◌≡◌, ◌≢◌, ◌++◌, ◌∷◌, ◌&&◌, ℕ, List, Ok, None, true, false, codes, IfOk, IfSome};
 ghost use Rattle.std.specs.Prelude.{MatchOption};
 ghost use Rattle.std.specs.Result.{IsOkUnless};
 ghost use Rattle.http_header.specs.Token.{IsToken};
 ghost use Rattle.http_request.specs.Routes.{is_part, LeadsTo, HasNoRoute};
 ghost use Rattle.http_request.specs.Calling.{shown};
-ghost use Rattle.http_request.specs.Rows.{route_rows, HasNoRouteAt};
+ghost use Rattle.http_request.specs.Rows.{shape_rows, HasNoRouteOf};
 
 use http::Method;
 use http::method::MethodError;
@@ -14,17 +14,13 @@ use matchit::{InsertError, Router};
 use money_core::Cause;
 use std::alloc::Global;
 
-/// Which of the routes a path has.
+/// Which shape a path has.
 #[derive(Clone, Copy, Debug, PartialEq, Eq)]
-enum Place {
-    Balance,
-    Commands,
-    Journal,
-    Transit,
-    Branches,
-    Commodities,
-    Accounts,
-    Transfers,
+enum Shape {
+    /// A name alone, as in `/branches`.
+    Name,
+    /// A name with parts behind it, as in `/journal/north`.
+    Parts,
 }
 
 /// A route, with the parts of its path.
@@ -40,19 +36,15 @@ pub enum Route<'p> {
     Transfers { date: &'p str },
 }
 
-/// A router with the routes.
-fn make_routes(alloc: Global) -> Result<Router<Place>, InsertError>
-    ensures { IfOk result (λ router. router ≡ route_rows) }
+/// A router with the shapes of the paths that have a route.
+///
+/// It is made for each request, so it does not hold the routes themselves: the eight would cost eight times as much.
+fn make_shapes(alloc: Global) -> Result<Router<Shape>, InsertError>
+    ensures { IfOk result (λ router. router ≡ shape_rows) }
 {
     let mut router = Router::new(alloc);
-    router.insert("/accounts/{branch}", Place::Accounts)?;
-    router.insert("/balance/{branch}/{date}", Place::Balance)?;
-    router.insert("/branches", Place::Branches)?;
-    router.insert("/commands", Place::Commands)?;
-    router.insert("/commodities", Place::Commodities)?;
-    router.insert("/journal/{branch}", Place::Journal)?;
-    router.insert("/transfers/{date}", Place::Transfers)?;
-    router.insert("/transit/{date}", Place::Transit)?;
+    router.insert("/{name}", Shape::Name)?;
+    router.insert("/{name}/{*parts}", Shape::Parts)?;
     Ok(router)
 }
 
@@ -104,50 +96,62 @@ fn parts_behind<'p>(path: &'p str, front: &str) -> Option<(&'p str, &'p str)>
     }
 }
 
-/// The route of a place, by its method and the parts of its path.
-fn route_at<'p>(place: Place, method: &Method, path: &'p str) -> Option<Route<'p>>
+/// The route of a method and a path that is a name alone.
+fn route_of_name<'p>(method: &Method, path: &str) -> Option<Route<'p>>
     ensures found { IfSome result (λ route. LeadsTo method.now path.now (shown route)) }
-    ensures missing { result ≡ None → HasNoRouteAt place method.now path.now }
+    ensures missing { result ≡ None → HasNoRouteOf Shape.Name method.now path.now }
 {
-    let is_get = method.as_str() == "GET";
-    match place {
-        Place::Balance if is_get => match parts_behind(path, "/balance/") {
-            Some((branch, date)) => Some(Route::Balance { branch, date }),
-            None => None,
-        },
-        Place::Commands if method.as_str() == "POST" && path == "/commands" => Some(
-            Route::Commands,
-        ),
-        Place::Journal if is_get => match part_behind(path, "/journal/") {
-            Some(branch) => Some(Route::Journal { branch }),
-            None => None,
-        },
-        Place::Transit if is_get => match part_behind(path, "/transit/") {
-            Some(date) => Some(Route::Transit { date }),
-            None => None,
-        },
-        Place::Branches if is_get && path == "/branches" => Some(Route::Branches),
-        Place::Commodities if is_get && path == "/commodities" => Some(Route::Commodities),
-        Place::Accounts if is_get => match part_behind(path, "/accounts/") {
-            Some(branch) => Some(Route::Accounts { branch }),
-            None => None,
-        },
-        Place::Transfers if is_get => match part_behind(path, "/transfers/") {
-            Some(date) => Some(Route::Transfers { date }),
-            None => None,
-        },
+    match method.as_str() {
+        "POST" if path == "/commands" => Some(Route::Commands),
+        "GET" if path == "/branches" => Some(Route::Branches),
+        "GET" if path == "/commodities" => Some(Route::Commodities),
         _ => None,
     }
 }
 
-/// The route of a router that a method and a path lead to; `None` exactly where there is none.
-fn route_of<'p>(router: &Router<Place>, method: &Method, path: &'p str) -> Option<Route<'p>>
-    requires { router.now ≡ route_rows }
+/// The route of a `GET` of a path with parts.
+fn report_of_parts<'p>(path: &'p str) -> Option<Route<'p>>
+    ensures found { IfSome result (λ route. LeadsTo (codes "GET") path.now (shown route)) }
+    ensures missing { result ≡ None → HasNoRouteOf Shape.Parts (codes "GET") path.now }
+{
+    if let Some((branch, date)) = parts_behind(path, "/balance/") {
+        return Some(Route::Balance { branch, date });
+    }
+    if let Some(branch) = part_behind(path, "/journal/") {
+        return Some(Route::Journal { branch });
+    }
+    if let Some(date) = part_behind(path, "/transit/") {
+        return Some(Route::Transit { date });
+    }
+    if let Some(branch) = part_behind(path, "/accounts/") {
+        return Some(Route::Accounts { branch });
+    }
+    match part_behind(path, "/transfers/") {
+        Some(date) => Some(Route::Transfers { date }),
+        None => None,
+    }
+}
+
+/// The route of a method and a path of this shape.
+fn route_of_shape<'p>(shape: Shape, method: &Method, path: &'p str) -> Option<Route<'p>>
+    ensures found { IfSome result (λ route. LeadsTo method.now path.now (shown route)) }
+    ensures missing { result ≡ None → HasNoRouteOf shape method.now path.now }
+{
+    match shape {
+        Shape::Name => route_of_name(method, path),
+        Shape::Parts if method.as_str() == "GET" => report_of_parts(path),
+        Shape::Parts => None,
+    }
+}
+
+/// The route that a method and a path lead to, by a router of shapes; `None` exactly where there is none.
+fn route_of<'p>(router: &Router<Shape>, method: &Method, path: &'p str) -> Option<Route<'p>>
+    requires { router.now ≡ shape_rows }
     ensures found { IfSome result (λ route. LeadsTo method.now path.now (shown route)) }
     ensures missing { result ≡ None → HasNoRoute method.now path.now }
 {
     match router.at(path) {
-        Ok(found) => route_at(*found.value, method, path),
+        Ok(found) => route_of_shape(*found.value, method, path),
         Err(_) => None,
     }
 }
@@ -170,9 +174,9 @@ pub fn find_route<'p>(
         Err(MethodError::Invalid) => return Ok(None),
         Err(MethodError::OutOfMemory) => return Err(Cause::OutOfMemory),
     };
-    match make_routes(alloc) {
+    match make_shapes(alloc) {
         Ok(router) => Ok(route_of(&router, &method, path)),
-        // The routes stand beside one another, so it is memory that lacks.
+        // The shapes stand beside one another, so it is memory that lacks.
         Err(_) => Err(Cause::OutOfMemory),
     }
 }

@@ -7,7 +7,7 @@ returns-in-Err-Invalid-clause-found c =
     no_method c.args.method.now c.args.path.now
     (c.in-Err-Invalid.ensures.invalid.0 (ap (λ e. Err e) c.in-Err-Invalid.field-0-is))
 
-pub returns-in-Ok-make_routes-clause-found : goal.returns-in-Ok-make_routes-clause-found
-returns-in-Ok-make_routes-clause-found c =
+pub returns-in-Ok-make_shapes-clause-found : goal.returns-in-Ok-make_shapes-clause-found
+returns-in-Ok-make_shapes-clause-found c =
     route_told c.route_of.result c.args.method.now _ c.args.path.now c.in-Ok.ensures.ok c.route_of.ensures.found
     c.route_of.ensures.missing

@@ -1,0 +1,7 @@
+use Rattle.matchit.proofs.OnLiterals.{matchit_on_literals}
+use Rattle.http_request.proofs.routes.make_shapes.Goals as goal
+
+pub returns : goal.returns
+unfolding matchit_on_literals
+returns c =
+    rw (c.in_ok-insert-2.ensures.1, c.in_ok-insert.ensures.1, c.new-router.ensures)
