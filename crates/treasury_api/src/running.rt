@@ -18,6 +18,7 @@ ghost use Rattle.treasury_api.specs.WebServing.{IsLineBy, IsToldBy};
 use crate::answering::answer;
 use crate::answers::{MOST_PLAIN, answer_line};
 use crate::lines::{Machine, run_machine};
+use crate::listener::{Listener, NoListener};
 use book_core::Refusal;
 use journal_format::reading_law;
 use money_core::{Cause, Styles};
@@ -147,7 +148,12 @@ fn read_within_memory(alloc: Global, line: &[u8]) -> Result<Spelled, Cause>
 impl<S: Alter> Machine for Treasury<S> {
     ghost step = { Serves S.Store };
 
-    fn answer(&mut self, alloc: Global, line: &[u8]) -> Result<Vec<u8>, AllocError> {
+    fn answer<L: Listener>(
+        &mut self,
+        alloc: Global,
+        line: &[u8],
+        listener: &mut L,
+    ) -> Result<Vec<u8>, AllocError> {
         reading_law();
         left_law::<S>();
         let room = match Vec::with_capacity(alloc, MOST_PLAIN) {
@@ -156,17 +162,54 @@ impl<S: Alter> Machine for Treasury<S> {
         };
         let request = match read_within_memory(alloc, line) {
             Ok(request) => request,
-            Err(cause) => return Ok(refuse(alloc, self, Refusal::Plain(cause), room)),
+            Err(cause) => {
+                listener.tell_unasked(alloc, cause);
+                return Ok(refuse(alloc, self, Refusal::Plain(cause), room));
+            }
         };
+        listener.ask(self.state(), &request);
         let mut text = Vec::new(alloc);
         match answer(alloc, &request, self, &mut text) {
-            Ok(()) => match end_report(alloc, &request.request, &mut text) {
-                Ok(()) => Ok(text),
-                Err(_) => Ok(refuse(alloc, self, Refusal::Plain(Cause::OutOfMemory), room)),
-            },
-            Err(refusal) => Ok(refuse(alloc, self, refusal, room)),
+            Ok(()) => {
+                listener.tell(alloc, self.state(), &request, None);
+                match end_report(alloc, &request.request, &mut text) {
+                    Ok(()) => Ok(text),
+                    Err(_) => Ok(refuse(alloc, self, Refusal::Plain(Cause::OutOfMemory), room)),
+                }
+            }
+            Err(refusal) => {
+                listener.tell(alloc, self.state(), &request, Some(&refusal));
+                Ok(refuse(alloc, self, refusal, room))
+            }
         }
     }
+}
+
+/// Answers each request that the reader gives as `run_lines` does. The listener hears of each request and of what it is
+/// answered, and has no part in it.
+pub fn run_heard_lines<R: Read, W: Write, S: Alter, L: Listener>(
+    alloc: Global,
+    reader: &mut R,
+    writer: &mut W,
+    treasury: &mut Treasury<S>,
+    listener: &mut L,
+) -> Result<(), Cause>
+    // Of whichever state the treasury is, while the disk returned what was written: a run, and the headline holds of
+    // it.
+    ensures runs { HasCleanDisk (state S.Store treasury.new.store.conn) → (f : Federation)
+        → IsTreasuryOf S.Store treasury.old f
+        → (end : Federation) × (IsTreasuryOf S.Store treasury.new end
+        × Runs S.Store treasury.old treasury.new result R.remaining reader.old reader.new W.contents writer.old
+        writer.new
+        (standing treasury.old f) (standing treasury.new end)) }
+    // Whatever the disk returned, and whatever the tables are.
+    ensures causes { IfErr result (λ cause.
+        (cause ≡ Cause.OutOfMemory) ⊎ ((cause ≡ Cause.ReadFault) ⊎ (cause ≡ Cause.WriteFault))) }
+    ensures closed { IsTrue treasury.old.store.failed → treasury.new ≡ treasury.old }
+    ensures shuts { ShutsByFault S.Store treasury.old.store.conn treasury.new.store.conn }
+{
+    left_law::<S>();
+    run_machine(alloc, reader, writer, treasury, listener)
 }
 
 /// Answers each request that the reader gives, one a line, of at most 64 MiB in all.
@@ -198,6 +241,5 @@ pub fn run_lines<R: Read, W: Write, S: Alter>(
     ensures closed { IsTrue treasury.old.store.failed → treasury.new ≡ treasury.old }
     ensures shuts { ShutsByFault S.Store treasury.old.store.conn treasury.new.store.conn }
 {
-    left_law::<S>();
-    run_machine(alloc, reader, writer, treasury)
+    run_heard_lines(alloc, reader, writer, treasury, &mut NoListener)
 }

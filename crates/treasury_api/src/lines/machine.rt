@@ -2,6 +2,7 @@
 
 ghost use Rattle.std.specs.Prelude.{◌≡◌, List, ℕ, IfOk, OnErr};
 
+use crate::listener::Listener;
 use std::alloc::{AllocError, Global};
 
 /// What answers requests.
@@ -10,7 +11,13 @@ pub trait Machine {
     ghost step: { Self → List ℕ → List ℕ → Self → Type 0 };
 
     /// The answer to a request, which is no line of blanks alone. Where memory is refused for it, nothing has changed.
-    fn answer(&mut self, alloc: Global, request: &[u8]) -> Result<Vec<u8>, AllocError>
+    /// The listener hears of it, and has no part in it.
+    fn answer<L: Listener>(
+        &mut self,
+        alloc: Global,
+        request: &[u8],
+        listener: &mut L,
+    ) -> Result<Vec<u8>, AllocError>
         ensures ok { IfOk result (λ text. step self.old request.now text.items self.new) }
         ensures err { OnErr result (self.new ≡ self.old) };
 }

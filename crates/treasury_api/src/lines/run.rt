@@ -8,6 +8,7 @@ ghost use Rattle.treasury_api.specs.Served.{Serves, Feeds, EndsLine, feed_place}
 
 use crate::lines::machine::Machine;
 use crate::lines::write::write_whole;
+use crate::listener::Listener;
 use journal_lines::is_blank;
 use money_core::Cause;
 use std::alloc::Global;
@@ -38,24 +39,29 @@ fn without_carriage_return(line: &[u8]) -> &[u8]
 }
 
 /// Answers the request on a line, if it has one.
-fn serve_line<W: Write, M: Machine>(
+fn serve_line<W: Write, M: Machine, L: Listener>(
     alloc: Global,
     line: &[u8],
     writer: &mut W,
     machine: &mut M,
+    listener: &mut L,
 ) -> Result<(), Cause>
     ensures { Serves result M.step (W.contents writer.old) (W.contents writer.new)
         machine.old (requests_among (line.now ∷ [])) machine.new }
 {
+    listener.begin_line();
     if is_blank_text(line) {
         return Ok(());
     }
-    let text = match machine.answer(alloc, line) {
+    let text = match machine.answer(alloc, line, listener) {
         Ok(text) => text,
         Err(_) => return Err(Cause::OutOfMemory),
     };
     match write_whole(writer, text.as_slice()) {
-        Ok(()) => Ok(()),
+        Ok(()) => {
+            listener.end_line();
+            Ok(())
+        }
         Err(_) => Err(Cause::WriteFault),
     }
 }
@@ -68,12 +74,13 @@ fn feed_place(bytes: &[u8]) -> Option<usize>
 }
 
 /// Ends the line that was begun by these bytes, and answers its request, if it has one.
-fn end_line<W: Write, M: Machine>(
+fn end_line<W: Write, M: Machine, L: Listener>(
     alloc: Global,
     bytes: &[u8],
     line: &mut Vec<u8>,
     writer: &mut W,
     machine: &mut M,
+    listener: &mut L,
 ) -> Result<(), Cause>
     requires begun { HasNoLineFeed line.old.items }
     requires more { HasNoLineFeed bytes.now }
@@ -89,6 +96,7 @@ fn end_line<W: Write, M: Machine>(
         without_carriage_return(line.as_slice()),
         writer,
         machine,
+        listener,
     ) {
         Ok(()) => {
             line.clear();
@@ -99,12 +107,13 @@ fn end_line<W: Write, M: Machine>(
 }
 
 /// Answers each line that these bytes end, and keeps what they begin of the next.
-fn feed<W: Write, M: Machine>(
+fn feed<W: Write, M: Machine, L: Listener>(
     alloc: Global,
     bytes: &[u8],
     line: &mut Vec<u8>,
     writer: &mut W,
     machine: &mut M,
+    listener: &mut L,
 ) -> Result<(), Cause>
     requires { HasNoLineFeed line.old.items }
     ensures { Feeds result M.step (W.contents writer.old) (W.contents writer.new)
@@ -117,7 +126,7 @@ fn feed<W: Write, M: Machine>(
             None => break,
         };
         let (front, back) = rest.split_at(place);
-        match end_line(alloc, front, line, writer, machine) {
+        match end_line(alloc, front, line, writer, machine, listener) {
             Ok(()) => {}
             Err(cause) => return Err(cause),
         }
@@ -134,11 +143,12 @@ fn feed<W: Write, M: Machine>(
 /// Each answer is one text that is written at once. 45 comes where a read fails, whatever its error, or where the input
 /// goes on past the bound; 46 where a write fails or takes nothing. 40 comes where memory is refused: the lines before
 /// that are answered, and nothing else has changed.
-pub fn run_machine<R: Read, W: Write, M: Machine>(
+pub fn run_machine<R: Read, W: Write, M: Machine, L: Listener>(
     alloc: Global,
     reader: &mut R,
     writer: &mut W,
     machine: &mut M,
+    listener: &mut L,
 ) -> Result<(), Cause>
     ensures { Ends result M.step MAX_INPUT
         R.remaining reader.old reader.new W.contents writer.old writer.new machine.old machine.new }
@@ -156,7 +166,7 @@ pub fn run_machine<R: Read, W: Write, M: Machine>(
                     return Err(Cause::ReadFault);
                 }
                 left -= count;
-                match feed(alloc, &chunk[..count], &mut line, writer, machine) {
+                match feed(alloc, &chunk[..count], &mut line, writer, machine, listener) {
                     Ok(()) => {}
                     Err(cause) => return Err(cause),
                 }
@@ -164,7 +174,7 @@ pub fn run_machine<R: Read, W: Write, M: Machine>(
             Err(_) => return Err(Cause::ReadFault),
         }
     }
-    match serve_line(alloc, line.as_slice(), writer, machine) {
+    match serve_line(alloc, line.as_slice(), writer, machine, listener) {
         Ok(()) => Ok(()),
         Err(cause) => Err(cause),
     }

@@ -1,6 +1,6 @@
 use Rattle.treasury_api.specs.RunEnd.{most_input}
 use Rattle.treasury_api.proofs.RunEndLemmas.{kept, run_shuts, run_closed, run_causes}
-use Rattle.treasury_api.proofs.running.run_lines.Goals as goal
+use Rattle.treasury_api.proofs.running.run_heard_lines.Goals as goal
 
 pub returns-clause-runs : goal.returns-clause-runs
 returns-clause-runs g c =

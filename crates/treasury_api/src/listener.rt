@@ -1,0 +1,56 @@
+//! What hears of a run, beside its answers.
+
+ghost use Rattle.treasury_requests.specs.Request.{HasDayNumbers};
+
+use book_core::{DayLedger, Refusal};
+use money_core::Cause;
+use std::alloc::Global;
+use treasury_core::State;
+use treasury_requests::Spelled;
+
+/// Hears of each line of a run, and of what it is answered. It has no part in the answers.
+pub trait Listener {
+    /// A line begins, which may have blanks alone.
+    fn begin_line(&mut self);
+
+    /// The request of the line is about to be answered. The state is lent if memory holds it.
+    fn ask(&mut self, state: Option<&State<DayLedger>>, request: &Spelled);
+
+    /// The request was answered, with a refusal or without; the state is the one after it.
+    fn tell(
+        &mut self,
+        alloc: Global,
+        state: Option<&State<DayLedger>>,
+        request: &Spelled,
+        refusal: Option<&Refusal>,
+    )
+        requires { HasDayNumbers request.now.request };
+
+    /// The line was refused by this cause before it could ask for anything.
+    fn tell_unasked(&mut self, alloc: Global, cause: Cause);
+
+    /// The answer to the request of the line is written.
+    fn end_line(&mut self);
+}
+
+/// No one hears of the run.
+#[derive(Clone, Copy, Debug)]
+pub struct NoListener;
+
+impl Listener for NoListener {
+    fn begin_line(&mut self) {}
+
+    fn ask(&mut self, _state: Option<&State<DayLedger>>, _request: &Spelled) {}
+
+    fn tell(
+        &mut self,
+        _alloc: Global,
+        _state: Option<&State<DayLedger>>,
+        _request: &Spelled,
+        _refusal: Option<&Refusal>,
+    ) {}
+
+    fn tell_unasked(&mut self, _alloc: Global, _cause: Cause) {}
+
+    fn end_line(&mut self) {}
+}
