@@ -132,7 +132,7 @@ def mark_of(transaction, body, counts):
 
 def import_journal(book, text, styles, find_book):
     """RULES, "Orders": `import`; the new and the repeated transactions are counted."""
-    transactions = read_journal(text, styles)
+    transactions = read_journal(text, tuple(styles))
     book = find_book(book)
     balanced = []
     for transaction in transactions:

@@ -165,7 +165,7 @@ def by_commands(folder, program, steps, rng):
         if fault == "version 1" and not treasury.rows()["receipt"]:
             make_version_1(folder, treasury.rows())
             happened[fault] += 1
-        before, file, is_dry = treasury.copy(), pathlib.Path(folder, FILE), not rng and "--dry-run" in words
+        before, file, is_dry = rng and treasury.copy(), pathlib.Path(folder, FILE), not rng and "--dry-run" in words
         kept = file.read_bytes() if is_dry else b""
         wanted = treasury.command(words, files)
         happened["the command " + words[0] + " --dry-run" * ("--dry-run" in words)] += 1
@@ -177,8 +177,7 @@ def by_commands(folder, program, steps, rng):
         if fault == "killed":
             time.sleep(rng.random() ** 2 * 0.02)
             process.kill()
-        found = process.communicate(timeout=SECONDS)[0]
-        status = process.returncode
+        found, status = process.communicate(timeout=SECONDS)[0], process.returncode
         is_late = fault == "killed" and status == -9 and found != b""
         is_answered = found == wanted[1] and (status == wanted[0] or is_late)
         is_cut_off = (fault, status, found) in (("killed", -9, b""), ("full", 1, REFUSED_41))

@@ -281,6 +281,7 @@ class Reader:
             self.open.add_comment(comment)
 
 
+@lru_cache(maxsize=128)
 def read_journal(text, styles):
     """RULES, "Orders", "Within a text": the transactions of a text, or the fault of its first faulty line."""
     refuse_if(size(text) > MAX_TEXT, 2, 1)
