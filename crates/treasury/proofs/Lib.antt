@@ -5,5 +5,4 @@ pub mod ToldLemmas
 pub mod FileLemmas
 pub mod CountsLemmas
 pub mod ServingLemmas
-pub mod WordLemmas
-pub mod WorkedWords
+pub mod UntakenLemmas

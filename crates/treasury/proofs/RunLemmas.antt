@@ -7,7 +7,7 @@ use Rattle.treasury_store.specs.Treasury.{Treasury}
 use Rattle.treasury_api.specs.Step.{Standing, at_first}
 use Rattle.treasury_api.specs.Replied.{standing}
 use Rattle.treasury_api.specs.Kept.{AnswersAll, Runs}
-use Rattle.treasury.specs.Words.{IsCutOff}
+use Rattle.treasury.specs.CutOff.{IsCutOff}
 
 -- a treasury on which no call has failed, of a federation that has nothing yet, stands where a run begins
 pub from_first : {T R W S : Type 0} (g : Ghosts S) (new : Treasury S) (result : Result T Cause)

@@ -1,14 +1,11 @@
 -- What a reader has to believe, in reading order
-pub mod Known
-pub mod Spelling
 pub mod Word
 pub mod Left
 pub mod OverFile
 pub mod Look
 pub mod Counts
 pub mod Serving
-pub mod Words
+pub mod CutOff
 -- What mirrors code, for private clauses: nobody has to believe it
-pub mod Knowing
 pub mod Started
 pub mod ServingParts

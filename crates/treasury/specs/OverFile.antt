@@ -39,7 +39,7 @@ use Rattle.treasury_requests.specs.declared.request.Request.TheVariants.{Import}
 use Rattle.treasury_api.specs.Answer.{answer_text}
 use Rattle.treasury_api.specs.Step.{Standing}
 use Rattle.treasury_api.specs.OneRequest.{command_of}
-use Rattle.treasury.specs.Spelling.{request_in, is_dry_run, given}
+use Rattle.treasury_spelling.specs.Spelling.{request_in, is_dry_run, given}
 use Rattle.treasury.specs.Word.{AnswersWord, Told}
 use Rattle.treasury.specs.declared.words.left.Left.{Left}
 use Rattle.treasury.specs.declared.words.left.Left.TheVariants.{Untouched, Closed}

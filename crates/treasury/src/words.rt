@@ -2,7 +2,6 @@
 
 mod beside;
 mod file;
-mod known;
 mod left;
 mod looks;
 mod others;
@@ -13,7 +12,6 @@ mod rehearsal;
 mod said;
 mod serving;
 mod shrinking;
-mod spelling;
 mod tables;
 mod waiting;
 mod watch;
@@ -30,21 +28,20 @@ ghost use Rattle.treasury_store.specs.Treasury.{IsTreasuryOf};
 ghost use Rattle.std.specs.String.{string_bytes};
 ghost use Rattle.treasury_api.specs.Step.{Standing, at_first};
 ghost use Rattle.treasury_api.specs.Kept.{AnswersAll};
-ghost use Rattle.treasury.specs.Words.{AreTaken, named, AskForRun, AskForWord, AskToServe, MayAskForHelp, IsCutOff};
+ghost use Rattle.treasury_spelling.specs.Words.{AreTaken, named, AskForRun, AskForWord, AskToServe, MayAskForHelp};
+ghost use Rattle.treasury.specs.CutOff.{IsCutOff};
 ghost use Rattle.treasury.specs.OverFile.{Tells, IsTold};
 ghost use Rattle.treasury.specs.Serving.{IsServed};
 ghost use Rattle.treasury.specs.Started.{AnswersUntaken};
 ghost use Rattle.clap.specs.Values.{kind_of};
 
 use crate::laws::{files_law, serving_law, words_law};
-use crate::words::known::known_words;
 use crate::words::left::Left;
 use crate::words::looks::looks_of;
 use crate::words::over_file::{Answered, answer_over_file};
 use crate::words::pipe::is_unread;
 use crate::words::said::{Said, room_for_line};
 use crate::words::serving::{Serving, is_unwritten, serve_over_file};
-use crate::words::spelling::{is_dry_run, value_of};
 use crate::words::waiting::wait_for;
 use clap::error::ErrorKind;
 use clap::{ArgMatches, Error};
@@ -61,6 +58,7 @@ use treasury_core::{
     records_law, sound_law,
 };
 use treasury_memory::{MemoryStore, open_memory};
+use treasury_spelling::{is_dry_run, known_words, value_of};
 use treasury_store::{Store, Treasury};
 
 /// How the program ends: its exit status, and what it leaves of the files of a word.

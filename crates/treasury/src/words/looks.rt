@@ -2,13 +2,13 @@
 
 use crate::words::beside::{has_log, log_name};
 use crate::words::file::read_at_most;
-use crate::words::spelling::value_of;
 use clap::ArgMatches;
 use money_core::Cause;
 use std::alloc::Global;
 use std::fs::{self, File, OpenOptions};
 use std::io::{Error, ErrorKind};
 use std::os::unix::fs::MetadataExt;
+use treasury_spelling::value_of;
 use treasury_told::explain::{push_line, push_named};
 
 /// The numbers by which a system says that a process, or the machine, has no file descriptor left.

@@ -21,7 +21,6 @@ use crate::words::file::{
 };
 use crate::words::left::Left;
 use crate::words::said::{Said, done, refused, room_for_line};
-use crate::words::spelling::{fault_of, form_of_word, is_dry_run, value_of};
 use book_core::Refusal;
 use clap::ArgMatches;
 use money_core::{Cause, Text};
@@ -32,6 +31,7 @@ use std::fs;
 use std::io::Read;
 use treasury_api::{additions_ahead, answer, refuse};
 use treasury_requests::{Bytes, Request, Spelled, request_of};
+use treasury_spelling::{fault_of, form_of_word, is_dry_run, value_of};
 use treasury_store::Treasury;
 use treasury_told::dry_run::notes_of_dry_run;
 use treasury_told::explain::{explain, sentence};

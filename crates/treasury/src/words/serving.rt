@@ -23,7 +23,6 @@ use crate::words::left::Left;
 use crate::words::over_file::{lacking, refused_file};
 use crate::words::patience::{Asking, Replying, read_rest};
 use crate::words::said::{Said, refused};
-use crate::words::spelling::value_of;
 use crate::words::watch::{Guarded, Noting, Sight, Watch};
 use clap::ArgMatches;
 use money_core::Cause;
@@ -34,6 +33,7 @@ use std::cell::Cell;
 use std::io::{self, Read, Write};
 use std::net::{TcpListener, TcpStream};
 use treasury_api::{serve_one, write_whole};
+use treasury_spelling::value_of;
 use treasury_store::Treasury;
 
 /// Only programs of this machine can connect.

@@ -3,7 +3,8 @@ use Rattle.clap.specs.Matches.{found_of}
 use Rattle.clap.specs.Walk.{Row, rows_of}
 use Rattle.treasury.proofs.OverFileLemmas.{told_alike}
 use Rattle.treasury.proofs.ServingLemmas.{served_alike, serve_is_not_run}
-use Rattle.treasury.proofs.WordLemmas.{cut_off_status, done_status, met_name, met_word, same_some}
+use Rattle.treasury.proofs.UntakenLemmas.{cut_off_status, done_status}
+use Rattle.treasury_spelling.proofs.WordLemmas.{met_name, met_word, same_some}
 use Rattle.treasury.proofs.words.do_word.Goals as goal
 
 pub returns-in-Some-clause-done : goal.returns-in-Some-clause-done

@@ -1,5 +1,6 @@
 use Rattle.std.proofs.Common.{◌≡◌, refl, sym, ◌∙◌, inl}
-use Rattle.treasury.proofs.WordLemmas.{taken, taken_untold, untaken, unwritten_on_2, named_word, named_rows, fails_by}
+use Rattle.treasury_spelling.proofs.WordLemmas.{taken, named_word, named_rows, fails_by}
+use Rattle.treasury.proofs.UntakenLemmas.{taken_untold, untaken, unwritten_on_2}
 use Rattle.treasury.proofs.OverFileLemmas.{told_nothing}
 use Rattle.treasury.proofs.ServingLemmas.{served_nothing}
 use Rattle.treasury.proofs.words.run_words.Goals as goal

@@ -7,18 +7,16 @@ use Rattle.clap.specs.Simple.{HasMatchesOf, is_simple, subcommand_of, subcommand
 use Rattle.clap.specs.declared.parser.matches.ArgMatches.{ArgMatches}
 use Rattle.clap.specs.declared.parser.matches.ArgMatches.TheViews.{out-ArgMatches, out-SubCommand}
 use Rattle.clap.specs.declared.parser.matches.SubCommand.{SubCommand}
-use Rattle.treasury.specs.Known.{known}
-use Rattle.std.proofs.Common.{◌≡◌, ◌≢◌, ℕ, true, List, [], Result, Ok, Err, OnOk, OnErr, MatchResult, ap, refl, sym}
+use Rattle.treasury_spelling.specs.Known.{known}
+use Rattle.std.proofs.Common.{◌≡◌, ℕ, true, List, [], ap, refl, sym}
 use Rattle.std.proofs.Common.{◌∙◌, subst, inl, inr, ◌⊎◌}
-use Rattle.money_core.specs.declared.cause.Cause.{Cause}
 use Rattle.clap.specs.Simple.{App}
 use Rattle.clap.specs.Kinds.{IsAmong}
 use Rattle.clap.specs.Faults.{fault_of, is_simple_and_free}
 use Rattle.clap.specs.declared.error.kind.ErrorKind.{ErrorKind}
 use Rattle.clap.specs.declared.error.kind.ErrorKind.TheVariants.{OutOfMemory, DisplayHelp, DisplayVersion}
 use Rattle.clap.proofs.OnLiterals.{clap_on_literals}
-use Rattle.treasury.specs.Words.{objections, named, AreTaken, AskForRun, MayAskForHelp}
-use Rattle.treasury.specs.Started.{AnswersUntaken}
+use Rattle.treasury_spelling.specs.Words.{objections, named, AreTaken, AskForRun, MayAskForHelp}
 
 known_is_simple : is_simple_and_free known ≡ true
 unfolding clap_on_literals
@@ -118,41 +116,3 @@ help_shown words kind (inr among) (inr version) = inr (subst (λ k. IsAmong k (o
 pub taken_shows_none : (words : List (List ℕ)) (kind : ErrorKind)
     → (kind ≡ OutOfMemory) ⊎ IsAmong kind (objections words) → IsShown kind → AreTaken words → ⊥
 taken_shows_none words kind fails shown asks = shown_is_no_want kind shown (taken_fails words kind fails asks)
-
--- the status of a run that is cut off
-pub cut_off_status : {T : Type 0} (result : Result T Cause) (status : ℕ) (P : Type 0)
-    → MatchResult result (λ _. status ≡ 0) (λ _. status ≡ 1) → OnErr result P → status ≢ 0 → (status ≡ 1) × P
-cut_off_status (Ok x) status P is cut other = absurd (other is)
-cut_off_status (Err cause) status P is cut other = (is, cut)
-
--- the status of a run that is not
-pub done_status : {T : Type 0} (result : Result T Cause) (status : ℕ) (P : Type 0)
-    → MatchResult result (λ _. status ≡ 0) (λ _. status ≡ 1) → OnOk result P → status ≡ 0 → P
-done_status (Ok x) status P is done zero = done
-done_status (Err cause) status P is done zero = let clash : 1 ≡ 0 = sym is ∙ zero in absurd cc
-
--- words that are not taken, and may not ask for help or for the version, are answered 2, or 1 for want of memory
-pub untaken : {W : Type 0} (words : List (List ℕ)) (kind : ErrorKind) (w0 w1 : W) (status : ℕ)
-    → (kind ≡ OutOfMemory) ⊎ IsAmong kind (objections words) → (MayAskForHelp words → ⊥)
-    → AnswersUntaken kind w0 w1 status → ((status ≡ 2) ⊎ (status ≡ 1)) × (w1 ≡ w0)
-untaken words kind w0 w1 status fails helpless (inl (memory, (one, same))) = (inr one, same)
-untaken words kind w0 w1 status fails helpless (inr (inl (shown, other))) =
-    absurd (helpless (help_shown words kind fails shown))
-untaken words kind w0 w1 status fails helpless (inr (inr (other, (two, same)))) = (inl two, same)
-
--- where that is 2, nothing is written
-pub unwritten_on_2 : {W : Type 0} (kind : ErrorKind) (w0 w1 : W) (status : ℕ) → AnswersUntaken kind w0 w1 status
-    → status ≡ 2 → w1 ≡ w0
-unwritten_on_2 kind w0 w1 status (inl (memory, (one, same))) two = same
-unwritten_on_2 kind w0 w1 status (inr (inl (shown, other))) two = absurd (other two)
-unwritten_on_2 kind w0 w1 status (inr (inr (other, (is, same)))) two = same
-
--- and words that are taken are answered 1, for want of memory
-pub taken_untold : {W : Type 0} (words : List (List ℕ)) (kind : ErrorKind) (w0 w1 : W) (status : ℕ)
-    → (kind ≡ OutOfMemory) ⊎ IsAmong kind (objections words) → AreTaken words
-    → AnswersUntaken kind w0 w1 status → (status ≡ 1) × (w1 ≡ w0)
-taken_untold words kind w0 w1 status fails asks (inl (memory, told)) = told
-taken_untold words kind w0 w1 status fails asks (inr (inl (shown, other))) =
-    absurd (taken_shows_none words kind fails shown asks)
-taken_untold words kind w0 w1 status fails asks (inr (inr (other, told))) =
-    absurd (other (taken_fails words kind fails asks))

@@ -4,7 +4,7 @@ use Rattle.clap.specs.Walk.{Rule}
 use Rattle.clap.specs.Simple.{App, Shape, app_of, with_subcommand}
 use Rattle.clap.specs.declared.builder.command.Command.{Command}
 use Rattle.clap.specs.declared.builder.command.Command.TheViews.{out-Command}
-use Rattle.treasury.specs.Known.{word}
+use Rattle.treasury_spelling.specs.Known.{word}
 
 -- a command is a word over a file that takes this, and has no argument for its subcommands
 pub record IsWord (name : List ℕ) (rules : List Rule) (c : Command) : Type 0 where

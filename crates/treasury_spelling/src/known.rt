@@ -4,9 +4,10 @@ ghost use Rattle.std.specs.Prelude.{◌≡◌, ◌∷◌, [], Some, false, codes
 ghost use Rattle.clap.specs.Walk.{rule_of};
 ghost use Rattle.clap.specs.Simple.{app_of, new_app};
 ghost use Rattle.clap.specs.declared.builder.command.Command.TheViews.{out-Command};
-ghost use Rattle.treasury.specs.Known.{known, word, option, optional, operand, number, branch, day, account, id};
-ghost use Rattle.treasury.specs.Known.{dry_run, begins, months, transfers, ends};
-ghost use Rattle.treasury.specs.Knowing.{IsWord, HasMore};
+ghost use Rattle.treasury_spelling.specs.Known.{known, word, option, optional, operand, number, branch, day, account};
+ghost use Rattle.treasury_spelling.specs.Known.{id};
+ghost use Rattle.treasury_spelling.specs.Known.{dry_run, begins, months, transfers, ends};
+ghost use Rattle.treasury_spelling.specs.Knowing.{IsWord, HasMore};
 
 use clap::{Arg, ArgAction, Command, value_parser};
 use std::alloc::{AllocError, Global};

@@ -6,8 +6,8 @@ use Rattle.clap.specs.declared.error.kind.ErrorKind.TheVariants.{DisplayVersion}
 use Rattle.clap.specs.declared.error.kind.ErrorKind.TheVariants.{DisplayHelpOnMissingArgumentOrSubcommand}
 use Rattle.clap.proofs.OnLiterals.{clap_on_literals}
 use Rattle.treasury_requests.specs.declared.request.Request.TheVariants.{Branch, Journal, Branches}
-use Rattle.treasury.specs.Words.{objections, named}
-use Rattle.treasury.specs.Spelling.{request_in, is_dry_run}
+use Rattle.treasury_spelling.specs.Words.{objections, named}
+use Rattle.treasury_spelling.specs.Spelling.{request_in, is_dry_run}
 
 pub run_is_asked_for : (name : List ℕ) → objections (name ∷ codes "run" ∷ []) ≡ []
 unfolding clap_on_literals objections

@@ -6,9 +6,9 @@ ghost use Rattle.clap.specs.Walk.{first_of, rows_of};
 ghost use Rattle.journal_lines.specs.Date.{IsDayNumber};
 ghost use Rattle.treasury_requests.specs.Form.{shown, shown_part};
 ghost use Rattle.treasury_requests.specs.Request.{HasDayNumbers};
-ghost use Rattle.treasury.specs.Spelling.{day_in, dispatch_in, part_in, receive_in, list_in, report_in};
-ghost use Rattle.treasury.specs.Spelling.{request_in};
-ghost use Rattle.treasury.specs.Spelling.{is_dry_run};
+ghost use Rattle.treasury_spelling.specs.Spelling.{day_in, dispatch_in, part_in, receive_in, list_in, report_in};
+ghost use Rattle.treasury_spelling.specs.Spelling.{request_in};
+ghost use Rattle.treasury_spelling.specs.Spelling.{is_dry_run};
 
 use clap::ArgMatches;
 use journal_lines::read_date;

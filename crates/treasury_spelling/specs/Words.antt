@@ -2,13 +2,10 @@
 use Rattle.std.specs.Prelude.{◌≡◌, ◌≢◌, ℕ, codes, List, [], Option, Some, option_map, ◌⊎◌}
 use Rattle.clap.specs.Simple.{subcommand_of}
 use Rattle.clap.specs.Walk.{Row}
-use Rattle.treasury.specs.Known.{known}
+use Rattle.treasury_spelling.specs.Known.{known}
 use Rattle.clap.specs.Kinds.{Kinds, IsAmong}
 use Rattle.clap.specs.Faults.{fault_of}
 use Rattle.clap.specs.declared.error.kind.ErrorKind.TheVariants.{DisplayHelp, DisplayVersion}
-use Rattle.money_core.specs.declared.cause.Cause.{Cause}
-use Rattle.treasury_api.specs.Step.{Standing, at_first}
-use Rattle.treasury_api.specs.Kept.{IsCutOffBy}
 
 -- why these words, the program's name first, are not taken: no reason, or those of which `clap` gives one
 unfoldable pub objections : List (List ℕ) → Kinds
@@ -38,9 +35,3 @@ AskToServe words values = AreTaken words × (named words ≡ Some (codes "serve"
 -- the words may ask for help, or for the version
 abbrev pub MayAskForHelp : List (List ℕ) → Type 0
 MayAskForHelp words = IsAmong DisplayHelp (objections words) ⊎ IsAmong DisplayVersion (objections words)
-
--- A run over a federation that has nothing yet was cut off, or there was no memory for its words or its tables, and it
--- read and wrote nothing.
-abbrev pub IsCutOff : {R W : Type 0} → (R → Option (List ℕ)) → R → R → (W → Option (List ℕ)) → W → W → Type 0
-IsCutOff remaining r0 r1 contents w0 w1 = ((r1 ≡ r0) × (w1 ≡ w0))
-    ⊎ ((cause : Cause) × (end : Standing) × IsCutOffBy cause remaining r0 r1 contents w0 w1 at_first end)

@@ -1,0 +1,8 @@
+//! The command line as a request: the words that the program knows, and what each asks for by its values.
+#![tactic(auto)]
+
+mod known;
+mod spelling;
+
+pub use known::known_words;
+pub use spelling::{fault_of, form_of_word, is_dry_run, value_of};
