@@ -20,7 +20,7 @@ _treasury_options() {
     close) echo --db --branch --day --accounts --into --dry-run --help ;;
     journal) echo --db --branch --help ;;
     serve) echo --db --port --requests --help ;;
-    run) echo --help ;;
+    run) echo --explain --help ;;
     esac
 }
 

@@ -12,7 +12,7 @@ function __treasury
     complete -c treasury -n 'test (count (commandline -opc)) = 1 || __treasury_has help' -a $name -d $argv[2]
     for option in $argv[3..] help
         switch $option
-            case help
+            case help explain
                 complete -c treasury -n "__treasury_has $name" -l $option
             case db
                 complete -c treasury -n "__treasury_has $name" -l $option -r -F
@@ -45,7 +45,7 @@ __treasury lock "Locks a branch through a day: no new entries on that day or bef
 __treasury close "Closes a branch's revenues and expenses, or other accounts, and locks it" db branch day accounts into
 __treasury journal "Reports a branch's book as a journal in hledger's format" db branch
 __treasury serve "Answers requests over HTTP on 127.0.0.1, one connection after another" db port requests
-__treasury run "Answers the requests on standard input, in memory alone"
+__treasury run "Answers the requests on standard input, in memory alone" explain
 __treasury help "Print this message or the help of the given subcommand(s)"
 
 # The commands that have a dry run

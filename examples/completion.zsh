@@ -20,7 +20,7 @@ local -a rows=(
     "close db branch day accounts into: Closes a branch's revenues and expenses, or other accounts, and locks it"
     "journal db branch: Reports a branch's book as a journal in hledger's format"
     "serve db port requests: Answers requests over HTTP on 127.0.0.1, one connection after another"
-    "run: Answers the requests on standard input, in memory alone"
+    "run explain: Answers the requests on standard input, in memory alone"
     "help: Print this message or the help of the given subcommand(s)"
 )
 # The commands that have a dry run

@@ -1,6 +1,7 @@
 //! The words of the command line, and what they do.
 
 mod beside;
+mod explaining;
 mod file;
 mod left;
 mod looks;
@@ -13,6 +14,7 @@ mod said;
 mod serving;
 mod shrinking;
 mod tables;
+mod telling;
 mod waiting;
 mod watch;
 
@@ -36,12 +38,14 @@ ghost use Rattle.treasury.specs.Started.{AnswersUntaken};
 ghost use Rattle.clap.specs.Values.{kind_of};
 
 use crate::laws::{files_law, serving_law, words_law};
+use crate::words::explaining::Explainer;
 use crate::words::left::Left;
 use crate::words::looks::looks_of;
 use crate::words::over_file::{Answered, answer_over_file};
 use crate::words::pipe::is_unread;
 use crate::words::said::{Said, room_for_line};
 use crate::words::serving::{Serving, is_unwritten, serve_over_file};
+use crate::words::telling::NOTHING_ENTERED;
 use crate::words::waiting::wait_for;
 use clap::error::ErrorKind;
 use clap::{ArgMatches, Error};
@@ -52,13 +56,15 @@ use std::alloc::Global;
 use std::fs::File;
 use std::io::{Read, Write};
 use std::mem::ManuallyDrop;
-use treasury_api::{commands_law, refusal_law, run_law, run_lines, write_whole};
+use treasury_api::{
+    Listener, NoListener, commands_law, refusal_law, run_heard_lines, run_law, write_whole,
+};
 use treasury_core::{
     accepted_closing_law, good_law, growing_law, headline_law, late_entry_law, lock_law,
     records_law, sound_law,
 };
 use treasury_memory::{MemoryStore, open_memory};
-use treasury_spelling::{is_dry_run, known_words, value_of};
+use treasury_spelling::{is_dry_run, is_explained, known_words, value_of};
 use treasury_store::{Store, Treasury};
 
 /// How the program ends: its exit status, and what it leaves of the files of a word.
@@ -111,7 +117,12 @@ fn treasury_in_memory(alloc: Global) -> Result<Treasury<MemoryStore>, Cause>
 }
 
 /// Runs from the input to the output, over a federation that has nothing yet.
-fn run<R: Read, W: Write>(alloc: Global, input: &mut R, output: &mut W) -> Result<(), Cause>
+fn run<R: Read, W: Write, L: Listener>(
+    alloc: Global,
+    input: &mut R,
+    output: &mut W,
+    listener: &mut L,
+) -> Result<(), Cause>
     ensures done { OnOk result ((end : Standing)
         × AnswersAll R.remaining input.old input.new W.contents output.old output.new at_first end) }
     ensures cut_off { OnErr result (IsCutOff R.remaining input.old input.new W.contents output.old output.new) }
@@ -131,10 +142,30 @@ fn run<R: Read, W: Write>(alloc: Global, input: &mut R, output: &mut W) -> Resul
         Ok(treasury) => treasury,
         Err(cause) => return Err(cause),
     };
-    let done = run_lines(alloc, input, output, &mut treasury);
+    let done = run_heard_lines(alloc, input, output, &mut treasury, listener);
     // The process ends here, and its memory with it: to free each record would take a tenth of the run.
     let _left = ManuallyDrop::new(treasury);
     done
+}
+
+/// Does what `run` says, and answers the exit status. Where it is to be explained, standard error has what is said
+/// beside each answer; all else is the same.
+fn do_run<R: Read, W: Write>(
+    rt: &HostRuntime,
+    values: &ArgMatches<'_>,
+    input: &mut R,
+    output: &mut W,
+) -> u8
+    ensures done { result ≡ 0
+        → (end : Standing) × AnswersAll R.remaining input.old input.new W.contents output.old output.new at_first end }
+    ensures cut_off { result ≢ 0
+        → (result ≡ 1) × IsCutOff R.remaining input.old input.new W.contents output.old output.new }
+{
+    if is_explained(values) {
+        status(rt, run(rt.alloc(), input, output, &mut Explainer::new(rt)))
+    } else {
+        status(rt, run(rt.alloc(), input, output, &mut NoListener))
+    }
 }
 
 /// Writes the text of help or of the version to the output.
@@ -199,7 +230,7 @@ fn tell(rt: &HostRuntime, values: &ArgMatches<'_>, said: &Said) {
         let _ = rt.eprint(text);
     }
     if is_dry_run(values) {
-        let _ = rt.eprint("treasury: a dry run: nothing was entered\n");
+        let _ = rt.eprint(NOTHING_ENTERED);
     }
 }
 
@@ -288,8 +319,8 @@ fn do_word<R: Read, W: Write, S: Start>(
         → (subcommand_rows_of matches.now ≡ None) × ((input.new ≡ input.old) × (output.new ≡ output.old)) }
 {
     match matches.subcommand_matches("run") {
-        Some(_) => Ended {
-            status: status(rt, run(rt.alloc(), input, output)),
+        Some(values) => Ended {
+            status: do_run(rt, values, input, output),
             left: Left::Untouched,
         },
         None => match matches.subcommand_matches("serve") {

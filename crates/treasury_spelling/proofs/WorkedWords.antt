@@ -7,7 +7,7 @@ use Rattle.clap.specs.declared.error.kind.ErrorKind.TheVariants.{DisplayHelpOnMi
 use Rattle.clap.proofs.OnLiterals.{clap_on_literals}
 use Rattle.treasury_requests.specs.declared.request.Request.TheVariants.{Branch, Journal, Branches}
 use Rattle.treasury_spelling.specs.Words.{objections, named}
-use Rattle.treasury_spelling.specs.Spelling.{request_in, is_dry_run}
+use Rattle.treasury_spelling.specs.Spelling.{request_in, is_dry_run, is_explained}
 
 pub run_is_asked_for : (name : List ℕ) → objections (name ∷ codes "run" ∷ []) ≡ []
 unfolding clap_on_literals objections
@@ -28,6 +28,22 @@ unknown_word name = refl
 pub further_word : (name : List ℕ) → objections (name ∷ codes "run" ∷ codes "fast" ∷ []) ≡ UnknownArgument ∷ []
 unfolding clap_on_literals objections
 further_word name = refl
+
+-- a run may be explained, and has no other flag; the flag has no value
+
+pub explained_run_is_asked_for : (name : List ℕ)
+    → option_map (λ p. is_explained p.1) (named (name ∷ codes "run" ∷ codes "--explain" ∷ [])) ≡ Some true
+unfolding clap_on_literals named
+explained_run_is_asked_for name = refl
+
+pub run_alone_is_not_explained : (name : List ℕ)
+    → option_map (λ p. is_explained p.1) (named (name ∷ codes "run" ∷ [])) ≡ Some false
+unfolding clap_on_literals named
+run_alone_is_not_explained name = refl
+
+pub no_run_is_dry : (name : List ℕ) → objections (name ∷ codes "run" ∷ codes "--dry-run" ∷ []) ≡ UnknownArgument ∷ []
+unfolding clap_on_literals objections
+no_run_is_dry name = refl
 
 pub help_is_asked_for : (name : List ℕ) → objections (name ∷ codes "--help" ∷ []) ≡ DisplayHelp ∷ []
 unfolding clap_on_literals objections

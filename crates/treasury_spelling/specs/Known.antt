@@ -45,6 +45,10 @@ id = option (codes "id")
 abbrev pub dry_run : Rule
 dry_run = flag (codes "dry-run")
 
+-- the word that is over no file, with `--explain`
+abbrev pub run : Shape
+run = record (new_shape (codes "run")) { rules = flag (codes "explain") ∷ [] }
+
 -- the words by which a treasury begins
 abbrev pub begins : List Shape
 begins =
@@ -82,7 +86,7 @@ ends =
     ∷ word (codes "close") (branch ∷ day ∷ optional (codes "accounts") ∷ optional (codes "into") ∷ dry_run ∷ [])
     ∷ word (codes "journal") (branch ∷ [])
     ∷ word (codes "serve") (number (codes "port") 65535 ∷ number (codes "requests") 4294967295 ∷ [])
-    ∷ new_shape (codes "run")
+    ∷ run
     ∷ []
 
 -- the words that the program knows: it has a version, and one of its words has to be given

@@ -90,6 +90,10 @@ is_set (Some text) = bytes_eq text (codes "true")
 abbrev pub is_dry_run : List Row → Bool
 is_dry_run rows = is_set (first_of (codes "dry-run") rows)
 
+-- `--explain` is given
+abbrev pub is_explained : List Row → Bool
+is_explained rows = is_set (first_of (codes "explain") rows)
+
 -- the request of a word, as a dry run or in earnest
 abbrev pub given : Bool → Request → Spelled
 given dry request = record { request = request; is_dry_run = dry }

@@ -2,10 +2,10 @@
 
 ghost use Rattle.std.specs.Prelude.{◌≡◌, ◌∷◌, [], Some, false, codes, IfOk};
 ghost use Rattle.clap.specs.Walk.{rule_of};
-ghost use Rattle.clap.specs.Simple.{app_of, new_app};
+ghost use Rattle.clap.specs.Simple.{app_of};
 ghost use Rattle.clap.specs.declared.builder.command.Command.TheViews.{out-Command};
 ghost use Rattle.treasury_spelling.specs.Known.{known, word, option, optional, operand, number, branch, day, account};
-ghost use Rattle.treasury_spelling.specs.Known.{id};
+ghost use Rattle.treasury_spelling.specs.Known.{id, flag, run};
 ghost use Rattle.treasury_spelling.specs.Known.{dry_run, begins, months, transfers, ends};
 ghost use Rattle.treasury_spelling.specs.Knowing.{IsWord, HasMore};
 
@@ -218,6 +218,9 @@ const PART_AMOUNT_HELP: &str = "The amount of the part";
 
 const DRY_RUN_HELP: &str = "Answers what the command would be answered; nothing is entered";
 
+const EXPLAIN_HELP: &str =
+    "Explains refusals, and notes what may be a slip, on standard error below the line's number";
+
 /// An option that may be given, with a value.
 fn optional<'a>(alloc: Global, name: &'a str, value: &'a str, help: &'a str) -> Arg<'a>
     ensures rule { rule_of result ≡ optional name.entry.now }
@@ -272,15 +275,23 @@ fn account_option<'a>(alloc: Global, help: &'a str) -> Arg<'a>
     option(alloc, "account", "ACCOUNT", help)
 }
 
+/// A flag.
+fn flag<'a>(alloc: Global, name: &'a str, help: &'a str) -> Arg<'a>
+    ensures rule { rule_of result ≡ flag name.entry.now }
+    ensures local { result.global ≡ false }
+{
+    Arg::new(alloc, name)
+        .long(name)
+        .action(ArgAction::SetTrue)
+        .help(help)
+}
+
 /// The flag of a dry run.
 fn dry_run_flag<'a>(alloc: Global) -> Arg<'a>
     ensures rule { rule_of result ≡ dry_run }
     ensures local { result.global ≡ false }
 {
-    Arg::new(alloc, "dry-run")
-        .long("dry-run")
-        .action(ArgAction::SetTrue)
-        .help(DRY_RUN_HELP)
+    flag(alloc, "dry-run", DRY_RUN_HELP)
 }
 
 /// A word over a database file.
@@ -557,13 +568,14 @@ fn serve<'a>(alloc: Global) -> Result<Command<'a>, AllocError>
 }
 
 /// The word `run`, which is over no file.
-fn run<'a>(alloc: Global) -> Command<'a>
-    ensures app { app_of result ≡ new_app (codes "run") }
-    ensures local { (out-Command result).has_globals ≡ false }
+fn run<'a>(alloc: Global) -> Result<Command<'a>, AllocError>
+    ensures app { IfOk result (λ command. app_of command ≡ record { top = run; subs = [] }) }
+    ensures local { IfOk result (λ command. (out-Command command).has_globals ≡ false) }
 {
     Command::new(alloc, "run")
         .about(ABOUT_RUN)
         .after_help(EXAMPLE_RUN)
+        .arg(flag(alloc, "explain", EXPLAIN_HELP))
 }
 
 /// With the words that lock a branch.
@@ -575,14 +587,22 @@ fn with_locks<'a>(alloc: Global, command: Command<'a>) -> Result<Command<'a>, Al
     command.subcommand(lock(alloc)?)?.subcommand(close(alloc)?)
 }
 
-/// With the words of a month's or a year's end, `serve` and `run`.
+/// With the words of a month's or a year's end.
+fn with_closings<'a>(alloc: Global, command: Command<'a>) -> Result<Command<'a>, AllocError>
+    ensures { IfOk result (HasMore (word (codes "lock") (branch ∷ day ∷ dry_run ∷ [])
+        ∷ word (codes "close") (branch ∷ day ∷ optional (codes "accounts") ∷ optional (codes "into") ∷ dry_run ∷ [])
+        ∷ word (codes "journal") (branch ∷ []) ∷ []) command.entry) }
+{
+    with_locks(alloc, command)?.subcommand(journal(alloc)?)
+}
+
+/// With the same, `serve` and `run`.
 fn with_ends<'a>(alloc: Global, command: Command<'a>) -> Result<Command<'a>, AllocError>
     ensures { IfOk result (HasMore ends command.entry) }
 {
-    with_locks(alloc, command)?
-        .subcommand(journal(alloc)?)?
+    with_closings(alloc, command)?
         .subcommand(serve(alloc)?)?
-        .subcommand(run(alloc))
+        .subcommand(run(alloc)?)
 }
 
 /// The words that the program knows, in the order of a treasurer's year.

@@ -5,4 +5,4 @@ mod known;
 mod spelling;
 
 pub use known::known_words;
-pub use spelling::{fault_of, form_of_word, is_dry_run, value_of};
+pub use spelling::{fault_of, form_of_word, is_dry_run, is_explained, value_of};

@@ -8,7 +8,7 @@ ghost use Rattle.treasury_requests.specs.Form.{shown, shown_part};
 ghost use Rattle.treasury_requests.specs.Request.{HasDayNumbers};
 ghost use Rattle.treasury_spelling.specs.Spelling.{day_in, dispatch_in, part_in, receive_in, list_in, report_in};
 ghost use Rattle.treasury_spelling.specs.Spelling.{request_in};
-ghost use Rattle.treasury_spelling.specs.Spelling.{is_dry_run};
+ghost use Rattle.treasury_spelling.specs.Spelling.{is_set, is_dry_run, is_explained};
 
 use clap::ArgMatches;
 use journal_lines::read_date;
@@ -22,14 +22,28 @@ pub fn value_of<'a>(values: &ArgMatches<'a>, name: &str) -> Option<&'a str>
     values.get_str(name)
 }
 
+/// Whether the flag of that name is given.
+fn is_set(values: &ArgMatches<'_>, name: &str) -> bool
+    ensures { result ≡ is_set (first_of name.now (rows_of (found_of values.now))) }
+{
+    match value_of(values, name) {
+        Some(text) => text == "true",
+        None => false,
+    }
+}
+
 /// Whether a dry run is asked for.
 pub fn is_dry_run(values: &ArgMatches<'_>) -> bool
     ensures { result ≡ is_dry_run (rows_of (found_of values.now)) }
 {
-    match value_of(values, "dry-run") {
-        Some(text) => text == "true",
-        None => false,
-    }
+    is_set(values, "dry-run")
+}
+
+/// Whether the answers of a run are to be explained.
+pub fn is_explained(values: &ArgMatches<'_>) -> bool
+    ensures { result ≡ is_explained (rows_of (found_of values.now)) }
+{
+    is_set(values, "explain")
 }
 
 /// The value that is a day.

@@ -21,7 +21,7 @@ use crate::words::file::{
 };
 use crate::words::left::Left;
 use crate::words::said::{Said, done, refused, room_for_line};
-use book_core::Refusal;
+use crate::words::telling::{notes_on, reason_of};
 use clap::ArgMatches;
 use money_core::{Cause, Text};
 use sqlite::{Alter, FileFrom, FileStore, Start};
@@ -29,13 +29,12 @@ use sqlite_disk::Disk;
 use std::alloc::Global;
 use std::fs;
 use std::io::Read;
-use treasury_api::{additions_ahead, answer, refuse};
+use treasury_api::{answer, refuse};
 use treasury_requests::{Bytes, Request, Spelled, request_of};
 use treasury_spelling::{fault_of, form_of_word, is_dry_run, value_of};
 use treasury_store::Treasury;
-use treasury_told::dry_run::notes_of_dry_run;
-use treasury_told::explain::{explain, sentence};
-use treasury_told::notes::{HeldBefore, held_before, notes_of};
+use treasury_told::explain::sentence;
+use treasury_told::notes::held_before;
 
 /// What is said to a word over a file, and what it leaves of the file.
 #[derive(Drop)]
@@ -110,56 +109,6 @@ pub fn lacking(alloc: Global, room: Vec<u8>, word: &str) -> Said
     refused(alloc, room, Cause::Request, word, sentence(Cause::Request))
 }
 
-/// Why a treasury refuses a request, as far as there is memory to say it.
-fn reason_of<S: Alter>(
-    alloc: Global,
-    treasury: &Treasury<S>,
-    request: &Spelled,
-    source: &str,
-    refusal: &Refusal,
-) -> Vec<u8> {
-    let mut reason = Vec::new(alloc);
-    if let Some(state) = treasury.state() {
-        let _ = explain(alloc, state, &request.request, source, refusal, &mut reason);
-    }
-    reason
-}
-
-/// What is said of a dry run that is not refused, as far as there is memory for it.
-fn notes_ahead<S: Alter>(
-    alloc: Global,
-    treasury: &Treasury<S>,
-    request: &Spelled,
-    source: &str,
-) -> Vec<u8>
-    requires { HasDayNumbers request.now.request }
-{
-    let Some(state) = treasury.state() else {
-        return Vec::new(alloc);
-    };
-    match additions_ahead(alloc, state, request) {
-        Some(added) => notes_of_dry_run(alloc, state, &request.request, source, added.additions()),
-        None => Vec::new(alloc),
-    }
-}
-
-/// What is said beside an answer that is no refusal, as far as there is memory for it.
-fn notes_on<S: Alter>(
-    alloc: Global,
-    treasury: &Treasury<S>,
-    request: &Spelled,
-    source: &str,
-    held: Option<HeldBefore>,
-) -> Vec<u8>
-    requires { HasDayNumbers request.now.request }
-{
-    if request.is_dry_run {
-        notes_ahead(alloc, treasury, request, source)
-    } else {
-        notes_of(alloc, treasury.state(), &request.request, source, held)
-    }
-}
-
 /// What a treasury answers to the request of a word: as to a line of `run`, but a report has no `ok` behind its lines.
 /// `source` names the journal.
 pub fn answer_word<S: Alter>(
@@ -179,11 +128,11 @@ pub fn answer_word<S: Alter>(
     match answer(alloc, request, treasury, &mut text) {
         Ok(()) => Said {
             answer: text,
-            reason: notes_on(alloc, treasury, request, source, held),
+            reason: notes_on(alloc, treasury.state(), request, source, held),
             is_refused: false,
         },
         Err(refusal) => {
-            let reason = reason_of(alloc, treasury, request, source, &refusal);
+            let reason = reason_of(alloc, treasury.state(), request, source, &refusal);
             Said {
                 answer: refuse(alloc, treasury, refusal, room),
                 reason,

@@ -3,16 +3,14 @@ use Rattle.clap.specs.Matches.{found_of}
 use Rattle.clap.specs.Walk.{Row, rows_of}
 use Rattle.treasury.proofs.OverFileLemmas.{told_alike}
 use Rattle.treasury.proofs.ServingLemmas.{served_alike, serve_is_not_run}
-use Rattle.treasury.proofs.UntakenLemmas.{cut_off_status, done_status}
 use Rattle.treasury_spelling.proofs.WordLemmas.{met_name, met_word, same_some}
 use Rattle.treasury.proofs.words.do_word.Goals as goal
 
 pub returns-in-Some-clause-done : goal.returns-in-Some-clause-done
-returns-in-Some-clause-done g c = λ _ zero. done_status c.run.result _ _ c.status.ensures c.run.ensures.done zero
+returns-in-Some-clause-done g c = λ _. c.do_run.ensures.done
 
 pub returns-in-Some-clause-cut_off : goal.returns-in-Some-clause-cut_off
-returns-in-Some-clause-cut_off g c =
-    λ _ other. cut_off_status c.run.result _ _ c.status.ensures c.run.ensures.cut_off other
+returns-in-Some-clause-cut_off g c = λ _. c.do_run.ensures.cut_off
 
 pub returns-in-Some-clause-word : goal.returns-in-Some-clause-word
 returns-in-Some-clause-word g c =

@@ -1,0 +1,89 @@
+//! What a run says beside its answers, if it is asked to explain them.
+
+use crate::words::telling::{NOTHING_ENTERED, notes_on, reason_of};
+use book_core::{DayLedger, Refusal};
+use money_core::Cause;
+use std::alloc::Global;
+use treasury_api::Listener;
+use treasury_core::State;
+use treasury_requests::Spelled;
+use treasury_told::explain::sentence;
+use treasury_told::notes::{HeldBefore, held_before};
+
+/// How the journal of an import is called, which has no file: by its key.
+const SOURCE: &str = "journal";
+
+/// Appends the sentence of a cause.
+fn push_sentence(cause: Cause, out: &mut Vec<u8>) -> Result<(), Cause> {
+    out.extend_from_slice(b"treasury: ")?;
+    out.extend_from_slice(sentence(cause).as_bytes())?;
+    out.extend_from_slice(b"\n")?;
+    Ok(())
+}
+
+/// Explains the answers of a run on standard error: each as a command over a file does, below the number of its line.
+#[derive(Drop)]
+pub struct Explainer<'a> {
+    rt: &'a HostRuntime,
+    /// The number of the line, from 1.
+    line: usize,
+    /// What was held before the request of the line was answered.
+    held: Option<HeldBefore>,
+    /// What is to be said once the answer to the line is written.
+    said: Vec<u8>,
+}
+
+impl<'a> Explainer<'a> {
+    /// Before the first line.
+    pub fn new(rt: &'a HostRuntime) -> Explainer<'a> {
+        Explainer {
+            rt,
+            line: 0,
+            held: None,
+            said: Vec::new(rt.alloc()),
+        }
+    }
+}
+
+impl Listener for Explainer<'_> {
+    fn begin_line(&mut self) {
+        self.line = self.line.saturating_add(1);
+    }
+
+    fn ask(&mut self, state: Option<&State<DayLedger>>, request: &Spelled) {
+        self.held = held_before(state, &request.request);
+    }
+
+    fn tell(
+        &mut self,
+        alloc: Global,
+        state: Option<&State<DayLedger>>,
+        request: &Spelled,
+        refusal: Option<&Refusal>,
+    ) {
+        self.said = match refusal {
+            Some(refusal) => reason_of(alloc, state, request, SOURCE, refusal),
+            None => notes_on(alloc, state, request, SOURCE, self.held),
+        };
+        if request.is_dry_run {
+            let _ = self.said.extend_from_slice(NOTHING_ENTERED.as_bytes());
+        }
+    }
+
+    fn tell_unasked(&mut self, alloc: Global, cause: Cause) {
+        let mut said = Vec::new(alloc);
+        let _ = push_sentence(cause, &mut said);
+        self.said = said;
+    }
+
+    fn end_line(&mut self) {
+        if let Ok(text) = str::from_utf8(self.said.as_slice()) {
+            if !text.is_empty() {
+                let line = self.line;
+                let _ = eprintln!(self.rt; "line {line}:");
+                let _ = self.rt.eprint(text);
+            }
+        }
+        self.said.clear();
+    }
+}
