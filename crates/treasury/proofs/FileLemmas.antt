@@ -25,12 +25,13 @@ use Rattle.treasury_core.specs.Rows.{rows, HasShortLocks}
 use Rattle.treasury_store.specs.Tables.{no_schema}
 use Rattle.treasury_api.specs.Step.{Standing}
 use Rattle.treasury.specs.Word.{AnswersWord, Told, AreTold}
-use Rattle.treasury.specs.declared.words.left.Left.{Left}
-use Rattle.treasury.specs.declared.words.left.Left.TheVariants.{Closed}
-use Rattle.treasury.specs.Left.{HoldsRows, HoldsOf, IsLeft, IsCleanIn, MayBe}
-use Rattle.treasury.specs.OverFile.{HoldsState, LeavesState, ShowsState, AnswersOver, said_to, IsFileRefused, SaysOver}
+use Rattle.treasury_files.specs.declared.left.Left.{Left}
+use Rattle.treasury_files.specs.declared.left.Left.TheVariants.{Closed}
+use Rattle.treasury_files.specs.Left.{HoldsRows, HoldsOf, IsLeft, IsCleanIn, MayBe}
+use Rattle.treasury_files.specs.InFile.{HoldsState, LeavesState, ShowsState}
+use Rattle.treasury.specs.OverFile.{AnswersOver, said_to, IsFileRefused, SaysOver}
 use Rattle.treasury.specs.OverFile.{AreToldOver, AreAnsweredOver, AreToldBut}
-use Rattle.treasury.proofs.LeftLemmas.{shows_rows}
+use Rattle.treasury_files.proofs.LeftLemmas.{shows_rows}
 
 -- the files that were left hold what they held, and so does the database file alone
 pub still_holds : (left next : Image) (f : Federation) → IsLeft left next → HoldsState left f → HoldsState next f

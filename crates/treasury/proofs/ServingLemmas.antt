@@ -33,19 +33,21 @@ use Rattle.treasury_api.specs.Answer.{answer_text}
 use Rattle.treasury_api.specs.Replied.{standing}
 use Rattle.treasury_api.specs.Step.{Standing}
 use Rattle.treasury_api.specs.Web.{AreServed, HasServed}
-use Rattle.treasury.specs.declared.words.left.Left.{Left}
-use Rattle.treasury.specs.declared.words.left.Left.TheVariants.{Untouched, Closed, Open}
-use Rattle.treasury.specs.OverFile.{Spoken, IsRefusedBy, ShowsState, LeavesState, Tells}
-use Rattle.treasury.specs.Left.{HoldsOf, IsCleanStore, KeepsFile}
+use Rattle.treasury_files.specs.declared.left.Left.{Left}
+use Rattle.treasury_files.specs.declared.left.Left.TheVariants.{Untouched, Closed, Open}
+use Rattle.treasury.specs.OverFile.{Spoken, IsRefusedBy, Tells}
+use Rattle.treasury_files.specs.InFile.{ShowsState, LeavesState}
+use Rattle.treasury_files.specs.Left.{HoldsOf, IsCleanStore, KeepsFile}
 use Rattle.treasury.specs.Serving.{IsNumber, LacksNumber, listening, after_listening, ServesOver, LeavesOpen}
 use Rattle.treasury.specs.Serving.{ServesOpen, IsNotClosed, IsServed}
-use Rattle.treasury.specs.Started.{IsStarted, IsClosedAs, IsLeftAs}
+use Rattle.treasury_files.specs.Started.{IsStarted, IsClosedAs, IsLeftAs}
 use Rattle.treasury.specs.ServingParts.{ends_unwritten, IsAnnounced, SaysAtEnd, SaysServing, ServesIfHeard}
 use Rattle.treasury.specs.ServingParts.{KeepsUnheard, EndsBy}
 use Rattle.treasury.specs.declared.words.serving.Ending.{Ending}
 use Rattle.treasury.specs.declared.words.serving.Ending.TheVariants.{Unbound, Unwritten, Unaccepted, Changed, Finished}
-use Rattle.treasury.proofs.LeftLemmas.{image_holds, stored_in}
-use Rattle.treasury.proofs.OverFileLemmas.{left_behind, committed_in, line_of_40, tells_nothing}
+use Rattle.treasury_files.proofs.LeftLemmas.{image_holds, stored_in}
+use Rattle.treasury_files.proofs.StartedLemmas.{left_behind, committed_in}
+use Rattle.treasury.proofs.OverFileLemmas.{line_of_40, tells_nothing}
 
 -- ---- its values
 

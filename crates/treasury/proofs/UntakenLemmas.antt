@@ -6,7 +6,7 @@ use Rattle.clap.specs.Kinds.{IsAmong}
 use Rattle.clap.specs.declared.error.kind.ErrorKind.{ErrorKind}
 use Rattle.clap.specs.declared.error.kind.ErrorKind.TheVariants.{OutOfMemory}
 use Rattle.treasury_spelling.specs.Words.{objections, AreTaken, MayAskForHelp}
-use Rattle.treasury.specs.Started.{AnswersUntaken}
+use Rattle.treasury.specs.OverFileParts.{AnswersUntaken}
 use Rattle.treasury_spelling.proofs.WordLemmas.{taken_fails, help_shown, taken_shows_none}
 
 -- the status of a run that is cut off

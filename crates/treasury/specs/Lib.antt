@@ -1,11 +1,8 @@
 -- What a reader has to believe, in reading order
 pub mod Word
-pub mod Left
 pub mod OverFile
-pub mod Look
-pub mod Counts
 pub mod Serving
 pub mod CutOff
 -- What mirrors code, for private clauses: nobody has to believe it
-pub mod Started
+pub mod OverFileParts
 pub mod ServingParts

@@ -3,7 +3,7 @@
 -- of a word, when they were opened.
 use mathlib.Core.Logic.{inl, inr}
 use Rattle.std.specs.Prelude.{◌≡◌, ◌≢◌, ◌<◌, ◌⊎◌, ℕ, Bool, true, false, List, [], ◌∷◌, ◌++◌, take}
-use Rattle.std.specs.Prelude.{if◌then◌else◌, length, Option, None, Some, IfSome, Ok, Err, codes, IsTrue}
+use Rattle.std.specs.Prelude.{if◌then◌else◌, length, Option, None, Some, IfSome, Ok, Err, codes}
 use Rattle.std.specs.Io.KnownBytes.{Appends}
 use Rattle.clap.specs.Walk.{Row, first_of}
 use Rattle.sqlite_disk.specs.declared.Disk as disk
@@ -11,28 +11,19 @@ use Rattle.sqlite_disk.specs.declared.Files.{Files}
 use Rattle.sqlite_wal.specs.Recovery.{Image}
 use Rattle.sqlite_wal.specs.Reads.{AreClean}
 use Rattle.sqlite_store.specs.declared.store.FileStore.{FileStore}
-use Rattle.sqlite.specs.Effect.{Database, IsDatabase}
 use Rattle.sqlite.specs.Held.{Held}
 use Rattle.sqlite.specs.Start.{FindsIn}
 use Rattle.sqlite.specs.Tree.{Trees}
 use Rattle.sqlite.specs.Files.{file_state, IsOpened}
-use Rattle.sqlite.specs.Closing.{HoldsAlone}
 use Rattle.money_core.specs.declared.cause.Cause.{Cause}
 use Rattle.money_core.specs.declared.cause.Cause.TheVariants.{OutOfMemory, Store, Damaged, Request as NoRequest}
 use Rattle.money_core.specs.declared.cause.Cause.TheVariants.{ReadFault}
 use Rattle.book_core.specs.declared.refusal.Refusal.TheVariants.{Plain}
 use Rattle.treasury_core.specs.declared.command.Answer.TheVariants.{Done}
 use Rattle.treasury_core.specs.Federation.{Federation}
-use Rattle.treasury_core.specs.Good.{IsGoodState}
 use Rattle.treasury_core.specs.History.{Turn}
-use Rattle.treasury_core.specs.Rows.{rows, HasShortLocks}
-use Rattle.treasury_store.specs.Rows.{Holds, HoldsEither, AreTreesOf}
-use Rattle.treasury_store.specs.Store.{empty_state}
-use Rattle.treasury_store.specs.Tables.{no_schema}
-use Rattle.treasury_store.specs.Creating.{has_one, has_all}
-use Rattle.treasury_store.specs.Opening.{AreOurs, IsFirst, IsFirstNumbered, IsSecond}
-use Rattle.treasury_store.specs.Upgrading.{Upgrades}
-use Rattle.treasury_store.specs.Shown.{ShowsTables}
+use Rattle.treasury_core.specs.Rows.{rows}
+use Rattle.treasury_store.specs.Rows.{AreTreesOf}
 use Rattle.treasury_requests.specs.declared.request.Spelled.{Spelled}
 use Rattle.treasury_requests.specs.declared.request.Request.{Request}
 use Rattle.treasury_requests.specs.declared.request.Request.TheVariants.{Import}
@@ -41,10 +32,10 @@ use Rattle.treasury_api.specs.Step.{Standing}
 use Rattle.treasury_api.specs.OneRequest.{command_of}
 use Rattle.treasury_spelling.specs.Spelling.{request_in, is_dry_run, given}
 use Rattle.treasury.specs.Word.{AnswersWord, Told}
-use Rattle.treasury.specs.declared.words.left.Left.{Left}
-use Rattle.treasury.specs.declared.words.left.Left.TheVariants.{Untouched, Closed}
-use Rattle.treasury.specs.Left.{HoldsRows, HoldsOf, HaveRows, IsImageOf, IsCleanIn, MayBe, MayComeBack, AreSpared}
-use Rattle.treasury.specs.Left.{KeepsFile}
+use Rattle.treasury_files.specs.declared.left.Left.{Left}
+use Rattle.treasury_files.specs.declared.left.Left.TheVariants.{Untouched, Closed}
+use Rattle.treasury_files.specs.Left.{HoldsRows, HoldsOf, HaveRows, IsCleanIn, MayBe, MayComeBack, AreSpared, KeepsFile}
+use Rattle.treasury_files.specs.InFile.{most_journal, HasTreasury, ShowsState, LeavesState, MakesOver}
 
 -- what is said to a word: a text for standard output, and whether that is a refusal
 pub record Spoken : Type 0 where
@@ -59,10 +50,6 @@ IsRefusedBy cause said = (said.text ≡ answer_text [] (Err (Plain cause))) × (
 -- 40, 41 or 43: there is no memory, the file cannot be used, or it has no treasury
 abbrev pub IsFileRefused : Spoken → Type 0
 IsFileRefused said = IsRefusedBy OutOfMemory said ⊎ (IsRefusedBy Store said ⊎ IsRefusedBy Damaged said)
-
--- how many bytes of a journal are read at most: one more than a text may have, so that a longer one is seen to be
-abbrev pub most_journal : ℕ
-most_journal = 1_048_577
 
 -- 45 or 40: the journal's file cannot be read
 abbrev pub IsJournalRefused : Spoken → Type 0
@@ -82,43 +69,9 @@ Tells contents w0 w1 status said =
     ⊎ ((taken : ℕ) × (taken < length said.text) × Appends (contents w0) (contents w1) (take taken said.text)
     × (status ≡ 1))
 
--- ---- what a file holds, and what is said by it
-
--- The files hold tables that are the rows of a good state, with lock days that a table takes, and so does the database
--- file with no log beside it.
-pub record HoldsState (image : Image) (f : Federation) : Type 0 where
-  pub good : IsGoodState f
-  pub short : HasShortLocks f
-  pub db : Database
-  pub listed : IsDatabase db
-  pub tables : Holds db (rows f)
-  pub alone : HoldsAlone image db.trees
-
--- the tables of a database are the rows of a good state, as a query reads them
-abbrev pub ShowsGoodRows : Database → Type 0
-ShowsGoodRows db = (f : Federation) × IsGoodState f × ShowsTables db (rows f)
-
--- A database has a treasury: tables with our names. If our statements made them, and it has no others, they are those
--- of version 2, with the rows of a good state, or those of version 1, whose version 2 has such rows, where the rowid of
--- the row of `format` is an integer, as SQLite has no others.
-pub record HasTreasury (db : Database) : Type 0 where
-  pub named : IsTrue (has_all db.schema)
-  pub version : AreOurs db.schema → IsFirst db ⊎ IsSecond db
-  pub second : IsSecond db → ShowsGoodRows db
-  pub first : IsFirstNumbered db → (next : Database) × Upgrades db next × ShowsGoodRows next
+-- ---- what is said over a file
 
 module _ {D : Type 0} (g : disk.Ghosts D) where
-  -- a connection shows tables, of version 2 or of version 1, that are the rows of a good state, with lock days that a
-  -- table takes
-  pub record ShowsState (c : Held (FileStore D g)) (f : Federation) : Type 0 where
-    pub good : IsGoodState f
-    pub short : HasShortLocks f
-    pub holds : HoldsEither (file_state c).now (rows f)
-
-  -- The files that were closed hold the rows of a state, as they read and as a crash may leave them.
-  abbrev pub LeavesState : Files D → Federation → Type 0
-  LeavesState closed f = (left : Image) → IsImageOf g closed.log closed.db left → HoldsState left f
-
   -- A file was opened and closed, and that is what is left. What its connection showed first is what the image holds,
   -- and that has a treasury. Of whichever state these are the rows: the request is answered as by that state, and the
   -- file that is closed holds the rows of the state where the answer leads.
@@ -129,22 +82,9 @@ module _ {D : Type 0} (g : disk.Ghosts D) where
     pub found : AreClean g closed.log closed.db → FindsIn image (file_state opened)
     pub serves : AreClean g closed.log closed.db → IsOpened opened
     pub has : AreClean g closed.log closed.db → HasTreasury (file_state opened).now
-    pub answers : AreClean g closed.log closed.db → (f : Federation) → ShowsState opened f
+    pub answers : AreClean g closed.log closed.db → (f : Federation) → ShowsState g opened f
         → (end : Standing) × AnswersWord (record { now = f; failed = false }) request said.text said.refused end
-        × LeavesState closed end.now
-
-  -- A file was opened and closed, and that is what is left. What its connection showed first is what the image holds.
-  -- Where that is no table, the file that is closed holds the rows of a state that has nothing; in no case was there a
-  -- table with one of our names.
-  pub record MakesOver (image : Image) (left : Left D g) : Type 0 where
-    pub opened : Held (FileStore D g)
-    pub closed : Files D
-    pub is_left : left ≡ Closed closed
-    pub found : AreClean g closed.log closed.db → FindsIn image (file_state opened)
-    pub serves : AreClean g closed.log closed.db → IsOpened opened
-    pub free : has_one (file_state opened).now.schema ≡ false
-    pub makes : AreClean g closed.log closed.db → (file_state opened).now.schema ≡ no_schema
-        → LeavesState closed empty_state
+        × LeavesState g closed end.now
 
   -- trees of a database with the rows of the state where a request leads that is answered by a state
   abbrev pub HaveRowsBehind : Trees → Federation → Spelled → Type 0
@@ -165,7 +105,7 @@ module _ {D : Type 0} (g : disk.Ghosts D) where
   abbrev pub SaysToInit : Image → Spoken → Left D g → Type 0
   SaysToInit image said left =
       (IsFileRefused said × KeepsFile g image left)
-      ⊎ (MakesOver image left × (said ≡ record { text = answer_text [] (Ok Done); refused = false }))
+      ⊎ (MakesOver g image left × (said ≡ record { text = answer_text [] (Ok Done); refused = false }))
 
   -- The request is answered over a file. Or the file is refused: by 40 or 43, and it is left as it was; or by 41, and
   -- the request may have been done.

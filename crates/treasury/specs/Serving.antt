@@ -18,11 +18,12 @@ use Rattle.money_core.specs.declared.cause.Cause.TheVariants.{OutOfMemory, Store
 use Rattle.treasury_core.specs.Federation.{Federation}
 use Rattle.treasury_api.specs.Step.{Standing}
 use Rattle.treasury_api.specs.Web.{AnsweredCall, AreServed}
-use Rattle.treasury.specs.declared.words.left.Left.{Left}
-use Rattle.treasury.specs.declared.words.left.Left.TheVariants.{Closed, Open, Shut}
-use Rattle.treasury.specs.Left.{HoldsOf, IsImageOf, IsCleanStore, KeepsFile}
-use Rattle.treasury.specs.OverFile.{Spoken, IsRefusedBy, IsFileRefused, IsRefusedBefore, LeavesState, ShowsState}
-use Rattle.treasury.specs.OverFile.{HasTreasury, Tells}
+use Rattle.treasury_files.specs.declared.left.Left.{Left}
+use Rattle.treasury_files.specs.declared.left.Left.TheVariants.{Closed, Open, Shut}
+use Rattle.treasury_files.specs.Left.{HoldsOf, IsImageOf, IsCleanStore, KeepsFile}
+use Rattle.treasury.specs.OverFile.{Spoken, IsRefusedBy, IsFileRefused, IsRefusedBefore}
+use Rattle.treasury_files.specs.InFile.{LeavesState, ShowsState, HasTreasury}
+use Rattle.treasury.specs.OverFile.{Tells}
 
 -- ---- its values
 

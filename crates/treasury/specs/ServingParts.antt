@@ -8,8 +8,8 @@ use Rattle.money_core.specs.declared.cause.Cause.TheVariants.{Store, Request as 
 use Rattle.treasury_store.specs.Treasury.{Treasury}
 use Rattle.treasury.specs.declared.words.serving.Ending.{Ending}
 use Rattle.treasury.specs.declared.words.serving.Ending.TheVariants.{Unbound, Unwritten, Unaccepted, Changed, Finished}
-use Rattle.treasury.specs.declared.words.left.Left.{Left}
-use Rattle.treasury.specs.Left.{KeepsFile}
+use Rattle.treasury_files.specs.declared.left.Left.{Left}
+use Rattle.treasury_files.specs.Left.{KeepsFile}
 use Rattle.treasury.specs.OverFile.{Spoken, IsRefusedBy, IsFileRefused, IsRefusedBefore}
 use Rattle.treasury.specs.Serving.{ServesOver, ServesOpen, IsNotClosed, LacksValue, listening, silent}
 

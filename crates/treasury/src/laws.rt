@@ -10,7 +10,6 @@ ghost use Rattle.sqlite.specs.Start.{FindsIn};
 ghost use Rattle.sqlite.specs.Files.{file_state, IsOpened};
 ghost use Rattle.treasury_core.specs.Federation.{Federation};
 ghost use Rattle.treasury_core.specs.Good.{IsGoodState};
-ghost use Rattle.treasury_core.specs.History.{Turn, state_after};
 ghost use Rattle.treasury_api.specs.Step.{Standing};
 ghost use Rattle.treasury_api.specs.History.{KeepBooksTo};
 ghost use Rattle.treasury_api.specs.Web.{AreServed, turns_of_calls};
@@ -18,16 +17,15 @@ ghost use Rattle.treasury_requests.specs.declared.request.Spelled.{Spelled};
 ghost use Rattle.treasury.specs.Word.{AnswersWord, Told, AreTold, turns_of_words};
 ghost use Rattle.treasury_store.specs.Tables.{no_schema};
 ghost use Rattle.treasury_store.specs.Store.{empty_state};
-ghost use Rattle.treasury.specs.declared.words.left.Left.{Left};
-ghost use Rattle.treasury.specs.Left.{HoldsOf, IsCleanStore, MayBe};
-ghost use Rattle.treasury.specs.OverFile.{HoldsState, ShowsState, MakesOver, AreToldOver, AreAnsweredOver};
-ghost use Rattle.treasury.specs.OverFile.{AreToldBut, turns_of_told};
+ghost use Rattle.treasury_files.specs.declared.left.Left.{Left};
+ghost use Rattle.treasury_files.specs.Left.{HoldsOf, IsCleanStore, MayBe};
+ghost use Rattle.treasury_files.specs.InFile.{HoldsState, ShowsState, MakesOver};
+ghost use Rattle.treasury.specs.OverFile.{AreToldOver, AreAnsweredOver, AreToldBut, turns_of_told};
 ghost use Rattle.treasury.specs.Serving.{ServesOver, ServesOpen};
-ghost use Rattle.treasury.specs.Counts.{Keeps, counts_of};
 
 use sqlite_disk::Disk;
 use treasury_api::calls_law;
-use treasury_core::{headline_law, joined_law};
+use treasury_core::headline_law;
 
 /// A law of words over a file: said one after another, each on the state that the one before it left there, their
 /// commands are, with their replies and in their order, a run of the machine of commands that leads where the words do,
@@ -95,12 +93,4 @@ pub fn serving_law<D: Disk>()
         × ((next : Image) → MayBe D.Disk start left next → ∥ HoldsOf next end.now ∥₁) }
 {
     calls_law();
-}
-
-/// A law of counts: a run of the machine of commands leaves no count smaller. So a log of a file's own, which has what
-/// commands added to the state of the file, takes nothing back. Costs nothing.
-pub fn counts_law()
-    ensures { (f : Federation) (turns : List Turn) → Keeps (counts_of f) (counts_of (state_after f turns)) }
-{
-    joined_law();
 }

@@ -1,22 +1,13 @@
 //! The words of the command line, and what they do.
 
-mod beside;
 mod explaining;
-mod file;
-mod left;
 mod looks;
-mod others;
 mod over_file;
 mod patience;
 mod pipe;
-mod rehearsal;
 mod said;
 mod serving;
-mod shrinking;
-mod tables;
 mod telling;
-mod waiting;
-mod watch;
 
 ghost use Rattle.std.specs.Prelude.{◌≡◌, ◌⊎◌, ◌≢◌, ℕ, List, map, codes, false, None, Some, IfOk, OnOk, OnErr};
 ghost use Rattle.std.specs.Prelude.{MatchResult};
@@ -34,19 +25,17 @@ ghost use Rattle.treasury_spelling.specs.Words.{AreTaken, named, AskForRun, AskF
 ghost use Rattle.treasury.specs.CutOff.{IsCutOff};
 ghost use Rattle.treasury.specs.OverFile.{Tells, IsTold};
 ghost use Rattle.treasury.specs.Serving.{IsServed};
-ghost use Rattle.treasury.specs.Started.{AnswersUntaken};
+ghost use Rattle.treasury.specs.OverFileParts.{AnswersUntaken};
 ghost use Rattle.clap.specs.Values.{kind_of};
 
 use crate::laws::{files_law, serving_law, words_law};
 use crate::words::explaining::Explainer;
-use crate::words::left::Left;
 use crate::words::looks::looks_of;
 use crate::words::over_file::{Answered, answer_over_file};
 use crate::words::pipe::is_unread;
 use crate::words::said::{Said, room_for_line};
 use crate::words::serving::{Serving, is_unwritten, serve_over_file};
 use crate::words::telling::NOTHING_ENTERED;
-use crate::words::waiting::wait_for;
 use clap::error::ErrorKind;
 use clap::{ArgMatches, Error};
 use money_core::Cause;
@@ -63,6 +52,7 @@ use treasury_core::{
     accepted_closing_law, good_law, growing_law, headline_law, late_entry_law, lock_law,
     records_law, sound_law,
 };
+use treasury_files::{Left, wait_for};
 use treasury_memory::{MemoryStore, open_memory};
 use treasury_spelling::{is_dry_run, is_explained, known_words, value_of};
 use treasury_store::{Store, Treasury};

@@ -9,17 +9,14 @@ ghost use Rattle.sqlite_wal.specs.Files.{image_at};
 ghost use Rattle.treasury_requests.specs.declared.request.Request.TheVariants.{Import};
 ghost use Rattle.treasury_requests.specs.Request.{HasDayNumbers};
 ghost use Rattle.treasury_api.specs.Left.{LeavesRequest};
-ghost use Rattle.treasury.specs.declared.words.left.Left.TheVariants.{Untouched};
-ghost use Rattle.treasury.specs.Left.{KeepsFile};
+ghost use Rattle.treasury_files.specs.declared.left.Left.TheVariants.{Untouched};
+ghost use Rattle.treasury_files.specs.Left.{KeepsFile};
 ghost use Rattle.treasury.specs.Word.{SaysTo};
 ghost use Rattle.treasury.specs.OverFile.{IsRefusedBy, IsFileRefused, SaysToInit, SaysOver, SaysToJournal};
 ghost use Rattle.treasury.specs.OverFile.{SaysToImport, SaysToForm, SaysToWord};
-ghost use Rattle.treasury.specs.Started.{spoken, IsRoom, IsStarted, refusal_of, IsClosedOrShut};
+ghost use Rattle.treasury.specs.OverFileParts.{spoken, IsRoom, refusal_of, IsClosedOrShut};
+ghost use Rattle.treasury_files.specs.Started.{IsStarted};
 
-use crate::words::file::{
-    UNCLOSED, Unopened, Unserved, close_treasury, make_tables, open_treasury, read_journal,
-};
-use crate::words::left::Left;
 use crate::words::said::{Said, done, refused, room_for_line};
 use crate::words::telling::{notes_on, reason_of};
 use clap::ArgMatches;
@@ -30,6 +27,9 @@ use std::alloc::Global;
 use std::fs;
 use std::io::Read;
 use treasury_api::{answer, refuse};
+use treasury_files::{
+    Left, UNCLOSED, Unopened, Unserved, close_treasury, make_tables, open_treasury, read_journal,
+};
 use treasury_requests::{Bytes, Request, Spelled, request_of};
 use treasury_spelling::{fault_of, form_of_word, is_dry_run, value_of};
 use treasury_store::Treasury;

@@ -4,7 +4,7 @@ ghost use Rattle.std.specs.Prelude.{◌≡◌, [], false, Ok, IfOk};
 ghost use Rattle.treasury_core.specs.declared.command.Answer.{Answer as Answered};
 ghost use Rattle.treasury_api.specs.Answer.{answer_text};
 ghost use Rattle.treasury.specs.OverFile.{IsRefusedBy};
-ghost use Rattle.treasury.specs.Started.{spoken, IsRoom};
+ghost use Rattle.treasury.specs.OverFileParts.{spoken, IsRoom};
 
 use book_core::Refusal;
 use money_core::{Cause, Styles};

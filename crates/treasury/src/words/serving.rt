@@ -7,23 +7,18 @@ ghost use Rattle.clap.specs.Walk.{Row, rows_of};
 ghost use Rattle.sqlite_wal.specs.Recovery.{Image};
 ghost use Rattle.sqlite_wal.specs.Files.{image_at};
 ghost use Rattle.treasury_api.specs.Web.{HasServed, ServesOne};
-ghost use Rattle.treasury.specs.declared.words.left.Left.TheVariants.{Untouched};
+ghost use Rattle.treasury_files.specs.declared.left.Left.TheVariants.{Untouched};
 ghost use Rattle.treasury.specs.declared.words.serving.Ending.TheVariants.{Changed};
 ghost use Rattle.treasury.specs.OverFile.{IsRefusedBy, IsFileRefused};
 ghost use Rattle.treasury.specs.Serving.{listening, silent, LacksValue};
-ghost use Rattle.treasury.specs.Started.{spoken, IsRoom, IsStarted, IsClosedOrLeft};
+ghost use Rattle.treasury.specs.OverFileParts.{spoken, IsRoom, IsClosedOrLeft};
+ghost use Rattle.treasury_files.specs.Started.{IsStarted};
 ghost use Rattle.treasury.specs.ServingParts.{ends_unwritten, IsUnannounced, IsAnnounced, IsAnnouncedBy, ServesIfHeard};
 ghost use Rattle.treasury.specs.ServingParts.{SaysAtEnd, SaysServing};
 
-use crate::words::beside::log_name;
-use crate::words::file::{
-    UNCLOSED, Unopened, Unserved, close_treasury, leave_treasury, open_treasury,
-};
-use crate::words::left::Left;
 use crate::words::over_file::{lacking, refused_file};
 use crate::words::patience::{Asking, Replying, read_rest};
 use crate::words::said::{Said, refused};
-use crate::words::watch::{Guarded, Noting, Sight, Watch};
 use clap::ArgMatches;
 use money_core::Cause;
 use sqlite::{Alter, FileFrom, FileStore, Start};
@@ -33,6 +28,10 @@ use std::cell::Cell;
 use std::io::{self, Read, Write};
 use std::net::{TcpListener, TcpStream};
 use treasury_api::{serve_one, write_whole};
+use treasury_files::{
+    Guarded, Left, Noting, Sight, UNCLOSED, Unopened, Unserved, Watch, close_treasury,
+    leave_treasury, log_name, open_treasury,
+};
 use treasury_spelling::value_of;
 use treasury_store::Treasury;
 

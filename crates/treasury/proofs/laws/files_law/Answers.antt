@@ -1,7 +1,7 @@
 use Rattle.std.proofs.Math.Logic.{∥∥₁_map}
 use Rattle.treasury_core.specs.Federation.{Federation}
 use Rattle.treasury_store.specs.Store.{empty_state}
-use Rattle.treasury.specs.Left.{HoldsOf}
+use Rattle.treasury_files.specs.Left.{HoldsOf}
 use Rattle.treasury_api.specs.History.{KeepBooksTo}
 use Rattle.treasury.specs.OverFile.{AreToldBut, turns_of_told}
 use Rattle.treasury.proofs.FileLemmas.{holds_of, shows_of, shows_nothing, found_closed, answers_file, keeps_file}

@@ -1,6 +1,6 @@
 use Rattle.std.proofs.Common.{false, subst}
-use Rattle.treasury.specs.declared.words.left.Left.{Left}
-use Rattle.treasury.specs.Left.{MayBe}
+use Rattle.treasury_files.specs.declared.left.Left.{Left}
+use Rattle.treasury_files.specs.Left.{MayBe}
 use Rattle.treasury.proofs.FileLemmas.{shows_of, found_closed}
 use Rattle.treasury.proofs.laws.serving_law.Goals as goal
 

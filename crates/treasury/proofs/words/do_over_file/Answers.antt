@@ -2,7 +2,7 @@ use Rattle.std.proofs.Common.{ℕ, List, refl, subst}
 use Rattle.clap.specs.Matches.{found_of}
 use Rattle.clap.specs.Walk.{rows_of}
 use Rattle.treasury.specs.OverFile.{Tells}
-use Rattle.treasury.specs.Started.{spoken}
+use Rattle.treasury.specs.OverFileParts.{spoken}
 use Rattle.treasury.proofs.OverFileLemmas.{told, told_40}
 use Rattle.treasury.proofs.words.do_over_file.Goals as goal
 

@@ -3,7 +3,7 @@ use Rattle.clap.specs.Matches.{found_of}
 use Rattle.clap.specs.Walk.{rows_of}
 use Rattle.sqlite_wal.specs.Files.{image_at}
 use Rattle.treasury.specs.OverFile.{Tells}
-use Rattle.treasury.specs.Started.{spoken}
+use Rattle.treasury.specs.OverFileParts.{spoken}
 use Rattle.treasury.proofs.ServingLemmas.{told_served, told_served_40, told_unwritten}
 use Rattle.treasury.proofs.words.do_serve.Goals as goal
 

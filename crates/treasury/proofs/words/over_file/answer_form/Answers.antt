@@ -4,7 +4,7 @@ use Rattle.clap.specs.Walk.{rows_of}
 use Rattle.sqlite_wal.specs.Files.{image_at}
 use Rattle.treasury_requests.specs.Form.{shown}
 use Rattle.treasury_spelling.specs.Spelling.{is_dry_run, given}
-use Rattle.treasury.specs.Started.{spoken}
+use Rattle.treasury.specs.OverFileParts.{spoken}
 use Rattle.treasury.proofs.OverFileLemmas.{said_alike, says_before}
 use Rattle.treasury.proofs.words.over_file.answer_form.Goals as goal
 

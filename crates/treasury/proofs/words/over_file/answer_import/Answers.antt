@@ -1,6 +1,6 @@
 use Rattle.std.proofs.Common.{Bool, None, sym, subst, inl, inr}
 use Rattle.sqlite_wal.specs.Files.{image_at}
-use Rattle.treasury.specs.Started.{spoken}
+use Rattle.treasury.specs.OverFileParts.{spoken}
 use Rattle.treasury.specs.OverFile.{SaysToJournal}
 use Rattle.treasury.proofs.words.over_file.answer_import.Goals as goal
 

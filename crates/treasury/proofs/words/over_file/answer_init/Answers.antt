@@ -1,6 +1,6 @@
 use Rattle.std.proofs.Common.{sym, subst, inl, inr}
 use Rattle.sqlite_wal.specs.Files.{image_at}
-use Rattle.treasury.specs.Left.{KeepsFile}
+use Rattle.treasury_files.specs.Left.{KeepsFile}
 use Rattle.treasury.proofs.words.over_file.answer_init.Goals as goal
 
 pub returns-in-Ok : goal.returns-in-Ok

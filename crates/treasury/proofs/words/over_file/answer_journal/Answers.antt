@@ -3,7 +3,7 @@ use Rattle.sqlite_wal.specs.Files.{image_at}
 use Rattle.treasury_requests.specs.declared.request.Request.{Request}
 use Rattle.treasury_requests.specs.declared.request.Request.TheVariants.{Import}
 use Rattle.treasury_spelling.specs.Spelling.{given}
-use Rattle.treasury.specs.Started.{spoken}
+use Rattle.treasury.specs.OverFileParts.{spoken}
 use Rattle.treasury.proofs.OverFileLemmas.{said_alike, says_before, journal_before}
 use Rattle.treasury.proofs.words.over_file.answer_journal.Goals as goal
 

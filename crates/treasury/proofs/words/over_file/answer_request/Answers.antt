@@ -1,7 +1,7 @@
 use Rattle.std.proofs.Common.{sym, subst}
 use Rattle.sqlite_wal.specs.Files.{image_at}
-use Rattle.treasury.specs.Left.{KeepsFile}
-use Rattle.treasury.specs.Started.{spoken}
+use Rattle.treasury_files.specs.Left.{KeepsFile}
+use Rattle.treasury.specs.OverFileParts.{spoken}
 use Rattle.treasury.proofs.OverFileLemmas.{says_refused}
 use Rattle.treasury.proofs.words.over_file.answer_request.Goals as goal
 

@@ -1,5 +1,5 @@
 use Rattle.std.proofs.Common.{refl, inl, inr}
-use Rattle.treasury.proofs.OverFileLemmas.{keeps_started, keeps_unclosed}
+use Rattle.treasury_files.proofs.StartedLemmas.{keeps_started, keeps_unclosed}
 use Rattle.treasury.proofs.words.over_file.left_unasked.Goals as goal
 
 pub returns-in-Ok-clause-keeps : goal.returns-in-Ok-clause-keeps

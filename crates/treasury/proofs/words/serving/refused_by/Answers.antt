@@ -1,4 +1,4 @@
-use Rattle.treasury.specs.Started.{spoken}
+use Rattle.treasury.specs.OverFileParts.{spoken}
 use Rattle.treasury.proofs.OverFileLemmas.{file_refused}
 use Rattle.treasury.proofs.words.serving.refused_by.Goals as goal
 

@@ -1,7 +1,8 @@
 use Rattle.std.proofs.Common.{refl, inl, inr, rules, subst}
 use Rattle.treasury_store.specs.Treasury.{Treasury}
-use Rattle.treasury.specs.Started.{spoken, IsClosedAs, IsUnclosed, IsLeftAs}
-use Rattle.treasury.proofs.OverFileLemmas.{keeps_started, keeps_unclosed, keeps_left}
+use Rattle.treasury.specs.OverFileParts.{spoken}
+use Rattle.treasury_files.specs.Started.{IsClosedAs, IsUnclosed, IsLeftAs}
+use Rattle.treasury_files.proofs.StartedLemmas.{keeps_started, keeps_unclosed, keeps_left}
 use Rattle.treasury.proofs.ServingLemmas.{serves_over, serves_open, ends_open, ends_otherwise, keeps_unheard}
 use Rattle.treasury.proofs.words.serving.serve_on_file.Goals as goal
 

@@ -2,10 +2,10 @@ use Rattle.std.proofs.Common.{refl, sym, subst, inr}
 use Rattle.clap.specs.Matches.{found_of}
 use Rattle.clap.specs.Walk.{rows_of}
 use Rattle.sqlite_wal.specs.Files.{image_at}
-use Rattle.treasury.specs.Left.{KeepsFile}
-use Rattle.treasury.specs.Started.{spoken}
+use Rattle.treasury_files.specs.Left.{KeepsFile}
+use Rattle.treasury.specs.OverFileParts.{spoken}
 use Rattle.treasury.specs.ServingParts.{IsAnnounced, SaysServing}
-use Rattle.treasury.proofs.LeftLemmas.{keeps_untouched}
+use Rattle.treasury_files.proofs.LeftLemmas.{keeps_untouched}
 use Rattle.treasury.proofs.words.serving.serve_over_file.Goals as goal
 
 pub returns-in-Ok-open_treasury-clause-says : goal.returns-in-Ok-open_treasury-clause-says

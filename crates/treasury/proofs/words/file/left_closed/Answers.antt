@@ -1,8 +1,0 @@
-use Rattle.std.proofs.Common.{refl, inl, inr}
-use Rattle.treasury.proofs.words.file.left_closed.Goals as goal
-
-pub returns-in-Ok : goal.returns-in-Ok
-returns-in-Ok g c = (c.close.ensures.live, inl (c.in-Ok.files, refl, c.in-Ok.ensures.closed))
-
-pub returns-in-Err : goal.returns-in-Err
-returns-in-Err g c = (c.close.ensures.live, inr (c.in-Err.store, refl, c.in-Err.ensures.shut))

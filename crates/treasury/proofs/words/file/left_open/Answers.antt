@@ -1,5 +1,0 @@
-use Rattle.std.proofs.Common.{refl}
-use Rattle.treasury.proofs.words.file.left_open.Goals as goal
-
-pub returns : goal.returns
-returns g c = (c.leave.result, refl, c.leave.ensures)

@@ -1,0 +1,35 @@
+-- How much a treasury has, and when none of it is missing later (own rules; docs/RULES.md, "The program").
+use Rattle.std.specs.Prelude.{◌≤◌, ◌<◌, ℕ, List, map, length, slice_index}
+use Rattle.std.specs.List.{sum_by}
+use Rattle.treasury_core.specs.declared.transfer.Transfer.{Transfer}
+use Rattle.treasury_core.specs.Federation.{Branch, Federation}
+use Rattle.treasury_files.specs.declared.shrinking.Counts.{Counts}
+
+-- the receipts of parts of a transfer
+abbrev pub parts_of : Transfer → ℕ
+parts_of t = length t.parts
+
+-- the entries of a branch
+abbrev pub records_in : Branch → ℕ
+records_in b = length b.records
+
+-- how many commodities, transfers and receipts of parts a state has, and how many entries each branch
+abbrev pub counts_of : Federation → Counts
+counts_of f = record {
+  commodities = length f.styles;
+  transfers = length f.transfers;
+  receipts = sum_by parts_of f.transfers;
+  entries = map records_in f.branches;
+}
+
+-- no number is missing later, or smaller than the one at its place before
+pub record AreKept (before after : List ℕ) : Type 0 where
+  pub all : length before ≤ length after
+  pub each : (place : ℕ) → place < length before → slice_index before place ≤ slice_index after place
+
+-- all that was there before is there later, as far as numbers tell
+pub record Keeps (before after : Counts) : Type 0 where
+  pub commodities : before.commodities ≤ after.commodities
+  pub transfers : before.transfers ≤ after.transfers
+  pub receipts : before.receipts ≤ after.receipts
+  pub entries : AreKept before.entries after.entries

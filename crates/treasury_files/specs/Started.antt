@@ -1,0 +1,64 @@
+-- When a treasury is started on a database file, and when it is closed or left (own rules; docs/RULES.md, "The
+-- program"), while the disk returns what was written.
+use Rattle.std.specs.Prelude.{◌≡◌, false, IsTrue}
+use Rattle.sqlite_disk.specs.declared.Disk as disk
+use Rattle.sqlite_disk.specs.declared.Files.{Files}
+use Rattle.sqlite_wal.specs.Recovery.{Image}
+use Rattle.sqlite_wal.specs.Reads.{AreClean}
+use Rattle.sqlite_trees.specs.View.{IsClean, IsQuiet}
+use Rattle.sqlite_store.specs.declared.store.FileStore.{FileStore}
+use Rattle.sqlite_store.specs.FileStore.{view, faults, recovers, is_shielded}
+use Rattle.sqlite.specs.Held.{Held, AreDatabases}
+use Rattle.sqlite.specs.State.{HasCleanDisk, IsLive}
+use Rattle.sqlite.specs.Start.{FindsIn}
+use Rattle.sqlite.specs.Files.{file_state, over_files, IsOpened}
+use Rattle.sqlite.specs.Closing.{IsCopied}
+use Rattle.treasury_core.specs.Federation.{Federation}
+use Rattle.treasury_store.specs.Rows.{Tables, HoldsEither}
+use Rattle.treasury_store.specs.Store.{TablesAre}
+use Rattle.treasury_store.specs.Treasury.{Treasury, IsTreasuryOf}
+use Rattle.treasury_files.specs.InFile.{ShowsState, HasTreasury}
+
+-- a store is what is left of a connection that was neither closed nor copied
+pub record IsLeftBy {D : Type 0} {g : disk.Ghosts D} (c : Held (FileStore D g)) (it : FileStore D g) : Type 0 where
+  pub numbered : IsClean (view it) → IsTrue (view it).is_numbered
+  pub sound : IsClean (view it) → AreDatabases (recovers it)
+  pub was_open : IsClean (view it) → IsTrue (view it).is_open → IsTrue (view c.store).is_open
+  pub quiet : IsQuiet view faults recovers is_shielded c.store it
+
+-- the same of one that showed a database, where it was open
+pub record IsLeftAs {D : Type 0} {g : disk.Ghosts D} (c : Held (FileStore D g)) (it : FileStore D g) : Type 0 where
+  pub live : IsLive (file_state c)
+  pub by : IsLeftBy c it
+
+module _ {D : Type 0} (g : disk.Ghosts D) where
+  -- a connection was opened on files that held this
+  pub record IsOpenedOn (image : Image) (opened : Held (FileStore D g)) : Type 0 where
+    pub found : HasCleanDisk (file_state opened) → FindsIn image (file_state opened)
+    pub serves : HasCleanDisk (file_state opened) → IsOpened opened
+
+  -- a treasury was started on a connection that was opened
+  pub record StartsOn (opened : Held (FileStore D g)) (t : Treasury (FileStore D g)) : Type 0 where
+    pub clean : HasCleanDisk (file_state t.store.conn) → HasCleanDisk (file_state opened)
+    pub is_open : HasCleanDisk (file_state t.store.conn) → IsTrue (file_state t.store.conn).is_open
+    pub tables : HasCleanDisk (file_state t.store.conn) → (file_state opened).committed ≡ (file_state opened).now
+        → (rows : Tables) → HoldsEither (file_state opened).now rows → TablesAre over_files t.store.conn rows
+    pub of : HasCleanDisk (file_state t.store.conn) → (file_state opened).committed ≡ (file_state opened).now
+        → (f : Federation) → ShowsState g opened f → IsTreasuryOf over_files t f
+    pub has : HasCleanDisk (file_state t.store.conn) → HasTreasury (file_state opened).now
+    pub unfailed : t.store.failed ≡ false
+
+  -- a treasury was started on a file that was opened
+  pub record IsStarted (image : Image) (t : Treasury (FileStore D g)) : Type 0 where
+    pub opened : Held (FileStore D g)
+    pub on : IsOpenedOn image opened
+    pub starts : StartsOn opened t
+
+  -- a connection, which showed a database, was closed, and the last commit is in the file alone
+  pub record IsClosedAs (c : Held (FileStore D g)) (closed : Files D) : Type 0 where
+    pub live : IsLive (file_state c)
+    pub copied : AreClean g closed.log closed.db → IsCopied c closed
+
+  -- It could not be closed.
+  abbrev pub IsUnclosed : Held (FileStore D g) → FileStore D g → Type 0
+  IsUnclosed c it = IsQuiet view faults recovers is_shielded c.store it
