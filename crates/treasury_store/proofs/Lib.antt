@@ -22,6 +22,7 @@ pub mod OpenLemmas
 pub mod UpgradeLemmas
 pub mod ShownLemmas
 pub mod QueriesLemmas
+pub mod FailingLemmas
 pub mod LoadLemmas
 pub mod SameLemmas
 pub mod NumberedLemmas

@@ -29,6 +29,14 @@ pub record ShutsByFault {S : Type 0} (g : Ghosts S) (old new : Held S) : Type 0 
   pub closes : HasCleanDisk (state g new) → IsTrue (state g old).is_open
       → IsTrue (state g new).is_open ⊎ MoreFaults (state g old).faults (state g new).faults
 
+-- A call that changes nothing: a connection that is open behind it was open, shows what it showed, and has committed
+-- what it had; and a crash leaves what it could leave before.
+pub record ChangesNothing {S : Type 0} (g : Ghosts S) (old new : Held S) : Type 0 where
+  pub same : HasCleanDisk (state g new) → IsTrue (state g new).is_open
+      → IsTrue (state g old).is_open
+      × ((state g new).now ≡ (state g old).now) × ((state g new).committed ≡ (state g old).committed)
+  pub survives : Survives (state g old) (state g new) (λ _. ⊥)
+
 -- where the database is our tables, and is committed, it shows what it showed, and that is what is committed
 abbrev pub StaysAsIs : State → State → Type 0
 StaysAsIs old new =

@@ -4,6 +4,7 @@
 mod change;
 mod changes;
 mod create;
+mod failing;
 mod laws;
 mod load;
 mod numbers;

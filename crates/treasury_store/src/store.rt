@@ -1,7 +1,7 @@
 //! The store of a treasury: a connection whose tables are the rows of a state.
 
 ghost use Rattle.std.specs.Prelude.{◌≡◌, ◌≤◌, ◌⊎◌, ◌↔◌, [], false, None, Some, Err, OnOk, OnErr, IfOk, IfErr};
-ghost use Rattle.std.specs.Prelude.{MatchResult, IsTrue};
+ghost use Rattle.std.specs.Prelude.{true, MatchResult, IsTrue};
 ghost use Rattle.sqlite.specs.State.{HasCleanDisk, IsLive, Survives};
 ghost use Rattle.sqlite.specs.Held.{state};
 ghost use Rattle.sqlite.specs.Effect.{Database};
@@ -11,7 +11,7 @@ ghost use Rattle.treasury_core.specs.Good.{IsGoodState};
 ghost use Rattle.treasury_core.specs.Joined.{joined};
 ghost use Rattle.treasury_core.specs.Rows.{rows, HasShortLocks};
 ghost use Rattle.treasury_store.specs.Rows.{Tables, Holds, HoldsEither};
-ghost use Rattle.treasury_store.specs.Kept.{KeepsTables, StaysAsIs};
+ghost use Rattle.treasury_store.specs.Kept.{ChangesNothing, KeepsTables, StaysAsIs};
 ghost use Rattle.treasury_store.specs.Shown.{ShowsTables};
 ghost use Rattle.treasury_store.specs.Tables.{no_schema, store_schema};
 ghost use Rattle.treasury_store.specs.Creating.{has_one, has_all, has_counter, Beside, SurvivesMaking};
@@ -22,6 +22,7 @@ ghost use Rattle.treasury_store.specs.Left.{LeavesSame, LeavesEitherVersion, Lea
 
 use crate::changes::changes_of;
 use crate::create::create_tables;
+use crate::failing::cause_of;
 use crate::load::load_parts;
 use crate::numbers::{Numbers, numbers_of};
 use crate::open::open_tables;
@@ -48,17 +49,6 @@ pub struct Store<S: Alter> {
 pub struct Refused<S: Alter> {
     pub conn: Connection<S>,
     pub cause: Cause,
-}
-
-/// The refusal by an error of the database: 40 for memory, else 41.
-fn cause_of(error: Error) -> Cause
-    ensures either { (result ≡ Cause.OutOfMemory) ⊎ (result ≡ Cause.Store) }
-    ensures memory { (result ≡ Cause.OutOfMemory) ↔ (error ≡ Error.SqliteFailure ErrorCode.OutOfMemory) }
-{
-    match error {
-        Error::SqliteFailure(ErrorCode::OutOfMemory) => Cause::OutOfMemory,
-        _ => Cause::Store,
-    }
 }
 
 impl<S: Alter> Store<S> {
@@ -89,6 +79,9 @@ impl<S: Alter> Store<S> {
             (λ r. HasCleanDisk (state S.Store r.conn) → IsTrue (state S.Store r.conn).is_open
             → ((state S.Store r.conn).now ≡ (state S.Store conn).now)
             × ((state S.Store r.conn).committed ≡ (state S.Store conn).committed)) }
+        // 40 leaves the connection open.
+        ensures kept { IfErr result (λ r. r.cause ≡ Cause.OutOfMemory → HasCleanDisk (state S.Store r.conn)
+            → IsTrue (state S.Store r.conn).is_open) }
         ensures crash { MatchResult result (λ s. SurvivesMaking S.Store conn s.conn)
             (λ r. SurvivesMaking S.Store conn r.conn) }
     {
@@ -103,10 +96,10 @@ impl<S: Alter> Store<S> {
                 conn,
                 cause: Cause::Damaged,
             }),
-            Err(error) => Err(Refused {
-                conn,
-                cause: cause_of(error),
-            }),
+            Err(error) => {
+                let cause = cause_of(&mut conn, error);
+                Err(Refused { conn, cause })
+            }
         }
     }
 
@@ -150,6 +143,9 @@ impl<S: Alter> Store<S> {
             → IsTrue (state S.Store r.conn).is_open
             → ((state S.Store r.conn).now ≡ (state S.Store conn).now)
             × ((state S.Store r.conn).committed ≡ (state S.Store conn).committed)) }
+        // 40 leaves the connection open.
+        ensures kept { IfErr result (λ r. r.cause ≡ Cause.OutOfMemory → HasCleanDisk (state S.Store r.conn)
+            → IsTrue (state S.Store r.conn).is_open) }
         ensures crash { MatchResult result (λ s. KeepsOurs S.Store conn s.conn) (λ r. KeepsOurs S.Store conn r.conn) }
         // Whatever is left, also behind 41 where the connection is shut, are the rows that were there.
         ensures left { MatchResult result (λ s. LeavesSame S.Store conn s.conn) (λ r. LeavesSame S.Store conn r.conn) }
@@ -172,10 +168,10 @@ impl<S: Alter> Store<S> {
                 conn,
                 cause: Cause::Damaged,
             }),
-            Err(error) => Err(Refused {
-                conn,
-                cause: cause_of(error),
-            }),
+            Err(error) => {
+                let cause = cause_of(&mut conn, error);
+                Err(Refused { conn, cause })
+            }
         }
     }
 
@@ -197,6 +193,23 @@ impl<S: Alter> Store<S> {
         ensures { result ≡ self.now.failed }
     {
         self.failed
+    }
+
+    /// Refuses by an error of the database. But for want of memory on a connection that is open, the store has failed.
+    fn refuse(&mut self, error: Error) -> Cause
+        ensures cause { ((result ≡ Cause.OutOfMemory) × (self.new.failed ≡ self.old.failed))
+            ⊎ ((result ≡ Cause.Store) × (self.new.failed ≡ true)) }
+        ensures memory { result ≡ Cause.OutOfMemory → error ≡ Error.SqliteFailure ErrorCode.OutOfMemory }
+        ensures open { result ≡ Cause.OutOfMemory → HasCleanDisk (state S.Store self.new.conn)
+            → IsTrue (state S.Store self.new.conn).is_open }
+        ensures numbers { self.new.numbers ≡ self.old.numbers }
+        ensures nothing { ChangesNothing S.Store self.old.conn self.new.conn }
+    {
+        let cause = cause_of(&mut self.conn, error);
+        if let Cause::Store = cause {
+            self.failed = true;
+        }
+        cause
     }
 
     /// The state whose rows the tables are, read from them and nothing else. The store is of it then.
@@ -227,6 +240,9 @@ impl<S: Alter> Store<S> {
         ensures unchanged { HasCleanDisk (state S.Store self.new.conn) → IsTrue (state S.Store self.new.conn).is_open
             → StaysAsIs (state S.Store self.old.conn) (state S.Store self.new.conn) }
         ensures unknown { OnErr result (self.new.numbers ≡ self.old.numbers) }
+        // A connection that was open is open behind each refusal but 41.
+        ensures kept { HasCleanDisk (state S.Store self.new.conn) → IsTrue (state S.Store self.old.conn).is_open
+            → IsTrue (state S.Store self.new.conn).is_open ⊎ (result ≡ Err Cause.Store) }
         ensures answers { self.old.failed ≡ false → AnswersState result self.new.failed }
         ensures closed { IsTrue self.old.failed → (result ≡ Err Cause.Closed) × (self.new ≡ self.old) }
         ensures crash { KeepsTables S.Store self.old.conn self.new.conn }
@@ -237,11 +253,7 @@ impl<S: Alter> Store<S> {
         }
         let parts = match load_parts(self.alloc, &mut self.conn) {
             Ok(parts) => parts,
-            Err(Error::SqliteFailure(ErrorCode::OutOfMemory)) => return Err(Cause::OutOfMemory),
-            Err(_) => {
-                self.failed = true;
-                return Err(Cause::Store);
-            }
+            Err(error) => return Err(self.refuse(error)),
         };
         let now = State::build(self.alloc, parts)?;
         now.is_good();
@@ -265,6 +277,13 @@ impl<S: Alter> Store<S> {
             (HasCleanDisk (state S.Store self.new.conn) → IsTrue (state S.Store self.new.conn).is_open) }
         ensures err { OnErr result ((f : Federation) → IsOf S.Store self.old f → IsOf S.Store self.new f) }
         ensures known { OnErr result (self.new.numbers ≡ self.old.numbers) }
+        // A connection that was open is open behind 40, and so it may be behind 41; it has committed nothing then.
+        ensures kept { HasCleanDisk (state S.Store self.new.conn) → IsTrue (state S.Store self.old.conn).is_open
+            → IsTrue (state S.Store self.new.conn).is_open ⊎ (result ≡ Err Cause.Store) }
+        ensures unchanged { HasCleanDisk (state S.Store self.new.conn) → IsTrue (state S.Store self.new.conn).is_open
+            → OnErr result
+            (((state S.Store self.new.conn).now ≡ (state S.Store self.old.conn).now)
+            × ((state S.Store self.new.conn).committed ≡ (state S.Store self.old.conn).committed)) }
         ensures answers { self.old.failed ≡ false → Answers result self.new.failed }
         ensures closed { IsTrue self.old.failed → (result ≡ Err Cause.Closed) × (self.new ≡ self.old) }
         ensures crash { Survives (state S.Store self.old.conn) (state S.Store self.new.conn)
@@ -285,11 +304,7 @@ impl<S: Alter> Store<S> {
                 self.numbers = Some(numbers);
                 Ok(())
             }
-            Err(Error::SqliteFailure(ErrorCode::OutOfMemory)) => Err(Cause::OutOfMemory),
-            Err(_) => {
-                self.failed = true;
-                Err(Cause::Store)
-            }
+            Err(error) => Err(self.refuse(error)),
         }
     }
 }

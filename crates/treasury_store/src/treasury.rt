@@ -82,6 +82,10 @@ impl<S: Alter> Treasury<S> {
             → TablesAre S.Store r.store.conn t) }
         ensures still_open { IfOk result
             (λ t. HasCleanDisk (state S.Store t.store.conn) → IsTrue (state S.Store t.store.conn).is_open) }
+        // A connection that was open is open behind each refusal but 41.
+        ensures open_but { IfErr result (λ r. HasCleanDisk (state S.Store r.store.conn)
+            → IsTrue (state S.Store store.conn).is_open
+            → IsTrue (state S.Store r.store.conn).is_open ⊎ (r.cause ≡ Cause.Store)) }
         // Our tables show the rows of the good state that it holds; where they show none, it is refused.
         ensures shown { IfOk result (λ t. HasCleanDisk (state S.Store t.store.conn)
             → (state S.Store store.conn).now.schema ≡ store_schema
@@ -140,6 +144,10 @@ impl<S: Alter> Treasury<S> {
         ensures still_open { HasCleanDisk (state S.Store self.new.store.conn)
             → IsTrue (state S.Store self.old.store.conn).is_open
             → OnOk result (IsTrue (state S.Store self.new.store.conn).is_open) }
+        // A connection that was open is open behind each answer but 41.
+        ensures kept { HasCleanDisk (state S.Store self.new.store.conn)
+            → IsTrue (state S.Store self.old.store.conn).is_open
+            → IsTrue (state S.Store self.new.store.conn).is_open ⊎ (result ≡ Err Cause.Store) }
         ensures clean { HasCleanDisk (state S.Store self.new.store.conn)
             → HasCleanDisk (state S.Store self.old.store.conn) }
         ensures rows { OnOk result (HasCleanDisk (state S.Store self.new.store.conn) → (f : Federation)
@@ -181,6 +189,9 @@ impl<S: Alter> Treasury<S> {
         ensures still_open { HasCleanDisk (state S.Store self.new.store.conn)
             → IsTrue (state S.Store self.old.store.conn).is_open
             → OnOk result (IsTrue (state S.Store self.new.store.conn).is_open) }
+        ensures kept { HasCleanDisk (state S.Store self.new.store.conn)
+            → IsTrue (state S.Store self.old.store.conn).is_open
+            → IsTrue (state S.Store self.new.store.conn).is_open ⊎ (result ≡ Err Cause.Store) }
         ensures clean { HasCleanDisk (state S.Store self.new.store.conn)
             → HasCleanDisk (state S.Store self.old.store.conn) }
         ensures crash { Survives (state S.Store self.old.store.conn) (state S.Store self.new.store.conn)
@@ -216,6 +227,9 @@ impl<S: Alter> Treasury<S> {
         ensures still_open { HasCleanDisk (state S.Store self.new.store.conn)
             → IsTrue (state S.Store self.old.store.conn).is_open
             → OnOk result (IsTrue (state S.Store self.new.store.conn).is_open) }
+        ensures kept { HasCleanDisk (state S.Store self.new.store.conn)
+            → IsTrue (state S.Store self.old.store.conn).is_open
+            → IsTrue (state S.Store self.new.store.conn).is_open ⊎ (result ≡ Err (Refusal.Plain Cause.Store)) }
         ensures clean { HasCleanDisk (state S.Store self.new.store.conn)
             → HasCleanDisk (state S.Store self.old.store.conn) }
         ensures crash { Survives (state S.Store self.old.store.conn) (state S.Store self.new.store.conn)
@@ -268,6 +282,10 @@ impl<S: Alter> Treasury<S> {
         ensures still_open { HasCleanDisk (state S.Store self.new.store.conn)
             → IsTrue (state S.Store self.old.store.conn).is_open
             → OnOk result (IsTrue (state S.Store self.new.store.conn).is_open) }
+        // A connection that was open is open behind each answer but 41.
+        ensures kept { HasCleanDisk (state S.Store self.new.store.conn)
+            → IsTrue (state S.Store self.old.store.conn).is_open
+            → IsTrue (state S.Store self.new.store.conn).is_open ⊎ (result ≡ Err (Refusal.Plain Cause.Store)) }
         ensures clean { HasCleanDisk (state S.Store self.new.store.conn)
             → HasCleanDisk (state S.Store self.old.store.conn) }
         ensures crash { SurvivesCommand S.Store self.old self.new command }

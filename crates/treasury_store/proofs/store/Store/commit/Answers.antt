@@ -3,6 +3,7 @@ use Rattle.treasury_core.specs.declared.delta.Addition.{Addition}
 use Rattle.treasury_store.specs.Numbers.{Numbering, numbers_of}
 use Rattle.treasury_store.specs.Changes.{changes_of, numbers_with}
 use Rattle.treasury_store.proofs.StoreLemmas.{becomes_of, crash_joined, knows_joined, some_numbers}
+use Rattle.treasury_store.proofs.FailingLemmas.{survives_behind}
 use Rattle.treasury_store.proofs.LeftLemmas.{leaves_joined}
 use Rattle.treasury_store.proofs.WritableLemmas.{AreWritable, additions_fit}
 use Rattle.treasury_store.proofs.store.Store.commit.Goals as goal
@@ -46,15 +47,7 @@ returns-in-Ok-clause-crash g c =
     crash_joined g.S.Store c.args.self.now c.write_all.new.conn c.args.delta.now n c.in-Some.is changes is
     c.write_all.ensures.crash
 
-pub returns-in-Err-SqliteFailure-OutOfMemory-clause-crash : goal.returns-in-Err-SqliteFailure-OutOfMemory-clause-crash
-returns-in-Err-SqliteFailure-OutOfMemory-clause-crash g c =
-    let n = c.in-Some.numbers in
-    let changes = c.items.result.now in
-    let is : changes ≡ changes_of n c.args.delta.now =
-    c.items.ensures ∙
-    (c.in_ok-changes.ensures.changes ∙ ap (λ (l : List Addition). changes_of n l) c.additions.ensures) in
-    crash_joined g.S.Store c.args.self.now c.write_all.new.conn c.args.delta.now n c.in-Some.is changes is
-    c.write_all.ensures.crash
+-- ---- where the changes are not written
 
 pub returns-clause-crash : goal.returns-clause-crash
 returns-clause-crash g c =
@@ -63,20 +56,16 @@ returns-clause-crash g c =
     let is : changes ≡ changes_of n c.args.delta.now =
     c.items.ensures ∙
     (c.in_ok-changes.ensures.changes ∙ ap (λ (l : List Addition). changes_of n l) c.additions.ensures) in
-    crash_joined g.S.Store c.args.self.now c.write_all.new.conn c.args.delta.now n c.in-Some.is changes is
-    c.write_all.ensures.crash
+    crash_joined g.S.Store c.args.self.now c.refuse.new.self.conn c.args.delta.now n c.in-Some.is changes is
+    (survives_behind g.S.Store c.args.self.now.conn c.write_all.new.conn c.refuse.new.self.conn
+    c.refuse.ensures.nothing _ c.write_all.ensures.crash)
 
 pub returns-in-Ok-clause-left : goal.returns-in-Ok-clause-left
 returns-in-Ok-clause-left g c =
     leaves_joined g.S.Store g.met.S.Store.settled c.args.self.now
     (record c.args.self.now { conn = c.write_all.new.conn }) c.args.delta.now (returns-in-Ok-clause-crash g c)
 
-pub returns-in-Err-SqliteFailure-OutOfMemory-clause-left : goal.returns-in-Err-SqliteFailure-OutOfMemory-clause-left
-returns-in-Err-SqliteFailure-OutOfMemory-clause-left g c =
-    leaves_joined g.S.Store g.met.S.Store.settled c.args.self.now
-    (record c.args.self.now { conn = c.write_all.new.conn }) c.args.delta.now
-    (returns-in-Err-SqliteFailure-OutOfMemory-clause-crash g c)
-
 pub returns-clause-left : goal.returns-clause-left
-returns-clause-left g c = leaves_joined g.S.Store g.met.S.Store.settled c.args.self.now
-    (record c.args.self.now { conn = c.write_all.new.conn }) c.args.delta.now (returns-clause-crash g c)
+returns-clause-left g c =
+    leaves_joined g.S.Store g.met.S.Store.settled c.args.self.now c.refuse.new.self c.args.delta.now
+    (returns-clause-crash g c)
