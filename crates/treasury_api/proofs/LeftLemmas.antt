@@ -1,7 +1,6 @@
 -- What a request leaves of a treasury, and why it is refused.
-use Rattle.std.proofs.Common.{◌≡◌, ◌≤◌, ◌⊎◌, ℕ, ℤ, List, Bool, true, false, IfErr, Option, Some, None, Result, Ok, Err}
-use Rattle.std.proofs.Common.{OnOk, IsTrue, refl, ap, ◌∙◌, sym, subst, inl, inr, arith}
-use Rattle.std.specs.Prelude.{IfSome}
+use Rattle.std.proofs.Common.{◌≡◌, ◌⊎◌, ℕ, ℤ, List, Bool, true, false, IfErr, Option, Some, None, Result, Ok, Err}
+use Rattle.std.proofs.Common.{OnOk, IsTrue, refl, ap, ◌∙◌, sym, subst, inl, inr}
 use Rattle.sqlite.specs.Store.{Ghosts}
 use Rattle.sqlite.specs.State.{HasCleanDisk}
 use Rattle.sqlite.specs.Held.{Held, state}
@@ -23,13 +22,9 @@ use Rattle.treasury_core.specs.declared.command.Command.{Command as AnyCommand}
 use Rattle.treasury_core.specs.declared.command.Command.TheVariants as cmd
 use Rattle.treasury_core.specs.Federation.{Federation}
 use Rattle.treasury_core.specs.Rows.{rows}
-use Rattle.treasury_core.specs.Step.{reply as command_reply, delta}
-use Rattle.treasury_core.specs.History.{Replies as Steps}
 use Rattle.treasury_store.specs.Rows.{Tables}
-use Rattle.treasury_store.specs.Kept.{ShutsByFault}
 use Rattle.treasury_store.specs.Store.{TablesAre, AnswersState}
-use Rattle.treasury_store.specs.Treasury.{Treasury, IsTreasuryOf, AddsNothing, FailsBy, is_by_rules}
-use Rattle.treasury_store.specs.Treasury.{MayReply as MayPerform}
+use Rattle.treasury_store.specs.Treasury.{Treasury, IsTreasuryOf, FailsBy, is_by_rules}
 use Rattle.treasury_store.specs.Left.{LeavesRows, LeavesEither, LeavesSame, LeavesStep}
 use Rattle.treasury_requests.specs.declared.request.Spelled.{Spelled}
 use Rattle.treasury_requests.specs.declared.request.Request.{Request}
@@ -50,7 +45,7 @@ use Rattle.treasury_api.specs.Asked.{or_dry_run, SpelledAsks}
 use Rattle.treasury_api.specs.Serving.{IsHeldFor, OrMemory}
 use Rattle.treasury_api.proofs.SpelledLemmas.{spelled_refusal}
 use Rattle.treasury_api.specs.Left.{FailsWith, IsUnread, IsOpenBut, LeavesAsked, LeavesRequest}
-use Rattle.treasury_api.proofs.ReplyLemmas.{at_held, refusal_is, fits_of}
+use Rattle.treasury_api.proofs.ReplyLemmas.{fits_of}
 
 -- ---- a request asks one thing
 
@@ -123,83 +118,6 @@ left_command g old mid new request c cleaner opens of_mid unfailed held means st
 
 -- ---- whether the database is open
 
--- where a call is refused by 40
-pub open_or_fault : {S T : Type 0} (g : Ghosts S) (old new : Held S) (result : Result T Refusal)
-    → ShutsByFault g old new → HasCleanDisk (state g new) → IsTrue (state g old).is_open
-    → result ≡ Err (Plain OutOfMemory) → IsOpenBut g old new result
-open_or_fault g old new result shuts clean is_open memory = elim (shuts.closes clean is_open) [
-  | inl still ↦ inl still
-  | inr more ↦ inr (inr (memory, more))
-]
-
--- where it is done
-pub open_done : {S T : Type 0} (g : Ghosts S) (old new : Held S) (result : Result T Refusal)
-    → IsOpenBut g old new result → OnOk result (IsTrue (state g new).is_open)
-open_done g old new (Ok x) (inl still) = still
-open_done g old new (Ok x) (inr (inl failed)) = absurd cc
-open_done g old new (Ok x) (inr (inr (memory, more))) = absurd cc
-open_done g old new (Err refusal) but = tt
-
--- one call behind another
-pub open_then : {S T : Type 0} (g : Ghosts S) (old mid new : Held S) (result : Result T Refusal)
-    → (state g old).faults ≤ (state g mid).faults → IsOpenBut g mid new result → IsOpenBut g old new result
-open_then g old mid new result counts (inl still) = inl still
-open_then g old mid new result counts (inr (inl failed)) = inr (inl failed)
-open_then g old mid new result counts (inr (inr (memory, more))) = inr (inr (memory, omega (arith, counts, more)))
-
--- a command that is refused on the state in memory: a refusal by the step writes nothing
-pub open_refused : {S T : Type 0} (g : Ghosts S) (old new : Treasury S) (c : AnyCommand) (r : Result Answer Refusal)
-    (refusal : Refusal) (result : Result T Refusal) → r ≡ Err refusal → result ≡ Err refusal
-    → IsHeldFor old c → IfSome old.held (λ s. MayPerform s c r)
-    → IfSome old.held (λ s. AddsNothing s c → Steps s c r × (new ≡ old))
-    → ShutsByFault g old.store.conn new.store.conn → HasCleanDisk (state g new.store.conn)
-    → IsTrue (state g old.store.conn).is_open → IsOpenBut g old.store.conn new.store.conn result
-open_refused {S = S} g old new c r refusal result is answered (s, (held, fits)) replies nothing shuts clean is_open =
-    by_reply (at_held old.held s (λ x. MayPerform x c r) held replies)
-  where
-    by_reply : MayPerform s c r → IsOpenBut g old.store.conn new.store.conn result
-    by_reply (inl (inl step)) =
-        let refused : command_reply s c ≡ Err refusal = sym step ∙ is in
-        let none : AddsNothing s c = ap (delta s c) refused in
-        let same = (at_held old.held s (λ x. AddsNothing x c → Steps x c r × (new ≡ old)) held nothing none).1 in
-        inl (subst (λ (t : Treasury S). IsTrue (state g t.store.conn).is_open) (sym same) is_open)
-    by_reply (inl (inr memory)) =
-        open_or_fault g old.store.conn new.store.conn result shuts clean is_open
-        (answered ∙ ap (λ (e : Refusal). Err e) (refusal_is r refusal (Plain OutOfMemory) is memory))
-    by_reply (inr failed) =
-        inr (inl (answered ∙ ap (λ (e : Refusal). Err e) (refusal_is r refusal (Plain Failed) is failed)))
-
--- the state of a treasury could not be had
-pub open_unheld : {S T : Type 0} (g : Ghosts S) (old new : Treasury S) (cause : Cause) (held : Result (Unit {0}) Cause)
-    (result : Result T Refusal) → held ≡ Err cause → result ≡ Err (Plain cause)
-    → (old.store.failed ≡ false → AnswersState held new.store.failed)
-    → (IsTrue old.store.failed → (held ≡ Err Closed) × (new ≡ old)) → (held ≡ Err Damaged → ⊥)
-    → ShutsByFault g old.store.conn new.store.conn → HasCleanDisk (state g new.store.conn)
-    → IsTrue (state g old.store.conn).is_open → IsOpenBut g old.store.conn new.store.conn result
-open_unheld {S = S} g old new cause held result is refuses answers closed undamaged shuts clean is_open =
-    by_failed old.store.failed refl
-  where
-    by_answer : AnswersState {T = Unit {0}} (Err cause) new.store.failed
-        → IsOpenBut g old.store.conn new.store.conn result
-    by_answer (inl (inl (memory, unfailed))) =
-        open_or_fault g old.store.conn new.store.conn result shuts clean is_open
-        (refuses ∙ ap (λ (x : Cause). Err (Plain x)) memory)
-    by_answer (inl (inr (failed, closes))) = inr (inl (refuses ∙ ap (λ (x : Cause). Err (Plain x)) failed))
-    by_answer (inr (damaged, unfailed)) = absurd (undamaged (is ∙ damaged))
-
-    by_failed : (failed : Bool) → old.store.failed ≡ failed → IsOpenBut g old.store.conn new.store.conn result
-    by_failed true failed =
-        inl (subst (λ (t : Treasury S). IsTrue (state g t.store.conn).is_open) (sym (closed failed).1) is_open)
-    by_failed false unfailed =
-        by_answer (subst (λ (r : Result (Unit {0}) Cause). AnswersState r new.store.failed) is (answers unfailed))
-
--- ---- whether a call of the database fails
-
-pub fails_not : {T : Type 0} (result : Result T Refusal) (failed : Bool) → failed ≡ false
-    → (result ≡ Err (Plain Failed) → ⊥) → FailsWith result failed
-fails_not result failed unfailed other =
-    ((λ is. absurd (let clash : true ≡ false = sym is ∙ unfailed in cc)), (λ is. absurd (other is)))
-
 plain_is : {T : Type 0} (a b : Cause) → ◌≡◌ {A = Result T Refusal} (Err (Plain a)) (Err (Plain b)) → a ≡ b
 plain_is a b same = cc
 
@@ -208,6 +126,36 @@ cause_is a b same = cc
 
 err_is : {T : Type 0} (a b : Refusal) → ◌≡◌ {A = Result T Refusal} (Err a) (Err b) → a ≡ b
 err_is a b same = cc
+
+-- where it is done
+pub open_done : {S T : Type 0} (g : Ghosts S) (new : Held S) (result : Result T Refusal) → IsOpenBut g new result
+    → OnOk result (IsTrue (state g new).is_open)
+open_done g new (Ok x) (inl still) = still
+open_done g new (Ok x) (inr failed) = absurd cc
+open_done g new (Err refusal) but = tt
+
+-- where a command is refused
+pub open_refused : {S X T : Type 0} (g : Ghosts S) (new : Held S) (refusal : Refusal)
+    → IsTrue (state g new).is_open ⊎ (◌≡◌ {A = Result X Refusal} (Err refusal) (Err (Plain Failed)))
+    → IsOpenBut {T = T} g new (Err refusal)
+open_refused g new refusal (inl still) = inl still
+open_refused {X = X} g new refusal (inr failed) =
+    inr (ap (λ (e : Refusal). Err e) (err_is {T = X} refusal (Plain Failed) failed))
+
+-- where the state of a treasury could not be had
+pub open_unheld : {S X T : Type 0} (g : Ghosts S) (new : Held S) (cause : Cause)
+    → IsTrue (state g new).is_open ⊎ (◌≡◌ {A = Result X Cause} (Err cause) (Err Failed))
+    → IsOpenBut {T = T} g new (Err (Plain cause))
+open_unheld g new cause (inl still) = inl still
+open_unheld {X = X} g new cause (inr failed) =
+    inr (ap (λ (x : Cause). Err (Plain x)) (cause_is {T = X} cause Failed failed))
+
+-- ---- whether a call of the database fails
+
+pub fails_not : {T : Type 0} (result : Result T Refusal) (failed : Bool) → failed ≡ false
+    → (result ≡ Err (Plain Failed) → ⊥) → FailsWith result failed
+fails_not result failed unfailed other =
+    ((λ is. absurd (let clash : true ≡ false = sym is ∙ unfailed in cc)), (λ is. absurd (other is)))
 
 -- the state could not be had
 pub fails_unheld : {T X : Type 0} (cause : Cause) (failed : Bool) → AnswersState {T = X} (Err cause) failed

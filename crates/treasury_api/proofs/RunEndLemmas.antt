@@ -1,7 +1,7 @@
 -- What a run on a treasury leaves: turns lead to its end, also where it is cut off, and so it keeps the books; and what
 -- is left of the tables.
-use Rattle.std.proofs.Common.{◌≡◌, ◌≤◌, ◌⊎◌, ◌||◌, ℕ, Bool, true, false, IsTrue, List, [], ◌∷◌, ◌++◌, Option, Result}
-use Rattle.std.proofs.Common.{Ok, Err, IfErr, refl, sym, subst, ap, ◌∙◌, inl, inr, arith, append_assoc}
+use Rattle.std.proofs.Common.{◌≡◌, ◌⊎◌, ◌||◌, ℕ, Bool, true, false, IsTrue, List, [], ◌∷◌, ◌++◌, Option, Result}
+use Rattle.std.proofs.Common.{Ok, Err, IfErr, refl, sym, subst, ap, ◌∙◌, inl, inr, append_assoc}
 use Rattle.sqlite.specs.Store.{Ghosts}
 use Rattle.sqlite.specs.State.{HasCleanDisk}
 use Rattle.sqlite.specs.Held.{state}
@@ -19,7 +19,7 @@ use Rattle.treasury_api.specs.Step.{Standing, Answers, is_failure}
 use Rattle.treasury_api.specs.Transcript.{requests_in, AnswersInTurn, IsTranscript}
 use Rattle.treasury_api.specs.RunEnd.{most_input, EndsBy, Ends}
 use Rattle.treasury_api.specs.History.{Turn, turn_of, after_turn, AreTurns, end_of, texts_of, IsRun, commands_of}
-use Rattle.treasury_api.specs.Left.{LeavesAsked, IsOpenBut, FailedAt, LostAt, LeavesRun}
+use Rattle.treasury_api.specs.Left.{LeavesAsked, IsOpenBut, FailedAt, LeavesRun}
 use Rattle.treasury_api.specs.Replied.{standing, Serves}
 use Rattle.treasury_api.specs.Kept.{AreTurnsOf, Runs}
 use Rattle.treasury_api.proofs.HistoryLemmas.{IsRunOf, transcript_of, failure_is, commands_run, commands_end}
@@ -55,36 +55,33 @@ closed_along {S = S} g a b (request ∷ requests) output (mid, answer, rest, (st
 
 -- ---- what is left along turns
 
--- the treasury is open; or one of the turns was answered 41, and a call has failed; or one was answered 40, and the
--- disk has failed
-abbrev Leaving : {S : Type 0} → Ghosts S → Treasury S → Treasury S → Standing → List Turn → Type 0
-Leaving g old new start turns =
+-- the treasury is open; or one of the turns was answered 41, and a call has failed
+abbrev Leaving : {S : Type 0} → Ghosts S → Treasury S → Standing → List Turn → Type 0
+Leaving g new start turns =
     IsTrue (state g new.store.conn).is_open
-    ⊎ ((FailedAt g new.store.conn start turns × IsTrue new.store.failed) ⊎ LostAt g old.store.conn new.store.conn turns)
+    ⊎ (FailedAt g new.store.conn start turns × IsTrue new.store.failed)
 
 -- the same of turns that begin on an open treasury, on which no call has failed
 abbrev LeavingIf : {S : Type 0} → Ghosts S → Treasury S → Treasury S → Standing → List Turn → Type 0
 LeavingIf g old new start turns =
-    IsTrue (state g old.store.conn).is_open → old.store.failed ≡ false → Leaving g old new start turns
+    IsTrue (state g old.store.conn).is_open → old.store.failed ≡ false → Leaving g new start turns
 
 module _ {S : Type 0} (g : Ghosts S) (old mid new : Treasury S)
-    (before_mid : (state g old.store.conn).faults ≤ (state g mid.store.conn).faults)
-    (behind_mid : (state g mid.store.conn).faults ≤ (state g new.store.conn).faults)
     (closed : IsTrue mid.store.failed → new ≡ mid) where
   -- a turn, and what is left along those behind it
   leaving_first : (f e : Federation) (turn : Turn) (turns : List Turn)
       → standing mid e ≡ after_turn (standing old f) turn → old.store.failed ≡ false
-      → LeavesAsked g mid.store.conn f turn.asked × IsOpenBut g old.store.conn mid.store.conn turn.reply
-      → LeavingIf g mid new (after_turn (standing old f) turn) turns → Leaving g old new (standing old f) (turn ∷ turns)
+      → LeavesAsked g mid.store.conn f turn.asked × IsOpenBut g mid.store.conn turn.reply
+      → LeavingIf g mid new (after_turn (standing old f) turn) turns → Leaving g new (standing old f) (turn ∷ turns)
   leaving_first f e turn turns at unfailed (asked, but) then = by_failure (is_failure turn.reply) refl
     where
       flag : mid.store.failed ≡ is_failure turn.reply
       flag = ap (λ (s : Standing). s.failed) at ∙ ap (λ (b : Bool). b || is_failure turn.reply) unfailed
 
-      shift : Leaving g mid new (after_turn (standing old f) turn) turns
-          → Leaving g old new (standing old f) (turn ∷ turns)
+      shift : Leaving g new (after_turn (standing old f) turn) turns
+          → Leaving g new (standing old f) (turn ∷ turns)
       shift (inl still) = inl still
-      shift (inr (inl (there, closes))) = inr (inl (
+      shift (inr (there, closes)) = inr (
         record {
           before = turn ∷ there.before;
           turn = there.turn;
@@ -94,36 +91,19 @@ module _ {S : Type 0} (g : Ghosts S) (old mid new : Treasury S)
           left = there.left;
         },
         closes,
-      ))
-      shift (inr (inr there)) = inr (inr (record {
-        before = turn ∷ there.before;
-        turn = there.turn;
-        behind = there.behind;
-        split = ap (λ (ts : List Turn). turn ∷ ts) there.split;
-        lost = there.lost;
-        fault = let fault = there.fault in omega (arith, before_mid, fault);
-      }))
+      )
 
-      by_open : is_failure turn.reply ≡ false → IsOpenBut g old.store.conn mid.store.conn turn.reply
-          → Leaving g old new (standing old f) (turn ∷ turns)
+      by_open : is_failure turn.reply ≡ false → IsOpenBut g mid.store.conn turn.reply
+          → Leaving g new (standing old f) (turn ∷ turns)
       by_open harmless (inl still) = shift (then still (flag ∙ harmless))
-      by_open harmless (inr (inl failed)) =
+      by_open harmless (inr failed) =
           absurd (let clash : true ≡ false = sym (ap is_failure failed) ∙ harmless in cc)
-      by_open harmless (inr (inr (memory, more))) =
-          inr (inr (record {
-            before = [];
-            turn = turn;
-            behind = turns;
-            split = refl;
-            lost = memory;
-            fault = omega (arith, behind_mid, more);
-          }))
 
-      by_failure : (failed : Bool) → is_failure turn.reply ≡ failed → Leaving g old new (standing old f) (turn ∷ turns)
+      by_failure : (failed : Bool) → is_failure turn.reply ≡ failed → Leaving g new (standing old f) (turn ∷ turns)
       by_failure true is =
           let closes : IsTrue mid.store.failed = flag ∙ is in
           let same : mid ≡ new = sym (closed closes) in
-          inr (inl (
+          inr (
             record {
               before = [];
               turn = turn;
@@ -133,36 +113,27 @@ module _ {S : Type 0} (g : Ghosts S) (old mid new : Treasury S)
               left = subst (λ (t : Treasury S). LeavesAsked g t.store.conn f turn.asked) same asked;
             },
             subst (λ (t : Treasury S). IsTrue t.store.failed) same closes,
-          ))
+          )
       by_failure false is = by_open is but
 
   -- turns, and one more behind them
   leaving_last : (start : Standing) (e end : Federation) (turns : List Turn) (turn : Turn)
       → standing mid e ≡ end_of start turns → standing new end ≡ after_turn (standing mid e) turn
       → (IsTrue (state g mid.store.conn).is_open → mid.store.failed ≡ false
-      → LeavesAsked g new.store.conn e turn.asked × IsOpenBut g mid.store.conn new.store.conn turn.reply)
-      → Leaving g old mid start turns → Leaving g old new start (turns ++ turn ∷ [])
+      → LeavesAsked g new.store.conn e turn.asked × IsOpenBut g new.store.conn turn.reply)
+      → Leaving g mid start turns → Leaving g new start (turns ++ turn ∷ [])
   leaving_last start e end turns turn at next step (inl still) = by_failed mid.store.failed refl
     where
-      by_open : is_failure turn.reply ≡ false → IsOpenBut g mid.store.conn new.store.conn turn.reply
-          → Leaving g old new start (turns ++ turn ∷ [])
+      by_open : is_failure turn.reply ≡ false → IsOpenBut g new.store.conn turn.reply
+          → Leaving g new start (turns ++ turn ∷ [])
       by_open harmless (inl still) = inl still
-      by_open harmless (inr (inl failed)) =
+      by_open harmless (inr failed) =
           absurd (let clash : true ≡ false = sym (ap is_failure failed) ∙ harmless in cc)
-      by_open harmless (inr (inr (memory, more))) =
-          inr (inr (record {
-            before = turns;
-            turn = turn;
-            behind = [];
-            split = refl;
-            lost = memory;
-            fault = omega (arith, before_mid, more);
-          }))
 
       by_failure : (failed : Bool) → is_failure turn.reply ≡ failed → mid.store.failed ≡ false
-          → LeavesAsked g new.store.conn e turn.asked × IsOpenBut g mid.store.conn new.store.conn turn.reply
-          → Leaving g old new start (turns ++ turn ∷ [])
-      by_failure true is unfailed (asked, but) = inr (inl (
+          → LeavesAsked g new.store.conn e turn.asked × IsOpenBut g new.store.conn turn.reply
+          → Leaving g new start (turns ++ turn ∷ [])
+      by_failure true is unfailed (asked, but) = inr (
         record {
           before = turns;
           turn = turn;
@@ -172,16 +143,16 @@ module _ {S : Type 0} (g : Ghosts S) (old mid new : Treasury S)
           left = subst (λ (s : Standing). LeavesAsked g new.store.conn s.now turn.asked) at asked;
         },
         ap (λ (s : Standing). s.failed) next ∙ (ap (λ (b : Bool). b || is_failure turn.reply) unfailed ∙ is),
-      ))
+      )
       by_failure false is unfailed (asked, but) = by_open is but
 
-      by_failed : (failed : Bool) → mid.store.failed ≡ failed → Leaving g old new start (turns ++ turn ∷ [])
+      by_failed : (failed : Bool) → mid.store.failed ≡ failed → Leaving g new start (turns ++ turn ∷ [])
       by_failed true is =
           inl (subst (λ (t : Treasury S). IsTrue (state g t.store.conn).is_open) (sym (closed is)) still)
       by_failed false is = by_failure (is_failure turn.reply) refl is (step still is)
-  leaving_last start e end turns turn at next step (inr (inl (there, closes))) =
+  leaving_last start e end turns turn at next step (inr (there, closes)) =
       let same : mid ≡ new = sym (closed closes) in
-      inr (inl (
+      inr (
         record {
           before = there.before;
           turn = there.turn;
@@ -193,16 +164,7 @@ module _ {S : Type 0} (g : Ghosts S) (old mid new : Treasury S)
               same there.left;
         },
         subst (λ (t : Treasury S). IsTrue t.store.failed) same closes,
-      ))
-  leaving_last start e end turns turn at next step (inr (inr there)) = inr (inr (record {
-    before = there.before;
-    turn = there.turn;
-    behind = there.behind ++ turn ∷ [];
-    split = ap (λ (ts : List Turn). ts ++ turn ∷ []) there.split ∙ append_assoc there.before (there.turn ∷ there.behind)
-        (turn ∷ []);
-    lost = there.lost;
-    fault = let fault = there.fault in omega (arith, behind_mid, fault);
-  }))
+      )
 
 -- ---- the turns of lines that are served
 
@@ -255,8 +217,7 @@ serve_all {S = S} g old new (request ∷ requests) output (mid, answer, rest, (s
               left = from.1.run.left;
             };
             leaving = λ is_open unfailed.
-                leaving_first g old mid new step.shuts.counts later.counts (closed_along g mid new requests rest more) f
-                first.0 turn from.0 a.left unfailed
+                leaving_first g old mid new (closed_along g mid new requests rest more) f first.0 turn from.0 a.left unfailed
                 (first.1.1.1 is_open unfailed) from.1.leaving;
           },
         ),
@@ -422,8 +383,7 @@ led_where_cut_off g WriteFault r0 r1 w0 w1 old new ends clean f of =
               refl,
             );
             leaving = λ is_open unfailed.
-                leaving_last g old mid new (shuts_along g old mid (requests_in stops.whole) stops.written
-                stops.transcript).counts step.shuts.counts step.closed (standing old f) all.0 then.0 turns turn at
+                leaving_last g old mid new step.closed (standing old f) all.0 then.0 turns turn at
                 a.left
                 then.1.1.1 (served.leaving is_open unfailed);
           },
@@ -442,12 +402,11 @@ leaves_run : {S : Type 0} (g : Ghosts S) → LeavesShown g
     → LeavingIf g old new start turns → LeavesRun g old new start turns (standing new end)
 leaves_run g shown old new start turns end of leaving is_open unfailed = by_end (leaving is_open unfailed)
   where
-    by_end : Leaving g old new start turns
+    by_end : Leaving g new start turns
         → (IsTrue (state g new.store.conn).is_open × LeavesRows g new.store.conn (rows end))
-        ⊎ (FailedAt g new.store.conn start turns ⊎ LostAt g old.store.conn new.store.conn turns)
+        ⊎ FailedAt g new.store.conn start turns
     by_end (inl still) = inl (still, shown new.store.conn (rows end) of.store.tables still)
-    by_end (inr (inl (failed, closes))) = inr (inl failed)
-    by_end (inr (inr lost)) = inr (inr lost)
+    by_end (inr (failed, closes)) = inr failed
 
 -- a run on a treasury of a state ends as it may, keeps the books, and leaves of the tables what its turns say
 pub kept : {S T R W : Type 0} (g : Ghosts S) → LeavesShown g

@@ -331,18 +331,15 @@ pub record Beside {S : Type 0} (g : Ghosts S) (old new : Treasury S) (request : 
     (made : Result (Unit {0}) Refusal) : Type 0 where
   pub shuts : ShutsByFault g old.store.conn new.store.conn
   pub closed : IsTrue old.store.failed → (made ≡ Err (Plain Closed)) × (new ≡ old)
-  pub open_but : HasCleanDisk (state g new.store.conn) → IsTrue (state g old.store.conn).is_open → (f : Federation)
-      → IsTreasuryOf g old f → IsOpenBut g old.store.conn new.store.conn made
+  pub open_but : HasCleanDisk (state g new.store.conn) → IsTrue (state g old.store.conn).is_open
+      → IsOpenBut g new.store.conn made
   pub left : LeavesRequest g old new request
 
 -- where it is replied to so, the database is open, or not
-replied_open : {S T X : Type 0} (g : Ghosts S) (old new : Held S) (made : Result T Refusal) (reply : Result X Refusal)
-    → (made ≡ Err (Plain Failed) → reply ≡ Err (Plain Failed))
-    → (made ≡ Err (Plain OutOfMemory) → reply ≡ Err (Plain OutOfMemory))
-    → IsOpenBut g old new made → IsOpenBut g old new reply
-replied_open g old new made reply failed memory (inl still) = inl still
-replied_open g old new made reply failed memory (inr (inl is)) = inr (inl (failed is))
-replied_open g old new made reply failed memory (inr (inr (is, more))) = inr (inr (memory is, more))
+replied_open : {S T X : Type 0} (g : Ghosts S) (new : Held S) (made : Result T Refusal) (reply : Result X Refusal)
+    → (made ≡ Err (Plain Failed) → reply ≡ Err (Plain Failed)) → IsOpenBut g new made → IsOpenBut g new reply
+replied_open g new made reply failed (inl still) = inl still
+replied_open g new made reply failed (inr is) = inr (failed is)
 
 done_not : (r : Result (Unit {0}) Refusal) (x : Unit {0}) (e : Refusal) → r ≡ Ok x → r ≡ Err e → ⊥
 done_not r x e h k = cc
@@ -385,9 +382,8 @@ served g old new line written text request made x is ok beside answers ended = r
               },
               λ is_open unfailed. (
                 beside.left clean is_open f of asked asks,
-                replied_open g old.store.conn new.store.conn made r.reply
-                    (λ e. absurd (done_not made x (Plain Failed) ok e))
-                    (λ e. absurd (done_not made x (Plain OutOfMemory) ok e)) (beside.open_but clean is_open f of),
+                replied_open g new.store.conn made r.reply
+                    (λ e. absurd (done_not made x (Plain Failed) ok e)) (beside.open_but clean is_open),
               ),
             ),
           ),
@@ -452,8 +448,8 @@ served_memory g old new line written text request made x is ok beside answers re
         (r.left ∙ ap (λ (y : Result Answer Refusal). old.store.failed || is_failure y) told.1.0)
         (λ is_open unfailed. (
           beside.left clean is_open f of asked asks,
-          replied_open g old.store.conn new.store.conn made (Err (Plain OutOfMemory))
-              (λ e. absurd (done_not made x (Plain Failed) ok e)) (λ e. refl) (beside.open_but clean is_open f of),
+          replied_open g new.store.conn made (Err (Plain OutOfMemory))
+              (λ e. absurd (done_not made x (Plain Failed) ok e)) (beside.open_but clean is_open),
         ))
 
 -- ---- a request that is refused
@@ -513,10 +509,8 @@ served_refusal g old new line written text request made refusal is refused besid
           },
           λ is_open unfailed. (
             beside.left clean is_open f was asked asks,
-            replied_open g old.store.conn new.store.conn made (Err refusal)
-                (λ e. ap (λ (x : Refusal). Err x) (same_refusal (Plain Failed) e))
-                (λ e. ap (λ (x : Refusal). Err x) (same_refusal (Plain OutOfMemory) e))
-                (beside.open_but clean is_open f was),
+            replied_open g new.store.conn made (Err refusal)
+                (λ e. ap (λ (x : Refusal). Err x) (same_refusal (Plain Failed) e)) (beside.open_but clean is_open),
           ),
         ),
       ),
@@ -538,10 +532,10 @@ served_refusal g old new line written text request made refusal is refused besid
           },
           λ is_open unfailed. (
             beside.left clean is_open f was asked asks,
-            replied_open g old.store.conn new.store.conn made (Err (Plain OutOfMemory))
+            replied_open g new.store.conn made (Err (Plain OutOfMemory))
                 (λ e. absurd (let clash : true ≡ false =
                 sym (ap (λ (x : Refusal). is_failure (Err x)) (same_refusal (Plain Failed) e)) ∙ harmless in cc))
-                (λ e. refl) (beside.open_but clean is_open f was),
+                (beside.open_but clean is_open),
           ),
         ),
       ),

@@ -71,18 +71,15 @@ plain_status new refusal because cause status text told code is =
     code ∙ ap (λ (c : Cause). status_of_number (number_of c))
     (subst (λ (r : Refusal). IsToldBy new r cause text) is told).1
 
--- by 40 and 41 it is 503
-pub open_but_503 : {S T : Type 0} (g : Ghosts S) (old : Held S) (new : Treasury S) (result : Result T Refusal)
-    (refusal : Refusal) (cause : Cause) (status : ℕ) (text : List ℕ) → result ≡ Err refusal
+-- by 41 it is 503
+pub open_but_503 : {S T : Type 0} (g : Ghosts S) (new : Treasury S) (result : Result T Refusal) (refusal : Refusal)
+    (cause : Cause) (status : ℕ) (text : List ℕ) → result ≡ Err refusal
     → IsToldBy new refusal cause text → status ≡ status_of_number (number_of cause)
-    → IsOpenBut g old new.store.conn result → IsTrue (state g new.store.conn).is_open ⊎ (status ≡ 503)
-open_but_503 g old new result refusal cause status text is told code (inl still) = inl still
-open_but_503 g old new result refusal cause status text is told code (inr (inl failed)) =
+    → IsOpenBut g new.store.conn result → IsTrue (state g new.store.conn).is_open ⊎ (status ≡ 503)
+open_but_503 g new result refusal cause status text is told code (inl still) = inl still
+open_but_503 g new result refusal cause status text is told code (inr failed) =
     inr (plain_status new refusal Failed cause status text told code (refusal_is result refusal (Plain Failed) is
     failed))
-open_but_503 g old new result refusal cause status text is told code (inr (inr (memory, more))) =
-    inr (plain_status new refusal OutOfMemory cause status text told code (refusal_is result refusal (Plain OutOfMemory)
-    is memory))
 
 -- ---- a call
 
@@ -94,7 +91,7 @@ foreign_answered g t status body is said =
       clean = λ k. k;
       answers = λ k f of. (f, (of, inl (refl, (is, said), refl)));
       left = refl;
-      open_but = λ k is_open f of. inl is_open;
+      open_but = λ k is_open. inl is_open;
       shuts = shuts_same g t.store.conn;
       closed = λ failed. refl;
     }
@@ -107,7 +104,7 @@ nowhere_answered g t status body is said =
       clean = λ k. k;
       answers = λ k f of. (f, (of, inl (refl, (is, said), refl)));
       left = refl;
-      open_but = λ k is_open f of. inl is_open;
+      open_but = λ k is_open. inl is_open;
       shuts = shuts_same g t.store.conn;
       closed = λ failed. refl;
     }
@@ -136,7 +133,7 @@ nothing_answered g t call status body own other none is said =
       answers = λ k f of.
           (f, (of, inl (sym none, no_answer call status body own other is said, refl)));
       left = subst (λ (o : Option Spelled). MatchOption o (t ≡ t) (LeavesRequest g t t)) none refl;
-      open_but = λ k is_open f of. inl is_open;
+      open_but = λ k is_open. inl is_open;
       shuts = shuts_same g t.store.conn;
       closed = λ failed. refl;
     }

@@ -1,7 +1,6 @@
 -- What a request leaves of a treasury, beside its state: whether the database is open, and what the next opening may
 -- find, after a crash, a stop, or a failure that shuts it (own rules; docs/RULES.md, "Runs").
 use Rattle.std.specs.Prelude.{◌≡◌, ◌⊎◌, ◌↔◌, Bool, false, List, ◌∷◌, ◌++◌, Result, Err, IsTrue}
-use Rattle.sqlite_disk.specs.Disk.{MoreFaults}
 use Rattle.sqlite.specs.Store.{Ghosts}
 use Rattle.sqlite.specs.State.{HasCleanDisk}
 use Rattle.sqlite.specs.Held.{Held, state}
@@ -29,12 +28,9 @@ FailsWith r failed = IsTrue failed ↔ (r ≡ Err (Plain Failed))
 abbrev pub IsUnread : {T : Type 0} → Result T Refusal → Type 0
 IsUnread r = (r ≡ Err (Plain Damaged)) ⊎ ((r ≡ Err (Plain OutOfMemory)) ⊎ (r ≡ Err (Plain Failed)))
 
--- The database is open behind a call; or the call is refused by 41, or by 40 where the disk has failed once more.
-abbrev pub IsOpenBut : {S T : Type 0} → Ghosts S → Held S → Held S → Result T Refusal → Type 0
-IsOpenBut g old new r =
-    IsTrue (state g new).is_open
-    ⊎ ((r ≡ Err (Plain Failed)) ⊎ ((r ≡ Err (Plain OutOfMemory))
-    × MoreFaults (state g old).faults (state g new).faults))
+-- the database is open behind a call, or the call is refused by 41
+abbrev pub IsOpenBut : {S T : Type 0} → Ghosts S → Held S → Result T Refusal → Type 0
+IsOpenBut g new r = IsTrue (state g new).is_open ⊎ (r ≡ Err (Plain Failed))
 
 -- the state where what is asked leads, once it is done
 abbrev pub end_state : Federation → Result Asked Refusal → Federation
@@ -60,7 +56,7 @@ abbrev pub LeavesReply : {S : Type 0} → Ghosts S → Treasury S → Treasury S
     → Result Answer Refusal → Type 0
 LeavesReply g old new f asked r =
     IsTrue (state g old.store.conn).is_open → old.store.failed ≡ false
-    → LeavesAsked g new.store.conn f asked × IsOpenBut g old.store.conn new.store.conn r
+    → LeavesAsked g new.store.conn f asked × IsOpenBut g new.store.conn r
 
 -- ---- a run
 
@@ -74,20 +70,10 @@ pub record FailedAt {S : Type 0} (g : Ghosts S) (new : Held S) (start : Standing
   pub failed : turn.reply ≡ Err (Plain Failed)
   pub left : LeavesAsked g new (end_of start before).now turn.asked
 
--- One of the turns was answered 40, and the disk has failed once more: there nothing is said of what is left.
-pub record LostAt {S : Type 0} (g : Ghosts S) (old new : Held S) (turns : List Turn) : Type 0 where
-  pub before : List Turn
-  pub turn : Turn
-  pub behind : List Turn
-  pub split : turns ≡ before ++ turn ∷ behind
-  pub lost : turn.reply ≡ Err (Plain OutOfMemory)
-  pub fault : MoreFaults (state g old).faults (state g new).faults
-
 -- What a run leaves of an open treasury of a state, on which no call has failed: it is open, and whatever is left are
--- the rows of the state at the end; or it failed at one turn, with the rows of the state before that or after it; or
--- the disk failed where memory did.
+-- the rows of the state at the end; or it failed at one turn, with the rows of the state before that or after it.
 abbrev pub LeavesRun : {S : Type 0} → Ghosts S → Treasury S → Treasury S → Standing → List Turn → Standing → Type 0
 LeavesRun g old new start turns end =
     IsTrue (state g old.store.conn).is_open → old.store.failed ≡ false
     → (IsTrue (state g new.store.conn).is_open × LeavesRows g new.store.conn (rows end.now))
-    ⊎ (FailedAt g new.store.conn start turns ⊎ LostAt g old.store.conn new.store.conn turns)
+    ⊎ FailedAt g new.store.conn start turns

@@ -58,11 +58,11 @@ AnswersCall s call status body t =
     ⊎ ((request : Spelled) × (asked_by call ≡ Some request)
     × ((reply : Result Answer Refusal) × (AnswersRequest s request body reply t × (status ≡ status_of reply))))
 
--- A database that was open under a treasury of a state is open behind each reply but 503.
+-- a database that was open is open behind each reply but 503
 abbrev pub IsOpenBut503 : {S : Type 0} → Ghosts S → Treasury S → ℕ → Treasury S → Type 0
 IsOpenBut503 g old status new =
-    HasCleanDisk (state g new.store.conn) → IsTrue (state g old.store.conn).is_open → (f : Federation)
-    → IsTreasuryOf g old f → IsTrue (state g new.store.conn).is_open ⊎ (status ≡ 503)
+    HasCleanDisk (state g new.store.conn) → IsTrue (state g old.store.conn).is_open
+    → IsTrue (state g new.store.conn).is_open ⊎ (status ≡ 503)
 
 -- What a call makes of a treasury: of whichever state it is, while the disk returns what was written, the call is
 -- answered, and the treasury is of the state where that leads. Whatever is left, also behind 41, are the rows of the

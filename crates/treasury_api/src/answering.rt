@@ -47,9 +47,8 @@ fn answer_command<S: Alter>(
         → HasCleanDisk (state S.Store treasury.old.store.conn) }
     ensures listed { IfErr result IsListed }
     ensures fails { FailsWith result treasury.new.store.failed }
-    ensures still_open { HasCleanDisk (state S.Store treasury.new.store.conn)
-        → IsTrue (state S.Store treasury.old.store.conn).is_open
-        → IsOpenBut S.Store treasury.old.store.conn treasury.new.store.conn result }
+    ensures open_but { HasCleanDisk (state S.Store treasury.new.store.conn)
+        → IsTrue (state S.Store treasury.old.store.conn).is_open → IsOpenBut S.Store treasury.new.store.conn result }
     ensures shuts { ShutsByFault S.Store treasury.old.store.conn treasury.new.store.conn }
     ensures left { LeavesStep S.Store treasury.old treasury.new command }
 {
@@ -99,15 +98,12 @@ pub fn answer<S: Alter>(
         → treasury.old.held ≡ None → ShowsNoState (state S.Store treasury.old.store.conn).now
         → IsUnread result × (IsTrue (state S.Store treasury.new.store.conn).is_open
         → StaysAsIs (state S.Store treasury.old.store.conn) (state S.Store treasury.new.store.conn)) }
-    // A database that was open is open where the request is done; on a treasury of a state also where it is refused,
-    // but by 41, or by 40 where the disk has failed once more. Only a fault of the disk shuts it.
+    // A database that was open is open behind each answer but 41. Only a fault of the disk shuts it.
     ensures still_open { HasCleanDisk (state S.Store treasury.new.store.conn)
         → IsTrue (state S.Store treasury.old.store.conn).is_open
         → OnOk result (IsTrue (state S.Store treasury.new.store.conn).is_open) }
     ensures open_but { HasCleanDisk (state S.Store treasury.new.store.conn)
-        → IsTrue (state S.Store treasury.old.store.conn).is_open → (f : Federation)
-        → IsTreasuryOf S.Store treasury.old f
-        → IsOpenBut S.Store treasury.old.store.conn treasury.new.store.conn result }
+        → IsTrue (state S.Store treasury.old.store.conn).is_open → IsOpenBut S.Store treasury.new.store.conn result }
     ensures shuts { ShutsByFault S.Store treasury.old.store.conn treasury.new.store.conn }
     // Whatever is left, also behind 41: the rows of the state before the request, or of the one after it.
     ensures left { LeavesRequest S.Store treasury.old treasury.new request.now }

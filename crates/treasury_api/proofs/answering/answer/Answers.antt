@@ -17,7 +17,7 @@ use Rattle.treasury_api.proofs.AnswerLemmas.{dry_run_fits}
 use Rattle.treasury_api.proofs.ForeseenLemmas.{foreseen, foreseen_listed, foreseen_printable, foreseen_unfailed}
 use Rattle.treasury_api.proofs.ForeseenLemmas.{foreseen_same}
 use Rattle.treasury_api.proofs.AnswerLemmas.{reported, unreported, is_there}
-use Rattle.treasury_api.proofs.LeftLemmas.{left_same, left_command, open_unheld, open_done, open_then, fails_not}
+use Rattle.treasury_api.proofs.LeftLemmas.{left_same, left_command, open_unheld, open_done, fails_not}
 use Rattle.treasury_api.proofs.LeftLemmas.{fails_unheld, fails_ruled, unread_state, refused_closed, ruled_texts}
 use Rattle.treasury_api.proofs.LeftLemmas.{ruled_report}
 use Rattle.treasury_api.proofs.answering.answer.Goals as goal
@@ -116,10 +116,8 @@ returns-in-Err-clause-strange g c clean unfailed unheld none =
     (unread_state c.in-Err.cause _ (c.in-Err.ensures.answers unfailed), c.hold.ensures.unchanged clean)
 
 pub returns-in-Err-clause-open_but : goal.returns-in-Err-clause-open_but
-returns-in-Err-clause-open_but g c clean is_open f of =
-    open_unheld g.S.Store c.args.treasury.now c.hold.new.self c.in-Err.cause c.hold.result _ c.in-Err.is refl
-    c.hold.ensures.answers c.hold.ensures.closed (λ e. c.hold.ensures.damaged e clean f of)
-    (shuts_by g.S.Store c.args.treasury.now.store.conn c.hold.new.self.store.conn _ c.hold.ensures.crash) clean is_open
+returns-in-Err-clause-open_but g c clean is_open =
+    open_unheld g.S.Store c.hold.new.self.store.conn c.in-Err.cause (c.in-Err.ensures.kept clean is_open)
 
 pub returns-in-Err-clause-shuts : goal.returns-in-Err-clause-shuts
 returns-in-Err-clause-shuts g c =
@@ -144,18 +142,15 @@ pub returns-in-Ok-Command-clause-strange : goal.returns-in-Ok-Command-clause-str
 returns-in-Ok-Command-clause-strange g c clean unfailed unheld none =
     absurd (c.in-Ok.ensures.shown (c.answer_command.ensures.clean clean) unheld none)
 
+pub returns-in-Ok-Command-clause-open_but : goal.returns-in-Ok-Command-clause-open_but
+returns-in-Ok-Command-clause-open_but g c clean is_open =
+    c.answer_command.ensures.open_but clean
+    (c.in-Ok.ensures.still_open (c.answer_command.ensures.clean clean) is_open)
+
 pub returns-in-Ok-Command-clause-still_open : goal.returns-in-Ok-Command-clause-still_open
 returns-in-Ok-Command-clause-still_open g c clean is_open =
-    open_done g.S.Store c.hold.new.self.store.conn c.answer_command.new.treasury.store.conn c.answer_command.result
-    (c.answer_command.ensures.still_open clean
-    (c.in-Ok.ensures.still_open (c.answer_command.ensures.clean clean) is_open))
-
-pub returns-in-Ok-Command-clause-open_but : goal.returns-in-Ok-Command-clause-open_but
-returns-in-Ok-Command-clause-open_but g c clean is_open f of =
-    open_then g.S.Store c.args.treasury.now.store.conn c.hold.new.self.store.conn
-    c.answer_command.new.treasury.store.conn c.answer_command.result c.hold.ensures.crash.counts
-    (c.answer_command.ensures.still_open clean
-    (c.in-Ok.ensures.still_open (c.answer_command.ensures.clean clean) is_open))
+    open_done g.S.Store c.answer_command.new.treasury.store.conn c.answer_command.result
+    (returns-in-Ok-Command-clause-open_but g c clean is_open)
 
 pub returns-in-Ok-Command-clause-shuts : goal.returns-in-Ok-Command-clause-shuts
 returns-in-Ok-Command-clause-shuts g c =
@@ -234,11 +229,11 @@ returns-in-Ok-DryRun-clause-strange g c clean unfailed unheld none = absurd (c.i
 
 pub returns-in-Ok-DryRun-clause-still_open : goal.returns-in-Ok-DryRun-clause-still_open
 returns-in-Ok-DryRun-clause-still_open g c clean is_open =
-    open_done g.S.Store c.args.treasury.now.store.conn c.hold.new.self.store.conn c.answer_dry_run.result
+    open_done g.S.Store c.hold.new.self.store.conn c.answer_dry_run.result
     (inl (c.in-Ok.ensures.still_open clean is_open))
 
 pub returns-in-Ok-DryRun-clause-open_but : goal.returns-in-Ok-DryRun-clause-open_but
-returns-in-Ok-DryRun-clause-open_but g c clean is_open f of = inl (c.in-Ok.ensures.still_open clean is_open)
+returns-in-Ok-DryRun-clause-open_but g c clean is_open = inl (c.in-Ok.ensures.still_open clean is_open)
 
 pub returns-in-Ok-DryRun-clause-shuts : goal.returns-in-Ok-DryRun-clause-shuts
 returns-in-Ok-DryRun-clause-shuts g c =
@@ -265,7 +260,7 @@ pub returns-in-Ok-push_report-clause-still_open : goal.returns-in-Ok-push_report
 returns-in-Ok-push_report-clause-still_open g c = c.in-Ok.ensures.still_open
 
 pub returns-in-Ok-push_report-clause-open_but : goal.returns-in-Ok-push_report-clause-open_but
-returns-in-Ok-push_report-clause-open_but g c clean is_open f of = inl (c.in-Ok.ensures.still_open clean is_open)
+returns-in-Ok-push_report-clause-open_but g c clean is_open = inl (c.in-Ok.ensures.still_open clean is_open)
 
 pub returns-in-Ok-push_report-clause-shuts : goal.returns-in-Ok-push_report-clause-shuts
 returns-in-Ok-push_report-clause-shuts g c =
@@ -293,7 +288,7 @@ pub returns-in-Ok-Report-clause-strange : goal.returns-in-Ok-Report-clause-stran
 returns-in-Ok-Report-clause-strange g c clean unfailed unheld none = absurd (c.in-Ok.ensures.shown clean unheld none)
 
 pub returns-in-Ok-Report-clause-open_but : goal.returns-in-Ok-Report-clause-open_but
-returns-in-Ok-Report-clause-open_but g c clean is_open f of = inl (c.in-Ok.ensures.still_open clean is_open)
+returns-in-Ok-Report-clause-open_but g c clean is_open = inl (c.in-Ok.ensures.still_open clean is_open)
 
 pub returns-in-Ok-Report-clause-shuts : goal.returns-in-Ok-Report-clause-shuts
 returns-in-Ok-Report-clause-shuts g c =
@@ -321,7 +316,7 @@ pub returns-clause-strange : goal.returns-clause-strange
 returns-clause-strange g c clean unfailed unheld none = absurd (c.in-Ok.ensures.shown clean unheld none)
 
 pub returns-clause-open_but : goal.returns-clause-open_but
-returns-clause-open_but g c clean is_open f of = inl (c.in-Ok.ensures.still_open clean is_open)
+returns-clause-open_but g c clean is_open = inl (c.in-Ok.ensures.still_open clean is_open)
 
 pub returns-clause-shuts : goal.returns-clause-shuts
 returns-clause-shuts g c =

@@ -57,12 +57,10 @@ pub returns-in-Err-perform-clause-fails : goal.returns-in-Err-perform-clause-fai
 returns-in-Err-perform-clause-fails g c =
     fails_refused c.in-Err-perform.refusal _ (c.in-Err-perform.ensures.fails c.requires.unfailed)
 
-pub returns-in-Err-perform-clause-still_open : goal.returns-in-Err-perform-clause-still_open
-returns-in-Err-perform-clause-still_open g c =
-    open_refused g.S.Store c.args.treasury.now c.perform.new.self c.args.command c.perform.result
-    c.in-Err-perform.refusal _ c.in-Err-perform.is refl c.requires.held
-    (c.perform.ensures.replies c.requires.unfailed) (c.perform.ensures.nothing c.requires.unfailed)
-    c.perform.ensures.shuts
+pub returns-in-Err-perform-clause-open_but : goal.returns-in-Err-perform-clause-open_but
+returns-in-Err-perform-clause-open_but g c clean is_open =
+    open_refused g.S.Store c.perform.new.self.store.conn c.in-Err-perform.refusal
+    (c.in-Err-perform.ensures.kept clean is_open)
 
 pub returns-in-Err-perform-clause-shuts : goal.returns-in-Err-perform-clause-shuts
 returns-in-Err-perform-clause-shuts g c = c.perform.ensures.shuts
@@ -75,8 +73,8 @@ returns-in-Err-perform-clause-left g c = c.perform.ensures.left
 pub returns-clause-fails : goal.returns-clause-fails
 returns-clause-fails g c = fails_done c.in-Ok-perform.answer _ _ (c.in-Ok-perform.ensures.fails c.requires.unfailed)
 
-pub returns-clause-still_open : goal.returns-clause-still_open
-returns-clause-still_open g c clean is_open = inl (c.in-Ok-perform.ensures.still_open clean is_open)
+pub returns-clause-open_but : goal.returns-clause-open_but
+returns-clause-open_but g c clean is_open = inl (c.in-Ok-perform.ensures.still_open clean is_open)
 
 pub returns-clause-shuts : goal.returns-clause-shuts
 returns-clause-shuts g c = c.perform.ensures.shuts

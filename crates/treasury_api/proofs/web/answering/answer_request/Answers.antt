@@ -19,7 +19,7 @@ returns-in-Ok-clause-replies g c =
     (λ answer. refl)
 
 pub returns-in-Ok-clause-open_but : goal.returns-in-Ok-clause-open_but
-returns-in-Ok-clause-open_but g c clean is_open f of = inl (c.in-Ok.ensures.still_open clean is_open)
+returns-in-Ok-clause-open_but g c clean is_open = inl (c.in-Ok.ensures.still_open clean is_open)
 
 pub returns-in-Ok-clause-closed : goal.returns-in-Ok-clause-closed
 returns-in-Ok-clause-closed g c failed = (c.answer.ensures.closed failed).1
@@ -36,10 +36,10 @@ returns-in-Err-clause-replies g c =
     c.refuse_by-line.result.text.items of c.refuse_by-line.ensures c.status_of.ensures)
 
 pub returns-in-Err-clause-open_but : goal.returns-in-Err-clause-open_but
-returns-in-Err-clause-open_but g c clean is_open f of =
-    open_but_503 g.S.Store c.args.treasury.now.store.conn c.answer.new.treasury c.answer.result c.in-Err.refusal
+returns-in-Err-clause-open_but g c clean is_open =
+    open_but_503 g.S.Store c.answer.new.treasury c.answer.result c.in-Err.refusal
     c.refuse_by-line.result.cause (code_of c.status_of.result) c.refuse_by-line.result.text.items c.in-Err.is
-    c.refuse_by-line.ensures c.status_of.ensures (c.answer.ensures.open_but clean is_open f of)
+    c.refuse_by-line.ensures c.status_of.ensures (c.answer.ensures.open_but clean is_open)
 
 pub returns-in-Err-clause-closed : goal.returns-in-Err-clause-closed
 returns-in-Err-clause-closed g c failed = (c.answer.ensures.closed failed).1
