@@ -1,7 +1,8 @@
 //! What standard error says of a dry run that is not refused: the entries that would be made, and the command's notes.
 
-use crate::explain::pieces::{push_header, push_number, push_shown};
+use crate::explain::pieces::push_header;
 use crate::explain::push_origin;
+use crate::explain::shown::{push_number, push_shown};
 use crate::explain::standing::branch_named;
 use crate::notes::places::new_places;
 use crate::notes::samples::push_sample_note;

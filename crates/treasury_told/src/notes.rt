@@ -11,7 +11,7 @@ mod other_branch;
 pub(crate) mod places;
 pub(crate) mod samples;
 
-use crate::explain::pieces::push_number;
+use crate::explain::shown::push_number;
 use crate::explain::standing::branch_named;
 use crate::explain::transfers::{part_of, transfer_of};
 use crate::notes::accounts::{has_new_account, push_account, push_accounts, push_unknown};

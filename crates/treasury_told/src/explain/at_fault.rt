@@ -1,6 +1,7 @@
 //! Which transaction of a journal is refused by 24 to 28, and for what.
 
-use crate::explain::pieces::{push_amount, push_header, push_named, push_number, push_shown};
+use crate::explain::pieces::{push_amount, push_header};
+use crate::explain::shown::{push_named, push_number, push_shown};
 use crate::explain::standing::{Holder, Standing, is_same_text, standings};
 use book_core::{Ledger, Leg, MAX_TURNOVER};
 use journal_balance::legs;

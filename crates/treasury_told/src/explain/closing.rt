@@ -1,7 +1,8 @@
 //! What stands against a closing: an account of its list, its target, or the closing that the branch has of that day.
 
 use crate::explain::held::{ACCOUNT_FORM, TRANSFERS_ONLY};
-use crate::explain::pieces::{push_header, push_line, push_named, push_number, push_shown};
+use crate::explain::pieces::push_header;
+use crate::explain::shown::{push_line, push_named, push_number, push_shown};
 use crate::explain::standing::branch_named;
 use book_core::Ledger;
 use journal_format::Txn;

@@ -1,6 +1,6 @@
 //! The exact product of a unit cost, which has too many decimals to be booked.
 
-use crate::explain::pieces::push_shown;
+use crate::explain::shown::push_shown;
 use journal_format::{Posting, Txn};
 use money_core::{Cause, Price, Style, Styles, cost_of, is_declared, is_price};
 use std::alloc::Global;

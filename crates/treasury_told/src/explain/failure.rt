@@ -1,7 +1,8 @@
 //! What is said of a balance assertion that fails: where it stands, what it states, what was found, and the difference.
 
 use crate::explain::lines::push_source;
-use crate::explain::pieces::{push_header, push_named, push_named_amount, push_number};
+use crate::explain::pieces::{push_header, push_named_amount};
+use crate::explain::shown::{push_named, push_number};
 use crate::explain::standing::{Standing, branch_named, standings};
 use crate::explain::touching::{Watched, push_all_touching, watched_by};
 use crate::explain::{push_origin, push_sentence};

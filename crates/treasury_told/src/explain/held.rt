@@ -1,7 +1,8 @@
 //! What stands against a request: what is held, and the forms and limits that its texts have to meet.
 
 use crate::explain::hints::{push_amount_form, push_sample, push_sample_form, push_samples};
-use crate::explain::pieces::{push_day, push_line, push_named, push_number, push_shown};
+use crate::explain::pieces::push_day;
+use crate::explain::shown::{push_line, push_named, push_number, push_shown};
 use crate::explain::standing::branch_named;
 use crate::explain::transfers::{part_of, push_id, push_transfer_of};
 use book_core::{Ledger, MAX_ENTRIES};

@@ -1,6 +1,6 @@
 //! The lines of a journal's text, as an explanation shows them.
 
-use crate::explain::pieces::{push_number, push_shown};
+use crate::explain::shown::{push_number, push_shown};
 use journal_lines::{
     LineKind, Lines, behind_status, front_of, is_block_end, is_remark, kind, name_end, trim,
     trim_start,

@@ -1,7 +1,8 @@
 //! New transactions that may have broken an assertion, and the held ones that they may be.
 
-use crate::explain::pieces::{push_header, push_number};
+use crate::explain::pieces::push_header;
 use crate::explain::push_origin;
+use crate::explain::shown::push_number;
 use crate::explain::standing::Standing;
 use book_core::{ClaimKind, Entry, Failure, Place, is_inside};
 use journal_balance::legs;

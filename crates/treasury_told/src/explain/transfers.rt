@@ -1,8 +1,7 @@
 //! What is held of the transfer that a request is on, and the forms of its ID and of a part's key.
 
-use crate::explain::pieces::{
-    push_amount, push_day, push_line, push_named, push_named_amount, push_shown,
-};
+use crate::explain::pieces::{push_amount, push_day, push_named_amount};
+use crate::explain::shown::{push_line, push_named, push_shown};
 use book_core::Ledger;
 use money_core::{Cause, Day, Styles, Text, read_amount};
 use std::alloc::Global;

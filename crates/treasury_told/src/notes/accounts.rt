@@ -2,8 +2,8 @@
 
 use crate::explain::at_fault::is_own_mark;
 use crate::explain::lines::{is_posting, posting_parts};
-use crate::explain::pieces::{push_number, push_shown};
 use crate::explain::push_origin;
+use crate::explain::shown::{push_number, push_shown};
 use crate::notes::{Import, MOST, push_more};
 use book_core::is_inside;
 use journal_lines::{LineKind, Lines, kind};

@@ -1,8 +1,9 @@
 //! New entries with the day and the legs of a held one that has another text: an edited transaction may have come
 //! again.
 
-use crate::explain::pieces::{push_header, push_number};
+use crate::explain::pieces::push_header;
 use crate::explain::push_origin;
+use crate::explain::shown::push_number;
 use crate::explain::standing::is_same_text;
 use crate::notes::{Import, MOST, push_more};
 use money_core::{Cause, Styles};

@@ -1,8 +1,9 @@
 //! Amounts whose group mark does not stand before exactly three digits: a decimal mark may have been meant.
 
 use crate::explain::lines::{amounts_of, is_posting, posting_parts};
-use crate::explain::pieces::{push_amount, push_shown};
+use crate::explain::pieces::push_amount;
 use crate::explain::push_origin;
+use crate::explain::shown::push_shown;
 use crate::notes::{Import, MOST, push_more};
 use journal_lines::{LineKind, Lines, is_block_end, kind};
 use money_core::{Cause, Styles, Unit, is_price, print_price, read_amount, read_price};

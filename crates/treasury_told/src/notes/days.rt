@@ -1,8 +1,9 @@
 //! Days that may be a slip: far from the entries that a branch had, or from a dispatch, and what a lock or a closing
 //! keeps as it is.
 
-use crate::explain::pieces::{push_day, push_number, push_shown};
+use crate::explain::pieces::push_day;
 use crate::explain::push_origin;
+use crate::explain::shown::{push_number, push_shown};
 use crate::notes::Import;
 use book_core::Ledger;
 use money_core::{Cause, Day, Styles, Unit};

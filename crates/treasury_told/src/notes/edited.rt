@@ -1,8 +1,9 @@
 //! New entries that may be a held one that was edited: they have its header and accounts, and either its day and other
 //! amounts, or its amounts and a day near it.
 
-use crate::explain::pieces::{push_header, push_number};
+use crate::explain::pieces::push_header;
 use crate::explain::push_origin;
+use crate::explain::shown::push_number;
 use crate::notes::again::{Again, is_marked, push_if_edited};
 use crate::notes::days::{Span, span_of};
 use crate::notes::places::NewPlaces;

@@ -1,6 +1,6 @@
 //! Imports into the wrong branch: another one holds the same transactions already.
 
-use crate::explain::pieces::{push_number, push_shown};
+use crate::explain::shown::{push_number, push_shown};
 use crate::explain::standing::is_same_text;
 use crate::notes::again::is_marked;
 use book_core::Ledger;

@@ -1,6 +1,6 @@
 //! A sample whose only mark stands before three digits: a group mark may have been meant.
 
-use crate::explain::pieces::push_shown;
+use crate::explain::shown::push_shown;
 use money_core::Cause;
 
 /// The mark of a sample that has no other, and three digits behind it; what is in quotes is symbol.
