@@ -1,2 +1,3 @@
 -- What a reader has to believe, in reading order
 pub mod Shown
+pub mod Standing

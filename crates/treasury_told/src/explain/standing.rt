@@ -1,8 +1,29 @@
 //! The transactions of a journal's text, with the lines of their headers, and which of them a branch has not.
 
+ghost use Rattle.std.specs.Prelude.{◌≡◌, ◌+◌, ◌<◌, ◌^◌, ◌⊎◌, ℕ, List, [], ◌∷◌, ◌++◌, cond, Some, None, IfOk};
+ghost use Rattle.std.specs.Prelude.{IfErr, OnOk};
+ghost use Rattle.std.specs.Global.{Vec as Bytes};
+ghost use Rattle.std.specs.HashMap.{get_by_text};
+ghost use Rattle.std.specs.List.{AllByRecursion};
+ghost use Rattle.std.specs.Option.{option_or};
+ghost use Rattle.std.specs.Result.{IsOkUnless};
+ghost use Rattle.std.specs.Str.{bytes_eq};
+ghost use Rattle.money_core.specs.declared.cause.Fault.{Fault as FirstFault};
+ghost use Rattle.journal_format.specs.declared.txn.Txn.{Txn as Transaction};
+ghost use Rattle.journal_format.specs.declared.txn.Located.{Located as Placed};
+ghost use Rattle.journal_format.specs.CanonicalText.{body_text};
+ghost use Rattle.journal_format.specs.Fault.{IsFirstFault};
+ghost use Rattle.journal_format.specs.Pieces.{Reads};
+ghost use Rattle.journal_format.specs.Printable.{IsPrintable};
+ghost use Rattle.treasury_core.specs.Counted.{count_of, counted_more, AreCounted};
+ghost use Rattle.treasury_core.specs.Kept.{IsIndexOf};
+ghost use Rattle.treasury_core.specs.Mark.{mark_of};
+ghost use Rattle.treasury_core.specs.Step.{number_in};
+ghost use Rattle.treasury_told.specs.Standing.{is_nobody, holder_at, located_of, AreStanding};
+
 use book_core::Ledger;
-use journal_format::{Txn, body, is_printable, read_journal};
-use money_core::{Cause, Styles, Text};
+use journal_format::{Located, Txn, body, is_printable, read_journal};
+use money_core::{Cause, Copied, Styles, Text};
 use std::alloc::Global;
 use std::collections::HashMap;
 use treasury_core::{Branch, Record, State, mark_of};
@@ -30,8 +51,11 @@ pub struct Standing {
 }
 
 impl Standing {
-    pub fn is_new(&self) -> bool {
-        self.holder == Holder::Nobody
+    /// Whether neither a record nor an earlier transaction of the text has its mark.
+    pub fn is_new(&self) -> bool
+        ensures { result ≡ is_nobody self.now.holder }
+    {
+        matches!(self.holder, Holder::Nobody)
     }
 }
 
@@ -45,88 +69,130 @@ pub fn branch_named<'a, L: Ledger>(state: &'a State<L>, name: &str) -> Option<&'
     None
 }
 
-/// The number of the next unmarked transaction that would have that mark as the first of its text.
-fn next_number(
-    alloc: Global,
-    counts: &mut HashMap<String, usize>,
-    first: &str,
-) -> Result<usize, Cause> {
-    let number = match counts.get(first) {
-        Some(number) => number.saturating_add(1),
+/// The number of the next unmarked transaction with that canonical text, which is counted.
+fn next_number(counts: &mut HashMap<Vec<u8>, usize>, text: Vec<u8>) -> Result<usize, Cause>
+    requires { count_of counts.old text + 1 < 2 ^ 64 }
+    ensures value { IfOk result (λ number. number ≡ count_of counts.old text + 1) }
+    ensures counted { OnOk result ((other : Bytes ℕ)
+        → count_of counts.new other ≡ counted_more text (count_of counts.old text) other (count_of counts.old other)) }
+    ensures memory { IsOkUnless result Cause.OutOfMemory }
+{
+    let number = match counts.get(text.as_slice()) {
+        Some(number) => *number + 1,
         None => 1,
     };
-    let first = String::from_str(alloc, first)?;
-    let _ = counts.insert(first, number)?;
+    let Ok(_old) = counts.insert(text, number) else {
+        return Err(Cause::OutOfMemory);
+    };
     Ok(number)
 }
 
-/// The mark of a transaction of a text, after those that were counted.
+/// The canonical text of a transaction, without its mark.
+fn text_of(alloc: Global, txn: &Txn, styles: &Styles) -> Result<Vec<u8>, Cause>
+    requires { IsPrintable styles.now txn.now }
+    ensures value { IfOk result (λ text. text.items ≡ body_text styles.now txn.now) }
+    ensures memory { IsOkUnless result Cause.OutOfMemory }
+{
+    let mut text = Vec::new(alloc);
+    body(alloc, txn, styles, &mut text)?;
+    Ok(text)
+}
+
+/// The mark of a transaction of a text, behind those that were counted; an unmarked one is counted too.
 fn mark_in_text(
     alloc: Global,
     styles: &Styles,
-    counts: &mut HashMap<String, usize>,
+    counts: &mut HashMap<Vec<u8>, usize>,
     txn: &Txn,
-) -> Result<Text, Cause> {
-    if !is_printable(txn, styles) {
-        return Err(Cause::Damaged);
-    }
-    let first = mark_of(alloc, txn, 1, styles)?;
-    if txn.mark.is_some() {
-        return Ok(first);
-    }
-    let number = next_number(alloc, counts, first.as_str())?;
-    if number == 1 {
-        return Ok(first);
-    }
-    mark_of(alloc, txn, number, styles)
-}
-
-/// The place of each record, by its mark.
-fn places_of(alloc: Global, records: &[Record]) -> Result<HashMap<String, Holder>, Cause> {
-    let mut places = HashMap::new(alloc);
-    for (place, record) in records.iter().enumerate() {
-        let mark = String::from_str(alloc, record.mark.as_str())?;
-        let _ = places.insert(mark, Holder::Record(place))?;
-    }
-    Ok(places)
-}
-
-/// Where that mark is held; a new one is held by the transaction at that place of the text from then on.
-fn holder_of(
-    alloc: Global,
-    places: &mut HashMap<String, Holder>,
-    mark: &str,
-    place: usize,
-) -> Result<Holder, Cause> {
-    match places.get(mark) {
-        Some(holder) => Ok(*holder),
+) -> Result<Text, Cause>
+    requires printable { IsPrintable styles.now txn.now }
+    requires few { (text : Bytes ℕ) → count_of counts.old text + 1 < 2 ^ 64 }
+    ensures value { (before : List Transaction) → AreCounted styles.now counts.old before
+        → IfOk result (λ mark. mark ≡ mark_of styles.now txn.now (number_in styles.now before txn.now) txn.now.mark) }
+    ensures counted { (before : List Transaction) → AreCounted styles.now counts.old before
+        → OnOk result (AreCounted styles.now counts.new (before ++ txn.now ∷ [])) }
+    ensures memory { IsOkUnless result Cause.OutOfMemory }
+{
+    match &txn.mark {
+        Some(mark) => mark.copy(),
         None => {
-            let mark = String::from_str(alloc, mark)?;
-            let _ = places.insert(mark, Holder::Earlier(place))?;
-            Ok(Holder::Nobody)
+            let text = text_of(alloc, txn, styles)?;
+            let number = next_number(counts, text)?;
+            mark_of(alloc, txn, number, styles)
         }
     }
 }
 
-/// The transactions of a text, in order, each with its mark and where a branch that has these records holds it.
-///
-/// Where the text has a fault, that is answered.
-pub fn standings(
+/// Puts a mark with that place into an index, where it is not there yet.
+fn put_place(
+    alloc: Global,
+    index: &mut HashMap<String, usize>,
+    mark: &str,
+    place: usize,
+) -> Result<(), Cause>
+    ensures put { OnOk result ((other : List ℕ)
+        → get_by_text index.new other
+        ≡ option_or (get_by_text index.old other) (cond (bytes_eq mark.now other) (Some place) None)) }
+    ensures memory { IsOkUnless result Cause.OutOfMemory }
+{
+    if index.contains_key(mark) {
+        return Ok(());
+    }
+    let Ok(key) = String::from_str(alloc, mark) else {
+        return Err(Cause::OutOfMemory);
+    };
+    let Ok(_old) = index.insert(key, place) else {
+        return Err(Cause::OutOfMemory);
+    };
+    Ok(())
+}
+
+/// The place of each mark among records.
+fn places_of(alloc: Global, records: &[Record]) -> Result<HashMap<String, usize>, Cause>
+    ensures value { IfOk result (λ places. IsIndexOf places records.now) }
+    ensures memory { IsOkUnless result Cause.OutOfMemory }
+{
+    let mut places = HashMap::new(alloc);
+    for (place, record) in records.iter().enumerate() {
+        match put_place(alloc, &mut places, record.mark.as_str(), place) {
+            Ok(()) => {}
+            Err(cause) => return Err(cause),
+        }
+    }
+    Ok(places)
+}
+
+/// Who holds a mark, by the places of the records and those of the earlier transactions of the text.
+fn holder_of(held: &HashMap<String, usize>, earlier: &HashMap<String, usize>, mark: &str) -> Holder
+    ensures { result ≡ holder_at (get_by_text held.now mark.now) (get_by_text earlier.now mark.now) }
+{
+    match (held.get(mark), earlier.get(mark)) {
+        (Some(place), _) => Holder::Record(*place),
+        (None, Some(place)) => Holder::Earlier(*place),
+        (None, None) => Holder::Nobody,
+    }
+}
+
+/// The transactions of a journal, each with its mark and where a branch that has these records holds it.
+fn stand(
     alloc: Global,
     styles: &Styles,
     records: &[Record],
-    text: &[u8],
-) -> Result<Vec<Standing>, Cause> {
-    let list = match read_journal(alloc, text, styles) {
-        Ok(list) => list,
-        Err(fault) => return Err(fault.cause),
-    };
+    list: Vec<Located>,
+) -> Result<Vec<Standing>, Cause>
+    requires { AllByRecursion (λ (x : Placed). IsPrintable styles.now x.txn) list.items }
+    ensures list { IfOk result (λ found. located_of found.items ≡ list.items) }
+    ensures each { IfOk result (λ found. AreStanding styles.now records.now [] found.items) }
+    ensures memory { IsOkUnless result Cause.OutOfMemory }
+{
+    let held = places_of(alloc, records)?;
     let mut counts = HashMap::new(alloc);
-    let mut places = places_of(alloc, records)?;
+    let mut earlier = HashMap::new(alloc);
     let mut found = Vec::new(alloc);
-    for (place, located) in list.into_iter().enumerate() {
+    for located in list {
         let mark = mark_in_text(alloc, styles, &mut counts, &located.txn)?;
-        let holder = holder_of(alloc, &mut places, mark.as_str(), place)?;
+        let holder = holder_of(&held, &earlier, mark.as_str());
+        put_place(alloc, &mut earlier, mark.as_str(), found.len())?;
         found.push(Standing {
             line: located.line,
             mark,
@@ -137,14 +203,32 @@ pub fn standings(
     Ok(found)
 }
 
+/// The transactions of a text, in order, each with its mark and where a branch that has these records holds it.
+///
+/// Where the text has a fault, that is answered.
+pub fn standings(
+    alloc: Global,
+    styles: &Styles,
+    records: &[Record],
+    text: &[u8],
+) -> Result<Vec<Standing>, Cause>
+    ensures list { IfOk result (λ found. Reads styles.now text.now (located_of found.items)) }
+    ensures each { IfOk result (λ found. AreStanding styles.now records.now [] found.items) }
+    ensures err { IfErr result (λ cause. (cause ≡ Cause.OutOfMemory)
+        ⊎ ((first : FirstFault) × IsFirstFault styles.now text.now first × (cause ≡ first.cause))) }
+{
+    match read_journal(alloc, text, styles) {
+        Ok(list) => stand(alloc, styles, records, list),
+        Err(fault) => Err(fault.cause),
+    }
+}
+
 /// Whether two transactions have the same canonical text, their marks aside.
 pub fn is_same_text(alloc: Global, styles: &Styles, txn: &Txn, other: &Txn) -> Result<bool, Cause> {
     if !is_printable(txn, styles) || !is_printable(other, styles) {
         return Ok(false);
     }
-    let mut text = Vec::new(alloc);
-    body(alloc, txn, styles, &mut text)?;
-    let mut second = Vec::new(alloc);
-    body(alloc, other, styles, &mut second)?;
+    let text = text_of(alloc, txn, styles)?;
+    let second = text_of(alloc, other, styles)?;
     Ok(text.as_slice() == second.as_slice())
 }
