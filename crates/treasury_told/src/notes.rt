@@ -191,7 +191,7 @@ fn note_import<L: Ledger>(
         has_odd_amount: has_odd_amount(state.styles(), import.text),
         again: find_again(alloc, state.styles(), import.held, import.new)?,
         candidates: find_candidates(alloc, import.held, import.new)?,
-        has_new_account: is_grown && has_new_account(alloc, import)?,
+        has_new_account: is_grown && has_new_account(alloc, import.held, import.new)?,
         dated: find_dated(import.new),
     };
     if noted.is_empty() {

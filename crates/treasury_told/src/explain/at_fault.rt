@@ -1,5 +1,8 @@
 //! Which transaction of a journal is refused by 24 to 28, and for what.
 
+ghost use Rattle.std.specs.Prelude.{◌≡◌};
+ghost use Rattle.treasury_core.specs.Mark.{is_product_mark};
+
 use crate::explain::pieces::{push_amount, push_header};
 use crate::explain::shown::{push_named, push_number, push_shown};
 use crate::explain::standing::{Holder, Standing, is_same_text, standings};
@@ -65,7 +68,9 @@ fn is_clash(
 }
 
 /// Whether only the treasury makes entries with that mark.
-pub fn is_own_mark(mark: &str) -> bool {
+pub fn is_own_mark(mark: &str) -> bool
+    ensures { result ≡ is_product_mark mark.now }
+{
     mark.starts_with("out:") || mark.starts_with("in:") || mark.starts_with("close:")
 }
 

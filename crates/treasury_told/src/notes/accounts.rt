@@ -1,5 +1,12 @@
 //! Accounts that a branch had in no entry before, or does not have: a name may be mistyped.
 
+ghost use Rattle.std.specs.Prelude.{◌≡◌, ◌&&◌, ◌||◌, ◌↔◌, true, not, ℕ, List, IfOk, OnOk, IsTrue, is_some};
+ghost use Rattle.std.specs.HashMap.{get_by_text};
+ghost use Rattle.std.specs.List.{list_any};
+ghost use Rattle.std.specs.Result.{IsOkUnless};
+ghost use Rattle.std.specs.Str.{bytes_eq};
+ghost use Rattle.treasury_told.specs.NewAccount.{posts_to, has_leg_on, is_new_account, has_imported};
+
 use crate::explain::at_fault::is_own_mark;
 use crate::explain::lines::{is_posting, posting_parts};
 use crate::explain::push_origin;
@@ -16,52 +23,127 @@ use treasury_core::Record;
 const MAX_LINE: usize = 2_000;
 
 /// Whether one of the records was imported, and not made by a transfer or a closing.
-fn has_imported(records: &[Record]) -> bool {
-    for record in records {
-        if !is_own_mark(record.mark.as_str()) {
-            return true;
+fn has_imported(records: &[Record]) -> bool
+    ensures { result ≡ has_imported records.now }
+{
+    records
+        .iter()
+        .any(|record| !is_own_mark(record.mark.as_str()))
+}
+
+/// Whether the record has a leg on the account.
+fn has_leg_on(row: &Record, account: &str) -> bool
+    ensures { result ≡ has_leg_on account.now row.now }
+{
+    row.entry
+        .legs
+        .items()
+        .iter()
+        .any(|leg| leg.account.as_str() == account)
+}
+
+/// Puts an account among accounts.
+fn put_account(
+    alloc: Global,
+    accounts: &mut HashMap<String, ()>,
+    account: &str,
+) -> Result<(), Cause>
+    ensures value { OnOk result ((other : List ℕ) → is_some (get_by_text accounts.new other)
+        ≡ (is_some (get_by_text accounts.old other) || bytes_eq account.now other)) }
+    ensures memory { IsOkUnless result Cause.OutOfMemory }
+{
+    if accounts.contains_key(account) {
+        return Ok(());
+    }
+    let Ok(key) = String::from_str(alloc, account) else {
+        return Err(Cause::OutOfMemory);
+    };
+    let Ok(_old) = accounts.insert(key, ()) else {
+        return Err(Cause::OutOfMemory);
+    };
+    Ok(())
+}
+
+/// Puts the accounts of a record's postings among accounts.
+fn put_posted(alloc: Global, accounts: &mut HashMap<String, ()>, row: &Record) -> Result<(), Cause>
+    ensures value { OnOk result ((other : List ℕ) → is_some (get_by_text accounts.new other)
+        ≡ (is_some (get_by_text accounts.old other) || posts_to other row.now)) }
+    ensures memory { IsOkUnless result Cause.OutOfMemory }
+{
+    for posting in row.txn.postings.items() {
+        match put_account(alloc, accounts, posting.account.as_str()) {
+            Ok(()) => {}
+            Err(cause) => return Err(cause),
         }
     }
-    false
+    Ok(())
 }
 
 /// The accounts of the new records' postings.
-fn accounts_of(alloc: Global, new: &[Record]) -> Result<HashMap<String, ()>, Cause> {
+fn accounts_of(alloc: Global, new: &[Record]) -> Result<HashMap<String, ()>, Cause>
+    ensures value { IfOk result (λ accounts. (account : List ℕ)
+        → is_some (get_by_text accounts account) ≡ list_any (posts_to account) new.now) }
+    ensures memory { IsOkUnless result Cause.OutOfMemory }
+{
     let mut accounts = HashMap::new(alloc);
     for record in new {
-        for posting in record.txn.postings.items() {
-            let name = posting.account.as_str();
-            if accounts.get(name).is_none() {
-                let name = String::from_str(alloc, name)?;
-                let _ = accounts.insert(name, ())?;
-            }
+        match put_posted(alloc, &mut accounts, record) {
+            Ok(()) => {}
+            Err(cause) => return Err(cause),
         }
     }
     Ok(accounts)
 }
 
-/// Those of the accounts that no held record has a leg on.
-fn without_held(accounts: &mut HashMap<String, ()>, held: &[Record]) {
+/// Takes the accounts of a record's legs out of accounts.
+fn take_posted(accounts: &mut HashMap<String, ()>, row: &Record)
+    ensures { (other : List ℕ) → is_some (get_by_text accounts.new other)
+        ≡ (is_some (get_by_text accounts.old other) && not (has_leg_on other row.now)) }
+{
+    for leg in row.entry.legs.items() {
+        let _ = accounts.remove(leg.account.as_str());
+    }
+}
+
+/// Takes those out of accounts that a held record has a leg on.
+fn take_held(accounts: &mut HashMap<String, ()>, held: &[Record])
+    ensures { (other : List ℕ) → is_some (get_by_text accounts.new other)
+        ≡ (is_some (get_by_text accounts.old other) && not (list_any (has_leg_on other) held.now)) }
+{
     for record in held {
-        for leg in record.entry.legs.items() {
-            let _ = accounts.remove(leg.account.as_str());
-        }
+        take_posted(accounts, record);
     }
 }
 
 /// The accounts of an import's new postings that no held record has a leg on.
-fn new_accounts(alloc: Global, import: &Import<'_>) -> Result<HashMap<String, ()>, Cause> {
-    let mut accounts = accounts_of(alloc, import.new)?;
-    without_held(&mut accounts, import.held);
-    Ok(accounts)
+pub fn new_accounts(
+    alloc: Global,
+    held: &[Record],
+    new: &[Record],
+) -> Result<HashMap<String, ()>, Cause>
+    ensures value { IfOk result (λ accounts. (account : List ℕ)
+        → is_some (get_by_text accounts account) ≡ is_new_account held.now new.now account) }
+    ensures memory { IsOkUnless result Cause.OutOfMemory }
+{
+    match accounts_of(alloc, new) {
+        Ok(mut accounts) => {
+            take_held(&mut accounts, held);
+            Ok(accounts)
+        }
+        Err(cause) => Err(cause),
+    }
 }
 
 /// Whether there is such an account; not in a branch's first import.
-pub fn has_new_account(alloc: Global, import: &Import<'_>) -> Result<bool, Cause> {
-    if !has_imported(import.held) {
+pub fn has_new_account(alloc: Global, held: &[Record], new: &[Record]) -> Result<bool, Cause>
+    ensures value { IfOk result (λ is. IsTrue is ↔ ((has_imported held.now ≡ true)
+        × ((account : List ℕ) × (is_new_account held.now new.now account ≡ true)))) }
+    ensures memory { IsOkUnless result Cause.OutOfMemory }
+{
+    if !has_imported(held) {
         return Ok(false);
     }
-    match new_accounts(alloc, import) {
+    match new_accounts(alloc, held, new) {
         Ok(accounts) => Ok(!accounts.is_empty()),
         Err(cause) => Err(cause),
     }
@@ -147,7 +229,7 @@ pub fn push_accounts(
     lines: &[usize],
     out: &mut Vec<u8>,
 ) -> Result<(), Cause> {
-    let mut accounts = new_accounts(alloc, import)?;
+    let mut accounts = new_accounts(alloc, import.held, import.new)?;
     let mut list = AccountLine {
         text: Vec::new(alloc),
         named: 0,
@@ -174,15 +256,10 @@ pub fn push_accounts(
 }
 
 /// Whether one of the records has a leg on the account.
-fn is_used(account: &str, held: &[Record]) -> bool {
-    for record in held {
-        for leg in record.entry.legs.items() {
-            if leg.account.as_str() == account {
-                return true;
-            }
-        }
-    }
-    false
+fn is_used(account: &str, held: &[Record]) -> bool
+    ensures { result ≡ list_any (has_leg_on account.now) held.now }
+{
+    held.iter().any(|record| has_leg_on(record, account))
 }
 
 /// Whether one of the records has a leg on the account or below it.
