@@ -202,7 +202,8 @@ serve_all {S = S} g old new (request ∷ requests) output (mid, answer, rest, (s
     let then = serve_all g mid new requests rest more clean first.0 first.1.0 in
     let from : (turns : List Turn)
     × AreServed g mid new (after_turn (standing old f) turn) requests rest then.0 turns =
-    subst (λ (s : Standing). (turns : List Turn) × AreServed g mid new s requests rest then.0 turns) a.left then.1.1 in (
+    subst (λ (s : Standing). (turns : List Turn) × AreServed g mid new s requests rest then.0 turns) a.left
+    then.1.1 in (
       then.0,
       (
         then.1.0,
@@ -217,8 +218,8 @@ serve_all {S = S} g old new (request ∷ requests) output (mid, answer, rest, (s
               left = from.1.run.left;
             };
             leaving = λ is_open unfailed.
-                leaving_first g old mid new (closed_along g mid new requests rest more) f first.0 turn from.0 a.left unfailed
-                (first.1.1.1 is_open unfailed) from.1.leaving;
+                leaving_first g old mid new (closed_along g mid new requests rest more) f first.0 turn from.0 a.left
+                unfailed (first.1.1.1 is_open unfailed) from.1.leaving;
           },
         ),
       ),

@@ -22,7 +22,8 @@ pub only_one_carriage_return : requests_in (codes "\r\r\n") ≡ codes "\r" ∷ [
 only_one_carriage_return = refl
 
 -- a request's keys come in any order
-pub branch_request : spelled (codes "{\"name\":\"north\",\"do\":\"branch\"}") ≡ Some (in_earnest (Branch (codes "north")))
+pub branch_request : spelled (codes "{\"name\":\"north\",\"do\":\"branch\"}")
+    ≡ Some (in_earnest (Branch (codes "north")))
 unfolding serde_json_on_literals spelled is_utf8 chars
 branch_request = refl
 

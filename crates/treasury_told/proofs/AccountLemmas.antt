@@ -1,6 +1,6 @@
 -- accounts that are taken one by one, and a map of accounts that is not empty
-use Rattle.std.proofs.Common.{◌≡◌, ◌<◌, ◌+◌, ℕ, Bool, true, false, cond, ◌&&◌, ◌||◌, List, [], ◌∷◌, length, take, get_or}
-use Rattle.std.proofs.Common.{refl, ap, ◌∙◌, sym, arith, Option, Some, None}
+use Rattle.std.proofs.Common.{◌≡◌, ◌<◌, ◌+◌, ℕ, Bool, true, false, cond, ◌&&◌, ◌||◌, List, [], ◌∷◌, length, take}
+use Rattle.std.proofs.Common.{refl, ap, ◌∙◌, sym, arith, Option, Some, None, get_or}
 use Rattle.std.specs.Prelude.{is_some, not, IsTrue, ◌↔◌}
 use Rattle.std.specs.List.{list_any}
 use Rattle.std.specs.Map.{lookup}
@@ -52,7 +52,8 @@ some_key [] h = absurd (omega arith)
 some_key (e ∷ es) h = (
   string_bytes e.0,
   ap (λ (t : Bool). is_some (cond t (Some e.1)
-      (lookup (λ (q : String Global). bytes_eq (string_bytes e.0) (string_bytes q)) es))) (self_bytes (string_bytes e.0)),
+      (lookup (λ (q : String Global). bytes_eq (string_bytes e.0) (string_bytes q)) es)))
+      (self_bytes (string_bytes e.0)),
 )
 
 any_key : (es : Entries) (k : List ℕ) → has_key es k ≡ true → 0 < length es

@@ -222,8 +222,8 @@ fn note_lock<L: Ledger>(
     push_open_year(alloc, state.styles(), branch, day, out)
 }
 
-/// Appends the notes of a closing that a branch with these records got: of the accounts that are listed, of its day, and
-/// of its target.
+/// Appends the notes of a closing that a branch with these records got: of the accounts that are listed, of its day,
+/// and of its target.
 fn note_close(
     alloc: Global,
     branch: &str,

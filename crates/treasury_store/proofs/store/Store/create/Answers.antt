@@ -13,10 +13,10 @@ returns-in-Ok-true-clause-made g c empty = record {
 
 pub returns-in-Err-clause-unchanged : goal.returns-in-Err-clause-unchanged
 returns-in-Err-clause-unchanged g c =
-    same_behind g.S.Store c.args.conn c.create_tables.new.conn c.cause_of-cause.new.conn c.cause_of-cause.ensures.nothing
-    c.in-Err.ensures.unchanged
+    same_behind g.S.Store c.args.conn c.create_tables.new.conn c.cause_of-cause.new.conn
+    c.cause_of-cause.ensures.nothing c.in-Err.ensures.unchanged
 
 pub returns-in-Err-clause-crash : goal.returns-in-Err-clause-crash
 returns-in-Err-clause-crash g c =
-    survives_behind g.S.Store c.args.conn c.create_tables.new.conn c.cause_of-cause.new.conn c.cause_of-cause.ensures.nothing _
-    c.create_tables.ensures.crash
+    survives_behind g.S.Store c.args.conn c.create_tables.new.conn c.cause_of-cause.new.conn
+    c.cause_of-cause.ensures.nothing _ c.create_tables.ensures.crash

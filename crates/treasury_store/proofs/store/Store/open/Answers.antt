@@ -42,12 +42,13 @@ returns-in-Err-clause-unchanged g c undamaged =
 
 pub returns-in-Err-clause-crash : goal.returns-in-Err-clause-crash
 returns-in-Err-clause-crash g c =
-    survives_behind g.S.Store c.args.conn c.open_tables.new.conn c.cause_of-cause.new.conn c.cause_of-cause.ensures.nothing _
-    c.open_tables.ensures.crash
+    survives_behind g.S.Store c.args.conn c.open_tables.new.conn c.cause_of-cause.new.conn
+    c.cause_of-cause.ensures.nothing _ c.open_tables.ensures.crash
 
 pub returns-in-Err-clause-left : goal.returns-in-Err-clause-left
 returns-in-Err-clause-left g c =
-    leaves_opened g.S.Store g.met.S.Store.settled c.args.conn c.cause_of-cause.new.conn (returns-in-Err-clause-crash g c)
+    leaves_opened g.S.Store g.met.S.Store.settled c.args.conn c.cause_of-cause.new.conn
+    (returns-in-Err-clause-crash g c)
 
 pub returns-in-Err-clause-left_first : goal.returns-in-Err-clause-left_first
 returns-in-Err-clause-left_first g c =
