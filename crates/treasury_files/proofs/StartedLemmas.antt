@@ -18,7 +18,7 @@ use Rattle.sqlite.specs.Files.{file_state, over_files}
 use Rattle.sqlite.specs.Closing.{IsCopied, HoldsAlone}
 use Rattle.treasury_core.specs.Federation.{Federation}
 use Rattle.treasury_core.specs.Good.{IsGoodState}
-use Rattle.treasury_core.specs.Rows.{rows, HasShortLocks}
+use Rattle.treasury_core.specs.Rows.{rows}
 use Rattle.treasury_store.specs.Rows.{Tables, Holds, HoldsEither}
 use Rattle.treasury_store.specs.Kept.{KeepsTables, StaysAsIs}
 use Rattle.treasury_store.specs.Tables.{no_schema, store_schema}
@@ -87,7 +87,7 @@ module _ {D : Type 0} (g : disk.Ghosts D) where
       → HoldsEither (file_state opened).now rows → TablesAre over_files s.conn rows)
       → doubt (file_state opened).is_clean ≤ doubt (file_state s.conn).is_clean
       → (HasCleanDisk (file_state s.conn) → IsTrue (file_state s.conn).is_open)
-      → (HasCleanDisk (file_state t.store.conn) → (f : Federation) → IsGoodState f → HasShortLocks f
+      → (HasCleanDisk (file_state t.store.conn) → (f : Federation) → IsGoodState f
       → TablesAre over_files s.conn (rows f) → IsTreasuryOf over_files t f)
       → t.store.failed ≡ false
       → KeepsTables over_files s.conn t.store.conn
@@ -99,7 +99,7 @@ module _ {D : Type 0} (g : disk.Ghosts D) where
     clean = λ k. no_more _ _ first (middle k);
     is_open = still_open;
     tables = tables;
-    of = λ k same f shows. treasury k f shows.good shows.short (upgraded same (rows f) shows.holds);
+    of = λ k same f shows. treasury k f shows.good (upgraded same (rows f) shows.holds);
     has = has;
     unfailed = unfailed;
   }
@@ -125,12 +125,10 @@ module _ {D : Type 0} (g : disk.Ghosts D) where
 
   -- what a file holds whose connection is closed, and shows the rows of a good state
   pub left_behind : (c : Held (FileStore D g)) (closed : Files D) (f : Federation) → IsLive (file_state c)
-      → IsCopied c closed → IsGoodState f → HasShortLocks f
-      → TablesAre over_files c (rows f) → LeavesState g closed f
-  left_behind c closed f live copied good short tables left image =
+      → IsCopied c closed → IsGoodState f → TablesAre over_files c (rows f) → LeavesState g closed f
+  left_behind c closed f live copied good tables left image =
       let held = tables copied.was_clean copied.was_open in record {
         good = good;
-        short = short;
         db = (file_state c).now;
         listed = (live copied.was_open).0;
         tables = held.0;

@@ -12,7 +12,7 @@ use Rattle.money_core.specs.declared.cause.Cause.TheVariants.{OutOfMemory, Damag
 use Rattle.treasury_core.specs.declared.rows.Parts.{Parts}
 use Rattle.treasury_core.specs.Federation.{Federation}
 use Rattle.treasury_core.specs.Good.{IsGoodState}
-use Rattle.treasury_core.specs.Rows.{rows, HasShortLocks}
+use Rattle.treasury_core.specs.Rows.{rows}
 use Rattle.treasury_core.proofs.RowsLawLemmas.{same_state}
 use Rattle.treasury_store.specs.declared.store.Store.{Store}
 use Rattle.treasury_store.specs.Tables.{store_schema}
@@ -64,10 +64,10 @@ module _ {S : Type 0} (g : Ghosts S) (old new : Held S)
 
       -- rows that are no state's are not this one's
       pub not_damaged : (e : Cause) → (e ≡ OutOfMemory)
-          ⊎ ((e ≡ Damaged) × ((x : Federation) → IsGoodState x → HasShortLocks x → rows x ≡ parts → ⊥)) → e ≡ Damaged
-          → HasShortLocks f → HasCleanDisk (state g new) → ⊥
-      not_damaged e (inl memory) is short clean = absurd cc
-      not_damaged e (inr none) is short clean = none.1 f good short (parts_are clean)
+          ⊎ ((e ≡ Damaged) × ((x : Federation) → IsGoodState x → rows x ≡ parts → ⊥)) → e ≡ Damaged
+          → HasCleanDisk (state g new) → ⊥
+      not_damaged e (inl memory) is clean = absurd cc
+      not_damaged e (inr none) is clean = none.1 f good (parts_are clean)
 
 -- whatever an error, this holds of it
 pub any_err : {X E : Type 0} (r : Result X E) (P : Type 0) → P → OnErr r P
@@ -117,13 +117,12 @@ module _ {S X : Type 0} (g : Ghosts S) (old new : Store S) (f : Federation) wher
 
       pub none_damaged : {Y : Type 0} (r : Result Y Cause) (e : Cause) → IsErrAnd r (λ y. y ≡ e)
           → (e ≡ OutOfMemory)
-          ⊎ ((e ≡ Damaged) × ((x : Federation) → IsGoodState x → HasShortLocks x → rows x ≡ parts → ⊥))
-          → r ≡ Err Damaged → HasShortLocks f → HasCleanDisk (state g new.conn) → ⊥
-      none_damaged r e is why damaged short clean =
+          ⊎ ((e ≡ Damaged) × ((x : Federation) → IsGoodState x → rows x ≡ parts → ⊥))
+          → r ≡ Err Damaged → HasCleanDisk (state g new.conn) → ⊥
+      none_damaged r e is why damaged clean =
           let p = err_from_is_err_and r is in
           let same_cause : p.0 ≡ Damaged = cause_is p.0 (sym p.1 ∙ damaged) in
-          not_damaged g old.conn new.conn cleaner q.opened same parts read f good are e why (sym p.2 ∙ same_cause) short
-          clean
+          not_damaged g old.conn new.conn cleaner q.opened same parts read f good are e why (sym p.2 ∙ same_cause) clean
         where
           cause_is : {Y : Type 0} (x : Cause) → ◌≡◌ {A = Result Y Cause} (Err x) (Err Damaged) → x ≡ Damaged
           cause_is x e = cc
@@ -132,9 +131,9 @@ module _ {S X : Type 0} (g : Ghosts S) (old new : Store S) (f : Federation) wher
 pub none_shown : {Y : Type 0} (db : Database) (parts : Parts)
     → ((t : Tables) → InOrder t → ShowsTables db t → parts ≡ t) → (r : Result Y Cause) (e : Cause)
     → IsErrAnd r (λ y. y ≡ e)
-    → (e ≡ OutOfMemory) ⊎ ((e ≡ Damaged) × ((x : Federation) → IsGoodState x → HasShortLocks x → rows x ≡ parts → ⊥))
-    → r ≡ Err Damaged → (f : Federation) → IsGoodState f → HasShortLocks f → ShowsTables db (rows f) → ⊥
-none_shown db parts read r e is why damaged f good short shows =
+    → (e ≡ OutOfMemory) ⊎ ((e ≡ Damaged) × ((x : Federation) → IsGoodState x → rows x ≡ parts → ⊥))
+    → r ≡ Err Damaged → (f : Federation) → IsGoodState f → ShowsTables db (rows f) → ⊥
+none_shown db parts read r e is why damaged f good shows =
     why_not e (sym p.2 ∙ cause_is p.0 (sym p.1 ∙ damaged)) why
   where
     p : (x : Cause) × (r ≡ Err x) × (x ≡ e)
@@ -145,6 +144,6 @@ none_shown db parts read r e is why damaged f good short shows =
 
     why_not : (e : Cause) → e ≡ Damaged
         → (e ≡ OutOfMemory)
-        ⊎ ((e ≡ Damaged) × ((x : Federation) → IsGoodState x → HasShortLocks x → rows x ≡ parts → ⊥)) → ⊥
+        ⊎ ((e ≡ Damaged) × ((x : Federation) → IsGoodState x → rows x ≡ parts → ⊥)) → ⊥
     why_not e is (inl memory) = absurd cc
-    why_not e is (inr none) = none.1 f good short (sym (read (rows f) (rows_in_order f good) shows))
+    why_not e is (inr none) = none.1 f good (sym (read (rows f) (rows_in_order f good) shows))
