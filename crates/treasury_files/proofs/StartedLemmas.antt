@@ -19,13 +19,12 @@ use Rattle.sqlite.specs.Closing.{IsCopied, HoldsAlone}
 use Rattle.treasury_core.specs.Federation.{Federation}
 use Rattle.treasury_core.specs.Good.{IsGoodState}
 use Rattle.treasury_core.specs.Rows.{rows}
-use Rattle.treasury_store.specs.Rows.{Tables, Holds, HoldsEither}
+use Rattle.treasury_store.specs.Rows.{Tables, Holds, HoldsEither, ShowsTables}
 use Rattle.treasury_store.specs.Kept.{KeepsTables, StaysAsIs}
 use Rattle.treasury_store.specs.Tables.{no_schema, store_schema}
 use Rattle.treasury_store.specs.Creating.{has_one, has_all, has_receipt}
 use Rattle.treasury_store.specs.Opening.{AreOurs, IsFirst, IsFirstNumbered, IsSecond}
 use Rattle.treasury_store.specs.Upgrading.{Upgrades}
-use Rattle.treasury_store.specs.Shown.{ShowsTables}
 use Rattle.treasury_store.specs.declared.store.Store.{Store}
 use Rattle.treasury_store.specs.Store.{TablesAre, IsOf, empty_state}
 use Rattle.treasury_store.specs.Treasury.{Treasury, IsTreasuryOf}
@@ -111,7 +110,7 @@ module _ {D : Type 0} (g : disk.Ghosts D) where
           → (rows : Tables) → HoldsEither (file_state opened).now rows → TablesAre over_files t.store.conn rows
       tables k same rows holds _ _ =
           let held = upgraded same rows holds (middle k) (is_open (middle k)) in
-          let stay = kept k held.0.schema held.1 in
+          let stay = kept k held.0.shows.schema held.1 in
           (subst (λ (d : Database). Holds d rows) (sym stay.0) held.0, stay.1 ∙ (held.1 ∙ sym stay.0))
 
   -- a treasury is started on files that were opened, or they keep what they held

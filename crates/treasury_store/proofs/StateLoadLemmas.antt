@@ -16,12 +16,10 @@ use Rattle.treasury_core.specs.Rows.{rows}
 use Rattle.treasury_core.proofs.RowsLawLemmas.{same_state}
 use Rattle.treasury_store.specs.declared.store.Store.{Store}
 use Rattle.treasury_store.specs.Tables.{store_schema}
-use Rattle.treasury_store.specs.Rows.{Tables, Holds}
-use Rattle.treasury_store.specs.Shown.{ShowsTables}
+use Rattle.treasury_store.specs.Rows.{Tables, Holds, ShowsTables}
 use Rattle.treasury_store.specs.Kept.{Queries}
 use Rattle.treasury_store.specs.Order.{InOrder}
 use Rattle.treasury_store.specs.Store.{TablesAre, Knows, IsOf}
-use Rattle.treasury_store.proofs.ShownLemmas.{holds_shows}
 use Rattle.treasury_store.proofs.OrderedLemmas.{rows_in_order}
 
 module _ {S : Type 0} (g : Ghosts S) (old new : Held S)
@@ -44,7 +42,7 @@ module _ {S : Type 0} (g : Ghosts S) (old new : Held S)
     pub read_tables_stay : (t : Tables) → TablesAre g old t → TablesAre g new t
     read_tables_stay t are =
         tables_stay t (λ clean is_open. (opened clean).0)
-        (λ clean is_open holds all. let kept = (same clean holds.schema).0 in (kept.now_is, kept.committed_is)) are
+        (λ clean is_open holds all. let kept = (same clean holds.shows.schema).0 in (kept.now_is, kept.committed_is)) are
 
     module _ (parts : Parts) (read : HasCleanDisk (state g new) → (t : Tables) → InOrder t
         → ShowsTables (state g old).now t → parts ≡ t) (f : Federation) (good : IsGoodState f)
@@ -52,7 +50,7 @@ module _ {S : Type 0} (g : Ghosts S) (old new : Held S)
       -- the rows that were read are the state's
       pub parts_are : HasCleanDisk (state g new) → rows f ≡ parts
       parts_are clean = sym (read clean (rows f) (rows_in_order f good)
-          (holds_shows (state g old).now (rows f) (are (cleaner clean) (opened clean).0).0))
+          (are (cleaner clean) (opened clean).0).0.shows)
 
       pub loaded_is : (s : Federation) → IsGoodState s → rows s ≡ parts → HasCleanDisk (state g new) → s ≡ f
       loaded_is s fine built clean = same_state s f fine good (built ∙ sym (parts_are clean))
@@ -81,7 +79,7 @@ module _ {S X : Type 0} (g : Ghosts S) (old new : Store S) (f : Federation) wher
   failed_of e q numbers of = record {
     good = of.good;
     tables = tables_stay g old.conn new.conn (λ clean. omega (arith, q.survives.clean, clean)) (rows f) q.was_open
-        (λ clean is holds all. q.undone clean is holds.schema all) of.tables;
+        (λ clean is holds all. q.undone clean is holds.shows.schema all) of.tables;
     numbers = numbers ∙ of.numbers;
   }
 

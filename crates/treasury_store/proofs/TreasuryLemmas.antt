@@ -188,7 +188,7 @@ module _ {S : Type 0} (g : Ghosts S) (old new : Treasury S) (c : Command) where
   -- a state that is loaded at most
   pub survives_load : KeepsTables g old.store.conn new.store.conn → SurvivesCommand g old new c
   survives_load left = survives_weaker (state g old.store.conn) (state g new.store.conn) _ _
-      (λ clean trees none f of fits h. absurd (none h.schema)) left
+      (λ clean trees none f of fits h. absurd (none h.shows.schema)) left
 
   -- a command that is settled on the state in memory, behind that
   pub survives_settle : (mid : Treasury S) (s : Federation)
@@ -201,7 +201,7 @@ module _ {S : Type 0} (g : Ghosts S) (old new : Treasury S) (c : Command) where
       → SurvivesChange g mid.store new.store.conn s (step s c).next → SurvivesCommand g old new c
   survives_settle mid s cleaner held of_mid rows_mid is settled =
       survives_then (state g old.store.conn) (state g mid.store.conn) (state g new.store.conn) _ _ _
-      (λ clean trees none f of fits h. absurd (none h.schema))
+      (λ clean trees none f of fits h. absurd (none h.shows.schema))
       (λ clean trees made f of fits h.
       let there = of_mid (cleaner clean) f of in
       let same : s ≡ f = subst (λ (o : Option Federation). IfSome o (λ x. x ≡ f)) is there.held in

@@ -1,6 +1,6 @@
 use Rattle.std.proofs.Common.{Some, refl, ap, sym, subst, arith}
 use Rattle.sqlite.specs.Held.{state}
-use Rattle.treasury_store.specs.Shown.{ShowsTables}
+use Rattle.treasury_store.specs.Rows.{ShowsTables}
 use Rattle.treasury_store.specs.Numbers.{Numbering}
 use Rattle.treasury_store.proofs.FailingLemmas.{survives_behind, queries_behind}
 use Rattle.treasury_store.proofs.LeftLemmas.{leaves_same}
