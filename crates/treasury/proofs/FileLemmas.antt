@@ -21,7 +21,7 @@ use Rattle.sqlite.specs.Start.{FindsIn}
 use Rattle.sqlite.specs.Files.{file_state, IsOpened, AreFoundIn}
 use Rattle.treasury_core.specs.Federation.{Federation}
 use Rattle.treasury_core.specs.Good.{IsGoodState}
-use Rattle.treasury_core.specs.Rows.{rows, HasShortLocks}
+use Rattle.treasury_core.specs.Rows.{rows}
 use Rattle.treasury_store.specs.Tables.{no_schema}
 use Rattle.treasury_api.specs.Step.{Standing}
 use Rattle.treasury.specs.Word.{AnswersWord, Told, AreTold}
@@ -38,7 +38,6 @@ pub still_holds : (left next : Image) (f : Federation) → IsLeft left next → 
 still_holds left next f (inl same) holds = subst (λ (image : Image). HoldsState image f) (sym same) holds
 still_holds left next f (inr alone) holds = subst (λ (image : Image). HoldsState image f) (sym alone) (record {
   good = holds.good;
-  short = holds.short;
   db = holds.db;
   listed = holds.listed;
   tables = holds.tables;
@@ -49,7 +48,6 @@ still_holds left next f (inr alone) holds = subst (λ (image : Image). HoldsStat
 pub holds_of : (image : Image) (f : Federation) → HoldsState image f → HoldsOf image f
 holds_of image f holds = record {
   good = holds.good;
-  short = holds.short;
   held = record { db = holds.db; listed = holds.listed; tables = inl holds.tables; both = holds.alone.both };
 }
 
@@ -90,7 +88,7 @@ module _ {D : Type 0} (g : disk.Ghosts D) where
   pub shows_of : (image : Image) (c : Held (FileStore D g)) (f : Federation) → HoldsOf image f
       → FindsIn image (file_state c) → IsOpened c → ShowsState g c f
   shows_of image c f holds finds opened =
-      record { good = holds.good; short = holds.short; holds = shows_rows g image c (rows f) holds.held finds opened }
+      record { good = holds.good; holds = shows_rows g image c (rows f) holds.held finds opened }
 
   -- what is found of files that were closed holds the state that they were left with
   pub found_closed : (start : Image) (left : Left D g) (next : Image) (f : Federation)
@@ -126,22 +124,22 @@ module _ {D : Type 0} (g : disk.Ghosts D) where
   LeadsTo f w mid = (ws : List Told) → (end : Federation) → AreToldBut mid ws end → AreToldBut f (w ∷ ws) end
 
   -- a word that is refused leaves what it found
-  left_alone : (w : Told) (next : Image) (f : Federation) → IsGoodState f → HasShortLocks f → IsFileRefused (said_to w)
+  left_alone : (w : Told) (next : Image) (f : Federation) → IsGoodState f → IsFileRefused (said_to w)
       → ∥ HoldsRows next (rows f) ∥₁ → ∥ ((mid : Federation) × LeadsTo f w mid × HoldsOf next mid) ∥₁
-  left_alone w next f good short refused held = ∥∥₁_map held (λ one.
+  left_alone w next f good refused held = ∥∥₁_map held (λ one.
       let r : (mid : Federation) × LeadsTo f w mid × HoldsOf next mid =
-      (f, λ ws end told. inr (refused, told), record { good = good; short = short; held = one }) in r)
+      (f, λ ws end told. inr (refused, told), record { good = good; held = one }) in r)
 
   -- one word, be it answered or refused
   keeps_one : (start : Image) (w : Told) (left : Left D g) (next : Image) (f : Federation) → HoldsOf start f
       → SaysOver g start w.request (said_to w) left → IsCleanIn g left → MayBe g start left next
       → ∥ ((mid : Federation) × LeadsTo f w mid × HoldsOf next mid) ∥₁
   keeps_one start w left next f holds (inl (inl memory, keeps)) clean may =
-      left_alone w next f holds.good holds.short (inl memory) (keeps.finds clean next may (rows f) holds.held)
+      left_alone w next f holds.good (inl memory) (keeps.finds clean next may (rows f) holds.held)
   keeps_one start w left next f holds (inl (inr damaged, keeps)) clean may =
-      left_alone w next f holds.good holds.short (inr (inr damaged)) (keeps.finds clean next may (rows f) holds.held)
+      left_alone w next f holds.good (inr (inr damaged)) (keeps.finds clean next may (rows f) holds.held)
   keeps_one start w left next f holds (inr (inl (store, done))) clean may =
-      left_alone w next f holds.good holds.short (inr (inl store)) (done.finds clean next may f holds)
+      left_alone w next f holds.good (inr (inl store)) (done.finds clean next may f holds)
   keeps_one start w left next f holds (inr (inr word)) clean may =
       let one =
       answered_on start w left next f holds word (subst (λ (l : Left D g). IsCleanIn g l) word.is_left clean) may in

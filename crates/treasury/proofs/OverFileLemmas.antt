@@ -101,7 +101,7 @@ module _ {D : Type 0} (g : disk.Ghosts D) where
             standing new r.0,
             subst (λ (failed : Bool). AnswersWord (record { now = f; failed = failed }) request text refused
                 (standing new r.0)) started.starts.unfailed r.1.1,
-            left_behind g new.store.conn closed r.0 closes.live (closes.copied k) r.1.0.store.good r.1.0.short
+            left_behind g new.store.conn closed r.0 closes.live (closes.copied k) r.1.0.store.good
                 r.1.0.store.tables,
           )
 
@@ -127,7 +127,6 @@ module _ {D : Type 0} (g : disk.Ghosts D) where
             let first = started.starts.clean before in
             let shows : ShowsState g started.opened f = record {
               good = holds.good;
-              short = holds.short;
               holds = shows_rows g image started.opened (rows f) holds.held (started.on.found first)
                   (started.on.serves first);
             } in

@@ -26,7 +26,7 @@ use Rattle.money_core.specs.declared.cause.Cause.TheVariants.{OutOfMemory, Store
 use Rattle.book_core.specs.declared.refusal.Refusal.TheVariants.{Plain}
 use Rattle.treasury_core.specs.Federation.{Federation}
 use Rattle.treasury_core.specs.Good.{IsGoodState}
-use Rattle.treasury_core.specs.Rows.{rows, HasShortLocks}
+use Rattle.treasury_core.specs.Rows.{rows}
 use Rattle.treasury_store.specs.Store.{TablesAre}
 use Rattle.treasury_store.specs.Treasury.{Treasury}
 use Rattle.treasury_api.specs.Answer.{answer_text}
@@ -166,22 +166,22 @@ module _ {D : Type 0} (g : disk.Ghosts D) where
             standing new r.0,
             subst (λ (failed : Bool). AreServed (record { now = f; failed = failed }) served.calls (standing new r.0))
                 started.starts.unfailed r.1.1,
-            left_behind g new.store.conn closed r.0 closes.live (closes.copied k) r.1.0.store.good r.1.0.short
+            left_behind g new.store.conn closed r.0 closes.live (closes.copied k) r.1.0.store.good
                 r.1.0.store.tables,
           )
 
   module _ (stays : SeenMayStay g) where
     -- what is left open of a connection that shows the rows of a good state holds that state
     open_behind : (c : Held (FileStore D g)) (it : FileStore D g) (f : Federation) → IsLeftAs c it → IsCleanStore g it
-        → HasCleanDisk (file_state c) → IsGoodState f → HasShortLocks f → TablesAre over_files c (rows f)
+        → HasCleanDisk (file_state c) → IsGoodState f → TablesAre over_files c (rows f)
         → IsTrue (view it).is_open → LeavesOpen g it f
-    open_behind c it f leaves clean last good short tables still next may =
+    open_behind c it f leaves clean last good tables still next may =
         let is_open = leaves.by.was_open clean.0 still in
         let held = tables last is_open in
         ∥∥₁_map (image_holds g stays it (rows f) (leaves.by.numbered clean.0) (leaves.by.sound clean.0) clean.1
         (λ trees came. stored_in g stays c (rows f) trees leaves.live is_open held.1 (inl held.0)
         (leaves.by.quiet.outcomes trees came)) next may)
-        (λ found. let r : HoldsOf next f = record { good = good; short = short; held = found } in r)
+        (λ found. let r : HoldsOf next f = record { good = good; held = found } in r)
 
     -- its treasury serves connections, and the file is left open
     pub serves_open : (image : Image) (old new : Treasury (FileStore D g)) (it : FileStore D g)
@@ -214,7 +214,7 @@ module _ {D : Type 0} (g : disk.Ghosts D) where
               standing new r.0,
               subst (λ (failed : Bool). AreServed (record { now = f; failed = failed }) served.calls (standing new r.0))
                   started.starts.unfailed r.1.1,
-              open_behind new.store.conn it r.0 leaves k last r.1.0.store.good r.1.0.short r.1.0.store.tables,
+              open_behind new.store.conn it r.0 leaves k last r.1.0.store.good r.1.0.store.tables,
             )
 
   -- a file that is left open was not closed, however serving ended

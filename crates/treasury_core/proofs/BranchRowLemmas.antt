@@ -1,7 +1,7 @@
 -- branches, read from their rows and those of their entries
 use Rattle.std.proofs.Common.{◌≡◌, ◌<◌, ◌≤◌, ◌+◌, ℕ, zero, suc, pos, List, [], ◌∷◌, ◌++◌, length, take, drop, get_or}
 use Rattle.std.proofs.Common.{refl, ap, ◌∙◌, sym, subst, arith, append_assoc, append-nil, inr, Option, Some, None, ℤ}
-use Rattle.std.proofs.Common.{FitsSigned, w64, to_z, of_z}
+use Rattle.std.proofs.Common.{FitsSigned, IfSome, w64, to_z, of_z}
 use Rattle.std.specs.List.{AllByRecursion}
 use Rattle.std.specs.Option.{option_map}
 use Rattle.std.proofs.lemmas.List.{drop_all, take_more}
@@ -14,9 +14,9 @@ use Rattle.treasury_core.specs.declared.record.Record.{Record}
 use Rattle.treasury_core.specs.declared.rows.BranchRow.{BranchRow}
 use Rattle.treasury_core.specs.declared.rows.EntryRow.{EntryRow}
 use Rattle.treasury_core.specs.Federation.{Branch}
-use Rattle.treasury_core.specs.Good.{IsGoodRecord}
-use Rattle.treasury_core.specs.Rows.{branch_row, branch_rows_from, entry_rows_from, entry_rows_in, HasShortLock}
-use Rattle.treasury_core.specs.Drafted.{IsFault}
+use Rattle.treasury_core.specs.Good.{IsGoodRecord, IsShort}
+use Rattle.treasury_core.specs.Rows.{branch_row, branch_rows_from, entry_rows_from, entry_rows_in}
+use Rattle.treasury_core.specs.Drafted.{IsFault, IsKeepable}
 use Rattle.treasury_core.proofs.ChangeLemmas.{all-append}
 use Rattle.treasury_core.proofs.DraftLemmas.{fault_of, heads, tails, less, all_middle}
 
@@ -85,7 +85,7 @@ drop_front (x ∷ xs) rest = drop_front xs rest
 
 -- a branch with its row and its entries
 abbrev pub HasRow : List Style → ℕ → BranchRow → List EntryRow → Branch → Type 0
-HasRow styles nr row own b = AllByRecursion (IsGoodRecord styles) b.records
+HasRow styles nr row own b = IsKeepable styles b
     × ((branch_row nr b ≡ row) × (entry_rows_from styles nr 1 b.records ≡ own))
 
 pub same_day : (c d : Day) → c.0 ≡ d.0 → c ≡ d
@@ -93,16 +93,16 @@ same_day c d e = ap (λ (z : ℤ). let x : Day = record { 0 = z } in x) e
 
 pub lock_only : (locked : Option ℤ) (value : ℤ) (day : Day) → locked ≡ Some value → FitsSigned w64 value
     → ((d : Day) → d.0 ≡ to_z w64 (of_z w64 value) → d ≡ day) → (o : Option Day)
-    → option_map (λ (d : Day). d.0) o ≡ locked → o ≡ Some day
-lock_only locked value day is fits only None e = let h : ◌≡◌ {A = Option ℤ} None (Some value) = e ∙ is in absurd cc
-lock_only locked value day is fits only (Some d) e =
-    let h : ◌≡◌ {A = Option ℤ} (Some d.0) (Some value) = e ∙ is in
+    → IfSome o IsShort × (option_map (λ (d : Day). d.0) o ≡ locked) → o ≡ Some day
+lock_only locked value day is fits only None p = let h : ◌≡◌ {A = Option ℤ} None (Some value) = p.1 ∙ is in absurd cc
+lock_only locked value day is fits only (Some d) p =
+    let h : ◌≡◌ {A = Option ℤ} (Some d.0) (Some value) = p.1 ∙ is in
     let k : d.0 ≡ value = cc in
     ap (λ (x : Day). let o : Option Day = Some x in o) (only d (k ∙ sym (to_z-of_z w64 value fits)))
 
 pub branch_only : (styles : List Style) (nr : ℕ) (row : BranchRow) (own : List EntryRow) (x : Branch)
     → x.name ≡ row.name
-    → ((b : Branch) → branch_row nr b ≡ row → b.locked ≡ x.locked)
+    → ((b : Branch) → IfSome b.locked IsShort → branch_row nr b ≡ row → b.locked ≡ x.locked)
     → ((rs : List Record) → AllByRecursion (IsGoodRecord styles) rs × (entry_rows_from styles nr 1 rs ≡ own)
     → rs ≡ x.records)
     → (b : Branch) → HasRow styles nr row own b → b ≡ x
@@ -110,17 +110,18 @@ branch_only styles nr row own x name lock records b p =
     ap (λ (y : List ℕ). let z : Branch = record { name = y; locked = b.locked; records = b.records } in z)
     (ap (λ (r : BranchRow). r.name) p.1.0 ∙ sym name)
     ∙ ap (λ (y : Option Day). let z : Branch = record { name = x.name; locked = y; records = b.records } in z)
-    (lock b p.1.0)
+    (lock b p.0.short p.1.0)
     ∙ ap (λ (y : List Record). let z : Branch = record { name = x.name; locked = x.locked; records = y } in z)
-    (records b.records (p.0, p.1.1))
+    (records b.records (p.0.records, p.1.1))
 
--- branches with their rows
+-- branches of good records
 abbrev pub AreGood : List Style → List Branch → Type 0
 AreGood styles bs = AllByRecursion (λ (b : Branch). AllByRecursion (IsGoodRecord styles) b.records) bs
 
+-- branches with their rows
 abbrev pub HaveRows : List Style → List BranchRow → List EntryRow → List Branch → Type 0
 HaveRows styles rows entries bs =
-    AreGood styles bs × ((branch_rows_from 0 bs ≡ rows) × (entry_rows_in styles 0 bs ≡ entries))
+    AllByRecursion (IsKeepable styles) bs × ((branch_rows_from 0 bs ≡ rows) × (entry_rows_in styles 0 bs ≡ entries))
 
 -- branches are those that were read, and a rest with the rows and entries that are left
 pub record BranchRest (styles : List Style) (n : ℕ) (done bs : List Branch) (rows : List BranchRow)
@@ -154,11 +155,11 @@ pub record BranchNext (styles : List Style) (n count : ℕ) (done bs : List Bran
   pub entered : entry_rows_in styles (n + 1) rest ≡ drop count left
 
 branch_at : (styles : List Style) (n count : ℕ) (done bs rest : List Branch) (row : BranchRow) (rows : List BranchRow)
-    (left : List EntryRow) → Counts count n left → AreGood styles bs → bs ≡ done ++ rest
+    (left : List EntryRow) → Counts count n left → AllByRecursion (IsKeepable styles) bs → bs ≡ done ++ rest
     → branch_rows_from n rest ≡ row ∷ rows → entry_rows_in styles n rest ≡ left
     → BranchNext styles n count done bs row rows left
-branch_at styles n count done bs [] row rows left counts good split named entered = absurd cc
-branch_at styles n count done bs (x ∷ rest) row rows left counts good split named entered =
+branch_at styles n count done bs [] row rows left counts kept split named entered = absurd cc
+branch_at styles n count done bs (x ∷ rest) row rows left counts kept split named entered =
     let own = entry_rows_from styles n 1 x.records in
     let others = entry_rows_in styles (n + 1) rest in
     let whole : left ≡ own ++ others = sym entered in
@@ -169,7 +170,7 @@ branch_at styles n count done bs (x ∷ rest) row rows left counts good split na
       rest = rest;
       split = split;
       here = (
-        all_middle (λ (b : Branch). AllByRecursion (IsGoodRecord styles) b.records) done bs rest x good split,
+        all_middle (IsKeepable styles) done bs rest x kept split,
         (
           heads (branch_row n x) row (branch_rows_from (n + 1) rest) rows named,
           sym (ap (λ (k : ℕ). take k left) size ∙ (ap (take (length own)) whole ∙ take_front own others)),
@@ -212,20 +213,13 @@ pub branch_fault : (styles : List Style) (rows : List BranchRow) (entries : List
     (done : List Branch) (row : BranchRow) (left : List EntryRow) (e : Cause) → i < length rows
     → row ≡ get_or rows i row → nr ≡ n
     → Counts count nr left → IsBranchFront styles rows entries n i done left
-    → IsFault (λ b. HasShortLock b × HasRow styles nr row (take count left) b) e
-    → IsFault (λ bs. AllByRecursion HasShortLock bs × HaveRows styles rows entries bs) e
+    → IsFault (HasRow styles nr row (take count left)) e → IsFault (HaveRows styles rows entries) e
 branch_fault styles rows entries n i nr count done row left e h is at counts front fault =
-    fault_of (λ bs. AllByRecursion HasShortLock bs × HaveRows styles rows entries bs)
-    (λ b. HasShortLock b × HasRow styles nr row (take count left) b) e
+    fault_of (HaveRows styles rows entries) (HasRow styles nr row (take count left)) e
     (λ bs p.
     let nx = branch_item styles rows entries n i count done row left h is
-    (subst (λ (k : ℕ). Counts count k left) at counts) front bs p.1 in (
-      nx.item,
-      (
-        all_middle HasShortLock done bs nx.rest nx.item p.0 nx.split,
-        subst (λ (k : ℕ). HasRow styles k row (take count left) nx.item) (sym at) nx.here,
-      ),
-    ))
+    (subst (λ (k : ℕ). Counts count k left) at counts) front bs p in
+    (nx.item, subst (λ (k : ℕ). HasRow styles k row (take count left) nx.item) (sym at) nx.here))
     fault
 
 no_branches : (n : ℕ) (rest : List Branch) → branch_rows_from n rest ≡ [] → rest ≡ []
@@ -242,6 +236,6 @@ branch_end styles rows entries n i done left h front bs p =
 
 pub rest_damaged : (styles : List Style) (rows : List BranchRow) (entries : List EntryRow) (n i : ℕ)
     (done : List Branch) (left : List EntryRow) → length rows ≤ i → IsBranchFront styles rows entries n i done left
-    → (left ≡ [] → ⊥) → IsFault (λ bs. AllByRecursion HasShortLock bs × HaveRows styles rows entries bs) Damaged
+    → (left ≡ [] → ⊥) → IsFault (HaveRows styles rows entries) Damaged
 rest_damaged styles rows entries n i done left h front some =
-    inr (refl, λ bs p. some (branch_end styles rows entries n i done left h front bs p.1).1)
+    inr (refl, λ bs p. some (branch_end styles rows entries n i done left h front bs p).1)

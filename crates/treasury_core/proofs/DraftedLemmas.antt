@@ -14,8 +14,8 @@ use Rattle.treasury_core.specs.declared.rows.Parts.{Parts}
 use Rattle.treasury_core.specs.declared.transfer.Transfer.{Transfer}
 use Rattle.treasury_core.specs.Federation.{Branch, Federation}
 use Rattle.treasury_core.specs.Good.{IsGoodRecord, IsGoodBranch, IsGoodState}
-use Rattle.treasury_core.specs.Rows.{unit_rows, rows, HasShortLock, HasShortLocks}
-use Rattle.treasury_core.specs.Drafted.{IsFault}
+use Rattle.treasury_core.specs.Rows.{unit_rows, rows}
+use Rattle.treasury_core.specs.Drafted.{IsFault, IsKeepable}
 use Rattle.treasury_core.proofs.ChangeLemmas.{all_weaker}
 use Rattle.treasury_core.proofs.BranchRowLemmas.{AreGood, HaveRows}
 use Rattle.treasury_core.proofs.TransferRowLemmas.{all_named}
@@ -35,6 +35,10 @@ pub good_records : (f : Federation) → IsGoodState f → AreGood f.styles f.bra
 good_records f good = all_weaker (IsGoodBranch f.styles)
     (λ (b : Branch). AllByRecursion (IsGoodRecord f.styles) b.records) f.branches (λ b h. h.records) good.branches
 
+keepable : (f : Federation) → IsGoodState f → AllByRecursion (IsKeepable f.styles) f.branches
+keepable f good = all_weaker (IsGoodBranch f.styles) (IsKeepable f.styles) f.branches
+    (λ b h. record { short = h.short; records = h.records }) good.branches
+
 pub state_styles : (parts : Parts) (f : Federation) → IsGoodState f → rows f ≡ parts
     → AreStyles f.styles × (unit_rows f.styles ≡ parts.units)
 state_styles parts f good e = (good.styles, ap (λ (p : Parts). p.units) e)
@@ -43,7 +47,7 @@ pub state_branches : (parts : Parts) (styles : List Style) (f : Federation) → 
     → f.styles ≡ styles → HaveRows styles parts.branches parts.entries f.branches
 state_branches parts styles f good e s =
     subst (λ (ss : List Style). HaveRows ss parts.branches parts.entries f.branches) s
-    (good_records f good, (ap (λ (p : Parts). p.branches) e, ap (λ (p : Parts). p.entries) e))
+    (keepable f good, (ap (λ (p : Parts). p.branches) e, ap (λ (p : Parts). p.entries) e))
 
 pub state_transfers : (parts : Parts) (bs : List Branch) (f : Federation) → IsGoodState f → rows f ≡ parts
     → f.branches ≡ bs → AreSent bs parts.transfers parts.receipts f.transfers
@@ -67,13 +71,13 @@ drafted_only parts styles bs ts s b t f good e =
 -- a fault of a part is one of the whole
 abbrev pub IsDamage : Parts → Cause → Type 0
 IsDamage parts e =
-    (e ≡ OutOfMemory) ⊎ ((e ≡ Damaged) × ((f : Federation) → IsGoodState f → HasShortLocks f → rows f ≡ parts → ⊥))
+    (e ≡ OutOfMemory) ⊎ ((e ≡ Damaged) × ((f : Federation) → IsGoodState f → rows f ≡ parts → ⊥))
 
 pub damage_of : {Y : Type 0} (parts : Parts) (Q : Y → Type 0) (e : Cause)
-    → ((f : Federation) → IsGoodState f → HasShortLocks f → rows f ≡ parts → (y : Y) × Q y) → IsFault Q e
+    → ((f : Federation) → IsGoodState f → rows f ≡ parts → (y : Y) × Q y) → IsFault Q e
     → IsDamage parts e
 damage_of parts Q e k (inl h) = inl h
-damage_of parts Q e k (inr h) = inr (h.0, λ f good short same. let y = k f good short same in h.1 y.0 y.1)
+damage_of parts Q e k (inr h) = inr (h.0, λ f good same. let y = k f good same in h.1 y.0 y.1)
 
 -- the lists of rows, as they are passed on
 pub only_styles : (parts : Parts) (us : List UnitRow) (styles : List Style) → us ≡ parts.units
@@ -95,16 +99,16 @@ pub styles_damage : (parts : Parts) (us : List UnitRow) (e : Cause) → us ≡ p
     → IsFault (λ (ss : List Style). AreStyles ss × (unit_rows ss ≡ us)) e → IsDamage parts e
 styles_damage parts us e a fault =
     damage_of parts (λ (ss : List Style). AreStyles ss × (unit_rows ss ≡ us)) e
-    (λ f good short h. let p = state_styles parts f good h in (f.styles, (p.0, p.1 ∙ sym a))) fault
+    (λ f good h. let p = state_styles parts f good h in (f.styles, (p.0, p.1 ∙ sym a))) fault
 
 pub branches_damage : (parts : Parts) (rs : List BranchRow) (es : List EntryRow) (styles : List Style) (e : Cause)
     → rs ≡ parts.branches → es ≡ parts.entries → OnlyStyles parts styles
-    → IsFault (λ (bs : List Branch). AllByRecursion HasShortLock bs × HaveRows styles rs es bs) e → IsDamage parts e
+    → IsFault (HaveRows styles rs es) e → IsDamage parts e
 branches_damage parts rs es styles e a b s fault =
-    damage_of parts (λ (bs : List Branch). AllByRecursion HasShortLock bs × HaveRows styles rs es bs) e
-    (λ f good short h.
+    damage_of parts (HaveRows styles rs es) e
+    (λ f good h.
     let p = state_branches parts styles f good h (s f.styles (state_styles parts f good h)) in
-    (f.branches, (short, (p.0, (p.1.0 ∙ sym a, p.1.1 ∙ sym b)))))
+    (f.branches, (p.0, (p.1.0 ∙ sym a, p.1.1 ∙ sym b))))
     fault
 
 pub transfers_damage : (parts : Parts) (rs : List TransferRow) (ps : List PartRow) (ys bs : List Branch)
@@ -113,7 +117,7 @@ pub transfers_damage : (parts : Parts) (rs : List TransferRow) (ps : List PartRo
     → IsFault (AreSent ys rs ps) e → IsDamage parts e
 transfers_damage parts rs ps ys bs styles e a b c s t fault =
     damage_of parts (AreSent ys rs ps) e
-    (λ f good short h.
+    (λ f good h.
     let there = t f.branches (state_branches parts styles f good h (s f.styles (state_styles parts f good h))) in
     let p = state_transfers parts bs f good h there in (
       f.transfers,

@@ -1,7 +1,9 @@
 -- what is added leaves a good state good
 use Rattle.std.proofs.Common.{◌≡◌, ◌<◌, ℕ, Bool, true, false, ◌||◌, cond, List, [], ◌∷◌, ◌++◌, length, refl, ap, ◌∙◌}
-use Rattle.std.proofs.Common.{sym, subst, arith, append-nil, length-append, Option, Some, None, Ok}
+use Rattle.std.proofs.Common.{sym, subst, arith, append-nil, length-append, Option, Some, None, Ok, ℤ, pos, neg_ℤ}
+use Rattle.std.proofs.Common.{◌≤ℤ◌, FitsSigned}
 use Rattle.std.specs.Prelude.{filter}
+use Rattle.std.specs.Int.{w32}
 use Rattle.std.specs.List.{list_any, AllByRecursion}
 use Rattle.std.specs.Str.{bytes_eq}
 use Rattle.std.proofs.lemmas.List.Elements.{filter-append}
@@ -16,6 +18,7 @@ use Rattle.money_core.proofs.GrowthLemmas.{styles_grow}
 use Rattle.book_core.specs.GoodBook.{IsFit, IsGoodBook, verdict}
 use Rattle.book_core.proofs.GoodBookLemmas.{good_verdict, fit-append, good_nil}
 use Rattle.journal_lines.specs.Date.{IsDayNumber}
+use Rattle.journal_lines.proofs.DateLemmas.{day_number_bounds}
 use Rattle.journal_format.proofs.MoreStylesLemmas.{printable_stays}
 use Rattle.journal_balance.proofs.EntryLemmas.{entry_fit, entry_day}
 use Rattle.journal_balance.proofs.GrowthLemmas.{legs_of-append}
@@ -29,7 +32,7 @@ use Rattle.treasury_core.specs.Joined.{new_branch, with_records, with_lock, chan
 use Rattle.treasury_core.specs.Joined.{with_entered, with_locked}
 use Rattle.treasury_core.specs.Step.{is_locked, goes_back}
 use Rattle.treasury_core.specs.Good.{IsGoodRecord, IsOffTransit, IsWithinLock, IsGoodBranch, IsGoodTransfer, IsCarried}
-use Rattle.treasury_core.specs.Good.{HaveOwnNames, IsGoodState}
+use Rattle.treasury_core.specs.Good.{HaveOwnNames, IsGoodState, IsShort}
 use Rattle.treasury_core.specs.History.{IsNew}
 use Rattle.treasury_core.proofs.BytesLemmas.{same_bytes, other_bytes, neither, or_false}
 use Rattle.treasury_core.proofs.HistoryLemmas.{entries-append}
@@ -75,6 +78,17 @@ asked_none bs [] name e h = refl
 asked_none bs (t ∷ ts) name e h =
     rw (not_known bs t.source name e h.0.source, not_known bs t.target name e h.0.target) (asked_none bs ts name e h.1)
 
+new_good : (styles : List Style) (name : List ℕ) → is_branch_name name ≡ true → IsGoodBranch styles (new_branch name)
+new_good styles name named = record {
+  named = named;
+  short = tt;
+  marks = tt;
+  records = tt;
+  off_transit = tt;
+  closings = tt;
+  book = good_nil;
+}
+
 pub good_branch : (f : Federation) (name : List ℕ) → IsGoodState f → is_branch_name name ≡ true
     → has_branch f name ≡ false → length f.branches < 32 → IsGoodState (with_branch f name)
 good_branch f name good named free room = record {
@@ -82,7 +96,7 @@ good_branch f name good named free room = record {
   few = omega (arith, room, length-append f.branches (new_branch name ∷ []));
   names = names_push f.branches name free good.names;
   branches = all-append (IsGoodBranch f.styles) f.branches (new_branch name ∷ []) good.branches
-      (record { named = named; marks = tt; records = tt; off_transit = tt; closings = tt; book = good_nil }, tt);
+      (new_good f.styles name named, tt);
   ids = good.ids;
   transfers = all_weaker (IsGoodTransfer f.branches) (IsGoodTransfer (f.branches ++ new_branch name ∷ [])) f.transfers
       (λ t h. other_branches f.branches _ t (known_after f.branches name) h) good.transfers;
@@ -103,6 +117,7 @@ record_grows styles more r h = record {
 branch_grows : (styles more : List Style) (b : Branch) → IsGoodBranch styles b → IsGoodBranch (styles ++ more) b
 branch_grows styles more b h = record {
   named = h.named;
+  short = h.short;
   marks = h.marks;
   records = all_weaker (IsGoodRecord styles) (IsGoodRecord (styles ++ more)) b.records
       (λ r k. record_grows styles more r k) h.records;
@@ -149,6 +164,7 @@ pub branch_entered : (styles : List Style) (rs : List Record) (b : Branch) → I
     → verdict (entries b.records ++ entries rs) ≡ None → IsGoodBranch styles (with_records rs b)
 branch_entered styles rs b good marks new clear closed passes = record {
   named = good.named;
+  short = good.short;
   marks = marks;
   records = all-append (IsGoodRecord styles) b.records rs good.records new;
   off_transit = all-append IsOffTransit b.records rs good.off_transit clear;
@@ -164,10 +180,18 @@ pub later_lock : (lock : Option Day) (day d : Day) → goes_back lock day ≡ fa
 later_lock None day d g h = absurd cc
 later_lock (Some lock) day d g h = grind (arith, ints)
 
-branch_locked : (styles : List Style) (day : Day) (b : Branch) → goes_back b.locked day ≡ false → IsGoodBranch styles b
-    → IsGoodBranch styles (with_lock day b)
-branch_locked styles day b forward h = record {
+-- a day of the years 1 to 9999 is in 32 bits
+short_bounds : (z : ℤ) → neg_ℤ (pos 719_162) ≤ℤ z → z ≤ℤ pos 2_932_896 → FitsSigned w32 z
+short_bounds z low high = omega (arith, ints)
+
+pub short_day : (d : Day) → IsDayNumber d → IsShort d
+short_day d h = let bounds = day_number_bounds d h in short_bounds d.0 bounds.0 bounds.1
+
+branch_locked : (styles : List Style) (day : Day) (b : Branch) → IsDayNumber day → goes_back b.locked day ≡ false
+    → IsGoodBranch styles b → IsGoodBranch styles (with_lock day b)
+branch_locked styles day b number forward h = record {
   named = h.named;
+  short = short_day day number;
   marks = h.marks;
   records = h.records;
   off_transit = h.off_transit;
@@ -250,15 +274,15 @@ good_entered f name rs good marks new own passes = record {
 }
 
 -- a lock that does not go back
-pub good_locked : (f : Federation) (name : List ℕ) (day : Day) → IsGoodState f → goes_back (lock_of f name) day ≡ false
-    → IsGoodState (with_locked f name day)
-good_locked f name day good forward = record {
+pub good_locked : (f : Federation) (name : List ℕ) (day : Day) → IsGoodState f → IsDayNumber day
+    → goes_back (lock_of f name) day ≡ false → IsGoodState (with_locked f name day)
+good_locked f name day good number forward = record {
   styles = good.styles;
   few = omega (arith, good.few, length-changed (with_lock day) name f.branches);
   names = names-changed (with_lock day) name f.branches (λ b. refl) good.names;
   branches = all-changed (IsGoodBranch f.styles) (IsGoodBranch f.styles) (with_lock day) name f.branches good.names
-      (λ b n e l h. branch_locked f.styles day b (ap (λ (o : Option Day). goes_back o day) l ∙ forward) h) (λ b n h. h)
-      good.branches;
+      (λ b n e l h. branch_locked f.styles day b number (ap (λ (o : Option Day). goes_back o day) l ∙ forward) h)
+      (λ b n h. h) good.branches;
   ids = good.ids;
   transfers = transfers-changed (with_lock day) name f.branches f.transfers (λ b. refl) good.transfers;
   carried = all-changed (IsCarried f.transfers) (IsCarried f.transfers) (with_lock day) name f.branches good.names
@@ -269,26 +293,27 @@ good_locked f name day good forward = record {
 abbrev closing_change : List Record → Day → Branch → Branch
 closing_change rs day b = with_lock day (with_records rs b)
 
-branch_closed : (styles : List Style) (rs : List Record) (day : Day) (b : Branch) → goes_back b.locked day ≡ false
+branch_closed : (styles : List Style) (rs : List Record) (day : Day) (b : Branch) → IsDayNumber day
+    → goes_back b.locked day ≡ false
     → IsGoodBranch styles b → HaveOwnMarks (b.records ++ rs) → AllByRecursion (IsGoodRecord styles) rs
     → AllByRecursion (IsOwnEntry (Some day)) rs → verdict (entries b.records ++ entries rs) ≡ None
     → IsGoodBranch styles (closing_change rs day b)
-branch_closed styles rs day b forward h marks new own passes =
-    branch_entered styles rs (with_lock day b) (branch_locked styles day b forward h) marks new
+branch_closed styles rs day b number forward h marks new own passes =
+    branch_entered styles rs (with_lock day b) (branch_locked styles day b number forward h) marks new
     (all_clear (Some day) rs own) (all_within (Some day) (Some day) rs refl own) passes
 
-closed_at_once : (f : Federation) (name : List ℕ) (day : Day) (rs : List Record) → IsGoodState f
+closed_at_once : (f : Federation) (name : List ℕ) (day : Day) (rs : List Record) → IsGoodState f → IsDayNumber day
     → goes_back (lock_of f name) day ≡ false → HaveOwnMarks (records_of f name ++ rs)
     → AllByRecursion (IsGoodRecord f.styles) rs
     → AllByRecursion (IsOwnEntry (Some day)) rs → verdict (book_of f name ++ entries rs) ≡ None
     → IsGoodState (let g : Federation = record f { branches = changed (closing_change rs day) name f.branches } in g)
-closed_at_once f name day rs good forward marks new own passes = record {
+closed_at_once f name day rs good number forward marks new own passes = record {
   styles = good.styles;
   few = omega (arith, good.few, length-changed (closing_change rs day) name f.branches);
   names = names-changed (closing_change rs day) name f.branches (λ b. refl) good.names;
   branches =
       all-changed (IsGoodBranch f.styles) (IsGoodBranch f.styles) (closing_change rs day) name f.branches good.names
-      (λ b n e l h. branch_closed f.styles rs day b (ap (λ (o : Option Day). goes_back o day) l ∙ forward) h
+      (λ b n e l h. branch_closed f.styles rs day b number (ap (λ (o : Option Day). goes_back o day) l ∙ forward) h
       (rw e marks) new own (rw e passes)) (λ b n h. h) good.branches;
   ids = good.ids;
   transfers = transfers-changed (closing_change rs day) name f.branches f.transfers (λ b. refl) good.transfers;
@@ -296,12 +321,12 @@ closed_at_once f name day rs good forward marks new own passes = record {
       good.names (λ b n e l h. carried_entered f.transfers (Some day) rs b own h) (λ b n h. h) good.carried;
 }
 
-pub good_closed : (f : Federation) (name : List ℕ) (day : Day) (rs : List Record) → IsGoodState f
+pub good_closed : (f : Federation) (name : List ℕ) (day : Day) (rs : List Record) → IsGoodState f → IsDayNumber day
     → goes_back (lock_of f name) day ≡ false → HaveOwnMarks (records_of f name ++ rs)
     → AllByRecursion (IsGoodRecord f.styles) rs
     → AllByRecursion (IsOwnEntry (Some day)) rs → verdict (book_of f name ++ entries rs) ≡ None
     → IsGoodState (with_locked (with_entered f name rs) name day)
-good_closed f name day rs good forward marks new own passes =
+good_closed f name day rs good number forward marks new own passes =
     subst (λ (bs : List Branch). IsGoodState (let g : Federation = record f { branches = bs } in g))
     (sym (changed-twice (with_records rs) (with_lock day) name f.branches (λ b. refl)))
-    (closed_at_once f name day rs good forward marks new own passes)
+    (closed_at_once f name day rs good number forward marks new own passes)

@@ -23,6 +23,7 @@ use Rattle.book_core.specs.declared.refusal.Refusal.{Refusal}
 use Rattle.book_core.specs.declared.refusal.Refusal.TheVariants.{Plain}
 use Rattle.book_core.specs.GoodBook.{verdict}
 use Rattle.journal_lines.specs.AccountName.{is_account}
+use Rattle.journal_lines.specs.Date.{IsDayNumber}
 use Rattle.std.specs.Str.{is_utf8}
 use Rattle.std.proofs.lemmas.Bool.{and_parts}
 use Rattle.journal_format.specs.declared.txn.Txn.{Txn}
@@ -132,10 +133,10 @@ lock_forward f name day a d h =
     let other = not_repeated (is_lock (lock_of f name) day) _ a d there.1 in
     (passes (goes_back (lock_of f name) day) _ _ a other.1).0
 
-done_lock : (f : Federation) (name : List ℕ) (day : Day) (a : Answer) → IsDone a → IsGoodState f
+done_lock : (f : Federation) (name : List ℕ) (day : Day) (a : Answer) → IsDone a → IsGoodState f → IsDayNumber day
     → reply f (cmd.Lock name day) ≡ Ok a → IsGoodState (done f (cmd.Lock name day))
 unfolding done
-done_lock f name day a is good h = good_locked f name day good (lock_forward f name day a is h)
+done_lock f name day a is good number h = good_locked f name day good number (lock_forward f name day a is h)
 
 -- the branch of a name has no mark twice
 pub own_marks_of : (f : Federation) (name : List ℕ) → IsGoodState f → HaveOwnMarks (records_of f name)
@@ -542,7 +543,7 @@ done_close f x a is good fits h =
     let marks = own_push (records_of f x.branch) r (own_marks_of f x.branch good) s.fresh in
     subst (λ (o : Option Txn). IsGoodState
     (with_locked (with_entered f x.branch (closing_records x.day o)) x.branch x.day)) (sym s.closes)
-    (good_closed f x.branch x.day (r ∷ []) good (unlocked_forward (lock_of f x.branch) x.day s.unlocked) marks
+    (good_closed f x.branch x.day (r ∷ []) good fits (unlocked_forward (lock_of f x.branch) x.day s.unlocked) marks
     (closing_record_good f x.branch x.day x.choice s.txn good fits s.chosen s.closes s.few, tt)
     (closing_record_own f x.branch x.day x.choice s.txn s.chosen s.closes, tt) s.passes)
 
@@ -554,7 +555,7 @@ done_good f (cmd.Commodity style) a is good fits h = done_commodity f style a is
 done_good f (cmd.Enter name file) a is good fits h = done_enter f name file a good fits h
 done_good f (cmd.Dispatch d) a is good fits h = done_dispatch f d a is good fits h
 done_good f (cmd.Receive r) a is good fits h = done_receive f r a is good fits h
-done_good f (cmd.Lock name day) a is good fits h = done_lock f name day a is good h
+done_good f (cmd.Lock name day) a is good fits h = done_lock f name day a is good fits h
 done_good f (cmd.Close x) a is good fits h = done_close f x a is good fits h
 
 abbrev no_memory : Result Answer Refusal

@@ -1,21 +1,17 @@
 -- transfers, read from their rows
-use Rattle.std.proofs.Common.{◌≡◌, ◌<◌, ◌≤◌, ◌+◌, ◌^◌, ℕ, suc, ℤ, pos, Bool, true, false, ◌||◌, cond, List, [], ◌∷◌}
+use Rattle.std.proofs.Common.{◌≡◌, ◌<◌, ◌≤◌, ◌+◌, ◌^◌, ℕ, suc, ℤ, Bool, true, false, ◌||◌, cond, List, [], ◌∷◌}
 use Rattle.std.proofs.Common.{◌++◌, length, get_or, refl, ap, ◌∙◌, sym, subst, arith, map, inl, inr, ltb, Option, Some}
-use Rattle.std.proofs.Common.{None, Ok, Err, neg_ℤ, ◌≤ℤ◌, FitsSigned, w32}
+use Rattle.std.proofs.Common.{None, Ok, Err}
 use Rattle.std.specs.Prelude.{if◌then◌else◌, find, Result, IfOk, IfSome}
 use Rattle.std.specs.Result.{IsOkUnless}
 use Rattle.std.specs.List.{list_any, slice_get, AllByRecursion}
 use Rattle.std.specs.Str.{bytes_eq}
 use Rattle.std.proofs.lemmas.Bool.{and_parts, ltb-true, lt-ltb}
-use Rattle.std.proofs.lemmas.Int.{ints}
 use Rattle.std.proofs.lemmas.Option.{slice_get_within, slice_get_read}
 use Rattle.money_core.specs.declared.cause.Cause.{Cause}
 use Rattle.money_core.specs.declared.cause.Cause.TheVariants.{OutOfMemory, Damaged}
-use Rattle.money_core.specs.declared.day.Day.{Day}
 use Rattle.money_core.specs.declared.style.Style.{Style}
 use Rattle.money_core.specs.declared.unit.Unit.{Unit as Commodity}
-use Rattle.journal_lines.specs.Date.{IsDayNumber}
-use Rattle.journal_lines.proofs.DateLemmas.{day_number_bounds}
 use Rattle.journal_format.specs.Printable.{is_posting, is_amount}
 use Rattle.journal_balance.specs.Legs.{leg}
 use Rattle.treasury_core.specs.declared.record.Record.{Record}
@@ -26,9 +22,8 @@ use Rattle.treasury_core.specs.Federation.{Branch, Federation, has_name, name_pl
 use Rattle.treasury_core.specs.Mark.{held}
 use Rattle.treasury_core.specs.Transfer.{asked, out_records, in_records, of_rest, receipts_of, has_id, receipt_record}
 use Rattle.treasury_core.specs.Transfer.{posting, transit_account}
-use Rattle.treasury_core.specs.Good.{IsGoodRecord, IsGoodTransfer, IsGoodState}
+use Rattle.treasury_core.specs.Good.{IsGoodRecord, IsGoodTransfer, IsGoodState, IsShort}
 use Rattle.treasury_core.specs.Drafted.{IsFault, IsReading, HasShortReceipt, HaveShortDays, IsNamed}
-use Rattle.treasury_core.specs.Rows.{IsShort}
 use Rattle.treasury_core.proofs.AskedLemmas.{HaveOwnIds}
 use Rattle.treasury_core.proofs.BytesLemmas.{same_bytes, self_bytes, other_bytes, neither}
 use Rattle.treasury_core.proofs.CarriedLemmas.{stand_of}
@@ -37,6 +32,7 @@ use Rattle.treasury_core.proofs.DispatchLemmas.{IsWhole, all_whole, dispatch_wri
 use Rattle.treasury_core.proofs.DraftLemmas.{numbered}
 use Rattle.treasury_core.proofs.FairLemmas.{found, good_marked}
 use Rattle.treasury_core.proofs.JudgedLemmas.{held_all}
+use Rattle.treasury_core.proofs.KeepLemmas.{short_day}
 use Rattle.treasury_core.proofs.OrderLemmas.{own_ids}
 use Rattle.treasury_core.proofs.PassLemmas.{same_transfer}
 use Rattle.treasury_core.proofs.ProductLemmas.{amount_of}
@@ -172,12 +168,6 @@ receipts_written f t good here fair =
     (subst (λ (n : List ℕ). AllByRecursion P (asked f.transfers n)) b.named each))
 
 -- the transfers of a good state can be kept
-short_bounds : (z : ℤ) → neg_ℤ (pos 719_162) ≤ℤ z → z ≤ℤ pos 2_932_896 → FitsSigned w32 z
-short_bounds z low high = omega (arith, ints)
-
-short_day : (d : Day) → IsDayNumber d → IsShort d
-short_day d h = let low = (day_number_bounds d h).0 in let high = (day_number_bounds d h).1 in short_bounds d.0 low high
-
 short_receipt : (t : Transfer) (o : Option Receipt) → HaveShortDays (of_rest t o) → HasShortReceipt o
 short_receipt t None h = tt
 short_receipt t (Some r) h = h.0

@@ -321,6 +321,7 @@ sent_at false = omega arith
 north : IsGoodBranch styles (branch (codes "north") (Some (day (pos 20))) (sent ∷ []))
 north = record {
   named = refl;
+  short = omega (arith, ints);
   marks = (refl, tt);
   records = (good_sent, tt);
   off_transit = (λ no. absurd cc, tt);
@@ -335,6 +336,7 @@ north = record {
 south : IsGoodBranch styles (branch (codes "south") None (got ∷ stated (pos 1500) ∷ []))
 south = record {
   named = refl;
+  short = tt;
   marks = (refl, (refl, tt));
   records = (good_got, (good_stated, tt));
   off_transit = (λ no. absurd cc, (λ no. refl, tt));
@@ -345,6 +347,10 @@ south = record {
 -- a name with a capital letter
 pub capital : IsGoodBranch styles (branch (codes "North") None []) → ⊥
 capital good = let no : false ≡ true = good.named in absurd cc
+
+-- a lock day beyond 32 bits
+pub long_lock : IsGoodBranch styles (branch (codes "north") (Some (day (pos 2_147_483_648))) []) → ⊥
+long_lock good = absurd (omega (arith, ints, good.short))
 
 -- a mark that stands twice
 pub twice_marked : HaveOwnMarks (sent ∷ sent ∷ []) → ⊥

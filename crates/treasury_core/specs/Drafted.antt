@@ -3,12 +3,13 @@ use Rattle.std.specs.Prelude.{◌≡◌, ◌<◌, ◌^◌, ◌⊎◌, ℕ, true,
 use Rattle.std.specs.List.{list_any, enumerate_from, flat_map, AllByRecursion}
 use Rattle.money_core.specs.declared.cause.Cause.{Cause}
 use Rattle.money_core.specs.declared.cause.Cause.TheVariants.{OutOfMemory, Damaged}
+use Rattle.money_core.specs.declared.style.Style.{Style}
 use Rattle.treasury_core.specs.declared.record.Record.{Record}
 use Rattle.treasury_core.specs.declared.transfer.Part.{Part}
 use Rattle.treasury_core.specs.declared.transfer.Receipt.{Receipt}
 use Rattle.treasury_core.specs.declared.transfer.Transfer.{Transfer}
 use Rattle.treasury_core.specs.Federation.{Branch, has_name}
-use Rattle.treasury_core.specs.Rows.{IsShort}
+use Rattle.treasury_core.specs.Good.{IsGoodRecord, IsShort}
 
 -- want of memory; or damage, and nothing has the property
 abbrev pub IsFault : {X : Type 0} → (X → Type 0) → Cause → Type 0
@@ -18,9 +19,10 @@ IsFault {X = X} P e = (e ≡ OutOfMemory) ⊎ ((e ≡ Damaged) × ((x : X) → P
 abbrev pub IsReading : {X : Type 0} → (X → Type 0) → Result X Cause → Type 0
 IsReading {X = X} P r = MatchResult r (λ y. (x : X) → P x → x ≡ y) (IsFault P)
 
--- the same, and it is damaged only where none has it that can be kept
-abbrev pub IsKeptReading : {X : Type 0} → (X → Type 0) → (X → Type 0) → Result X Cause → Type 0
-IsKeptReading {X = X} K P r = MatchResult r (λ y. (x : X) → P x → x ≡ y) (IsFault (λ x. K x × P x))
+-- a branch of good records whose lock day can be kept
+pub record IsKeepable (styles : List Style) (b : Branch) : Type 0 where
+  pub short : IfSome b.locked IsShort
+  pub records : AllByRecursion (IsGoodRecord styles) b.records
 
 -- the day of a receipt can be kept
 abbrev pub HasShortReceipt : Option Receipt → Type 0

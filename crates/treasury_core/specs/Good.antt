@@ -1,7 +1,8 @@
 -- When a state is good, and which commands fit (own rules; docs/RULES.md, "Branches", "Books", "Marks and repeats",
 -- "Transfers").
 use Rattle.std.specs.Prelude.{◌≡◌, ◌≤◌, ◌<◌, ◌^◌, ℕ, true, false, List, [], ◌∷◌, length, filter, pos, int_le, Option}
-use Rattle.std.specs.Prelude.{Some, None, Ok, ⊤, IfSome}
+use Rattle.std.specs.Prelude.{Some, None, Ok, ⊤, FitsSigned, IfSome}
+use Rattle.std.specs.Int.{w32}
 use Rattle.std.specs.List.{list_any, AllByRecursion}
 use Rattle.std.specs.Str.{bytes_eq}
 use Rattle.std.specs.declared.cmp.Ordering.TheVariants.{Less}
@@ -49,10 +50,16 @@ pub record IsLockedClosing (lock : Option Day) (r : Record) : Type 0 where
 abbrev pub IsWithinLock : Option Day → Record → Type 0
 IsWithinLock lock r = is_closing r ≡ true → IsLockedClosing lock r
 
--- a branch: its name is well formed, no mark stands twice, each record is good, only those of transfers are on transit
--- accounts, a record with the mark of a closing is one, and its book is good
+-- a day that the state in memory can have: in 32 bits
+abbrev pub IsShort : Day → Type 0
+IsShort d = FitsSigned w32 d.0
+
+-- a branch: its name is well formed, its lock day, if it has one, is in 32 bits, no mark stands twice, each record is
+-- good, only those of transfers are on transit accounts, a record with the mark of a closing is one, and its book is
+-- good
 pub record IsGoodBranch (styles : List Style) (b : Branch) : Type 0 where
   pub named : is_branch_name b.name ≡ true
+  pub short : IfSome b.locked IsShort
   pub marks : HaveOwnMarks b.records
   pub records : AllByRecursion (IsGoodRecord styles) b.records
   pub off_transit : AllByRecursion IsOffTransit b.records

@@ -1,9 +1,7 @@
 -- The rows of a state (docs/FORMATS.md, "Tables").
-use Rattle.std.specs.Prelude.{ℕ, ℤ, pos, Bool, true, false, List, [], ◌∷◌, map, FitsSigned, IfSome}
-use Rattle.std.specs.Int.{w32}
-use Rattle.std.specs.List.{enumerate_from, flat_map, AllByRecursion}
+use Rattle.std.specs.Prelude.{ℕ, ℤ, pos, Bool, true, false, List, [], ◌∷◌, map}
+use Rattle.std.specs.List.{enumerate_from, flat_map}
 use Rattle.std.specs.Option.{option_map}
-use Rattle.money_core.specs.declared.day.Day.{Day}
 use Rattle.money_core.specs.declared.style.Style.{Style}
 use Rattle.money_core.specs.Mark.{decimal_byte}
 use Rattle.book_core.specs.declared.claim.ClaimKind.{ClaimKind}
@@ -138,15 +136,3 @@ rows f = record {
   transfers = map (transfer_row f.branches) f.transfers;
   receipts = part_rows f.transfers;
 }
-
--- a day that the state in memory can have: in 32 bits
-abbrev pub IsShort : Day → Type 0
-IsShort d = FitsSigned w32 d.0
-
--- the lock day of a branch is one
-abbrev pub HasShortLock : Branch → Type 0
-HasShortLock b = IfSome b.locked IsShort
-
--- and so is that of each
-abbrev pub HasShortLocks : Federation → Type 0
-HasShortLocks f = AllByRecursion HasShortLock f.branches

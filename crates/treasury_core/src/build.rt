@@ -3,7 +3,7 @@
 ghost use Rattle.std.specs.Prelude.{◌≡◌, ◌⊎◌, IfOk, IfErr};
 ghost use Rattle.treasury_core.specs.Federation.{Federation};
 ghost use Rattle.treasury_core.specs.Good.{IsGoodState};
-ghost use Rattle.treasury_core.specs.Rows.{rows, HasShortLocks};
+ghost use Rattle.treasury_core.specs.Rows.{rows};
 
 use crate::drafting::drafted;
 use crate::judging::is_good;
@@ -23,9 +23,8 @@ impl<L: Ledger> State<L> {
     /// check of each book.
     pub fn build(alloc: Global, parts: Parts) -> Result<Self, Cause>
         ensures built { IfOk result (λ f. rows f ≡ parts) }
-        // No state in memory has a lock day that is not in 32 bits.
         ensures err { IfErr result (λ e. (e ≡ Cause.OutOfMemory)
-            ⊎ ((e ≡ Cause.Damaged) × ((f : Federation) → IsGoodState f → HasShortLocks f → rows f ≡ parts → ⊥))) }
+            ⊎ ((e ≡ Cause.Damaged) × ((f : Federation) → IsGoodState f → rows f ≡ parts → ⊥))) }
     {
         let draft = drafted(alloc, &parts)?;
         if !is_good::<L>(alloc, &draft)? || !has_rows(alloc, &draft, &parts)? {

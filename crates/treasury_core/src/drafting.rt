@@ -4,7 +4,7 @@ ghost use Rattle.std.specs.Prelude.{◌≡◌, ◌⊎◌, IfOk, IfErr};
 ghost use Rattle.std.specs.List.{AllByRecursion};
 ghost use Rattle.treasury_core.specs.Federation.{Branch as FederationBranch, Federation};
 ghost use Rattle.treasury_core.specs.Good.{IsGoodRecord, IsGoodState};
-ghost use Rattle.treasury_core.specs.Rows.{rows, HasShortLocks};
+ghost use Rattle.treasury_core.specs.Rows.{rows};
 
 use crate::draft::Draft;
 use crate::rows::Parts;
@@ -32,7 +32,7 @@ pub(crate) fn drafted(alloc: Global, parts: &Parts) -> Result<Draft, Cause>
     // If a good state has these rows, it is this one.
     ensures only { IfOk result (λ d. (f : Federation) → IsGoodState f → rows f ≡ parts.now → f ≡ d) }
     ensures err { IfErr result (λ e. (e ≡ Cause.OutOfMemory)
-        ⊎ ((e ≡ Cause.Damaged) × ((f : Federation) → IsGoodState f → HasShortLocks f → rows f ≡ parts.now → ⊥))) }
+        ⊎ ((e ≡ Cause.Damaged) × ((f : Federation) → IsGoodState f → rows f ≡ parts.now → ⊥))) }
 {
     let styles = read_styles(alloc, parts.units.items())?;
     let branches = read_branches(

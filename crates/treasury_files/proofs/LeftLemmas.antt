@@ -66,7 +66,7 @@ unfolding same_name
 second_one = refl
 
 either_has_one : (db : Database) (t : Tables) → HoldsEither db t → has_one db.schema ≡ true
-either_has_one db t (inl second) = ap has_one second.schema ∙ second_one
+either_has_one db t (inl second) = ap has_one second.shows.schema ∙ second_one
 either_has_one db t (inr first) = ap has_one first.schema ∙ first_one
 
 either_one : (db : Database) (t : Tables) → HoldsEither db t → has_one db.schema ≡ false → ⊥
@@ -74,7 +74,7 @@ either_one db t holds free = true≢false (sym (either_has_one db t holds) ∙ f
 
 either_ours : (db : Database) (t : Tables) → HoldsEither db t → AreOurs db.schema × (IsFirst db ⊎ IsSecond db)
 either_ours db t (inl second) =
-    (ours_second db.schema second.schema, inr (record { schema = second.schema; version = second.format }))
+    (ours_second db.schema second.shows.schema, inr (record { schema = second.shows.schema; version = second.format }))
 either_ours db t (inr first) =
     (ours_first db.schema first.schema, inl (record { schema = first.schema; version = first.format }))
 
@@ -332,7 +332,7 @@ module _ {D : Type 0} (g : disk.Ghosts D) where
             → (file_state last).may_leave trees → AreStored trees t
         stored clean t holds trees may = let held = are clean t holds in elim (keeps.crash clean trees may) [
           | inl was ↦ stored_in store t trees live (is_open (middle clean)) held.1 (inl held.0) was
-          | inr other ↦ absurd (other held.0.schema)
+          | inr other ↦ absurd (other held.0.shows.schema)
         ]
 
         shown : HasCleanDisk (file_state last) → IsTrue (file_state last).is_open → (t : Tables)
@@ -340,7 +340,7 @@ module _ {D : Type 0} (g : disk.Ghosts D) where
             → HoldsEither (file_state last).now t × ((file_state last).committed ≡ (file_state last).now)
         shown clean left_so t holds =
             let held = are clean t holds in
-            let stay = unchanged clean left_so held.0.schema held.1 in
+            let stay = unchanged clean left_so held.0.shows.schema held.1 in
             (inl (subst (λ (d : Database). Holds d t) (sym stay.0) held.0), stay.1 ∙ (held.1 ∙ sym stay.0))
 
   -- files that were not opened are as they were, or as the kit has it

@@ -18,14 +18,13 @@ use Rattle.sqlite.specs.Files.{file_state, over_files}
 use Rattle.sqlite.specs.Closing.{IsCopied, HoldsAlone}
 use Rattle.treasury_core.specs.Federation.{Federation}
 use Rattle.treasury_core.specs.Good.{IsGoodState}
-use Rattle.treasury_core.specs.Rows.{rows, HasShortLocks}
-use Rattle.treasury_store.specs.Rows.{Tables, Holds, HoldsEither}
+use Rattle.treasury_core.specs.Rows.{rows}
+use Rattle.treasury_store.specs.Rows.{Tables, Holds, HoldsEither, ShowsTables}
 use Rattle.treasury_store.specs.Kept.{KeepsTables, StaysAsIs}
 use Rattle.treasury_store.specs.Tables.{no_schema, store_schema}
 use Rattle.treasury_store.specs.Creating.{has_one, has_all, has_receipt}
 use Rattle.treasury_store.specs.Opening.{AreOurs, IsFirst, IsFirstNumbered, IsSecond}
 use Rattle.treasury_store.specs.Upgrading.{Upgrades}
-use Rattle.treasury_store.specs.Shown.{ShowsTables}
 use Rattle.treasury_store.specs.declared.store.Store.{Store}
 use Rattle.treasury_store.specs.Store.{TablesAre, IsOf, empty_state}
 use Rattle.treasury_store.specs.Treasury.{Treasury, IsTreasuryOf}
@@ -87,7 +86,7 @@ module _ {D : Type 0} (g : disk.Ghosts D) where
       → HoldsEither (file_state opened).now rows → TablesAre over_files s.conn rows)
       → doubt (file_state opened).is_clean ≤ doubt (file_state s.conn).is_clean
       → (HasCleanDisk (file_state s.conn) → IsTrue (file_state s.conn).is_open)
-      → (HasCleanDisk (file_state t.store.conn) → (f : Federation) → IsGoodState f → HasShortLocks f
+      → (HasCleanDisk (file_state t.store.conn) → (f : Federation) → IsGoodState f
       → TablesAre over_files s.conn (rows f) → IsTreasuryOf over_files t f)
       → t.store.failed ≡ false
       → KeepsTables over_files s.conn t.store.conn
@@ -99,7 +98,7 @@ module _ {D : Type 0} (g : disk.Ghosts D) where
     clean = λ k. no_more _ _ first (middle k);
     is_open = still_open;
     tables = tables;
-    of = λ k same f shows. treasury k f shows.good shows.short (upgraded same (rows f) shows.holds);
+    of = λ k same f shows. treasury k f shows.good (upgraded same (rows f) shows.holds);
     has = has;
     unfailed = unfailed;
   }
@@ -111,7 +110,7 @@ module _ {D : Type 0} (g : disk.Ghosts D) where
           → (rows : Tables) → HoldsEither (file_state opened).now rows → TablesAre over_files t.store.conn rows
       tables k same rows holds _ _ =
           let held = upgraded same rows holds (middle k) (is_open (middle k)) in
-          let stay = kept k held.0.schema held.1 in
+          let stay = kept k held.0.shows.schema held.1 in
           (subst (λ (d : Database). Holds d rows) (sym stay.0) held.0, stay.1 ∙ (held.1 ∙ sym stay.0))
 
   -- a treasury is started on files that were opened, or they keep what they held
@@ -125,12 +124,10 @@ module _ {D : Type 0} (g : disk.Ghosts D) where
 
   -- what a file holds whose connection is closed, and shows the rows of a good state
   pub left_behind : (c : Held (FileStore D g)) (closed : Files D) (f : Federation) → IsLive (file_state c)
-      → IsCopied c closed → IsGoodState f → HasShortLocks f
-      → TablesAre over_files c (rows f) → LeavesState g closed f
-  left_behind c closed f live copied good short tables left image =
+      → IsCopied c closed → IsGoodState f → TablesAre over_files c (rows f) → LeavesState g closed f
+  left_behind c closed f live copied good tables left image =
       let held = tables copied.was_clean copied.was_open in record {
         good = good;
-        short = short;
         db = (file_state c).now;
         listed = (live copied.was_open).0;
         tables = held.0;

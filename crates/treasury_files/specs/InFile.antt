@@ -14,14 +14,13 @@ use Rattle.sqlite.specs.Files.{file_state, IsOpened}
 use Rattle.sqlite.specs.Closing.{HoldsAlone}
 use Rattle.treasury_core.specs.Federation.{Federation}
 use Rattle.treasury_core.specs.Good.{IsGoodState}
-use Rattle.treasury_core.specs.Rows.{rows, HasShortLocks}
-use Rattle.treasury_store.specs.Rows.{Holds, HoldsEither}
+use Rattle.treasury_core.specs.Rows.{rows}
+use Rattle.treasury_store.specs.Rows.{Holds, HoldsEither, ShowsTables}
 use Rattle.treasury_store.specs.Store.{empty_state}
 use Rattle.treasury_store.specs.Tables.{no_schema}
 use Rattle.treasury_store.specs.Creating.{has_one, has_all}
 use Rattle.treasury_store.specs.Opening.{AreOurs, IsFirst, IsFirstNumbered, IsSecond}
 use Rattle.treasury_store.specs.Upgrading.{Upgrades}
-use Rattle.treasury_store.specs.Shown.{ShowsTables}
 use Rattle.treasury_files.specs.declared.left.Left.{Left}
 use Rattle.treasury_files.specs.declared.left.Left.TheVariants.{Closed}
 use Rattle.treasury_files.specs.Left.{IsImageOf}
@@ -30,11 +29,9 @@ use Rattle.treasury_files.specs.Left.{IsImageOf}
 abbrev pub most_journal : ℕ
 most_journal = 1_048_577
 
--- The files hold tables that are the rows of a good state, with lock days that a table takes, and so does the database
--- file with no log beside it.
+-- The files hold tables that are the rows of a good state, and so does the database file with no log beside it.
 pub record HoldsState (image : Image) (f : Federation) : Type 0 where
   pub good : IsGoodState f
-  pub short : HasShortLocks f
   pub db : Database
   pub listed : IsDatabase db
   pub tables : Holds db (rows f)
@@ -54,11 +51,9 @@ pub record HasTreasury (db : Database) : Type 0 where
   pub first : IsFirstNumbered db → (next : Database) × Upgrades db next × ShowsGoodRows next
 
 module _ {D : Type 0} (g : disk.Ghosts D) where
-  -- a connection shows tables, of version 2 or of version 1, that are the rows of a good state, with lock days that a
-  -- table takes
+  -- a connection shows tables, of version 2 or of version 1, that are the rows of a good state
   pub record ShowsState (c : Held (FileStore D g)) (f : Federation) : Type 0 where
     pub good : IsGoodState f
-    pub short : HasShortLocks f
     pub holds : HoldsEither (file_state c).now (rows f)
 
   -- The files that were closed hold the rows of a state, as they read and as a crash may leave them.

@@ -16,7 +16,7 @@ use Rattle.sqlite.specs.declared.file.Leftover.{Leftover}
 use Rattle.sqlite.specs.declared.file.Leftover.TheVariants as rest
 use Rattle.treasury_core.specs.Federation.{Federation}
 use Rattle.treasury_core.specs.Good.{IsGoodState}
-use Rattle.treasury_core.specs.Rows.{rows, HasShortLocks}
+use Rattle.treasury_core.specs.Rows.{rows}
 use Rattle.treasury_store.specs.Rows.{Tables, HoldsEither, AreTreesOf, AreFirstTreesOf}
 use Rattle.treasury_files.specs.declared.left.Left.{Left}
 use Rattle.treasury_files.specs.declared.left.Left.TheVariants.{Untouched, Closed, Open, Shut, Unopened}
@@ -30,10 +30,9 @@ pub record HoldsRows (image : Image) (t : Tables) : Type 0 where
   pub tables : HoldsEither db t
   pub both : ∥ HoldsDatabase image db.trees ∥₁
 
--- they hold the rows of a good state, with lock days that a table takes
+-- they hold the rows of a good state
 pub record HoldsOf (image : Image) (f : Federation) : Type 0 where
   pub good : IsGoodState f
-  pub short : HasShortLocks f
   pub held : HoldsRows image (rows f)
 
 -- these are trees of a database with these rows, in version 2 or in version 1

@@ -1,5 +1,5 @@
 -- The tables of a new treasury, where other tables stand about or none.
-use Rattle.std.proofs.Common.{◌≡◌, ◌≢◌, ℕ, ◌+◌, ◌<◌, ◌≤◌, max, Bool, true, false, ◌||◌, List, [], ◌∷◌, ◌++◌, map, drop}
+use Rattle.std.proofs.Common.{◌≡◌, ◌≢◌, ℕ, ◌+◌, ◌<◌, ◌≤◌, max, Bool, true, false, ◌||◌, List, [], ◌∷◌, ◌++◌, map}
 use Rattle.std.proofs.Common.{length, slice_get, codes, Some, Ok, pos, refl, sym, ap, subst, ◌∙◌, arith, fold}
 use Rattle.std.proofs.Common.{IsPermutation, if◌then◌else◌}
 use Rattle.std.specs.List.{list_any, AllByRecursion, position_from}
@@ -22,7 +22,8 @@ use Rattle.sqlite.specs.State.{State, HasCleanDisk, Survives, Executes}
 use Rattle.sqlite.specs.Held.{Held, state}
 use Rattle.sqlite.proofs.StateLemmas.{survives_then}
 use Rattle.treasury_store.specs.Tables.{format, state_tables, made_all, new_tables, no_schema}
-use Rattle.treasury_store.specs.Rows.{Holds, no_rows, format_row}
+use Rattle.treasury_store.specs.Rows.{Holds, no_rows, format_row, shown_unit, shown_branch, shown_entry, shown_leg}
+use Rattle.treasury_store.specs.Rows.{shown_claim, shown_transfer, shown_part}
 use Rattle.treasury_store.specs.Creating.{Makes, MakesAll, GivesRow, Beside, is_ours, has_one, has_counter}
 use Rattle.treasury_store.proofs.CreateLemmas.{kept_twice, kept_front, kept_back, stays_uncounted}
 use Rattle.treasury_store.proofs.Texts.{add_format_text, format_terms}
@@ -155,16 +156,20 @@ holds_none a d none made =
     subst (λ s. AllByRecursion (λ (t : Table). d.trees t.tree ≡ []) (new_tables state_tables (created s format))) none
     made.empty in
     record {
-      schema = made.schema ∙ ap (made_all (format ∷ state_tables)) none;
+      shows = record {
+        schema = made.schema ∙ ap (made_all (format ∷ state_tables)) none;
+        units = subst (λ rows. IsPermutation [] (map shown_unit rows)) (sym empty.0) (IsPermutation-refl []);
+        branches = subst (λ rows. IsPermutation [] (map shown_branch rows)) (sym empty.1.0) (IsPermutation-refl []);
+        entries = subst (λ rows. IsPermutation [] (map shown_entry rows)) (sym empty.1.1.0) (IsPermutation-refl []);
+        legs = subst (λ rows. IsPermutation [] (map shown_leg rows)) (sym empty.1.1.1.0) (IsPermutation-refl []);
+        claims = subst (λ rows. IsPermutation [] (map shown_claim rows)) (sym empty.1.1.1.1.0) (IsPermutation-refl []);
+        transfers = subst (λ rows. IsPermutation [] (map shown_transfer rows)) (sym empty.1.1.1.1.1.0)
+            (IsPermutation-refl []);
+        receipts = subst (λ rows. IsPermutation [] (map shown_part rows)) (sym empty.1.1.1.1.1.1.0)
+            (IsPermutation-refl []);
+      };
       format = subst (λ s. map (λ r. column r 1) (d.trees (next_tree s)) ≡ Int (pos 2) ∷ []) none made.version;
       numbered = subst (λ s. IsShaped shape.Table (d.trees (next_tree s))) none made.numbered;
-      units = subst (IsPermutation []) (sym empty.0) (IsPermutation-refl []);
-      branches = subst (IsPermutation []) (sym empty.1.0) (IsPermutation-refl []);
-      entries = subst (λ rows. IsPermutation [] (map (drop 1) rows)) (sym empty.1.1.0) (IsPermutation-refl []);
-      legs = subst (λ rows. IsPermutation [] (map (drop 1) rows)) (sym empty.1.1.1.0) (IsPermutation-refl []);
-      claims = subst (λ rows. IsPermutation [] (map (drop 1) rows)) (sym empty.1.1.1.1.0) (IsPermutation-refl []);
-      transfers = subst (λ rows. IsPermutation [] (map (drop 1) rows)) (sym empty.1.1.1.1.1.0) (IsPermutation-refl []);
-      receipts = subst (λ rows. IsPermutation [] (map (drop 1) rows)) (sym empty.1.1.1.1.1.1.0) (IsPermutation-refl []);
       keyed = subst (IsShaped shape.Table) (sym empty.1.1.1.1.1.0) (tt, tt);
     }
 

@@ -13,12 +13,15 @@ use Rattle.treasury_core.specs.declared.rows.EntryRow.{EntryRow}
 use Rattle.treasury_core.specs.declared.rows.LegRow.{LegRow}
 use Rattle.treasury_core.specs.declared.rows.ClaimRow.{ClaimRow}
 use Rattle.treasury_store.specs.Tables.{entry, leg, claim, store_schema}
-use Rattle.treasury_store.specs.Rows.{Tables, Holds, entry_row, leg_row, claim_row, transfer_row, part_row}
+use Rattle.treasury_store.specs.Rows.{Tables, Holds, unit_row, branch_row, entry_row, leg_row, claim_row, transfer_row}
+use Rattle.treasury_store.specs.Rows.{part_row, shown_unit, shown_branch, shown_entry, shown_leg, shown_claim}
+use Rattle.treasury_store.specs.Rows.{shown_transfer, shown_part}
 use Rattle.treasury_store.proofs.EightTexts.{add_entry_eights_text, add_entry_eights_is, entry_eights_terms}
 use Rattle.treasury_store.proofs.EightTexts.{add_leg_eights_text, add_leg_eights_is, leg_eights_terms}
 use Rattle.treasury_store.proofs.EightTexts.{add_claim_eights_text, add_claim_eights_is, claim_eights_terms}
 use Rattle.treasury_store.proofs.RowLemmas.{cast_int, cast_null}
 use Rattle.treasury_store.proofs.ManyLemmas.{adds_all}
+use Rattle.treasury_store.proofs.ShownLemmas.{entries_moved, legs_moved, claims_moved}
 
 -- the new rows, the last first, before those that were there
 turned_on : {X : Type 0} (xs ys : List X) → IsPermutation (fold (λ l x. x ∷ l) ys xs) (xs ++ ys)
@@ -52,22 +55,27 @@ module _ (e1 e2 e3 e4 e5 e6 e7 e8 : EntryRow) where
   adds_entry_eights old new t count holds h =
       let a = adds_all store_schema entry.name entry.tree entry.columns entry.key entry.primary entry.uniques
       entry.orders add_entry_eights_text 3 entry_eights_terms 6 entry_eights_params (map entry_row entry_eights)
-      add_entry_eights_is.0 add_entry_eights_is.1 refl entry_eights_are old new count holds.schema h in
+      add_entry_eights_is.0 add_entry_eights_is.1 refl entry_eights_are old new count holds.shows.schema h in
       record {
-        schema = a.schema_is;
+        shows = record {
+          schema = a.schema_is;
+          units = subst (λ rs. IsPermutation (map unit_row t.units) (map shown_unit rs))
+              (sym (a.others.1.0 (omega arith))) holds.shows.units;
+          branches = subst (λ rs. IsPermutation (map branch_row t.branches) (map shown_branch rs))
+              (sym (a.others.1.1.0 (omega arith))) holds.shows.branches;
+          entries = turned (map entry_row entry_eights) (map entry_row t.entries) _ _ holds.shows.entries
+              (entries_moved (map entry_row entry_eights) _ _ refl a.moved);
+          legs = subst (λ rs. IsPermutation (map leg_row t.legs) (map shown_leg rs))
+              (sym (a.others.1.1.1.1.0 (omega arith))) holds.shows.legs;
+          claims = subst (λ rs. IsPermutation (map claim_row t.claims) (map shown_claim rs))
+              (sym (a.others.1.1.1.1.1.0 (omega arith))) holds.shows.claims;
+          transfers = subst (λ rs. IsPermutation (map transfer_row t.transfers) (map shown_transfer rs))
+              (sym (a.others.1.1.1.1.1.1.0 (omega arith))) holds.shows.transfers;
+          receipts = subst (λ rs. IsPermutation (map part_row t.receipts) (map shown_part rs))
+              (sym (a.others.1.1.1.1.1.1.1.0 (omega arith))) holds.shows.receipts;
+        };
         format = ap (map (λ r. column r 1)) (a.others.0 (omega arith)) ∙ holds.format;
-        units = subst (IsPermutation _) (sym (a.others.1.0 (omega arith))) holds.units;
-        branches = subst (IsPermutation _) (sym (a.others.1.1.0 (omega arith))) holds.branches;
-        entries = turned (map entry_row entry_eights) (map entry_row t.entries) _ _ holds.entries a.moved;
-        legs = subst (λ rs. IsPermutation (map leg_row t.legs) (map (drop 1) rs))
-            (sym (a.others.1.1.1.1.0 (omega arith))) holds.legs;
-        claims = subst (λ rs. IsPermutation (map claim_row t.claims) (map (drop 1) rs))
-            (sym (a.others.1.1.1.1.1.0 (omega arith))) holds.claims;
-        transfers = subst (λ rs. IsPermutation (map transfer_row t.transfers) (map (drop 1) rs))
-            (sym (a.others.1.1.1.1.1.1.0 (omega arith))) holds.transfers;
         numbered = subst (IsShaped shape.Table) (sym (a.others.0 (omega arith))) holds.numbered;
-        receipts = subst (λ rs. IsPermutation (map part_row t.receipts) (map (drop 1) rs))
-            (sym (a.others.1.1.1.1.1.1.1.0 (omega arith))) holds.receipts;
         keyed = subst (IsShaped shape.Table) (sym (a.others.1.1.1.1.1.1.0 (omega arith))) holds.keyed;
       }
 
@@ -91,22 +99,27 @@ module _ (l1 l2 l3 l4 l5 l6 l7 l8 : LegRow) where
   adds_leg_eights old new t count holds h =
       let a = adds_all store_schema leg.name leg.tree leg.columns leg.key leg.primary leg.uniques leg.orders
       add_leg_eights_text 4 leg_eights_terms 7 leg_eights_params (map leg_row leg_eights) add_leg_eights_is.0
-      add_leg_eights_is.1 refl leg_eights_are old new count holds.schema h in
+      add_leg_eights_is.1 refl leg_eights_are old new count holds.shows.schema h in
       record {
-        schema = a.schema_is;
+        shows = record {
+          schema = a.schema_is;
+          units = subst (λ rs. IsPermutation (map unit_row t.units) (map shown_unit rs))
+              (sym (a.others.1.0 (omega arith))) holds.shows.units;
+          branches = subst (λ rs. IsPermutation (map branch_row t.branches) (map shown_branch rs))
+              (sym (a.others.1.1.0 (omega arith))) holds.shows.branches;
+          entries = subst (λ rs. IsPermutation (map entry_row t.entries) (map shown_entry rs))
+              (sym (a.others.1.1.1.0 (omega arith))) holds.shows.entries;
+          legs = turned (map leg_row leg_eights) (map leg_row t.legs) _ _ holds.shows.legs
+              (legs_moved (map leg_row leg_eights) _ _ refl a.moved);
+          claims = subst (λ rs. IsPermutation (map claim_row t.claims) (map shown_claim rs))
+              (sym (a.others.1.1.1.1.1.0 (omega arith))) holds.shows.claims;
+          transfers = subst (λ rs. IsPermutation (map transfer_row t.transfers) (map shown_transfer rs))
+              (sym (a.others.1.1.1.1.1.1.0 (omega arith))) holds.shows.transfers;
+          receipts = subst (λ rs. IsPermutation (map part_row t.receipts) (map shown_part rs))
+              (sym (a.others.1.1.1.1.1.1.1.0 (omega arith))) holds.shows.receipts;
+        };
         format = ap (map (λ r. column r 1)) (a.others.0 (omega arith)) ∙ holds.format;
-        units = subst (IsPermutation _) (sym (a.others.1.0 (omega arith))) holds.units;
-        branches = subst (IsPermutation _) (sym (a.others.1.1.0 (omega arith))) holds.branches;
-        entries = subst (λ rs. IsPermutation (map entry_row t.entries) (map (drop 1) rs))
-            (sym (a.others.1.1.1.0 (omega arith))) holds.entries;
-        legs = turned (map leg_row leg_eights) (map leg_row t.legs) _ _ holds.legs a.moved;
-        claims = subst (λ rs. IsPermutation (map claim_row t.claims) (map (drop 1) rs))
-            (sym (a.others.1.1.1.1.1.0 (omega arith))) holds.claims;
-        transfers = subst (λ rs. IsPermutation (map transfer_row t.transfers) (map (drop 1) rs))
-            (sym (a.others.1.1.1.1.1.1.0 (omega arith))) holds.transfers;
         numbered = subst (IsShaped shape.Table) (sym (a.others.0 (omega arith))) holds.numbered;
-        receipts = subst (λ rs. IsPermutation (map part_row t.receipts) (map (drop 1) rs))
-            (sym (a.others.1.1.1.1.1.1.1.0 (omega arith))) holds.receipts;
         keyed = subst (IsShaped shape.Table) (sym (a.others.1.1.1.1.1.1.0 (omega arith))) holds.keyed;
       }
 
@@ -132,21 +145,26 @@ module _ (c1 c2 c3 c4 c5 c6 c7 c8 : ClaimRow) where
   adds_claim_eights old new t count holds h =
       let a = adds_all store_schema claim.name claim.tree claim.columns claim.key claim.primary claim.uniques
       claim.orders add_claim_eights_text 5 claim_eights_terms 7 claim_eights_params (map claim_row claim_eights)
-      add_claim_eights_is.0 add_claim_eights_is.1 refl claim_eights_are old new count holds.schema h in
+      add_claim_eights_is.0 add_claim_eights_is.1 refl claim_eights_are old new count holds.shows.schema h in
       record {
-        schema = a.schema_is;
+        shows = record {
+          schema = a.schema_is;
+          units = subst (λ rs. IsPermutation (map unit_row t.units) (map shown_unit rs))
+              (sym (a.others.1.0 (omega arith))) holds.shows.units;
+          branches = subst (λ rs. IsPermutation (map branch_row t.branches) (map shown_branch rs))
+              (sym (a.others.1.1.0 (omega arith))) holds.shows.branches;
+          entries = subst (λ rs. IsPermutation (map entry_row t.entries) (map shown_entry rs))
+              (sym (a.others.1.1.1.0 (omega arith))) holds.shows.entries;
+          legs = subst (λ rs. IsPermutation (map leg_row t.legs) (map shown_leg rs))
+              (sym (a.others.1.1.1.1.0 (omega arith))) holds.shows.legs;
+          claims = turned (map claim_row claim_eights) (map claim_row t.claims) _ _ holds.shows.claims
+              (claims_moved (map claim_row claim_eights) _ _ refl a.moved);
+          transfers = subst (λ rs. IsPermutation (map transfer_row t.transfers) (map shown_transfer rs))
+              (sym (a.others.1.1.1.1.1.1.0 (omega arith))) holds.shows.transfers;
+          receipts = subst (λ rs. IsPermutation (map part_row t.receipts) (map shown_part rs))
+              (sym (a.others.1.1.1.1.1.1.1.0 (omega arith))) holds.shows.receipts;
+        };
         format = ap (map (λ r. column r 1)) (a.others.0 (omega arith)) ∙ holds.format;
-        units = subst (IsPermutation _) (sym (a.others.1.0 (omega arith))) holds.units;
-        branches = subst (IsPermutation _) (sym (a.others.1.1.0 (omega arith))) holds.branches;
-        entries = subst (λ rs. IsPermutation (map entry_row t.entries) (map (drop 1) rs))
-            (sym (a.others.1.1.1.0 (omega arith))) holds.entries;
-        legs = subst (λ rs. IsPermutation (map leg_row t.legs) (map (drop 1) rs))
-            (sym (a.others.1.1.1.1.0 (omega arith))) holds.legs;
-        claims = turned (map claim_row claim_eights) (map claim_row t.claims) _ _ holds.claims a.moved;
-        transfers = subst (λ rs. IsPermutation (map transfer_row t.transfers) (map (drop 1) rs))
-            (sym (a.others.1.1.1.1.1.1.0 (omega arith))) holds.transfers;
         numbered = subst (IsShaped shape.Table) (sym (a.others.0 (omega arith))) holds.numbered;
-        receipts = subst (λ rs. IsPermutation (map part_row t.receipts) (map (drop 1) rs))
-            (sym (a.others.1.1.1.1.1.1.1.0 (omega arith))) holds.receipts;
         keyed = subst (IsShaped shape.Table) (sym (a.others.1.1.1.1.1.1.0 (omega arith))) holds.keyed;
       }

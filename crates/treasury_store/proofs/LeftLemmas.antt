@@ -44,7 +44,7 @@ module _ {S : Type 0} (g : Ghosts S)
   leaves_same old new left is_open t are clean trees may =
       elim (leaves_more old new t _ left is_open are clean trees may) [
         | inl was ↦ was
-        | inr made ↦ absurd (made.1 made.0.schema)
+        | inr made ↦ absurd (made.1 made.0.shows.schema)
       ]
 
   -- an opening leaves the rows of version 2 as they are
@@ -52,8 +52,8 @@ module _ {S : Type 0} (g : Ghosts S)
   leaves_opened old new left is_open t are clean trees may =
       elim (leaves_more old new t _ left is_open are clean trees may) [
         | inl was ↦ was
-        | inr made ↦ absurd (not_first (state g old).now (ap has_receipt made.0.schema ∙ second_more)
-            (made.1 (ours_second (state g old).now.schema made.0.schema)).first)
+        | inr made ↦ absurd (not_first (state g old).now (ap has_receipt made.0.shows.schema ∙ second_more)
+            (made.1 (ours_second (state g old).now.schema made.0.shows.schema)).first)
       ]
 
   -- and makes those of version 1 into version 2

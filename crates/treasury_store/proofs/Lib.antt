@@ -7,9 +7,11 @@ pub mod QueryLemmas
 pub mod KeyedLemmas
 pub mod AddLemmas
 pub mod ManyLemmas
+pub mod UpdatedLemmas
 pub mod BoundLemmas
 pub mod RowsLemmas
 pub mod LockLemmas
+pub mod ShownLemmas
 pub mod EightTexts
 pub mod EightLemmas
 pub mod KindLemmas
@@ -20,7 +22,6 @@ pub mod QueriedLemmas
 pub mod SelectLemmas
 pub mod OpenLemmas
 pub mod UpgradeLemmas
-pub mod ShownLemmas
 pub mod QueriesLemmas
 pub mod FailingLemmas
 pub mod LoadLemmas

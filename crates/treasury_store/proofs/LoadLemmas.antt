@@ -22,8 +22,8 @@ use Rattle.sqlite.proofs.Callers.{IsPlain, command_of, reads_as}
 use Rattle.treasury_store.specs.Tables.{store_schema}
 use Rattle.treasury_store.specs.Rows.{Tables, unit_row, branch_row, entry_row, leg_row, claim_row, transfer_row}
 use Rattle.treasury_store.specs.Rows.{part_row}
-use Rattle.treasury_store.specs.Shown.{ShowsTables, shown_unit, shown_branch, shown_entry, shown_leg, shown_claim}
-use Rattle.treasury_store.specs.Shown.{shown_transfer, shown_part}
+use Rattle.treasury_store.specs.Rows.{ShowsTables, shown_unit, shown_branch, shown_entry, shown_leg, shown_claim}
+use Rattle.treasury_store.specs.Rows.{shown_transfer, shown_part}
 use Rattle.treasury_store.specs.Order.{unit_cmp, branch_cmp, entry_cmp, leg_cmp, claim_cmp, transfer_cmp, part_cmp}
 use Rattle.treasury_core.specs.declared.rows.UnitRow.{UnitRow}
 use Rattle.treasury_core.specs.declared.rows.BranchRow.{BranchRow}

@@ -5,11 +5,10 @@ use Rattle.std.proofs.Common.{arith}
 use Rattle.std.proofs.Math.Bool.{and-true}
 use Rattle.std.proofs.lemmas.Bool.Decides.{Decides-int_eq}
 use Rattle.std.specs.List.{list_all, AllByRecursion}
-use Rattle.std.proofs.lemmas.List.{map-append}
 use Rattle.std.proofs.lemmas.List.Elements.{recursion_from_All, All-from_recursion}
-use Rattle.std.proofs.lemmas.List.Sorted.{IsPermutation-trans, IsPermutation-map, IsPermutation-append}
-use Rattle.std.proofs.lemmas.List.Sorted.{IsPermutation-filter_both, length_permutation, All-permutation}
-use Rattle.sqlite_keyed.proofs.ListLemmas.{map-map, filter-map, filter_same, IsPermutation-filter}
+use Rattle.std.proofs.lemmas.List.Sorted.{IsPermutation-trans, IsPermutation-map}
+use Rattle.std.proofs.lemmas.List.Sorted.{length_permutation, All-permutation}
+use Rattle.sqlite_keyed.proofs.ListLemmas.{map-map}
 use Rattle.sqlite_value.proofs.OrderLemmas.{value_cmp-Int}
 use Rattle.sqlite_rules.specs.Calls.{ids_of}
 use Rattle.sqlite_sql.specs.declared.ops.CompareOp.TheVariants.{Eq}
@@ -20,7 +19,7 @@ use Rattle.sqlite.specs.Term.{holds}
 use Rattle.sqlite.specs.Ops.{binary, is_true}
 use Rattle.sqlite.specs.Program.{overlay}
 use Rattle.sqlite.specs.Query.{Output, output}
-use Rattle.sqlite.specs.declared.types.Value.TheVariants.{Null, Int}
+use Rattle.sqlite.specs.declared.types.Value.TheVariants.{Null, Int, Text}
 use Rattle.sqlite_trees.specs.View.{IsShaped}
 use Rattle.sqlite_trees.specs.declared.store.Shape.TheVariants as shape
 use Rattle.sqlite.specs.Order.{Row, column, value_cmp}
@@ -35,17 +34,15 @@ use Rattle.sqlite.specs.State.{State, mode_of, Executes}
 use Rattle.sqlite.proofs.Callers.{statement_of, runs_as}
 use Rattle.treasury_store.specs.Tables.{branch, store_schema}
 use Rattle.treasury_core.specs.declared.rows.BranchRow.{BranchRow}
-use Rattle.treasury_store.specs.Rows.{Tables, Holds, entry_row, leg_row, claim_row, transfer_row, part_row}
-use Rattle.treasury_store.specs.Rows.{stored_branch, locked, with_lock}
+use Rattle.treasury_store.specs.Rows.{Tables, Holds, unit_row, branch_row, entry_row, leg_row, claim_row, transfer_row}
+use Rattle.treasury_store.specs.Rows.{part_row, shown_unit, shown_branch, shown_entry, shown_leg, shown_claim}
+use Rattle.treasury_store.specs.Rows.{shown_transfer, shown_part, with_lock}
 use Rattle.treasury_store.proofs.Steps.{updates}
 use Rattle.treasury_store.proofs.Texts.{lock_text, lock_is, lock_filter, lock_terms, lock_query}
-use Rattle.treasury_store.proofs.RowLemmas.{puts_permute, cast_int, cast_null, map_chosen, none_chosen, without_same}
+use Rattle.treasury_store.proofs.RowLemmas.{puts_permute, cast_int, cast_null, none_chosen, without_same}
 use Rattle.treasury_store.proofs.RowLemmas.{numbered_given}
 use Rattle.treasury_store.proofs.QueryLemmas.{at, matched, answer_is}
-
-not_true : (b : Bool) → not b ≡ true → b ≡ false
-not_true true e = sym e
-not_true false e = refl
+use Rattle.treasury_store.proofs.UpdatedLemmas.{picked, updated}
 
 module _ (nr day : ℤ) where
   abbrev given : Row
@@ -57,9 +54,12 @@ module _ (nr day : ℤ) where
   abbrev relocked : BranchRow → BranchRow
   relocked b = record b { locked = Some day }
 
-  -- what the query shows of a row, and what is then stored
-  abbrev shown : Row → Row
-  shown r = column r 0 ∷ column r 0 ∷ Null ∷ column r 2 ∷ Int day ∷ []
+  -- what the query gives of a row, as a function of what the table shows of it, and what is then stored
+  abbrev asked : Row → Row
+  asked s = column s 0 ∷ column s 0 ∷ Null ∷ column s 1 ∷ Int day ∷ []
+
+  abbrev query : Row → Row
+  query r = asked (shown_branch r)
 
   abbrev recast : Row → Row
   recast s = cast_row branch (drop 1 s)
@@ -70,21 +70,24 @@ module _ (nr day : ℤ) where
       go : (v : Value) → (is_true (binary (Compare Eq Binary) v (Int nr)) && true) ≡ is_eq (value_cmp v (Int nr))
       go v = and-true _ ∙ matched v nr
 
-  id_is : (b : BranchRow) → has_rowid nr (stored_branch b) ≡ is_it b
+  id_is : (b : BranchRow) → has_rowid nr (branch_row b) ≡ is_it b
   id_is b = ap is_eq (value_cmp-Int b.nr nr)
 
-  back : (b : BranchRow) → recast (shown (stored_branch b)) ≡ stored_branch (relocked b)
-  back b = simp (cast_int, cast_null)
+  stored : (b : BranchRow) → recast (asked (branch_row b)) ≡ Int b.nr ∷ Null ∷ Text b.name ∷ Int day ∷ []
+  stored b = simp (cast_int, cast_null)
+
+  back : (b : BranchRow) → shown_branch (recast (asked (branch_row b))) ≡ branch_row (relocked b)
+  back b = ap shown_branch (stored b)
 
   ids : (bs : List BranchRow) → AllByRecursion (λ r. id_in (rowid r) ≡ nr)
-      (map (λ b. shown (stored_branch b)) (filter is_it bs))
+      (map (λ b. asked (branch_row b)) (filter is_it bs))
   ids [] = tt
   ids (b ∷ bs) = go (is_it b) refl (ids bs)
     where
       go : (t : Bool) → is_it b ≡ t → AllByRecursion (λ r. id_in (rowid r) ≡ nr)
-          (map (λ b. shown (stored_branch b)) (filter is_it bs))
+          (map (λ b. asked (branch_row b)) (filter is_it bs))
           → AllByRecursion (λ r. id_in (rowid r) ≡ nr)
-          (map (λ b. shown (stored_branch b)) (cond t (b ∷ filter is_it bs) (filter is_it bs)))
+          (map (λ b. asked (branch_row b)) (cond t (b ∷ filter is_it bs) (filter is_it bs)))
       go true e more = ((Decides-int_eq b.nr nr).0 e, more)
       go false e more = more
 
@@ -95,12 +98,12 @@ module _ (nr day : ℤ) where
 
   -- the rows that the update takes out
   left_is : (rows got : List Row) → AllByRecursion (λ r. id_in (rowid r) ≡ nr) got
-      → IsPermutation (map shown (filter (has_rowid nr) rows)) got
+      → IsPermutation (map query (filter (has_rowid nr) rows)) got
       → without_all rows (ids_of got) ≡ filter (λ r. not (has_rowid nr r)) rows
   left_is rows [] all same =
       sym (none_chosen (has_rowid nr) rows (empty (filter (has_rowid nr) rows) (length_permutation _ _ same)))
     where
-      empty : (xs : List Row) → 0 ≡ length (map shown xs) → xs ≡ []
+      empty : (xs : List Row) → 0 ≡ length (map query xs) → xs ≡ []
       empty [] e = refl
       empty (x ∷ xs) e = absurd (omega arith)
   left_is rows (r ∷ got) all same =
@@ -111,10 +114,10 @@ module _ (nr day : ℤ) where
       → Holds new.now (with_lock nr day t)
   locks old new t count holds h =
       let command = Update 2 (record { lets = []; body = lock_query }) in
-      let w = runs_as lock_text given old new store_schema holds.schema command lock_is.0 lock_is.1 count h in
+      let w = runs_as lock_text given old new store_schema holds.shows.schema command lock_is.0 lock_is.1 count h in
       let text = statement_of lock_text (understood store_schema lock_text) in
       let done = subst (λ s. Does old.step_limit (mode_of old) given (record old.now { schema = s }) text None command
-      (Ok (w.tally, new.now))) holds.schema w.changed in
+      (Ok (w.tally, new.now))) holds.shows.schema w.changed in
       let made = updates old.step_limit store_schema branch.name branch.tree branch.columns branch.key branch.primary
       branch.uniques branch.orders given old.now.trees w.tally new.now (mode_of old) 2
       (record { lets = []; body = lock_query }) (λ _ _. refl) done in
@@ -123,66 +126,46 @@ module _ (nr day : ℤ) where
       let got = made.0 in
       let answer =
       answer_is given 3 lock_filter lock_terms [] (has_rowid nr) test (overlay db []) got (made.2.answer Null) in
-      let shows : IsPermutation (map shown (filter (has_rowid nr) (db 3))) got =
+      let shows : IsPermutation (map query (filter (has_rowid nr) (db 3))) got =
       subst₂ IsPermutation (map-map (λ (o : Output). o.1) (λ r. output lock_query (at given r))
       (filter (has_rowid nr) (db 3))) (sym answer.3) (IsPermutation-map (λ (o : Output). o.1) _ _ answer.1) in
-      let these : filter (has_rowid nr) (map stored_branch bs) ≡ map stored_branch (filter is_it bs) =
-      filter-map (has_rowid nr) stored_branch bs ∙ ap (map stored_branch) (filter_same _ _ id_is bs) in
-      let base : IsPermutation (map stored_branch (filter is_it bs)) (filter (has_rowid nr) (db 3)) =
-      subst (λ l. IsPermutation l (filter (has_rowid nr) (db 3))) these
-      (IsPermutation-filter (has_rowid nr) _ _ holds.branches) in
-      let from : IsPermutation (map (λ b. shown (stored_branch b)) (filter is_it bs)) got =
-      IsPermutation-trans _ _ _ (subst (λ l. IsPermutation l (map shown (filter (has_rowid nr) (db 3))))
-      (map-map shown stored_branch (filter is_it bs)) (IsPermutation-map shown _ _ base)) shows in
+      let these : IsPermutation (map branch_row (filter is_it bs)) (map shown_branch (filter (has_rowid nr) (db 3))) =
+      picked branch_row shown_branch query recast (λ s. shown_branch (recast (asked s))) relocked is_it (has_rowid nr)
+      (has_rowid nr) (λ _. refl) id_is (λ _. refl) back bs (db 3) holds.shows.branches in
+      let from : IsPermutation (map (λ b. asked (branch_row b)) (filter is_it bs)) got =
+      IsPermutation-trans _ _ _ (subst₂ IsPermutation (map-map asked branch_row (filter is_it bs))
+      (map-map asked shown_branch (filter (has_rowid nr) (db 3))) (IsPermutation-map asked _ _ these)) shows in
       let all : AllByRecursion (λ r. id_in (rowid r) ≡ nr) got =
       recursion_from_All (λ r. id_in (rowid r) ≡ nr) got
       (All-permutation (λ r. id_in (rowid r) ≡ nr) _ got from
       (All-from_recursion (λ r. id_in (rowid r) ≡ nr) _ (ids bs))) in
       let left = left_is (db 3) got all shows in
-      let others : filter (λ r. not (has_rowid nr r)) (map stored_branch bs)
-      ≡ map stored_branch (filter (λ b. not (is_it b)) bs) =
-      filter-map (λ r. not (has_rowid nr r)) stored_branch bs ∙ ap (map stored_branch)
-      (filter_same _ _ (λ b. ap not (id_is b)) bs) in
-      let rest : IsPermutation (map stored_branch (filter (λ b. not (is_it b)) bs))
-      (filter (λ r. not (has_rowid nr r)) (db 3)) =
-      subst (λ l. IsPermutation l (filter (λ r. not (has_rowid nr r)) (db 3))) others
-      (IsPermutation-filter (λ r. not (has_rowid nr r)) _ _ holds.branches) in
       let a = made.3 in
       let edit : Edit = edit_of db branch (ids_of got) Given 1 got in
       let news : edit.news ≡ map recast got = numbered_given (left_by db edit) (map recast got) in
       let put : IsPermutation (map recast got ++ filter (λ r. not (has_rowid nr r)) (db 3)) (new.now.trees 3) =
       subst₂ (λ n l. IsPermutation (n ++ l) (new.now.trees 3)) news left
       (subst (IsPermutation _) (sym a.rows) (puts_permute edit.news (left_by db edit) a.fresh)) in
-      let fresh : IsPermutation (map (λ b. stored_branch (relocked b)) (filter is_it bs)) (map recast got) =
-      subst (λ l. IsPermutation l (map recast got))
-      (map-map recast (λ b. shown (stored_branch b)) (filter is_it bs) ∙
-      (λ i. map (λ b. back b i) (filter is_it bs))) (IsPermutation-map recast _ _ from) in
-      let both = λ (b : BranchRow). stored_branch (locked nr day b) in
-      let parts : IsPermutation (map both bs) (map both (filter is_it bs) ++ map both (filter (λ b. not (is_it b)) bs))
-      =
-      subst (IsPermutation (map both bs)) (map-append both (filter is_it bs) _)
-      (IsPermutation-map both _ _ (IsPermutation-filter_both is_it (λ b. not (is_it b)) (λ _. refl) bs)) in
-      let first = map_chosen is_it both (λ b. stored_branch (relocked b))
-      (λ b e. ap (λ c. stored_branch (cond c (relocked b) b)) e) bs in
-      let second = map_chosen (λ b. not (is_it b)) both stored_branch
-      (λ b e. ap (λ c. stored_branch (cond c (relocked b) b)) (not_true (is_it b) e)) bs in
       record {
-        schema = made.1;
+        shows = record {
+          schema = made.1;
+          units = subst (λ rs. IsPermutation (map unit_row t.units) (map shown_unit rs))
+              (sym (a.tables.1.0 (omega arith))) holds.shows.units;
+          branches = updated branch_row shown_branch query recast (λ s. shown_branch (recast (asked s))) relocked is_it
+              (has_rowid nr) (has_rowid nr) (λ _. refl) id_is (λ _. refl) back bs (db 3) got (new.now.trees 3)
+              holds.shows.branches shows put;
+          entries = subst (λ rs. IsPermutation (map entry_row t.entries) (map shown_entry rs))
+              (sym (a.tables.1.1.1.0 (omega arith))) holds.shows.entries;
+          legs = subst (λ rs. IsPermutation (map leg_row t.legs) (map shown_leg rs))
+              (sym (a.tables.1.1.1.1.0 (omega arith))) holds.shows.legs;
+          claims = subst (λ rs. IsPermutation (map claim_row t.claims) (map shown_claim rs))
+              (sym (a.tables.1.1.1.1.1.0 (omega arith))) holds.shows.claims;
+          transfers = subst (λ rs. IsPermutation (map transfer_row t.transfers) (map shown_transfer rs))
+              (sym (a.tables.1.1.1.1.1.1.0 (omega arith))) holds.shows.transfers;
+          receipts = subst (λ rs. IsPermutation (map part_row t.receipts) (map shown_part rs))
+              (sym (a.tables.1.1.1.1.1.1.1.0 (omega arith))) holds.shows.receipts;
+        };
         format = ap (map (λ r. column r 1)) (a.tables.0 (omega arith)) ∙ holds.format;
-        units = subst (IsPermutation _) (sym (a.tables.1.0 (omega arith))) holds.units;
-        branches = subst (λ l. IsPermutation l (new.now.trees 3)) (sym (map-map stored_branch (locked nr day) bs))
-            (IsPermutation-trans _ _ _ (subst₂ (λ l k. IsPermutation (map both bs) (l ++ k)) first second parts)
-            (IsPermutation-trans _ _ _ (IsPermutation-append _ _ _ _ fresh rest) put));
-        entries = subst (λ rs. IsPermutation (map entry_row t.entries) (map (drop 1) rs))
-            (sym (a.tables.1.1.1.0 (omega arith))) holds.entries;
-        legs = subst (λ rs. IsPermutation (map leg_row t.legs) (map (drop 1) rs))
-            (sym (a.tables.1.1.1.1.0 (omega arith))) holds.legs;
-        claims = subst (λ rs. IsPermutation (map claim_row t.claims) (map (drop 1) rs))
-            (sym (a.tables.1.1.1.1.1.0 (omega arith))) holds.claims;
-        transfers = subst (λ rs. IsPermutation (map transfer_row t.transfers) (map (drop 1) rs))
-            (sym (a.tables.1.1.1.1.1.1.0 (omega arith))) holds.transfers;
         numbered = subst (IsShaped shape.Table) (sym (a.tables.0 (omega arith))) holds.numbered;
-        receipts = subst (λ rs. IsPermutation (map part_row t.receipts) (map (drop 1) rs))
-            (sym (a.tables.1.1.1.1.1.1.1.0 (omega arith))) holds.receipts;
         keyed = subst (IsShaped shape.Table) (sym (a.tables.1.1.1.1.1.1.0 (omega arith))) holds.keyed;
       }

@@ -14,7 +14,7 @@ use Rattle.treasury_core.specs.declared.rows.TransferRow.{TransferRow}
 use Rattle.treasury_core.specs.declared.rows.PartRow.{PartRow}
 use Rattle.treasury_store.specs.declared.change.Change.{Change}
 use Rattle.treasury_store.specs.declared.change.Change.TheVariants as change
-use Rattle.treasury_store.specs.Rows.{Tables, Holds, stored_unit, stored_branch, entry_row, leg_row, claim_row}
+use Rattle.treasury_store.specs.Rows.{Tables, Holds, unit_row, branch_row, entry_row, leg_row, claim_row}
 use Rattle.treasury_store.specs.Rows.{transfer_row, part_row, locked, received, changed, joined}
 
 pub record Same (t u : Tables) : Type 0 where
@@ -171,26 +171,29 @@ joined-append (c ∷ cs) ds t = joined-append cs ds (changed c t)
 
 pub holds_same : (db : Database) (t u : Tables) → Same t u → Holds db t → Holds db u
 holds_same db t u h k = record {
-  schema = k.schema;
+  shows = record {
+    schema = k.shows.schema;
+    units = IsPermutation-trans _ _ _
+        (IsPermutation-map unit_row u.units t.units (IsPermutation-sym t.units u.units h.units)) k.shows.units;
+    branches = IsPermutation-trans _ _ _
+        (IsPermutation-map branch_row u.branches t.branches (IsPermutation-sym t.branches u.branches h.branches))
+        k.shows.branches;
+    entries = IsPermutation-trans _ _ _
+        (IsPermutation-map entry_row u.entries t.entries (IsPermutation-sym t.entries u.entries h.entries))
+        k.shows.entries;
+    legs = IsPermutation-trans _ _ _
+        (IsPermutation-map leg_row u.legs t.legs (IsPermutation-sym t.legs u.legs h.legs)) k.shows.legs;
+    claims = IsPermutation-trans _ _ _
+        (IsPermutation-map claim_row u.claims t.claims (IsPermutation-sym t.claims u.claims h.claims)) k.shows.claims;
+    transfers = IsPermutation-trans _ _ _
+        (IsPermutation-map transfer_row u.transfers t.transfers
+        (IsPermutation-sym t.transfers u.transfers h.transfers)) k.shows.transfers;
+    receipts = IsPermutation-trans _ _ _
+        (IsPermutation-map part_row u.receipts t.receipts (IsPermutation-sym t.receipts u.receipts h.receipts))
+        k.shows.receipts;
+  };
   format = k.format;
   numbered = k.numbered;
-  units = IsPermutation-trans _ _ _
-      (IsPermutation-map stored_unit u.units t.units (IsPermutation-sym t.units u.units h.units)) k.units;
-  branches = IsPermutation-trans _ _ _
-      (IsPermutation-map stored_branch u.branches t.branches (IsPermutation-sym t.branches u.branches h.branches))
-      k.branches;
-  entries = IsPermutation-trans _ _ _
-      (IsPermutation-map entry_row u.entries t.entries (IsPermutation-sym t.entries u.entries h.entries)) k.entries;
-  legs = IsPermutation-trans _ _ _ (IsPermutation-map leg_row u.legs t.legs (IsPermutation-sym t.legs u.legs h.legs))
-      k.legs;
-  claims = IsPermutation-trans _ _ _
-      (IsPermutation-map claim_row u.claims t.claims (IsPermutation-sym t.claims u.claims h.claims)) k.claims;
-  transfers = IsPermutation-trans _ _ _
-      (IsPermutation-map transfer_row u.transfers t.transfers (IsPermutation-sym t.transfers u.transfers h.transfers))
-      k.transfers;
-  receipts = IsPermutation-trans _ _ _
-      (IsPermutation-map part_row u.receipts t.receipts (IsPermutation-sym t.receipts u.receipts h.receipts))
-      k.receipts;
   keyed = k.keyed;
 }
 

@@ -12,16 +12,14 @@ use Rattle.money_core.specs.declared.cause.Cause.TheVariants.{OutOfMemory, Damag
 use Rattle.treasury_core.specs.declared.rows.Parts.{Parts}
 use Rattle.treasury_core.specs.Federation.{Federation}
 use Rattle.treasury_core.specs.Good.{IsGoodState}
-use Rattle.treasury_core.specs.Rows.{rows, HasShortLocks}
+use Rattle.treasury_core.specs.Rows.{rows}
 use Rattle.treasury_core.proofs.RowsLawLemmas.{same_state}
 use Rattle.treasury_store.specs.declared.store.Store.{Store}
 use Rattle.treasury_store.specs.Tables.{store_schema}
-use Rattle.treasury_store.specs.Rows.{Tables, Holds}
-use Rattle.treasury_store.specs.Shown.{ShowsTables}
+use Rattle.treasury_store.specs.Rows.{Tables, Holds, ShowsTables}
 use Rattle.treasury_store.specs.Kept.{Queries}
 use Rattle.treasury_store.specs.Order.{InOrder}
 use Rattle.treasury_store.specs.Store.{TablesAre, Knows, IsOf}
-use Rattle.treasury_store.proofs.ShownLemmas.{holds_shows}
 use Rattle.treasury_store.proofs.OrderedLemmas.{rows_in_order}
 
 module _ {S : Type 0} (g : Ghosts S) (old new : Held S)
@@ -44,7 +42,7 @@ module _ {S : Type 0} (g : Ghosts S) (old new : Held S)
     pub read_tables_stay : (t : Tables) → TablesAre g old t → TablesAre g new t
     read_tables_stay t are =
         tables_stay t (λ clean is_open. (opened clean).0)
-        (λ clean is_open holds all. let kept = (same clean holds.schema).0 in (kept.now_is, kept.committed_is)) are
+        (λ clean is_open holds all. let kept = (same clean holds.shows.schema).0 in (kept.now_is, kept.committed_is)) are
 
     module _ (parts : Parts) (read : HasCleanDisk (state g new) → (t : Tables) → InOrder t
         → ShowsTables (state g old).now t → parts ≡ t) (f : Federation) (good : IsGoodState f)
@@ -52,7 +50,7 @@ module _ {S : Type 0} (g : Ghosts S) (old new : Held S)
       -- the rows that were read are the state's
       pub parts_are : HasCleanDisk (state g new) → rows f ≡ parts
       parts_are clean = sym (read clean (rows f) (rows_in_order f good)
-          (holds_shows (state g old).now (rows f) (are (cleaner clean) (opened clean).0).0))
+          (are (cleaner clean) (opened clean).0).0.shows)
 
       pub loaded_is : (s : Federation) → IsGoodState s → rows s ≡ parts → HasCleanDisk (state g new) → s ≡ f
       loaded_is s fine built clean = same_state s f fine good (built ∙ sym (parts_are clean))
@@ -64,10 +62,10 @@ module _ {S : Type 0} (g : Ghosts S) (old new : Held S)
 
       -- rows that are no state's are not this one's
       pub not_damaged : (e : Cause) → (e ≡ OutOfMemory)
-          ⊎ ((e ≡ Damaged) × ((x : Federation) → IsGoodState x → HasShortLocks x → rows x ≡ parts → ⊥)) → e ≡ Damaged
-          → HasShortLocks f → HasCleanDisk (state g new) → ⊥
-      not_damaged e (inl memory) is short clean = absurd cc
-      not_damaged e (inr none) is short clean = none.1 f good short (parts_are clean)
+          ⊎ ((e ≡ Damaged) × ((x : Federation) → IsGoodState x → rows x ≡ parts → ⊥)) → e ≡ Damaged
+          → HasCleanDisk (state g new) → ⊥
+      not_damaged e (inl memory) is clean = absurd cc
+      not_damaged e (inr none) is clean = none.1 f good (parts_are clean)
 
 -- whatever an error, this holds of it
 pub any_err : {X E : Type 0} (r : Result X E) (P : Type 0) → P → OnErr r P
@@ -81,7 +79,7 @@ module _ {S X : Type 0} (g : Ghosts S) (old new : Store S) (f : Federation) wher
   failed_of e q numbers of = record {
     good = of.good;
     tables = tables_stay g old.conn new.conn (λ clean. omega (arith, q.survives.clean, clean)) (rows f) q.was_open
-        (λ clean is holds all. q.undone clean is holds.schema all) of.tables;
+        (λ clean is holds all. q.undone clean is holds.shows.schema all) of.tables;
     numbers = numbers ∙ of.numbers;
   }
 
@@ -117,13 +115,12 @@ module _ {S X : Type 0} (g : Ghosts S) (old new : Store S) (f : Federation) wher
 
       pub none_damaged : {Y : Type 0} (r : Result Y Cause) (e : Cause) → IsErrAnd r (λ y. y ≡ e)
           → (e ≡ OutOfMemory)
-          ⊎ ((e ≡ Damaged) × ((x : Federation) → IsGoodState x → HasShortLocks x → rows x ≡ parts → ⊥))
-          → r ≡ Err Damaged → HasShortLocks f → HasCleanDisk (state g new.conn) → ⊥
-      none_damaged r e is why damaged short clean =
+          ⊎ ((e ≡ Damaged) × ((x : Federation) → IsGoodState x → rows x ≡ parts → ⊥))
+          → r ≡ Err Damaged → HasCleanDisk (state g new.conn) → ⊥
+      none_damaged r e is why damaged clean =
           let p = err_from_is_err_and r is in
           let same_cause : p.0 ≡ Damaged = cause_is p.0 (sym p.1 ∙ damaged) in
-          not_damaged g old.conn new.conn cleaner q.opened same parts read f good are e why (sym p.2 ∙ same_cause) short
-          clean
+          not_damaged g old.conn new.conn cleaner q.opened same parts read f good are e why (sym p.2 ∙ same_cause) clean
         where
           cause_is : {Y : Type 0} (x : Cause) → ◌≡◌ {A = Result Y Cause} (Err x) (Err Damaged) → x ≡ Damaged
           cause_is x e = cc
@@ -132,9 +129,9 @@ module _ {S X : Type 0} (g : Ghosts S) (old new : Store S) (f : Federation) wher
 pub none_shown : {Y : Type 0} (db : Database) (parts : Parts)
     → ((t : Tables) → InOrder t → ShowsTables db t → parts ≡ t) → (r : Result Y Cause) (e : Cause)
     → IsErrAnd r (λ y. y ≡ e)
-    → (e ≡ OutOfMemory) ⊎ ((e ≡ Damaged) × ((x : Federation) → IsGoodState x → HasShortLocks x → rows x ≡ parts → ⊥))
-    → r ≡ Err Damaged → (f : Federation) → IsGoodState f → HasShortLocks f → ShowsTables db (rows f) → ⊥
-none_shown db parts read r e is why damaged f good short shows =
+    → (e ≡ OutOfMemory) ⊎ ((e ≡ Damaged) × ((x : Federation) → IsGoodState x → rows x ≡ parts → ⊥))
+    → r ≡ Err Damaged → (f : Federation) → IsGoodState f → ShowsTables db (rows f) → ⊥
+none_shown db parts read r e is why damaged f good shows =
     why_not e (sym p.2 ∙ cause_is p.0 (sym p.1 ∙ damaged)) why
   where
     p : (x : Cause) × (r ≡ Err x) × (x ≡ e)
@@ -145,6 +142,6 @@ none_shown db parts read r e is why damaged f good short shows =
 
     why_not : (e : Cause) → e ≡ Damaged
         → (e ≡ OutOfMemory)
-        ⊎ ((e ≡ Damaged) × ((x : Federation) → IsGoodState x → HasShortLocks x → rows x ≡ parts → ⊥)) → ⊥
+        ⊎ ((e ≡ Damaged) × ((x : Federation) → IsGoodState x → rows x ≡ parts → ⊥)) → ⊥
     why_not e is (inl memory) = absurd cc
-    why_not e is (inr none) = none.1 f good short (sym (read (rows f) (rows_in_order f good) shows))
+    why_not e is (inr none) = none.1 f good (sym (read (rows f) (rows_in_order f good) shows))

@@ -1,17 +1,12 @@
 -- what a command makes of a treasury
 use Rattle.std.proofs.Common.{◌≡◌, ℕ, IsTrue, Bool, true, false, ◌||◌, cond, List, [], ◌∷◌, map, refl, ap, ◌∙◌, sym}
-use Rattle.std.proofs.Common.{subst, arith, inl, inr, Some, None, Ok, Err, ℤ, pos, neg_ℤ, ◌≤ℤ◌, FitsSigned, w32}
-use Rattle.std.proofs.lemmas.Int.{ints}
+use Rattle.std.proofs.Common.{subst, inl, inr, Some, None, Ok, Err}
 use Rattle.std.specs.Prelude.{if◌then◌else◌, find, Result, Option, IfSome, ⊤}
 use Rattle.std.specs.List.{list_any, AllByRecursion}
-use Rattle.std.specs.Str.{bytes_eq}
-use Rattle.money_core.specs.declared.day.Day.{Day}
 use Rattle.money_core.specs.declared.cause.Cause.{Cause}
 use Rattle.money_core.specs.declared.cause.Cause.TheVariants.{Damaged}
 use Rattle.book_core.specs.declared.refusal.Refusal.{Refusal}
 use Rattle.book_core.specs.declared.refusal.Refusal.TheVariants.{Plain}
-use Rattle.journal_lines.specs.Date.{IsDayNumber}
-use Rattle.journal_lines.proofs.DateLemmas.{day_number_bounds}
 use Rattle.sqlite.specs.Store.{Ghosts}
 use Rattle.sqlite.specs.Effect.{Database}
 use Rattle.sqlite.specs.State.{HasCleanDisk, Survives}
@@ -21,19 +16,19 @@ use Rattle.treasury_core.specs.declared.command.Answer.{Answer}
 use Rattle.treasury_core.specs.declared.command.Answer.TheVariants.{Done, Entered, Repeated}
 use Rattle.treasury_core.specs.declared.command.Command.{Command}
 use Rattle.treasury_core.specs.declared.command.Command.TheVariants as cmd
-use Rattle.treasury_core.specs.Federation.{Branch, Federation}
+use Rattle.treasury_core.specs.Federation.{Federation}
 use Rattle.treasury_core.specs.declared.command.Receive.{Receive}
 use Rattle.treasury_core.specs.declared.record.Record.{Record}
 use Rattle.treasury_core.specs.declared.transfer.Transfer.{Transfer}
 use Rattle.treasury_core.specs.declared.delta.Addition.{Addition}
 use Rattle.treasury_core.specs.declared.delta.Addition.TheVariants as add
 use Rattle.treasury_core.specs.Good.{Fits, IsGoodState}
-use Rattle.treasury_core.specs.Joined.{changed, new_branch, with_records, with_lock, joined_one, joined}
-use Rattle.treasury_core.specs.Step.{reply, after, done, added, delta, step, new_records, transfer_of, transfer_at}
-use Rattle.treasury_core.specs.Step.{receipt_of, receipt_additions, with_receipt_of, closing_records}
+use Rattle.treasury_core.specs.Joined.{joined_one, joined}
+use Rattle.treasury_core.specs.Step.{reply, after, added, delta, step, new_records, transfer_at}
+use Rattle.treasury_core.specs.Step.{receipt_additions, closing_records}
 use Rattle.treasury_core.specs.Closing.{closing_in}
-use Rattle.treasury_core.specs.Transfer.{has_id, dispatch_record, receipt_record}
-use Rattle.treasury_core.specs.Rows.{HasShortLock, HasShortLocks, rows}
+use Rattle.treasury_core.specs.Transfer.{has_id}
+use Rattle.treasury_core.specs.Rows.{rows}
 use Rattle.treasury_core.specs.History.{IsRun, state_after}
 use Rattle.treasury_core.specs.Headline.{KeepsBooks}
 use Rattle.treasury_core.proofs.HeadlineLemmas.{keeps_books}
@@ -45,57 +40,6 @@ use Rattle.treasury_store.specs.Store.{IsOf, AnswersState, FailsAs, Finds, Finds
 use Rattle.treasury_store.specs.Treasury.{Treasury, IsTreasuryOf, MayReply, Performs, is_failure, turn_if}
 use Rattle.treasury_store.specs.Treasury.{SurvivesCommand, IsUnfit}
 
--- ---- lock days that a table takes
-
-either : (t : Bool) (P : List Branch → Type 0) (x y : List Branch) → P x → P y → P (if t then x else y)
-either true P x y one other = one
-either false P x y one other = other
-
-short_changed : (change : Branch → Branch) → ((b : Branch) → HasShortLock b → HasShortLock (change b))
-    → (name : List ℕ) (bs : List Branch) → AllByRecursion HasShortLock bs
-    → AllByRecursion HasShortLock (changed change name bs)
-short_changed change keeps name [] all = tt
-short_changed change keeps name (b ∷ bs) all =
-    either (bytes_eq b.name name) (AllByRecursion HasShortLock) (change b ∷ bs) (b ∷ changed change name bs)
-    (keeps b all.0, all.1) (all.0, short_changed change keeps name bs all.1)
-
-short_bounds : (z : ℤ) → neg_ℤ (pos 719_162) ≤ℤ z → z ≤ℤ pos 2_932_896 → FitsSigned w32 z
-short_bounds z low high = omega (arith, ints)
-
-short_day : (day : Day) → IsDayNumber day → FitsSigned w32 day.0
-short_day day number = let bounds = day_number_bounds day number in short_bounds day.0 bounds.0 bounds.1
-
-short_received : (f : Federation) (r : Receive) (o : Option Transfer) → HasShortLocks f
-    → HasShortLocks (with_receipt_of f r o)
-short_received f r None short = short
-short_received f r (Some t) short =
-    short_changed (with_records (receipt_record t (receipt_of t r) ∷ [])) (λ b h. h) r.branch f.branches short
-
-short_done : (f : Federation) (c : Command) → Fits f.styles c → HasShortLocks f → HasShortLocks (done f c)
-unfolding done
-short_done f (cmd.Branch name) fits short = all-append HasShortLock f.branches (new_branch name ∷ []) short (tt, tt)
-short_done f (cmd.Commodity style) fits short = short
-short_done f (cmd.Enter name file) fits short =
-    short_changed (with_records (new_records f name file)) (λ b h. h) name f.branches short
-short_done f (cmd.Dispatch d) fits short =
-    short_changed (with_records (dispatch_record (transfer_of d) ∷ [])) (λ b h. h) d.source f.branches short
-short_done f (cmd.Receive r) fits short = short_received f r (transfer_at f r.id) short
-short_done f (cmd.Lock name day) fits short =
-    short_changed (with_lock day) (λ b h. short_day day fits) name f.branches short
-short_done f (cmd.Close x) fits short =
-    let records = closing_records x.day (closing_in f x.branch x.day x.choice) in
-    short_changed (with_lock x.day) (λ b h. short_day x.day fits) x.branch
-    (changed (with_records records) x.branch f.branches)
-    (short_changed (with_records records) (λ b h. h) x.branch f.branches short)
-
--- after a command that fits, each lock day is still one that a table takes
-pub short_after : (f : Federation) (c : Command) (r : Result Answer Refusal) → Fits f.styles c → HasShortLocks f
-    → HasShortLocks (after f c r)
-short_after f c (Ok Done) fits short = short_done f c fits short
-short_after f c (Ok (Entered new repeated)) fits short = short_done f c fits short
-short_after f c (Ok Repeated) fits short = short
-short_after f c (Err refusal) fits short = short
-
 -- ---- loading
 
 -- what was loaded is the state that the treasury is of
@@ -103,7 +47,6 @@ pub held_again : {S : Type 0} (g : Ghosts S) (old new : Treasury S) (s f : Feder
     → IsTreasuryOf g old f → IsOf g new.store s → s ≡ f → IsTreasuryOf g new f
 held_again g old new s f is was of same = record {
   store = subst (λ (x : Federation). IsOf g new.store x) same of;
-  short = was.short;
   held = subst (λ (o : Option Federation). IfSome o (λ x. x ≡ f)) (sym is) same;
 }
 
@@ -112,15 +55,14 @@ held_again g old new s f is was of same = record {
 -- what was decided, once it is written, is the step
 pub performs_decided : {S : Type 0} (g : Ghosts S) (new : Treasury S) (f : Federation) (c : Command) (a : Answer)
     (next : Federation)
-    → reply f c ≡ Ok a → next ≡ (step f c).next → Fits f.styles c → HasShortLocks f → IsOf g new.store next
+    → reply f c ≡ Ok a → next ≡ (step f c).next → IsOf g new.store next
     → IfSome new.held (λ s. s ≡ next) → Performs g new f c (Ok a)
-performs_decided g new f c a next replied is fits short of held =
+performs_decided g new f c a next replied is of held =
     let same : next ≡ after f c (Ok a) = is ∙ ap (λ (r : Result Answer Refusal). after f c r) replied in
     record {
       replies = inl (inl (sym replied));
       next = record {
         store = subst (λ (s : Federation). IsOf g new.store s) same of;
-        short = short_after f c (Ok a) fits short;
         held = subst (λ (x : Federation). IfSome new.held (λ s. s ≡ x)) same held;
       };
     }
@@ -140,13 +82,11 @@ fits_of g old s f c is of fits =
 -- what is performed on the state in memory is performed on the state that the treasury is of
 pub performs_held : {S : Type 0} (g : Ghosts S) (old new : Treasury S) (s f : Federation) (c : Command)
     (r : Result Answer Refusal)
-    → old.held ≡ Some s → IsTreasuryOf g old f → (IsOf g old.store s → HasShortLocks s → Performs g new s c r)
-    → Performs g new f c r
+    → old.held ≡ Some s → IsTreasuryOf g old f → (IsOf g old.store s → Performs g new s c r) → Performs g new f c r
 performs_held g old new s f c r is of performs =
     let same : s ≡ f = subst (λ (o : Option Federation). IfSome o (λ x. x ≡ f)) is of.held in
     subst (λ (x : Federation). Performs g new x c r) same
-    (performs (subst (λ (x : Federation). IsOf g old.store x) (sym same) of.store)
-    (subst HasShortLocks (sym same) of.short))
+    (performs (subst (λ (x : Federation). IsOf g old.store x) (sym same) of.store))
 
 -- a call that succeeded has not failed
 pub ok_unfailed : {T : Type 0} (x : T) (failed : Bool) → AnswersState (Ok x) failed → failed ≡ false
@@ -248,7 +188,7 @@ module _ {S : Type 0} (g : Ghosts S) (old new : Treasury S) (c : Command) where
   -- a state that is loaded at most
   pub survives_load : KeepsTables g old.store.conn new.store.conn → SurvivesCommand g old new c
   survives_load left = survives_weaker (state g old.store.conn) (state g new.store.conn) _ _
-      (λ clean trees none f of fits h. absurd (none h.schema)) left
+      (λ clean trees none f of fits h. absurd (none h.shows.schema)) left
 
   -- a command that is settled on the state in memory, behind that
   pub survives_settle : (mid : Treasury S) (s : Federation)
@@ -261,7 +201,7 @@ module _ {S : Type 0} (g : Ghosts S) (old new : Treasury S) (c : Command) where
       → SurvivesChange g mid.store new.store.conn s (step s c).next → SurvivesCommand g old new c
   survives_settle mid s cleaner held of_mid rows_mid is settled =
       survives_then (state g old.store.conn) (state g mid.store.conn) (state g new.store.conn) _ _ _
-      (λ clean trees none f of fits h. absurd (none h.schema))
+      (λ clean trees none f of fits h. absurd (none h.shows.schema))
       (λ clean trees made f of fits h.
       let there = of_mid (cleaner clean) f of in
       let same : s ≡ f = subst (λ (o : Option Federation). IfSome o (λ x. x ≡ f)) is there.held in

@@ -27,8 +27,10 @@ use Rattle.sqlite.specs.Held.{Held, state}
 use Rattle.sqlite.proofs.StateLemmas.{survives_then, survives_weaker}
 use Rattle.sqlite.proofs.Callers.{statement_of, runs_as, one_permutation}
 use Rattle.treasury_store.specs.Tables.{format, receipt, store_schema, first_schema}
-use Rattle.treasury_store.specs.Rows.{Tables, Holds, HoldsFirst, HoldsEither, versions, stored_unit, stored_branch}
-use Rattle.treasury_store.specs.Rows.{entry_row, leg_row, claim_row, transfer_row, part_row}
+use Rattle.treasury_store.specs.Rows.{Tables, Holds, HoldsFirst, HoldsEither, versions}
+use Rattle.treasury_store.specs.Rows.{unit_row, branch_row, entry_row, leg_row, claim_row, transfer_row, part_row}
+use Rattle.treasury_store.specs.Rows.{shown_unit, shown_branch, shown_entry, shown_leg, shown_claim, shown_transfer}
+use Rattle.treasury_store.specs.Rows.{shown_part}
 use Rattle.treasury_store.specs.Creating.{has_receipt, Makes}
 use Rattle.treasury_store.specs.Opening.{AreOurs, IsFirst, IsFirstNumbered}
 use Rattle.treasury_store.specs.Upgrading.{SetsVersion, Upgrades, AreUpgraded}
@@ -164,19 +166,23 @@ then_upgrade old mid new is_first one same two =
 -- ---- the tables hold version 2 of what they held
 pub upgraded_holds : (a c : Database) (t : Tables) → HoldsFirst a t → Upgrades a c → Holds c t
 upgraded_holds a c t holds up = record {
-  schema = up.schema;
+  shows = record {
+    schema = up.schema;
+    units = subst (λ rs. IsPermutation (map unit_row t.units) (map shown_unit rs)) (sym up.others.0) holds.units;
+    branches = subst (λ rs. IsPermutation (map branch_row t.branches) (map shown_branch rs)) (sym up.others.1.0)
+        holds.branches;
+    entries = subst (λ rs. IsPermutation (map entry_row t.entries) (map shown_entry rs)) (sym up.others.1.1.0)
+        holds.entries;
+    legs = subst (λ rs. IsPermutation (map leg_row t.legs) (map shown_leg rs)) (sym up.others.1.1.1.0) holds.legs;
+    claims = subst (λ rs. IsPermutation (map claim_row t.claims) (map shown_claim rs)) (sym up.others.1.1.1.1.0)
+        holds.claims;
+    transfers = subst (λ rs. IsPermutation (map transfer_row t.transfers) (map shown_transfer rs))
+        (sym up.others.1.1.1.1.1.0) holds.transfers;
+    receipts = subst₂ (λ ps rs. IsPermutation (map part_row ps) (map shown_part rs)) (sym holds.receipts) (sym up.empty)
+        (IsPermutation-refl []);
+  };
   format = up.version;
   numbered = up.numbered;
-  units = subst (IsPermutation (map stored_unit t.units)) (sym up.others.0) holds.units;
-  branches = subst (IsPermutation (map stored_branch t.branches)) (sym up.others.1.0) holds.branches;
-  entries = subst (λ rs. IsPermutation (map entry_row t.entries) (map (drop 1) rs)) (sym up.others.1.1.0) holds.entries;
-  legs = subst (λ rs. IsPermutation (map leg_row t.legs) (map (drop 1) rs)) (sym up.others.1.1.1.0) holds.legs;
-  claims =
-      subst (λ rs. IsPermutation (map claim_row t.claims) (map (drop 1) rs)) (sym up.others.1.1.1.1.0) holds.claims;
-  transfers = subst (λ rs. IsPermutation (map transfer_row t.transfers) (map (drop 1) rs)) (sym up.others.1.1.1.1.1.0)
-      holds.transfers;
-  receipts = subst₂ (λ ps rs. IsPermutation (map part_row ps) (map (drop 1) rs)) (sym holds.receipts) (sym up.empty)
-      (IsPermutation-refl []);
   keyed = subst (IsShaped shape.Table) (sym up.others.1.1.1.1.1.0) holds.keyed;
 }
 
@@ -191,6 +197,6 @@ opened_holds g old new first same settled t (inr holds) clean is_open =
     let up = first clean (record { schema = holds.schema; version = holds.format }, holds.numbered) in
     (upgraded_holds (state g old).now (state g new).now t holds up.0, up.1)
 opened_holds g old new first same settled t (inl holds) clean is_open =
-    let kept = same clean (ours_second (state g old).now.schema holds.schema)
-    (λ is. not_first (state g old).now (ap has_receipt holds.schema ∙ second_more) is) in
+    let kept = same clean (ours_second (state g old).now.schema holds.shows.schema)
+    (λ is. not_first (state g old).now (ap has_receipt holds.shows.schema ∙ second_more) is) in
     (subst (λ (d : Database). Holds d t) (sym kept.0) holds, kept.1 ∙ (settled ∙ sym kept.0))

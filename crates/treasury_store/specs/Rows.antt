@@ -1,8 +1,8 @@
--- What the tables hold (docs/FORMATS.md, "Tables").
-use Rattle.std.specs.Prelude.{◌≡◌, ◌⊎◌, ℕ, ℤ, pos, Some, List, [], ◌∷◌, map, drop, fold, if◌then◌else◌, IsPermutation}
+-- What the tables show and hold (docs/FORMATS.md, "Tables"): their rows as a query reads them, column by column.
+use Rattle.std.specs.Prelude.{◌≡◌, ◌⊎◌, ℕ, ℤ, pos, Some, List, [], ◌∷◌, map, fold, if◌then◌else◌, IsPermutation}
 use Rattle.std.specs.Ordering.{int_eq}
 use Rattle.std.specs.Str.{bytes_eq}
-use Rattle.sqlite.specs.declared.types.Value.TheVariants.{Null, Int, Text}
+use Rattle.sqlite.specs.declared.types.Value.TheVariants.{Int, Text}
 use Rattle.sqlite.specs.declared.types.Value.{Value}
 use Rattle.sqlite.specs.Order.{Row, column}
 use Rattle.sqlite.specs.Values.{or_null}
@@ -50,18 +50,6 @@ transfer_row x =
 abbrev pub part_row : PartRow → Row
 part_row p = Text p.transfer ∷ Text p.part ∷ Int p.qty ∷ Int p.received ∷ Text p.payee ∷ []
 
--- a commodity and a branch as their trees have them: the number is the rowid, and stands as NULL in its own column
-abbrev pub stored_unit : UnitRow → Row
-stored_unit u =
-    Int u.nr ∷ Null ∷ Text u.symbol ∷ Int u.decimals ∷ Text u.mark ∷ Int u.grouped ∷ Int u.leftside ∷ Int u.spaced ∷ []
-
-abbrev pub stored_branch : BranchRow → Row
-stored_branch b = Int b.nr ∷ Null ∷ Text b.name ∷ or_null Int b.locked ∷ []
-
--- what `format` holds
-abbrev pub versions : Database → List Value
-versions db = map (λ r. column r 1) (db.trees 0)
-
 -- the rows of each table but `format`, in any order
 abbrev pub Tables : Type 0
 Tables = Parts
@@ -69,19 +57,53 @@ Tables = Parts
 abbrev pub no_rows : Tables
 no_rows = record { units = []; branches = []; entries = []; legs = []; claims = []; transfers = []; receipts = [] }
 
--- The database is these tables, and no other, and `format` has the one row 2. Rowids that are no column are not looked
--- at, but those of `format` and of transfers are integers that rise, as SQLite has no others: an UPDATE goes by them.
-pub record Holds (db : Database) (t : Tables) : Type 0 where
+-- ---- what tables show and hold
+-- The columns of a stored row. Column 0 is the rowid, which is the number of a commodity and of a branch; a column that
+-- the row lacks is NULL.
+abbrev pub shown_unit : Row → Row
+shown_unit r = column r 0 ∷ column r 2 ∷ column r 3 ∷ column r 4 ∷ column r 5 ∷ column r 6 ∷ column r 7 ∷ []
+
+abbrev pub shown_branch : Row → Row
+shown_branch r = column r 0 ∷ column r 2 ∷ column r 3 ∷ []
+
+abbrev pub shown_entry : Row → Row
+shown_entry r = column r 1 ∷ column r 2 ∷ column r 3 ∷ column r 4 ∷ column r 5 ∷ []
+
+abbrev pub shown_leg : Row → Row
+shown_leg r = column r 1 ∷ column r 2 ∷ column r 3 ∷ column r 4 ∷ column r 5 ∷ column r 6 ∷ []
+
+abbrev pub shown_claim : Row → Row
+shown_claim r = column r 1 ∷ column r 2 ∷ column r 3 ∷ column r 4 ∷ column r 5 ∷ column r 6 ∷ []
+
+abbrev pub shown_transfer : Row → Row
+shown_transfer r = column r 1 ∷ column r 2 ∷ column r 3 ∷ column r 4 ∷ column r 5 ∷ column r 6 ∷ column r 7 ∷ column r 8
+    ∷ column r 9 ∷ []
+
+abbrev pub shown_part : Row → Row
+shown_part r = column r 1 ∷ column r 2 ∷ column r 3 ∷ column r 4 ∷ column r 5 ∷ []
+
+-- The database is our tables, and these are their rows, in any order.
+pub record ShowsTables (db : Database) (t : Tables) : Type 0 where
   pub schema : db.schema ≡ store_schema
+  pub units : IsPermutation (map unit_row t.units) (map shown_unit (db.trees 1))
+  pub branches : IsPermutation (map branch_row t.branches) (map shown_branch (db.trees 3))
+  pub entries : IsPermutation (map entry_row t.entries) (map shown_entry (db.trees 5))
+  pub legs : IsPermutation (map leg_row t.legs) (map shown_leg (db.trees 8))
+  pub claims : IsPermutation (map claim_row t.claims) (map shown_claim (db.trees 10))
+  pub transfers : IsPermutation (map transfer_row t.transfers) (map shown_transfer (db.trees 12))
+  pub receipts : IsPermutation (map part_row t.receipts) (map shown_part (db.trees 14))
+
+-- what `format` holds
+abbrev pub versions : Database → List Value
+versions db = map (λ r. column r 1) (db.trees 0)
+
+-- The database is these tables, and no other; they show these rows, and `format` has the one row 2. Rowids that are no
+-- column are not looked at, but those of `format` and of transfers are integers that rise, as SQLite has no others: an
+-- UPDATE goes by them.
+pub record Holds (db : Database) (t : Tables) : Type 0 where
+  pub shows : ShowsTables db t
   pub format : versions db ≡ Int (pos 2) ∷ []
   pub numbered : IsShaped shape.Table (db.trees 0)
-  pub units : IsPermutation (map stored_unit t.units) (db.trees 1)
-  pub branches : IsPermutation (map stored_branch t.branches) (db.trees 3)
-  pub entries : IsPermutation (map entry_row t.entries) (map (drop 1) (db.trees 5))
-  pub legs : IsPermutation (map leg_row t.legs) (map (drop 1) (db.trees 8))
-  pub claims : IsPermutation (map claim_row t.claims) (map (drop 1) (db.trees 10))
-  pub transfers : IsPermutation (map transfer_row t.transfers) (map (drop 1) (db.trees 12))
-  pub receipts : IsPermutation (map part_row t.receipts) (map (drop 1) (db.trees 14))
   pub keyed : IsShaped shape.Table (db.trees 12)
 
 -- The same of version 1, which has seven tables and the row 1, and no receipts in parts.
@@ -89,12 +111,12 @@ pub record HoldsFirst (db : Database) (t : Tables) : Type 0 where
   pub schema : db.schema ≡ first_schema
   pub format : versions db ≡ Int (pos 1) ∷ []
   pub numbered : IsShaped shape.Table (db.trees 0)
-  pub units : IsPermutation (map stored_unit t.units) (db.trees 1)
-  pub branches : IsPermutation (map stored_branch t.branches) (db.trees 3)
-  pub entries : IsPermutation (map entry_row t.entries) (map (drop 1) (db.trees 5))
-  pub legs : IsPermutation (map leg_row t.legs) (map (drop 1) (db.trees 8))
-  pub claims : IsPermutation (map claim_row t.claims) (map (drop 1) (db.trees 10))
-  pub transfers : IsPermutation (map transfer_row t.transfers) (map (drop 1) (db.trees 12))
+  pub units : IsPermutation (map unit_row t.units) (map shown_unit (db.trees 1))
+  pub branches : IsPermutation (map branch_row t.branches) (map shown_branch (db.trees 3))
+  pub entries : IsPermutation (map entry_row t.entries) (map shown_entry (db.trees 5))
+  pub legs : IsPermutation (map leg_row t.legs) (map shown_leg (db.trees 8))
+  pub claims : IsPermutation (map claim_row t.claims) (map shown_claim (db.trees 10))
+  pub transfers : IsPermutation (map transfer_row t.transfers) (map shown_transfer (db.trees 12))
   pub receipts : t.receipts ≡ []
   pub keyed : IsShaped shape.Table (db.trees 12)
 

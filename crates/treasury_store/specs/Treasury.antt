@@ -11,7 +11,7 @@ use Rattle.sqlite.specs.Held.{state}
 use Rattle.treasury_core.specs.declared.command.Answer.{Answer}
 use Rattle.treasury_core.specs.declared.command.Command.{Command}
 use Rattle.treasury_core.specs.Federation.{Federation}
-use Rattle.treasury_core.specs.Rows.{HasShortLocks, rows}
+use Rattle.treasury_core.specs.Rows.{rows}
 use Rattle.treasury_core.specs.Step.{reply, after, delta, step}
 use Rattle.treasury_core.specs.Good.{Fits}
 use Rattle.treasury_core.specs.History.{Turn, Replies}
@@ -24,11 +24,9 @@ pub record Treasury (S : Type 0) : Type 0 where
   pub store : Store S
   pub held : Option Federation
 
--- The treasury is of a good state: its store is, no lock day is past what a table takes, and the state in memory, while
--- it is held, is that one.
+-- The treasury is of a good state: its store is, and the state in memory, while it is held, is that one.
 pub record IsTreasuryOf {S : Type 0} (g : Ghosts S) (t : Treasury S) (f : Federation) : Type 0 where
   pub store : IsOf g t.store f
-  pub short : HasShortLocks f
   pub held : IfSome t.held (λ s. s ≡ f)
 
 -- the reply is the step's, or 40 or 41

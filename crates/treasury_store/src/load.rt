@@ -12,8 +12,8 @@ ghost use Rattle.sqlite.specs.Held.{state};
 ghost use Rattle.treasury_store.specs.Tables.{store_schema};
 ghost use Rattle.treasury_store.specs.Rows.{Tables, unit_row, branch_row, entry_row, leg_row, claim_row, transfer_row};
 ghost use Rattle.treasury_store.specs.Rows.{part_row};
-ghost use Rattle.treasury_store.specs.Shown.{ShowsTables, shown_unit, shown_branch, shown_entry, shown_leg};
-ghost use Rattle.treasury_store.specs.Shown.{shown_claim, shown_transfer, shown_part};
+ghost use Rattle.treasury_store.specs.Rows.{ShowsTables, shown_unit, shown_branch, shown_entry, shown_leg};
+ghost use Rattle.treasury_store.specs.Rows.{shown_claim, shown_transfer, shown_part};
 ghost use Rattle.treasury_store.specs.Kept.{Queries};
 ghost use Rattle.treasury_store.specs.Order.{InOrder};
 

@@ -9,10 +9,9 @@ ghost use Rattle.sqlite_trees.specs.View.{doubt};
 ghost use Rattle.treasury_core.specs.Federation.{Federation};
 ghost use Rattle.treasury_core.specs.Good.{IsGoodState};
 ghost use Rattle.treasury_core.specs.Joined.{joined};
-ghost use Rattle.treasury_core.specs.Rows.{rows, HasShortLocks};
-ghost use Rattle.treasury_store.specs.Rows.{Tables, Holds, HoldsEither};
+ghost use Rattle.treasury_core.specs.Rows.{rows};
+ghost use Rattle.treasury_store.specs.Rows.{Tables, Holds, HoldsEither, ShowsTables};
 ghost use Rattle.treasury_store.specs.Kept.{ChangesNothing, KeepsTables, StaysAsIs};
-ghost use Rattle.treasury_store.specs.Shown.{ShowsTables};
 ghost use Rattle.treasury_store.specs.Tables.{no_schema, store_schema};
 ghost use Rattle.treasury_store.specs.Creating.{has_one, has_all, has_counter, Beside, SurvivesMaking};
 ghost use Rattle.treasury_store.specs.Opening.{AreOurs, IsFirst, IsFirstNumbered, IsSecond};
@@ -224,15 +223,14 @@ impl<S: Alter> Store<S> {
         ensures good { IfOk result IsGoodState }
         ensures still_open { OnOk result
             (HasCleanDisk (state S.Store self.new.conn) → IsTrue (state S.Store self.new.conn).is_open) }
-        // No state in memory has a lock day that is not in 32 bits.
         ensures damaged { result ≡ Err Cause.Damaged → HasCleanDisk (state S.Store self.new.conn) → (f : Federation)
-            → IsGoodState f → HasShortLocks f → TablesAre S.Store self.old.conn (rows f) → ⊥ }
+            → IsGoodState f → TablesAre S.Store self.old.conn (rows f) → ⊥ }
         // What is loaded has the rows that our tables show, whatever they are, and 43 says that no such state has them.
         ensures shown { IfOk result (λ s. HasCleanDisk (state S.Store self.new.conn)
             → (state S.Store self.old.conn).now.schema ≡ store_schema
             → ShowsTables (state S.Store self.old.conn).now (rows s)) }
         ensures unfit { result ≡ Err Cause.Damaged → HasCleanDisk (state S.Store self.new.conn) → (f : Federation)
-            → IsGoodState f → HasShortLocks f → ShowsTables (state S.Store self.old.conn).now (rows f) → ⊥ }
+            → IsGoodState f → ShowsTables (state S.Store self.old.conn).now (rows f) → ⊥ }
         ensures err { OnErr result ((f : Federation) → IsOf S.Store self.old f → IsOf S.Store self.new f) }
         ensures tables { OnErr result ((t : Tables) → TablesAre S.Store self.old.conn t
             → TablesAre S.Store self.new.conn t) }

@@ -8,14 +8,14 @@ ghost use Rattle.sqlite.specs.Effect.{Database};
 ghost use Rattle.treasury_core.specs.Federation.{Federation};
 ghost use Rattle.treasury_core.specs.Good.{IsGoodState, Fits};
 ghost use Rattle.treasury_core.specs.Joined.{joined};
-ghost use Rattle.treasury_core.specs.Rows.{rows, HasShortLocks};
+ghost use Rattle.treasury_core.specs.Rows.{rows};
 ghost use Rattle.treasury_core.specs.Step.{step};
 ghost use Rattle.treasury_core.specs.History.{Replies, state_after};
 ghost use Rattle.treasury_core.specs.Headline.{KeepsBooks};
 ghost use Rattle.treasury_store.specs.Tables.{store_schema};
-ghost use Rattle.treasury_store.specs.Rows.{Holds, AreTreesOf, Tables};
+ghost use Rattle.treasury_store.specs.Rows.{Holds, AreTreesOf, Tables, ShowsTables};
 ghost use Rattle.treasury_store.specs.Kept.{KeepsTables, ShutsByFault, StaysAsIs};
-ghost use Rattle.treasury_store.specs.Shown.{ShowsTables, ShowsNoState};
+ghost use Rattle.treasury_store.specs.Shown.{ShowsNoState};
 ghost use Rattle.treasury_store.specs.Store.{TablesAre, Knows, IsOf, Joins, Answers, AnswersState, FailsAs};
 ghost use Rattle.treasury_store.specs.Treasury.{IsTreasuryOf, MayReply, Performs, turn_if, SurvivesCommand, IsUnfit};
 ghost use Rattle.treasury_store.specs.Treasury.{AddsNothing, FailsBy, IsListed};
@@ -68,11 +68,11 @@ impl<S: Alter> Treasury<S> {
     /// Where the tables are no state's rows, it answers 43, and 40 to 42 as `Store::load`; the store is handed back.
     pub fn start(alloc: Global, mut store: Store<S>) -> Result<Self, Unstarted<S>>
         ensures of { IfOk result (λ t. HasCleanDisk (state S.Store t.store.conn) → (f : Federation) → IsGoodState f
-            → HasShortLocks f → TablesAre S.Store store.conn (rows f) → IsTreasuryOf S.Store t f) }
+            → TablesAre S.Store store.conn (rows f) → IsTreasuryOf S.Store t f) }
         ensures held { IfOk result (λ t. IsSome t.held) }
         ensures open { IfOk result (λ t. t.store.failed ≡ false) }
         ensures damaged { IfErr result (λ r. r.cause ≡ Cause.Damaged → HasCleanDisk (state S.Store r.store.conn)
-            → (f : Federation) → IsGoodState f → HasShortLocks f → TablesAre S.Store store.conn (rows f) → ⊥) }
+            → (f : Federation) → IsGoodState f → TablesAre S.Store store.conn (rows f) → ⊥) }
         ensures back { IfErr result (λ r. (f : Federation) → IsOf S.Store store f → IsOf S.Store r.store f) }
         ensures closed { IsTrue store.failed → result ≡ Err (record { store = store; cause = Cause.Closed }) }
         // 40, 41 and 43, and the store is shut after 41 alone.
@@ -218,7 +218,7 @@ impl<S: Alter> Treasury<S> {
     fn settle(&mut self, now: State<DayLedger>, command: &Command) -> Result<Answer, Refusal>
         requires fits { Fits now.styles command.now }
         requires known { Knows self.old.store now }
-        ensures performs { IsOf S.Store self.old.store now → HasShortLocks now → self.old.store.failed ≡ false
+        ensures performs { IsOf S.Store self.old.store now → self.old.store.failed ≡ false
             → Performs S.Store self.new now command.now result }
         ensures fails { self.old.store.failed ≡ false → FailsBy result self.new.store.failed }
         ensures replies { self.old.store.failed ≡ false → MayReply now command.now result }

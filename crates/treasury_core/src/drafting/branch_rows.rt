@@ -6,10 +6,9 @@ ghost use Rattle.std.specs.Option.{option_map};
 ghost use Rattle.money_core.specs.declared.day.Day.{Day as DayNumber};
 ghost use Rattle.treasury_core.specs.declared.rows.EntryRow.{EntryRow as Row};
 ghost use Rattle.treasury_core.specs.Federation.{Branch as FederationBranch};
-ghost use Rattle.treasury_core.specs.Good.{IsGoodRecord};
-ghost use Rattle.treasury_core.specs.Rows.{branch_row, branch_rows_from, entry_rows_from, entry_rows_in, IsShort};
-ghost use Rattle.treasury_core.specs.Rows.{HasShortLock};
-ghost use Rattle.treasury_core.specs.Drafted.{IsKeptReading};
+ghost use Rattle.treasury_core.specs.Good.{IsGoodRecord, IsShort};
+ghost use Rattle.treasury_core.specs.Rows.{branch_row, branch_rows_from, entry_rows_from, entry_rows_in};
+ghost use Rattle.treasury_core.specs.Drafted.{IsKeepable, IsReading};
 
 use super::entry_rows::read_records;
 use super::number::{is_number, read_day, rows_before, rows_from};
@@ -20,8 +19,8 @@ use std::alloc::Global;
 
 /// The day of a lock, if there is one.
 fn read_lock(locked: Option<i64>) -> Result<Option<Day>, Cause>
-    ensures { IsKeptReading (λ (o : Option DayNumber). IfSome o IsShort)
-        (λ (o : Option DayNumber). option_map (λ (d : DayNumber). d.0) o ≡ locked) result }
+    ensures { IsReading (λ (o : Option DayNumber). IfSome o IsShort
+        × (option_map (λ (d : DayNumber). d.0) o ≡ locked)) result }
 {
     match locked {
         Some(value) => {
@@ -57,8 +56,7 @@ fn read_branch(
     row: &BranchRow,
     entries: &[EntryRow],
 ) -> Result<DraftBranch, Cause>
-    ensures reads { IsKeptReading HasShortLock
-        (λ (b : FederationBranch). AllByRecursion (IsGoodRecord styles.now) b.records
+    ensures reads { IsReading (λ (b : FederationBranch). IsKeepable styles.now b
         × ((branch_row nr b ≡ row.now) × (entry_rows_from styles.now nr 1 b.records ≡ entries.now))) result }
     ensures good { IfOk result (λ b. AllByRecursion (IsGoodRecord styles.now) b.records) }
 {
@@ -82,9 +80,7 @@ pub(super) fn read_branches(
     rows: &[BranchRow],
     entries: &[EntryRow],
 ) -> Result<Items<DraftBranch>, Cause>
-    ensures reads { IsKeptReading (AllByRecursion HasShortLock)
-        (λ (bs : List FederationBranch).
-        AllByRecursion (λ (b : FederationBranch). AllByRecursion (IsGoodRecord styles.now) b.records) bs
+    ensures reads { IsReading (λ (bs : List FederationBranch). AllByRecursion (IsKeepable styles.now) bs
         × ((branch_rows_from 0 bs ≡ rows.now) × (entry_rows_in styles.now 0 bs ≡ entries.now))) result }
     ensures good { IfOk result (AllByRecursion
         (λ (b : FederationBranch). AllByRecursion (IsGoodRecord styles.now) b.records)) }

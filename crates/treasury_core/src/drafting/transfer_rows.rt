@@ -8,8 +8,8 @@ ghost use Rattle.treasury_core.specs.declared.transfer.Part.{Part as TransferPar
 ghost use Rattle.treasury_core.specs.declared.transfer.Receipt.{Receipt as TransferReceipt};
 ghost use Rattle.treasury_core.specs.declared.transfer.Transfer.{Transfer as FederationTransfer};
 ghost use Rattle.treasury_core.specs.Federation.{has_name, name_place};
-ghost use Rattle.treasury_core.specs.Good.{AreAscending};
-ghost use Rattle.treasury_core.specs.Rows.{transfer_row, part_row, part_rows, IsShort};
+ghost use Rattle.treasury_core.specs.Good.{AreAscending, IsShort};
+ghost use Rattle.treasury_core.specs.Rows.{transfer_row, part_row, part_rows};
 ghost use Rattle.treasury_core.specs.Drafted.{IsReading, HasShortReceipt, HaveShortDays, IsNamed};
 
 use super::number::{read_day, read_place, read_unit, rows_before, rows_from};

@@ -1,12 +1,12 @@
 //! Records with the marks of closings.
 
-ghost use Rattle.std.specs.Prelude.{◌≡◌, ◌↔◌, IsTrue, IfOk};
+ghost use Rattle.std.specs.Prelude.{◌≡◌, ◌↔◌, IsTrue, IfOk, IfSome};
 ghost use Rattle.std.specs.List.{AllByRecursion};
 ghost use Rattle.std.specs.Result.{IsOkUnless};
 ghost use Rattle.journal_lines.specs.Date.{IsDayNumber};
 ghost use Rattle.treasury_core.specs.declared.record.Record.{Record as Row};
 ghost use Rattle.treasury_core.specs.Mark.{is_closing};
-ghost use Rattle.treasury_core.specs.Good.{IsLockedClosing, IsWithinLock};
+ghost use Rattle.treasury_core.specs.Good.{IsLockedClosing, IsShort, IsWithinLock};
 
 use crate::closing::close_mark;
 use crate::enter::is_locked;
@@ -35,6 +35,8 @@ fn is_locked_closing(alloc: Global, lock: Option<Day>, row: &Record) -> Result<b
 pub(super) fn are_closings(alloc: Global, lock: Option<Day>, rows: &[Record]) -> Result<bool, Cause>
     requires { AllByRecursion (λ (r : Row). IsDayNumber r.entry.day) rows.now }
     ensures value { IfOk result (λ is. IsTrue is ↔ AllByRecursion (IsWithinLock lock) rows.now) }
+    // A day in memory has 32 bits.
+    ensures short { IfSome lock IsShort }
     ensures memory { IsOkUnless result Cause.OutOfMemory }
 {
     for row in rows {

@@ -6,4 +6,4 @@ use Rattle.treasury.proofs.words.treasury_in_memory.Goals as goal
 pub returns-in-Ok-start-clause-of : goal.returns-in-Ok-start-clause-of
 returns-in-Ok-start-clause-of c =
     let made = c.in-Ok.ensures.made c.in_ok-conn.ensures.empty.2 in
-    c.in-Ok-start.ensures.of (memory_is_clean c.in-Ok-start.treasury.store.conn) empty_state made.good tt made.tables
+    c.in-Ok-start.ensures.of (memory_is_clean c.in-Ok-start.treasury.store.conn) empty_state made.good made.tables

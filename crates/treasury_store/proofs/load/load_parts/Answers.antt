@@ -3,7 +3,7 @@ use Rattle.sqlite.specs.State.{HasCleanDisk}
 use Rattle.sqlite.specs.Held.{state}
 use Rattle.sqlite.specs.Effect.{Database}
 use Rattle.treasury_store.specs.Rows.{branch_row, entry_row, leg_row, claim_row, transfer_row, part_row}
-use Rattle.treasury_store.specs.Shown.{shown_branch, shown_entry, shown_leg, shown_claim, shown_transfer, shown_part}
+use Rattle.treasury_store.specs.Rows.{shown_branch, shown_entry, shown_leg, shown_claim, shown_transfer, shown_part}
 use Rattle.treasury_store.proofs.QueriesLemmas.{same_error, quiet, quiet_more, quiet_error, quiet_ok, seen_before}
 use Rattle.treasury_store.proofs.load.load_parts.Goals as goal
 

@@ -5,7 +5,6 @@ use Rattle.treasury_core.specs.declared.rows.EntryRow.{EntryRow}
 use Rattle.treasury_core.specs.Federation.{Branch}
 use Rattle.treasury_core.specs.Good.{IsGoodRecord}
 use Rattle.treasury_core.specs.Drafted.{IsFault}
-use Rattle.treasury_core.specs.Rows.{HasShortLock}
 use Rattle.treasury_core.proofs.ChangeLemmas.{all-append}
 use Rattle.treasury_core.proofs.DraftLemmas.{exit, pushed_length}
 use Rattle.treasury_core.proofs.BranchRowLemmas.{AreGood, HasRow, IsBranchFront, branch_start, branch_next}
@@ -31,8 +30,7 @@ returns-in_err-branch-clause-reads c =
     (ap (λ (bs : List Branch). length bs) c.items-nr.ensures ∙ c.branch.invariant.count)
     c.count_own-count.ensures.value c.branch.invariant.front
     (subst (λ (own : List EntryRow).
-    IsFault (λ (b : Branch).
-    HasShortLock b × HasRow c.args.styles.now (length c.items-nr.result.now) c.row-item.result own b)
+    IsFault (HasRow c.args.styles.now (length c.items-nr.result.now) c.row-item.result own)
     c.in_err-branch.field-0.0) c.rows_before.ensures c.in_err-branch.ensures.reads))
 
 pub branch-preserved : goal.branch-preserved

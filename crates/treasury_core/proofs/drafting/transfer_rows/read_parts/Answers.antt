@@ -1,6 +1,7 @@
 use Rattle.std.proofs.Common.{◌≡◌, ◌∙◌, ℕ, List, refl, sym, subst, map}
 use Rattle.treasury_core.specs.declared.transfer.Part.{Part}
-use Rattle.treasury_core.specs.Rows.{part_row, IsShort}
+use Rattle.treasury_core.specs.Good.{IsShort}
+use Rattle.treasury_core.specs.Rows.{part_row}
 use Rattle.treasury_core.specs.Drafted.{HaveShortDays}
 use Rattle.treasury_core.proofs.DraftLemmas.{exit, fault_of, numbered, IsFront, front_start, front_next, front_fault}
 use Rattle.treasury_core.proofs.DraftLemmas.{front_end, all_middle}

@@ -1,6 +1,6 @@
 use Rattle.std.proofs.Common.{Some, refl, ap, sym, subst, arith}
 use Rattle.sqlite.specs.Held.{state}
-use Rattle.treasury_store.specs.Shown.{ShowsTables}
+use Rattle.treasury_store.specs.Rows.{ShowsTables}
 use Rattle.treasury_store.specs.Numbers.{Numbering}
 use Rattle.treasury_store.proofs.FailingLemmas.{survives_behind, queries_behind}
 use Rattle.treasury_store.proofs.LeftLemmas.{leaves_same}
@@ -34,10 +34,10 @@ returns-in_err-now-clause-err g c =
     (λ f of. read_of g.S.Store c.args.self.now _ f _ c.in-Ok.ensures.queries c.in-Ok.ensures.same refl of)
 
 pub returns-in_err-now-clause-damaged : goal.returns-in_err-now-clause-damaged
-returns-in_err-now-clause-damaged g c damaged clean f good short are =
+returns-in_err-now-clause-damaged g c damaged clean f good are =
     none_damaged g.S.Store c.args.self.now (record c.args.self.now { conn = c.load_parts.new.conn }) f _
     c.in-Ok.ensures.queries c.in-Ok.ensures.same c.in-Ok.parts c.in-Ok.ensures.parts good are c.from_residual.result
-    _ c.from_residual.ensures.1 c.in_err-now.ensures.err damaged short clean
+    _ c.from_residual.ensures.1 c.in_err-now.ensures.err damaged clean
 
 pub returns-in_err-now-clause-unfit : goal.returns-in_err-now-clause-unfit
 returns-in_err-now-clause-unfit g c damaged clean =

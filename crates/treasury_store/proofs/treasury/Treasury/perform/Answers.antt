@@ -48,8 +48,8 @@ returns-clause-performs g c clean unfailed f was fits =
     (ok_unfailed c.in-Ok.field-0 _ (c.in-Ok.ensures.answers unfailed)) in
     performs_held g.S.Store (record { store = c.self-2.inside.store; held = c.self-2.inside.held }) c.settle.new.self
     c.in-Some.now f c.args.command c.settle.result (search rules) of
-    (λ store short. c.settle.ensures.performs (subst (λ (s : Store _). IsOf g.S.Store s c.in-Some.now) (sym here) store)
-    short (ap (λ (s : Store _). s.failed) here ∙ still))
+    (λ store. c.settle.ensures.performs (subst (λ (s : Store _). IsOf g.S.Store s c.in-Some.now) (sym here) store)
+    (ap (λ (s : Store _). s.failed) here ∙ still))
 
 pub returns-clause-unfit : goal.returns-clause-unfit
 returns-clause-unfit g c clean unfailed f was unfit =

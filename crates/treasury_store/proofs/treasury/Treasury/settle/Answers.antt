@@ -10,9 +10,9 @@ write-requires-clause-good g c =
     c.in-Ok.ensures.good
 
 pub returns-in-Ok-write-clause-performs : goal.returns-in-Ok-write-clause-performs
-returns-in-Ok-write-clause-performs g c of short unfailed =
-    performs_decided g.S.Store _ c.args.now c.args.command.now _ _ (search rules) c.in-Ok.ensures.joined c.requires.fits
-    short (c.in-Ok-write.ensures.ok of) c.in-Ok-write.ensures.ok_held
+returns-in-Ok-write-clause-performs g c of unfailed =
+    performs_decided g.S.Store _ c.args.now c.args.command.now _ _ (search rules) c.in-Ok.ensures.joined
+    (c.in-Ok-write.ensures.ok of) c.in-Ok-write.ensures.ok_held
 
 pub returns-in-Err-clause-fails : goal.returns-in-Err-clause-fails
 returns-in-Err-clause-fails g c unfailed =
