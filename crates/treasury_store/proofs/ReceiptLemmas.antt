@@ -85,7 +85,8 @@ module _ (id : List ℕ) (day : ℤ) (payee : List ℕ) where
       → Executes receive_text given old new (Ok count) → Holds new.now (with_receipt id day payee t)
   receives old new t count holds h =
       let command = Update 6 (record { lets = []; body = receive_query }) in
-      let w = runs_as receive_text given old new store_schema holds.shows.schema command receive_is.0 receive_is.1 count h in
+      let w = runs_as receive_text given old new store_schema holds.shows.schema command receive_is.0 receive_is.1
+      count h in
       let text = statement_of receive_text (understood store_schema receive_text) in
       let done = subst (λ s. Does old.step_limit (mode_of old) given (record old.now { schema = s }) text None command
       (Ok (w.tally, new.now))) holds.shows.schema w.changed in

@@ -35,7 +35,8 @@ module _ (front shown : Row → Row) (cuts : (r : Row) → front (drop 1 r) ≡ 
   recut rows = map-map front (drop 1) rows ∙ (λ i. map (λ r. cuts r i) rows)
 
   shown_moved : (more old new : List Row) → map front more ≡ more
-      → IsPermutation (more ++ map (drop 1) old) (map (drop 1) new) → IsPermutation (more ++ map shown old) (map shown new)
+      → IsPermutation (more ++ map (drop 1) old) (map (drop 1) new)
+      → IsPermutation (more ++ map shown old) (map shown new)
   shown_moved more old new same moved =
       subst₂ IsPermutation
       (map-append front more (map (drop 1) old) ∙ ap₂ (λ l k. l ++ k) same (recut old)) (recut new)

@@ -42,7 +42,8 @@ module _ {S : Type 0} (g : Ghosts S) (old new : Held S)
     pub read_tables_stay : (t : Tables) → TablesAre g old t → TablesAre g new t
     read_tables_stay t are =
         tables_stay t (λ clean is_open. (opened clean).0)
-        (λ clean is_open holds all. let kept = (same clean holds.shows.schema).0 in (kept.now_is, kept.committed_is)) are
+        (λ clean is_open holds all. let kept = (same clean holds.shows.schema).0 in (kept.now_is, kept.committed_is))
+        are
 
     module _ (parts : Parts) (read : HasCleanDisk (state g new) → (t : Tables) → InOrder t
         → ShowsTables (state g old).now t → parts ≡ t) (f : Federation) (good : IsGoodState f)

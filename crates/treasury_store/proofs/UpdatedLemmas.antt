@@ -26,7 +26,8 @@ module _ {X : Type 0} (row : X → Row) (shown query recast renewed : Row → Ro
       → IsPermutation (map row (filter is_it xs)) (map shown (filter chosen old))
   picked xs old same =
       subst₂ IsPermutation (filter-map taken row xs ∙ ap (map row) (filter_same _ _ it_is xs))
-      (filter-map taken shown old ∙ ap (map shown) (filter_same _ _ chosen_is old)) (IsPermutation-filter taken _ _ same)
+      (filter-map taken shown old ∙ ap (map shown) (filter_same _ _ chosen_is old))
+      (IsPermutation-filter taken _ _ same)
 
   kept : (xs : List X) (old : List Row) → IsPermutation (map row xs) (map shown old)
       → IsPermutation (map row (filter (λ x. not (is_it x)) xs)) (map shown (filter (λ r. not (chosen r)) old))
