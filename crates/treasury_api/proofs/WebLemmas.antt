@@ -1,9 +1,11 @@
 -- A call is answered on a treasury, and a connection served.
 use Rattle.std.proofs.Common.{◌≡◌, ◌≢◌, ◌<◌, ◌⊎◌, ◌++◌, ℕ, List, [], ◌∷◌, length, Bool, true, false, Option, Some}
-use Rattle.std.proofs.Common.{None, Result, Ok, Err, IsTrue, MatchOption, take, codes, refl, ap, ◌∙◌, sym, subst}
+use Rattle.std.proofs.Common.{None, Result, Ok, Err, IsTrue, MatchOption, ◌||◌, take, codes, refl, ap, ◌∙◌, sym, subst}
 use Rattle.std.proofs.Common.{inl, inr}
+use Rattle.std.proofs.Math.Path.{path_j, subst_refl}
 use Rattle.std.specs.Io.KnownBytes.{Appends}
 use Rattle.sqlite.specs.Store.{Ghosts}
+use Rattle.sqlite.specs.State.{HasCleanDisk}
 use Rattle.sqlite.specs.Held.{Held, state}
 use Rattle.http_request.specs.declared.call.Call.{Call}
 use Rattle.http_request.specs.declared.call.Call.TheVariants.{Unreadable, Foreign, Nowhere, Command, Balance, Journal}
@@ -24,16 +26,16 @@ use Rattle.treasury_store.proofs.LeftLemmas.{shuts_same}
 use Rattle.treasury_requests.specs.declared.request.Spelled.{Spelled}
 use Rattle.treasury_api.specs.declared.asking.Asked.{Asked}
 use Rattle.treasury_api.specs.Answer.{answer_text}
-use Rattle.treasury_api.specs.Step.{Standing, after}
-use Rattle.treasury_api.specs.Left.{IsOpenBut, LeavesRequest}
+use Rattle.treasury_api.specs.Step.{Standing, after, is_failure}
+use Rattle.treasury_api.specs.Left.{FailsWith, IsOpenBut, LeavesAsked, LeavesRequest}
 use Rattle.treasury_api.specs.Replied.{standing}
 use Rattle.treasury_api.specs.History.{command_if}
 use Rattle.treasury_api.specs.OneRequest.{AnswersRequest, RepliesOn, is_refusal, command_of}
 use Rattle.treasury_api.specs.WebReply.{status_of, status_of_number, whole_reply}
-use Rattle.treasury_api.specs.Web.{asked_by, IsNoAnswer, AnswersCall, IsOpenBut503, AnswersOn, AnswersRead, FailsBy}
-use Rattle.treasury_api.specs.Web.{ServesOne, AnsweredCall, AreServed, turns_of_calls, HasServed}
+use Rattle.treasury_api.specs.Web.{asked_by, IsNoAnswer, AnswersCall, IsOpenButFailed, AnswersOn, AnswersRead, FailsBy}
+use Rattle.treasury_api.specs.Web.{ServesOne, AnsweredCall, AreServed, turns_of_calls, OneFails, LeavesCalls, HasServed}
 use Rattle.treasury_api.specs.WebServing.{IsToldBy}
-use Rattle.treasury_api.proofs.ReplyLemmas.{state_is, refusal_is}
+use Rattle.treasury_api.proofs.ReplyLemmas.{state_is, refusal_is, failure_is}
 use Rattle.treasury_api.proofs.ServeLemmas.{plain_line}
 use Rattle.treasury_api.proofs.OneRequestLemmas.{IsToldAs, IsRunTo, request_run, request_leaves}
 
@@ -71,15 +73,25 @@ plain_status new refusal because cause status text told code is =
     code ∙ ap (λ (c : Cause). status_of_number (number_of c))
     (subst (λ (r : Refusal). IsToldBy new r cause text) is told).1
 
--- by 41 it is 503
-pub open_but_503 : {S T : Type 0} (g : Ghosts S) (new : Treasury S) (result : Result T Refusal) (refusal : Refusal)
-    (cause : Cause) (status : ℕ) (text : List ℕ) → result ≡ Err refusal
+-- by 41 it is 503, and the store has failed
+pub open_but_failed : {S T : Type 0} (g : Ghosts S) (old new : Treasury S) (result : Result T Refusal)
+    (refusal : Refusal) (cause : Cause) (status : ℕ) (text : List ℕ) → result ≡ Err refusal
     → IsToldBy new refusal cause text → status ≡ status_of_number (number_of cause)
-    → IsOpenBut g new.store.conn result → IsTrue (state g new.store.conn).is_open ⊎ (status ≡ 503)
-open_but_503 g new result refusal cause status text is told code (inl still) = inl still
-open_but_503 g new result refusal cause status text is told code (inr failed) =
-    inr (plain_status new refusal Failed cause status text told code (refusal_is result refusal (Plain Failed) is
-    failed))
+    → IsTrue (state g old.store.conn).is_open → (old.store.failed ≡ false → FailsWith result new.store.failed)
+    → (IsTrue old.store.failed → new ≡ old) → IsOpenBut g new.store.conn result
+    → IsTrue (state g new.store.conn).is_open ⊎ ((status ≡ 503) × IsTrue new.store.failed)
+open_but_failed g old new result refusal cause status text is told code is_open fails closed (inl still) = inl still
+open_but_failed {S = S} g old new result refusal cause status text is told code is_open fails closed (inr failed) =
+    either old.store.failed refl
+  where
+    either : (before : Bool) → old.store.failed ≡ before
+        → IsTrue (state g new.store.conn).is_open ⊎ ((status ≡ 503) × IsTrue new.store.failed)
+    either true was =
+        inl (subst (λ (t : Treasury S). IsTrue (state g t.store.conn).is_open) (sym (closed was)) is_open)
+    either false was = inr (
+      plain_status new refusal Failed cause status text told code (refusal_is result refusal (Plain Failed) is failed),
+      (fails was).1 failed,
+    )
 
 -- ---- a call
 
@@ -142,7 +154,7 @@ nothing_answered g t call status body own other none is said =
 pub request_answered : {S : Type 0} (g : Ghosts S) (old new : Treasury S) (call : Call) (request : Spelled) (status : ℕ)
     (body : List ℕ) → Some request ≡ asked_by call
     → RepliesOn g old request body (λ (reply : Result Answer Refusal). status ≡ status_of reply) new
-    → LeavesRequest g old new request → IsOpenBut503 g old status new → ShutsByFault g old.store.conn new.store.conn
+    → LeavesRequest g old new request → IsOpenButFailed g old status new → ShutsByFault g old.store.conn new.store.conn
     → (IsTrue old.store.failed → new ≡ old) → AnswersOn g old call status body new
 request_answered g old new call request status body asks replies left open_but shuts closed = record {
   clean = replies.clean;
@@ -178,6 +190,25 @@ calls_run start (c ∷ cs) end (mid, inr (request, asks, (reply, (answers, told)
     request_run_of start.failed start.now request c.body reply mid (turns_of_calls mid cs end rest) end.now answers
     (calls_run mid cs end rest)
 
+-- behind a call of the database that failed a call leaves the state
+closed_leaves : (failed : Bool) (f : Federation) (call : Call) (status : ℕ) (body : List ℕ) (t : Standing)
+    → failed ≡ true → AnswersCall (record { now = f; failed = failed }) call status body t
+    → (t.now ≡ f) × (t.failed ≡ true)
+closed_leaves false f call status body t is answered = absurd cc
+closed_leaves true f call status body t is (inl (none, answer, left)) =
+    (ap (λ (s : Standing). s.now) left, ap (λ (s : Standing). s.failed) left)
+closed_leaves true f call status body t is (inr (request, asks, (reply, (answers, told)))) = (
+  ap (λ (s : Standing). s.now) answers.left ∙ ap (λ (asked : Result Asked Refusal). after f asked reply) answers.asks,
+  ap (λ (s : Standing). s.failed) answers.left,
+)
+
+calls_leave : (s : Standing) (calls : List AnsweredCall) (end : Standing) → s.failed ≡ true → AreServed s calls end
+    → end.now ≡ s.now
+calls_leave s [] end failed same = ap (λ (x : Standing). x.now) same
+calls_leave s (c ∷ cs) end failed (mid, answers, rest) =
+    let stays = closed_leaves s.failed s.now c.call c.status c.body mid failed answers in
+    calls_leave mid cs end stays.1 rest ∙ stays.0
+
 -- a reply of another status leaves the state
 refuses : (status : ℕ) (reply : Result Answer Refusal) → status ≡ status_of reply → status ≢ 200
     → is_refusal reply ≡ true
@@ -189,6 +220,48 @@ pub refused_leaves : (s : Standing) (call : Call) (status : ℕ) (body : List �
 refused_leaves s call status body t (inl (none, answer, left)) other = ap (λ (x : Standing). x.now) left
 refused_leaves s call status body t (inr (request, asks, (reply, (answers, told)))) other =
     request_leaves s request body reply t answers (refuses status reply told other)
+
+-- ---- a call that failed
+
+or_true : (b : Bool) → (b || true) ≡ true
+or_true true = refl
+or_true false = refl
+
+-- what holds of the state before it holds of the one where the calls lead
+pub one_fails_or : (Rows : Federation → Type 0) (Leads : Federation → Result Asked Refusal → Type 0) (s : Standing)
+    (calls : List AnsweredCall) (end : Standing) (served : AreServed s calls end)
+    → OneFails (λ (f : Federation) (asked : Result Asked Refusal). Rows f ⊎ Leads f asked) s calls end served
+    → Rows end.now ⊎ OneFails Leads s calls end served
+one_fails_or Rows Leads s [] end served none = absurd none
+one_fails_or Rows Leads s (c ∷ cs) end (mid, inl nothing, rest) fails = one_fails_or Rows Leads mid cs end rest fails
+one_fails_or Rows Leads s (c ∷ cs) end (mid, inr (request, asks, (reply, (answers, told))), rest)
+    (inl (failed, inl same)) =
+    let here : mid.now ≡ s.now =
+    request_leaves s request c.body reply mid answers (ap is_refusal failed) in
+    let since : mid.failed ≡ true =
+    ap (λ (x : Standing). x.failed) answers.left ∙ (ap (λ (r : Result Answer Refusal). s.failed || is_failure r) failed
+    ∙ or_true s.failed) in
+    inl (subst Rows (sym (calls_leave mid cs end since rest ∙ here)) same)
+one_fails_or Rows Leads s (c ∷ cs) end (mid, inr (request, asks, (reply, (answers, told))), rest)
+    (inl (failed, inr leads)) = inr (inl (failed, leads))
+one_fails_or Rows Leads s (c ∷ cs) end (mid, inr (request, asks, (reply, (answers, told))), rest) (inr behind) =
+    elim (one_fails_or Rows Leads mid cs end rest behind) [
+      | inl same ↦ inl same
+      | inr fails ↦ inr (inr fails)
+    ]
+
+-- and what follows from it
+pub one_fails_map : (Holds Then : Federation → Result Asked Refusal → Type 0) (s : Standing) (calls : List AnsweredCall)
+    (end : Standing) (served : AreServed s calls end)
+    → ((f : Federation) (asked : Result Asked Refusal) → Holds f asked → Then f asked)
+    → OneFails Holds s calls end served → OneFails Then s calls end served
+one_fails_map Holds Then s [] end served follows none = absurd none
+one_fails_map Holds Then s (c ∷ cs) end (mid, inl nothing, rest) follows fails =
+    one_fails_map Holds Then mid cs end rest follows fails
+one_fails_map Holds Then s (c ∷ cs) end (mid, inr (request, asks, (reply, (answers, told))), rest) follows
+    (inl (failed, holds)) = inl (failed, follows s.now answers.asked holds)
+one_fails_map Holds Then s (c ∷ cs) end (mid, inr (request, asks, (reply, (answers, told))), rest) follows
+    (inr behind) = inr (one_fails_map Holds Then mid cs end rest follows behind)
 
 -- ---- a connection
 
@@ -230,16 +303,62 @@ ends_torn g r0 r1 contents w0 w1 old new cause status body answered (write, (tak
 
 -- none
 pub has_served_none : {S : Type 0} (g : Ghosts S) (t : Treasury S) → HasServed g t t
-has_served_none g t = record { calls = []; clean = λ k. k; served = λ k f of. (f, (of, refl)) }
+has_served_none g t = record {
+  calls = [];
+  clean = λ k. k;
+  served = λ k f of. (f, (of, (refl, λ is_open unfailed. inl (is_open, unfailed))));
+  closed = λ failed. refl;
+}
 
 -- one that is answered
-served_call : {S : Type 0} (g : Ghosts S) (old new : Treasury S) (call : Call) (status : ℕ) (body : List ℕ)
-    → AnswersOn g old call status body new → HasServed g old new
-served_call g old new call status body answers = record {
-  calls = record { call = call; status = status; body = body } ∷ [];
-  clean = answers.clean;
-  served = λ k f of. let r = answers.answers k f of in (r.0, (r.1.0, (standing new r.0, r.1.1, refl)));
-}
+module _ {S : Type 0} (g : Ghosts S) (old new : Treasury S) (call : Call) (status : ℕ) (body : List ℕ)
+    (on : AnswersOn g old call status body new) where
+  call_leaves : (f e : Federation) → HasCleanDisk (state g new.store.conn) → IsTreasuryOf g old f
+      → (answered : AnswersCall (standing old f) call status body (standing new e))
+      → LeavesCalls g old new (standing old f) (record { call = call; status = status; body = body } ∷ [])
+      (standing new e) (standing new e, answered, refl)
+  call_leaves f e clean of (inl (none, answer, left)) is_open unfailed =
+      let same : new ≡ old = subst (λ (o : Option Spelled). MatchOption o (new ≡ old) (LeavesRequest g old new)) none
+      on.left in
+      inl (subst (λ (t : Treasury S). IsTrue (state g t.store.conn).is_open × (t.store.failed ≡ false)) (sym same)
+      (is_open, unfailed))
+  call_leaves f e clean of (inr (request, asks, (reply, (answers, told)))) is_open unfailed =
+      by_failed new.store.failed refl
+    where
+      left : LeavesRequest g old new request
+      left = subst (λ (o : Option Spelled). MatchOption o (new ≡ old) (LeavesRequest g old new)) asks on.left
+
+      failing : IsTrue new.store.failed → reply ≡ Err (Plain Failed)
+      failing is = failure_is reply (sym (ap (λ (s : Standing). s.failed) answers.left ∙
+          ap (λ (b : Bool). b || is_failure reply) unfailed) ∙ is)
+
+      by_open : new.store.failed ≡ false
+          → IsTrue (state g new.store.conn).is_open ⊎ ((status ≡ 503) × IsTrue new.store.failed)
+          → (IsTrue (state g new.store.conn).is_open × (new.store.failed ≡ false))
+          ⊎ (IsTrue new.store.failed × OneFails (LeavesAsked g new.store.conn) (standing old f)
+          (record { call = call; status = status; body = body } ∷ []) (standing new e)
+          (standing new e, inr (request, asks, (reply, (answers, told))), refl))
+      by_open is (inl still) = inl (still, is)
+      by_open is (inr failed) = absurd (let clash : true ≡ false = sym failed.1 ∙ is in cc)
+
+      by_failed : (failed : Bool) → new.store.failed ≡ failed
+          → (IsTrue (state g new.store.conn).is_open × (new.store.failed ≡ false))
+          ⊎ (IsTrue new.store.failed × OneFails (LeavesAsked g new.store.conn) (standing old f)
+          (record { call = call; status = status; body = body } ∷ []) (standing new e)
+          (standing new e, inr (request, asks, (reply, (answers, told))), refl))
+      by_failed true is =
+          inr (is, inl (failing is, left clean is_open f of answers.asked answers.asks))
+      by_failed false is = by_open is (on.open_but clean is_open)
+
+  served_call : HasServed g old new
+  served_call = record {
+    calls = record { call = call; status = status; body = body } ∷ [];
+    clean = on.clean;
+    served = λ k f of.
+        let r = on.answers k f of in
+        (r.0, (r.1.0, ((standing new r.0, r.1.1, refl), call_leaves f r.0 k of r.1.1)));
+    closed = on.closed;
+  }
 
 served_read : {S : Type 0} (g : Ghosts S) (r0 r1 : Option (List ℕ)) (old new : Treasury S) (status : ℕ) (body : List ℕ)
     → AnswersRead g r0 r1 old status body new → HasServed g old new
@@ -264,16 +383,69 @@ has_served_one (Ok x) g remaining r0 r1 contents w0 w1 old new served =
 has_served_one (Err cause) g remaining r0 r1 contents w0 w1 old new fails =
     served_failed g cause (remaining r0) (remaining r1) contents w0 w1 old new fails
 
-served_then : (start : Standing) (calls : List AnsweredCall) (mid : Standing) (more : List AnsweredCall)
+abbrev served_then : (start : Standing) (calls : List AnsweredCall) (mid : Standing) (more : List AnsweredCall)
     (end : Standing) → AreServed start calls mid → AreServed mid more end → AreServed start (calls ++ more) end
 served_then start [] mid more end first then = subst (λ (s : Standing). AreServed s more end) first then
 served_then start (c ∷ cs) mid more end (next, answers, rest) then =
     (next, answers, served_then next cs mid more end rest then)
 
+-- one of the first fails
+fails_first : (Holds : Federation → Result Asked Refusal → Type 0) (start : Standing) (calls : List AnsweredCall)
+    (mid : Standing) (more : List AnsweredCall) (end : Standing) (first : AreServed start calls mid)
+    (then : AreServed mid more end) → OneFails Holds start calls mid first
+    → OneFails Holds start (calls ++ more) end (served_then start calls mid more end first then)
+fails_first Holds start [] mid more end first then none = absurd none
+fails_first Holds start (c ∷ cs) mid more end (next, inl nothing, rest) then fails =
+    fails_first Holds next cs mid more end rest then fails
+fails_first Holds start (c ∷ cs) mid more end (next, inr (request, asks, (reply, (answers, told))), rest) then
+    (inl here) = inl here
+fails_first Holds start (c ∷ cs) mid more end (next, inr (request, asks, (reply, (answers, told))), rest) then
+    (inr behind) = inr (fails_first Holds next cs mid more end rest then behind)
+
+-- or one of the others
+fails_then : (Holds : Federation → Result Asked Refusal → Type 0) (start : Standing) (calls : List AnsweredCall)
+    (mid : Standing) (more : List AnsweredCall) (end : Standing) (first : AreServed start calls mid)
+    (then : AreServed mid more end) → OneFails Holds mid more end then
+    → OneFails Holds start (calls ++ more) end (served_then start calls mid more end first then)
+fails_then Holds start [] mid more end first then fails =
+    path_j (λ (s : Standing) (is : mid ≡ s). OneFails Holds s more end (subst (λ (x : Standing). AreServed x more end)
+    is then))
+    (subst (λ (served : AreServed mid more end). OneFails Holds mid more end served)
+    (sym (subst_refl (λ (x : Standing). AreServed x more end) then)) fails) first
+fails_then Holds start (c ∷ cs) mid more end (next, inl nothing, rest) then fails =
+    fails_then Holds next cs mid more end rest then fails
+fails_then Holds start (c ∷ cs) mid more end (next, inr (request, asks, (reply, (answers, told))), rest) then fails =
+    inr (fails_then Holds next cs mid more end rest then fails)
+
+-- what some leave, and then others
+leaves_then : {S : Type 0} (g : Ghosts S) (old mid new : Treasury S) (start : Standing) (calls : List AnsweredCall)
+    (middle : Standing) (more : List AnsweredCall) (end : Standing) (first : AreServed start calls middle)
+    (then : AreServed middle more end) → (IsTrue mid.store.failed → new ≡ mid)
+    → LeavesCalls g old mid start calls middle first → LeavesCalls g mid new middle more end then
+    → LeavesCalls g old new start (calls ++ more) end (served_then start calls middle more end first then)
+leaves_then {S = S} g old mid new start calls middle more end first then closed one two is_open unfailed =
+    elim (one is_open unfailed) [
+      | inl still ↦ elim (two still.0 still.1) [
+        | inl last ↦ inl last
+        | inr fails ↦ inr (
+          fails.0,
+          fails_then (LeavesAsked g new.store.conn) start calls middle more end first then fails.1,
+        )
+      ]
+      | inr fails ↦ (
+          let same : mid ≡ new = sym (closed fails.0) in
+          inr (
+            subst (λ (t : Treasury S). IsTrue t.store.failed) same fails.0,
+            fails_first (LeavesAsked g new.store.conn) start calls middle more end first then
+                (subst (λ (t : Treasury S). OneFails (LeavesAsked g t.store.conn) start calls middle first) same
+                fails.1),
+          ))
+    ]
+
 -- some, and then others
 pub has_served_more : {S : Type 0} (g : Ghosts S) (old mid new : Treasury S) → HasServed g old mid → HasServed g mid new
     → HasServed g old new
-has_served_more g old mid new first then = record {
+has_served_more {S = S} g old mid new first then = record {
   calls = first.calls ++ then.calls;
   clean = λ k. first.clean (then.clean k);
   served = λ k f of.
@@ -282,7 +454,15 @@ has_served_more g old mid new first then = record {
         two.0,
         (
           two.1.0,
-          served_then (standing old f) first.calls (standing mid one.0) then.calls (standing new two.0) one.1.1 two.1.1,
+          (
+            served_then (standing old f) first.calls (standing mid one.0) then.calls (standing new two.0) one.1.1.0
+                two.1.1.0,
+            leaves_then g old mid new (standing old f) first.calls (standing mid one.0) then.calls (standing new two.0)
+                one.1.1.0 two.1.1.0 then.closed one.1.1.1 two.1.1.1,
+          ),
         ),
       );
+  closed = λ failed.
+      let same = first.closed failed in
+      then.closed (subst (λ (t : Treasury S). IsTrue t.store.failed) (sym same) failed) ∙ same;
 }

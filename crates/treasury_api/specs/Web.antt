@@ -1,8 +1,8 @@
 -- HTTP over a treasury: what a call asks, what it is answered, and how a connection ends (own rules; docs/FORMATS.md,
 -- "HTTP"). What the bytes of a connection call for, `http_request` says.
 use mathlib.Core.Logic.{inl, inr}
-use Rattle.std.specs.Prelude.{◌≡◌, ◌<◌, ◌⊎◌, ℕ, List, [], ◌∷◌, ◌++◌, take, length, Option, Some, None, option_map}
-use Rattle.std.specs.Prelude.{Result, Err, MatchOption, MatchResult, IsTrue, codes}
+use Rattle.std.specs.Prelude.{◌≡◌, ◌<◌, ◌⊎◌, ℕ, false, List, [], ◌∷◌, ◌++◌, take, length, Option, Some, None}
+use Rattle.std.specs.Prelude.{option_map, Result, Err, MatchOption, MatchResult, IsTrue, codes}
 use Rattle.std.specs.Io.KnownBytes.{Appends}
 use Rattle.sqlite.specs.Store.{Ghosts}
 use Rattle.sqlite.specs.State.{HasCleanDisk}
@@ -13,6 +13,7 @@ use Rattle.http_request.specs.declared.call.Call.TheVariants.{Transit, Branches,
 use Rattle.http_request.specs.Call.{Reads, IsStopped}
 use Rattle.money_core.specs.declared.cause.Cause.{Cause}
 use Rattle.money_core.specs.declared.cause.Cause.TheVariants.{OutOfMemory, ReadFault, WriteFault, Request as NoRequest}
+use Rattle.money_core.specs.declared.cause.Cause.TheVariants.{Store as Failed}
 use Rattle.journal_lines.specs.DateReading.{date_of}
 use Rattle.book_core.specs.declared.refusal.Refusal.{Refusal}
 use Rattle.book_core.specs.declared.refusal.Refusal.TheVariants.{Plain}
@@ -24,9 +25,10 @@ use Rattle.treasury_store.specs.Treasury.{Treasury, IsTreasuryOf}
 use Rattle.treasury_requests.specs.declared.request.Spelled.{Spelled}
 use Rattle.treasury_requests.specs.declared.request.Request.TheVariants as asking
 use Rattle.treasury_requests.specs.Request.{spelled, in_earnest}
+use Rattle.treasury_api.specs.declared.asking.Asked.{Asked}
 use Rattle.treasury_api.specs.Answer.{answer_text}
 use Rattle.treasury_api.specs.Step.{Standing}
-use Rattle.treasury_api.specs.Left.{LeavesRequest}
+use Rattle.treasury_api.specs.Left.{LeavesAsked, LeavesRequest}
 use Rattle.treasury_api.specs.Replied.{standing}
 use Rattle.treasury_api.specs.OneRequest.{AnswersRequest, command_of}
 use Rattle.treasury_api.specs.WebReply.{status_of, whole_reply}
@@ -58,11 +60,11 @@ AnswersCall s call status body t =
     ⊎ ((request : Spelled) × (asked_by call ≡ Some request)
     × ((reply : Result Answer Refusal) × (AnswersRequest s request body reply t × (status ≡ status_of reply))))
 
--- a database that was open is open behind each reply but 503
-abbrev pub IsOpenBut503 : {S : Type 0} → Ghosts S → Treasury S → ℕ → Treasury S → Type 0
-IsOpenBut503 g old status new =
+-- a database that was open is open behind each reply, or the reply is 503 and the store has failed
+abbrev pub IsOpenButFailed : {S : Type 0} → Ghosts S → Treasury S → ℕ → Treasury S → Type 0
+IsOpenButFailed g old status new =
     HasCleanDisk (state g new.store.conn) → IsTrue (state g old.store.conn).is_open
-    → IsTrue (state g new.store.conn).is_open ⊎ (status ≡ 503)
+    → IsTrue (state g new.store.conn).is_open ⊎ ((status ≡ 503) × IsTrue new.store.failed)
 
 -- What a call makes of a treasury: of whichever state it is, while the disk returns what was written, the call is
 -- answered, and the treasury is of the state where that leads. Whatever is left, also behind 41, are the rows of the
@@ -74,7 +76,7 @@ pub record AnswersOn {S : Type 0} (g : Ghosts S) (old : Treasury S) (call : Call
   pub answers : HasCleanDisk (state g new.store.conn) → (f : Federation) → IsTreasuryOf g old f
       → (end : Federation) × (IsTreasuryOf g new end × AnswersCall (standing old f) call status body (standing new end))
   pub left : MatchOption (asked_by call) (new ≡ old) (LeavesRequest g old new)
-  pub open_but : IsOpenBut503 g old status new
+  pub open_but : IsOpenButFailed g old status new
   pub shuts : ShutsByFault g old.store.conn new.store.conn
   pub closed : IsTrue old.store.failed → new ≡ old
 
@@ -138,10 +140,31 @@ turns_of_calls s (c ∷ cs) end (mid, inl nothing, rest) = turns_of_calls mid cs
 turns_of_calls s (c ∷ cs) end (mid, inr (request, asked, (reply, (answers, told))), rest) =
     command_of answers ++ turns_of_calls mid cs end rest
 
+-- One of the calls that are answered so is answered 41, and this holds of the state before it and of what it asks.
+abbrev pub OneFails : (Federation → Result Asked Refusal → Type 0) → (s : Standing) (calls : List AnsweredCall)
+    (end : Standing) → AreServed s calls end → Type 0
+OneFails Holds s [] end served = ⊥
+OneFails Holds s (c ∷ cs) end (mid, inl nothing, rest) = OneFails Holds mid cs end rest
+OneFails Holds s (c ∷ cs) end (mid, inr (request, asked, (reply, (answers, told))), rest) =
+    ((reply ≡ Err (Plain Failed)) × Holds s.now answers.asked) ⊎ OneFails Holds mid cs end rest
+
+-- What calls leave of an open treasury on which no call of the database has failed: it still is so; or it has failed at
+-- one of them, and whatever is left are the rows of the state before that one, or of the one where what it asks leads.
+abbrev pub LeavesCalls : {S : Type 0} → Ghosts S → Treasury S → Treasury S → (s : Standing) (calls : List AnsweredCall)
+    (end : Standing) → AreServed s calls end → Type 0
+LeavesCalls g old new s calls end served =
+    IsTrue (state g old.store.conn).is_open → old.store.failed ≡ false
+    → (IsTrue (state g new.store.conn).is_open × (new.store.failed ≡ false))
+    ⊎ (IsTrue new.store.failed × OneFails (LeavesAsked g new.store.conn) s calls end served)
+
 -- What connections make of a treasury, of which these calls were answered: of whichever state it was, while the disk
--- returned what was written, it is of the state where they lead.
+-- returned what was written, it is of the state where they lead, and they leave what they may. Behind a call of the
+-- database that failed nothing changes.
 pub record HasServed {S : Type 0} (g : Ghosts S) (old new : Treasury S) : Type 0 where
   pub calls : List AnsweredCall
   pub clean : HasCleanDisk (state g new.store.conn) → HasCleanDisk (state g old.store.conn)
   pub served : HasCleanDisk (state g new.store.conn) → (f : Federation) → IsTreasuryOf g old f
-      → (end : Federation) × (IsTreasuryOf g new end × AreServed (standing old f) calls (standing new end))
+      → (end : Federation) × (IsTreasuryOf g new end
+      × ((answered : AreServed (standing old f) calls (standing new end))
+      × LeavesCalls g old new (standing old f) calls (standing new end) answered))
+  pub closed : IsTrue old.store.failed → new ≡ old

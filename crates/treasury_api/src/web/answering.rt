@@ -9,7 +9,7 @@ ghost use Rattle.treasury_api.specs.Answer.{answer_text};
 ghost use Rattle.treasury_api.specs.Left.{LeavesRequest};
 ghost use Rattle.treasury_api.specs.OneRequest.{RepliesOn};
 ghost use Rattle.treasury_api.specs.WebReply.{status_of};
-ghost use Rattle.treasury_api.specs.Web.{asked_by, IsOpenBut503, AnswersOn};
+ghost use Rattle.treasury_api.specs.Web.{asked_by, IsOpenButFailed, AnswersOn};
 ghost use Rattle.treasury_api.specs.WebServing.{code_of, HasDays};
 
 use crate::answering::answer;
@@ -146,7 +146,7 @@ fn answer_request<S: Alter>(
     ensures replies { RepliesOn S.Store treasury.old request.now result.body.items
         (λ reply. code_of result.status ≡ status_of reply) treasury.new }
     ensures left { LeavesRequest S.Store treasury.old treasury.new request.now }
-    ensures open_but { IsOpenBut503 S.Store treasury.old (code_of result.status) treasury.new }
+    ensures open_but { IsOpenButFailed S.Store treasury.old (code_of result.status) treasury.new }
     ensures shuts { ShutsByFault S.Store treasury.old.store.conn treasury.new.store.conn }
     ensures closed { IsTrue treasury.old.store.failed → treasury.new ≡ treasury.old }
 {

@@ -5,7 +5,7 @@ use Rattle.treasury_api.specs.WebReply.{status_of}
 use Rattle.treasury_api.specs.WebServing.{code_of}
 use Rattle.treasury_api.proofs.AnswerLemmas.{IsAnswered}
 use Rattle.treasury_api.proofs.OneRequestLemmas.{said_done, said_as}
-use Rattle.treasury_api.proofs.WebLemmas.{told_as, open_but_503}
+use Rattle.treasury_api.proofs.WebLemmas.{told_as, open_but_failed}
 use Rattle.treasury_api.proofs.web.answering.answer_request.Goals as goal
 
 pub returns-in-Ok-clause-replies : goal.returns-in-Ok-clause-replies
@@ -37,9 +37,10 @@ returns-in-Err-clause-replies g c =
 
 pub returns-in-Err-clause-open_but : goal.returns-in-Err-clause-open_but
 returns-in-Err-clause-open_but g c clean is_open =
-    open_but_503 g.S.Store c.answer.new.treasury c.answer.result c.in-Err.refusal
+    open_but_failed g.S.Store c.args.treasury.now c.answer.new.treasury c.answer.result c.in-Err.refusal
     c.refuse_by-line.result.cause (code_of c.status_of.result) c.refuse_by-line.result.text.items c.in-Err.is
-    c.refuse_by-line.ensures c.status_of.ensures (c.answer.ensures.open_but clean is_open)
+    c.refuse_by-line.ensures c.status_of.ensures is_open c.answer.ensures.fails
+    (λ failed. (c.answer.ensures.closed failed).1) (c.answer.ensures.open_but clean is_open)
 
 pub returns-in-Err-clause-closed : goal.returns-in-Err-clause-closed
 returns-in-Err-clause-closed g c failed = (c.answer.ensures.closed failed).1
