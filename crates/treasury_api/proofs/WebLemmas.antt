@@ -1,4 +1,5 @@
 -- A call is answered on a treasury, and a connection served.
+use Rattle.std.proofs.Math.Bool.{or-true}
 use Rattle.std.proofs.Common.{◌≡◌, ◌≢◌, ◌<◌, ◌⊎◌, ◌++◌, ℕ, List, [], ◌∷◌, length, Bool, true, false, Option, Some}
 use Rattle.std.proofs.Common.{None, Result, Ok, Err, IsTrue, MatchOption, ◌||◌, take, codes, refl, ap, ◌∙◌, sym, subst}
 use Rattle.std.proofs.Common.{inl, inr}
@@ -223,10 +224,6 @@ refused_leaves s call status body t (inr (request, asks, (reply, (answers, told)
 
 -- ---- a call that failed
 
-or_true : (b : Bool) → (b || true) ≡ true
-or_true true = refl
-or_true false = refl
-
 -- what holds of the state before it holds of the one where the calls lead
 pub one_fails_or : (Rows : Federation → Type 0) (Leads : Federation → Result Asked Refusal → Type 0) (s : Standing)
     (calls : List AnsweredCall) (end : Standing) (served : AreServed s calls end)
@@ -240,7 +237,7 @@ one_fails_or Rows Leads s (c ∷ cs) end (mid, inr (request, asks, (reply, (answ
     request_leaves s request c.body reply mid answers (ap is_refusal failed) in
     let since : mid.failed ≡ true =
     ap (λ (x : Standing). x.failed) answers.left ∙ (ap (λ (r : Result Answer Refusal). s.failed || is_failure r) failed
-    ∙ or_true s.failed) in
+    ∙ or-true s.failed) in
     inl (subst Rows (sym (calls_leave mid cs end since rest ∙ here)) same)
 one_fails_or Rows Leads s (c ∷ cs) end (mid, inr (request, asks, (reply, (answers, told))), rest)
     (inl (failed, inr leads)) = inr (inl (failed, leads))
