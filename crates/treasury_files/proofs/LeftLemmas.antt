@@ -215,9 +215,9 @@ module _ {D : Type 0} (g : disk.Ghosts D) where
         → HoldsEither (file_state c).now t × ((file_state c).committed ≡ (file_state c).now))
         → (HasCleanDisk (file_state c) → (t : Tables) → HoldsEither (file_state opened).now t → (trees : Trees)
         → (file_state c).may_leave trees → HaveRows trees t) → KeepsFile g image left
-    keeps_left_closed image opened c left on (live, inl (closed, is, copies)) first shows have =
-        keeps_closed image opened c closed left on is live copies first shows
-    keeps_left_closed image opened c left on (live, inr shut) first shows have =
+    keeps_left_closed image opened c left on (inl (closed, is, closes)) first shows have =
+        keeps_closed image opened c closed left on is closes.live closes.copied first shows
+    keeps_left_closed image opened c left on (inr shut) first shows have =
         keeps_shut image opened c left on shut first have
 
     -- a connection of which nothing was asked is left open

@@ -1,12 +1,11 @@
 -- A treasury on a database file: it is started, closed, or left.
-use Rattle.std.proofs.Common.{◌≡◌, ◌≤◌, ◌⊎◌, ℕ, false, Option, Result, Ok, Err, IfOk}
-use Rattle.std.proofs.Common.{None, Some, IsSome, IfSome, IfErr, MatchResult, IsTrue, refl, sym, ap, ◌∙◌, subst}
+use Rattle.std.proofs.Common.{◌≡◌, ◌≤◌, ◌⊎◌, ℕ, false, Option, Result, Ok, Err}
+use Rattle.std.proofs.Common.{None, Some, IsSome, IfSome, MatchResult, IsTrue, refl, sym, ap, ◌∙◌, subst}
 use Rattle.std.proofs.Common.{inl}
 use Rattle.std.proofs.Math.Arith.{le-zero}
 use Rattle.sqlite_disk.specs.declared.Disk as disk
 use Rattle.sqlite_disk.specs.declared.Files.{Files}
 use Rattle.sqlite_wal.specs.Recovery.{Image}
-use Rattle.sqlite_wal.specs.Reads.{AreClean}
 use Rattle.sqlite_wal.proofs.LogLemmas.{SeenMayStay}
 use Rattle.sqlite_trees.specs.Tree.{Trees}
 use Rattle.sqlite_trees.specs.View.{doubt}
@@ -142,22 +141,6 @@ module _ {D : Type 0} (g : disk.Ghosts D) where
   pub committed_in : (image : Image) (c : Held (FileStore D g)) → IsOpenedOn g image c → HasCleanDisk (file_state c)
       → (file_state c).committed ≡ (file_state c).now
   committed_in image c on k = sym (on.serves k).0.clean
-
-  pub closed_of : (one other : Held (FileStore D g)) (closed : Files D) → one ≡ other → IsLive (file_state one)
-      → (AreClean g closed.log closed.db → IsCopied one closed) → IsClosedAs g other closed
-  closed_of one other closed same live copied =
-      subst (λ (c : Held (FileStore D g)). IsClosedAs g c closed) same (record { live = live; copied = copied })
-
-  -- a closing of one connection is that of an equal one
-  pub closed_alike : (result : Result (Files D) (FileStore D g)) (one other : Held (FileStore D g)) → one ≡ other
-      → IsLive (file_state one)
-      → IfOk result (λ closed. AreClean g closed.log closed.db → IsCopied one closed)
-      → IfErr result (λ it. IsUnclosed g one it)
-      → MatchResult result (λ closed. IsClosedAs g other closed) (λ it. IsUnclosed g other it)
-  closed_alike (Ok closed) one other same live copied shut =
-      subst (λ (c : Held (FileStore D g)). IsClosedAs g c closed) same (record { live = live; copied = copied })
-  closed_alike (Err it) one other same live copied shut =
-      subst (λ (c : Held (FileStore D g)). IsUnclosed g c it) same shut
 
   -- tables are made on a connection, and the file is closed
   pub makes : (image : Image) (opened : Held (FileStore D g)) (s : Store (FileStore D g)) (closed : Files D)
