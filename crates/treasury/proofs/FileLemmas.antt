@@ -139,7 +139,7 @@ module _ {D : Type 0} (g : disk.Ghosts D) where
   keeps_one start w left next f holds (inl (inl memory, keeps)) clean may =
       left_alone w next f holds.good holds.short (inl memory) (keeps.finds clean next may (rows f) holds.held)
   keeps_one start w left next f holds (inl (inr damaged, keeps)) clean may =
-      left_alone w next f holds.good holds.short (inr (inr damaged)) (keeps.finds clean next may (rows f) holds.held)
+      left_alone w next f holds.good holds.short (inr (inr damaged.0)) (keeps.finds clean next may (rows f) holds.held)
   keeps_one start w left next f holds (inr (inl (store, done))) clean may =
       left_alone w next f holds.good holds.short (inr (inl store)) (done.finds clean next may f holds)
   keeps_one start w left next f holds (inr (inr word)) clean may =

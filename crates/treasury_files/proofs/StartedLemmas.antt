@@ -33,7 +33,8 @@ use Rattle.treasury_files.specs.declared.left.Left.{Left}
 use Rattle.treasury_files.specs.declared.left.Left.TheVariants.{Closed, Open, Shut}
 use Rattle.treasury_files.specs.Left.{KeepsFile}
 use Rattle.treasury_files.specs.InFile.{LeavesState, MakesOver, ShowsGoodRows, HasTreasury}
-use Rattle.treasury_files.specs.Started.{IsLeftAs, IsOpenedOn, StartsOn, IsStarted, IsClosedAs, IsUnclosed}
+use Rattle.treasury_files.specs.declared.file.Unopened.{Unopened as Why}
+use Rattle.treasury_files.specs.Started.{IsUnserved, IsLeftAs, IsOpenedOn, StartsOn, IsStarted, IsClosedAs, IsUnclosed}
 use Rattle.treasury_files.proofs.LeftLemmas.{alone_in, settles, stored_in, keeps_open, keeps_closed, keeps_shut}
 
 -- what holds of a state that is held is held of one
@@ -114,13 +115,14 @@ module _ {D : Type 0} (g : disk.Ghosts D) where
           (subst (λ (d : Database). Holds d rows) (sym stay.0) held.0, stay.1 ∙ (held.1 ∙ sym stay.0))
 
   -- a treasury is started on files that were opened, or they keep what they held
-  pub started_by : {E : Type 0} (left_of : E → Left D g) (result : Result (Treasury (FileStore D g)) E) (image : Image)
-      (opened : Held (FileStore D g)) → IsOpenedOn g image opened
+  pub started_by : {E : Type 0} (why_of : E → Why) (left_of : E → Left D g)
+      (result : Result (Treasury (FileStore D g)) E) (image : Image) (opened : Held (FileStore D g))
+      → IsOpenedOn g image opened
       → MatchResult result (λ t. StartsOn g opened t)
-      (λ r. (image : Image) → IsOpenedOn g image opened → KeepsFile g image (left_of r))
-      → MatchResult result (λ t. IsStarted g image t) (λ r. KeepsFile g image (left_of r))
-  started_by left_of (Ok t) image opened on starts = record { opened = opened; on = on; starts = starts }
-  started_by left_of (Err r) image opened on keeps = keeps image on
+      (λ r. (image : Image) → IsOpenedOn g image opened → IsUnserved g image (why_of r) (left_of r))
+      → MatchResult result (λ t. IsStarted g image t) (λ r. IsUnserved g image (why_of r) (left_of r))
+  started_by why_of left_of (Ok t) image opened on starts = record { opened = opened; on = on; starts = starts }
+  started_by why_of left_of (Err r) image opened on unserved = unserved image on
 
   -- what a file holds whose connection is closed, and shows the rows of a good state
   pub left_behind : (c : Held (FileStore D g)) (closed : Files D) (f : Federation) → IsLive (file_state c)
