@@ -137,7 +137,7 @@ module _ {D : Type 0} (g : disk.Ghosts D) where
   keeps_one start w left next f holds (inl (inl memory, keeps)) clean may =
       left_alone w next f holds.good (inl memory) (keeps.finds clean next may (rows f) holds.held)
   keeps_one start w left next f holds (inl (inr damaged, keeps)) clean may =
-      left_alone w next f holds.good (inr (inr damaged)) (keeps.finds clean next may (rows f) holds.held)
+      left_alone w next f holds.good (inr (inr damaged.0)) (keeps.finds clean next may (rows f) holds.held)
   keeps_one start w left next f holds (inr (inl (store, done))) clean may =
       left_alone w next f holds.good (inr (inl store)) (done.finds clean next may f holds)
   keeps_one start w left next f holds (inr (inr word)) clean may =

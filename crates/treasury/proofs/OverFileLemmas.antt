@@ -39,8 +39,8 @@ use Rattle.treasury_files.specs.InFile.{ShowsState, LeavesState}
 use Rattle.treasury.specs.OverFile.{HaveRowsBehind, MayHaveDone, Tells, SaysOver, SaysToJournal, SaysToWord, IsTold}
 use Rattle.treasury.specs.declared.words.said.Said.{Said}
 use Rattle.treasury.specs.declared.words.over_file.Answered.{Answered}
-use Rattle.treasury.specs.OverFileParts.{spoken, refusal_of}
-use Rattle.treasury_files.specs.Started.{IsStarted, IsClosedAs, IsUnclosed}
+use Rattle.treasury.specs.OverFileParts.{spoken}
+use Rattle.treasury_files.specs.Started.{refusal_of, IsUnserved, IsStarted, IsClosedAs, IsUnclosed}
 use Rattle.treasury_files.proofs.LeftLemmas.{shows_rows, keeps_untouched}
 use Rattle.treasury_files.proofs.StartedLemmas.{left_behind, committed_in}
 
@@ -169,13 +169,18 @@ module _ {D : Type 0} (g : disk.Ghosts D) where
     spared = keeps.spared;
   }
 
-  -- a file that serves no word keeps what it held, whatever the cause is
-  pub says_refused : (image : Image) (request : Spelled) (said : Spoken) (left : Left D g) → IsFileRefused said
-      → KeepsFile g image left → SaysOver g image request said left
-  says_refused image request said left (inl memory) keeps = inl (inl memory, keeps)
-  says_refused image request said left (inr (inl store)) keeps =
-      inr (inl (store, keeps_undone image request left keeps))
-  says_refused image request said left (inr (inr damaged)) keeps = inl (inr damaged, keeps)
+  -- a file that serves no word keeps what it held, whatever the cause is, and 43 has its reason
+  pub says_refused : (image : Image) (request : Spelled) (why : Why) (said : Spoken) (left : Left D g)
+      → IsRefusedBy (refusal_of why) said → IsUnserved g image why left → SaysOver g image request said left
+  says_refused image request why.NoMemory said left refused unserved = inl (inl refused, unserved.keeps)
+  says_refused image request (why.Unusable reason) said left refused unserved =
+      inr (inl (refused, keeps_undone image request left unserved.keeps))
+  says_refused image request (why.NoTreasury reason) said left refused unserved =
+      inl (inr (refused, unserved.reason refl), unserved.keeps)
+  says_refused image request (why.OtherVersion version) said left refused unserved =
+      inl (inr (refused, unserved.reason refl), unserved.keeps)
+  says_refused image request (why.Strange told) said left refused unserved =
+      inl (inr (refused, unserved.reason refl), unserved.keeps)
 
   -- what is said to one request is said to an equal one
   pub said_alike : (image : Image) (one other : Spelled) (said : Spoken) (left : Left D g) → one ≡ other

@@ -35,6 +35,7 @@ use Rattle.treasury.specs.Word.{AnswersWord, Told}
 use Rattle.treasury_files.specs.declared.left.Left.{Left}
 use Rattle.treasury_files.specs.declared.left.Left.TheVariants.{Untouched, Closed}
 use Rattle.treasury_files.specs.Left.{HoldsRows, HoldsOf, HaveRows, IsCleanIn, MayBe, MayComeBack, AreSpared, KeepsFile}
+use Rattle.treasury_files.specs.Left.{HasNoTreasury}
 use Rattle.treasury_files.specs.InFile.{most_journal, HasTreasury, ShowsState, LeavesState, MakesOver}
 
 -- what is said to a word: a text for standard output, and whether that is a refusal
@@ -107,11 +108,11 @@ module _ {D : Type 0} (g : disk.Ghosts D) where
       (IsFileRefused said × KeepsFile g image left)
       ⊎ (MakesOver g image left × (said ≡ record { text = answer_text [] (Ok Done); refused = false }))
 
-  -- The request is answered over a file. Or the file is refused: by 40 or 43, and it is left as it was; or by 41, and
-  -- the request may have been done.
+  -- The request is answered over a file. Or the file is refused: by 40 or 43, and it is left as it was, and 43 has its
+  -- reason; or by 41, and the request may have been done.
   abbrev pub SaysOver : Image → Spelled → Spoken → Left D g → Type 0
   SaysOver image request said left =
-      ((IsRefusedBy OutOfMemory said ⊎ IsRefusedBy Damaged said) × KeepsFile g image left)
+      ((IsRefusedBy OutOfMemory said ⊎ (IsRefusedBy Damaged said × HasNoTreasury g image left)) × KeepsFile g image left)
       ⊎ ((IsRefusedBy Store said × MayHaveDone image request left) ⊎ AnswersOver image request said left)
 
   -- a cause alone is said, and no file was opened

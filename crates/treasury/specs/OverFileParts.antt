@@ -6,11 +6,7 @@ use Rattle.clap.specs.declared.error.kind.ErrorKind.TheVariants.{OutOfMemory as 
 use Rattle.sqlite_disk.specs.declared.Disk as disk
 use Rattle.sqlite_disk.specs.declared.Files.{Files}
 use Rattle.sqlite_store.specs.declared.store.FileStore.{FileStore}
-use Rattle.money_core.specs.declared.cause.Cause.{Cause}
-use Rattle.money_core.specs.declared.cause.Cause.TheVariants.{OutOfMemory, Store, Damaged}
 use Rattle.treasury.specs.declared.words.said.Said.{Said}
-use Rattle.treasury_files.specs.declared.file.Unopened.{Unopened as Why}
-use Rattle.treasury_files.specs.declared.file.Unopened.TheVariants as why
 use Rattle.treasury_files.specs.declared.left.Left.{Left}
 use Rattle.treasury_files.specs.declared.left.Left.TheVariants.{Closed, Open, Shut}
 use Rattle.treasury.specs.OverFile.{Spoken}
@@ -18,14 +14,6 @@ use Rattle.treasury.specs.OverFile.{Spoken}
 -- what is said to a word, less the reason
 abbrev pub spoken : Said → Spoken
 spoken said = record { text = said.answer.items; refused = said.is_refused }
-
--- by which cause a file is refused
-abbrev pub refusal_of : Why → Cause
-refusal_of why.NoMemory = OutOfMemory
-refusal_of (why.Unusable reason) = Store
-refusal_of (why.NoTreasury reason) = Damaged
-refusal_of (why.OtherVersion version) = Damaged
-refusal_of (why.Strange told) = Damaged
 
 -- words that are not taken are answered 1 for want of memory, 2 where they ask for nothing, and otherwise where they
 -- ask for help or for the version

@@ -72,7 +72,7 @@ either_has_one db t (inr first) = ap has_one first.schema ∙ first_one
 either_one : (db : Database) (t : Tables) → HoldsEither db t → has_one db.schema ≡ false → ⊥
 either_one db t holds free = true≢false (sym (either_has_one db t holds) ∙ free)
 
-either_ours : (db : Database) (t : Tables) → HoldsEither db t → AreOurs db.schema × (IsFirst db ⊎ IsSecond db)
+pub either_ours : (db : Database) (t : Tables) → HoldsEither db t → AreOurs db.schema × (IsFirst db ⊎ IsSecond db)
 either_ours db t (inl second) =
     (ours_second db.schema second.shows.schema, inr (record { schema = second.shows.schema; version = second.format }))
 either_ours db t (inr first) =
@@ -87,16 +87,19 @@ have_rows trees t (db, listed, is, inl second) = inl (db, is, second)
 have_rows trees t (db, listed, is, inr first) = inr (db, is, first)
 
 module _ {D : Type 0} (g : disk.Ghosts D) where
-  -- an opening of files that hold rows shows these
-  pub shows_rows : (image : Image) (c : Held (FileStore D g)) (t : Tables) → HoldsRows image t
-      → FindsIn image (file_state c) → IsOpened c → HoldsEither (file_state c).now t
-  shows_rows image c t holds finds (opens, live) =
+  -- an opening of files that hold rows shows the database that has these
+  pub shows_same : (image : Image) (c : Held (FileStore D g)) (t : Tables) (holds : HoldsRows image t)
+      → FindsIn image (file_state c) → IsOpened c → holds.db ≡ (file_state c).now
+  shows_same image c t holds finds (opens, live) =
       let committed : (file_state c).committed.trees ≡ holds.db.trees =
       ∥∥₁_elim holds.both (Trees-set _ _) (finds.holds holds.db.trees) in
-      let same : holds.db ≡ (file_state c).now =
       same_database holds.db (file_state c).now holds.listed (live opens.is_open).0
-      (sym (ap (λ (db : Database). db.trees) opens.clean ∙ committed)) in
-      subst (λ (db : Database). HoldsEither db t) same holds.tables
+      (sym (ap (λ (db : Database). db.trees) opens.clean ∙ committed))
+
+  pub shows_rows : (image : Image) (c : Held (FileStore D g)) (t : Tables) → HoldsRows image t
+      → FindsIn image (file_state c) → IsOpened c → HoldsEither (file_state c).now t
+  shows_rows image c t holds finds opened =
+      subst (λ (db : Database). HoldsEither db t) (shows_same image c t holds finds opened) holds.tables
 
   -- files that were closed hold the last commit, with the log or without
   pub alone_in : (c : Held (FileStore D g)) (closed : Files D) (left : Image) → IsCopied c closed
@@ -215,9 +218,9 @@ module _ {D : Type 0} (g : disk.Ghosts D) where
         → HoldsEither (file_state c).now t × ((file_state c).committed ≡ (file_state c).now))
         → (HasCleanDisk (file_state c) → (t : Tables) → HoldsEither (file_state opened).now t → (trees : Trees)
         → (file_state c).may_leave trees → HaveRows trees t) → KeepsFile g image left
-    keeps_left_closed image opened c left on (live, inl (closed, is, copies)) first shows have =
-        keeps_closed image opened c closed left on is live copies first shows
-    keeps_left_closed image opened c left on (live, inr shut) first shows have =
+    keeps_left_closed image opened c left on (inl (closed, is, closes)) first shows have =
+        keeps_closed image opened c closed left on is closes.live closes.copied first shows
+    keeps_left_closed image opened c left on (inr shut) first shows have =
         keeps_shut image opened c left on shut first have
 
     -- a connection of which nothing was asked is left open

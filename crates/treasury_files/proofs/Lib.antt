@@ -1,3 +1,5 @@
 pub mod LeftLemmas
 pub mod StartedLemmas
 pub mod CountsLemmas
+pub mod MadeLemmas
+pub mod UnservedLemmas

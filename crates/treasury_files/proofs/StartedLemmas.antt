@@ -1,12 +1,11 @@
 -- A treasury on a database file: it is started, closed, or left.
-use Rattle.std.proofs.Common.{◌≡◌, ◌≤◌, ◌⊎◌, ℕ, false, Option, Result, Ok, Err, IfOk}
-use Rattle.std.proofs.Common.{None, Some, IsSome, IfSome, IfErr, MatchResult, IsTrue, refl, sym, ap, ◌∙◌, subst}
+use Rattle.std.proofs.Common.{◌≡◌, ◌≤◌, ◌⊎◌, ℕ, false, Option, Result, Ok, Err}
+use Rattle.std.proofs.Common.{None, Some, IsSome, IfSome, MatchResult, IsTrue, refl, sym, ap, ◌∙◌, subst}
 use Rattle.std.proofs.Common.{inl}
 use Rattle.std.proofs.Math.Arith.{le-zero}
 use Rattle.sqlite_disk.specs.declared.Disk as disk
 use Rattle.sqlite_disk.specs.declared.Files.{Files}
 use Rattle.sqlite_wal.specs.Recovery.{Image}
-use Rattle.sqlite_wal.specs.Reads.{AreClean}
 use Rattle.sqlite_wal.proofs.LogLemmas.{SeenMayStay}
 use Rattle.sqlite_trees.specs.Tree.{Trees}
 use Rattle.sqlite_trees.specs.View.{doubt}
@@ -33,7 +32,8 @@ use Rattle.treasury_files.specs.declared.left.Left.{Left}
 use Rattle.treasury_files.specs.declared.left.Left.TheVariants.{Closed, Open, Shut}
 use Rattle.treasury_files.specs.Left.{KeepsFile}
 use Rattle.treasury_files.specs.InFile.{LeavesState, MakesOver, ShowsGoodRows, HasTreasury}
-use Rattle.treasury_files.specs.Started.{IsLeftAs, IsOpenedOn, StartsOn, IsStarted, IsClosedAs, IsUnclosed}
+use Rattle.treasury_files.specs.declared.file.Unopened.{Unopened as Why}
+use Rattle.treasury_files.specs.Started.{IsUnserved, IsLeftAs, IsOpenedOn, StartsOn, IsStarted, IsClosedAs, IsUnclosed}
 use Rattle.treasury_files.proofs.LeftLemmas.{alone_in, settles, stored_in, keeps_open, keeps_closed, keeps_shut}
 
 -- what holds of a state that is held is held of one
@@ -114,13 +114,14 @@ module _ {D : Type 0} (g : disk.Ghosts D) where
           (subst (λ (d : Database). Holds d rows) (sym stay.0) held.0, stay.1 ∙ (held.1 ∙ sym stay.0))
 
   -- a treasury is started on files that were opened, or they keep what they held
-  pub started_by : {E : Type 0} (left_of : E → Left D g) (result : Result (Treasury (FileStore D g)) E) (image : Image)
-      (opened : Held (FileStore D g)) → IsOpenedOn g image opened
+  pub started_by : {E : Type 0} (why_of : E → Why) (left_of : E → Left D g)
+      (result : Result (Treasury (FileStore D g)) E) (image : Image) (opened : Held (FileStore D g))
+      → IsOpenedOn g image opened
       → MatchResult result (λ t. StartsOn g opened t)
-      (λ r. (image : Image) → IsOpenedOn g image opened → KeepsFile g image (left_of r))
-      → MatchResult result (λ t. IsStarted g image t) (λ r. KeepsFile g image (left_of r))
-  started_by left_of (Ok t) image opened on starts = record { opened = opened; on = on; starts = starts }
-  started_by left_of (Err r) image opened on keeps = keeps image on
+      (λ r. (image : Image) → IsOpenedOn g image opened → IsUnserved g image (why_of r) (left_of r))
+      → MatchResult result (λ t. IsStarted g image t) (λ r. IsUnserved g image (why_of r) (left_of r))
+  started_by why_of left_of (Ok t) image opened on starts = record { opened = opened; on = on; starts = starts }
+  started_by why_of left_of (Err r) image opened on unserved = unserved image on
 
   -- what a file holds whose connection is closed, and shows the rows of a good state
   pub left_behind : (c : Held (FileStore D g)) (closed : Files D) (f : Federation) → IsLive (file_state c)
@@ -139,22 +140,6 @@ module _ {D : Type 0} (g : disk.Ghosts D) where
   pub committed_in : (image : Image) (c : Held (FileStore D g)) → IsOpenedOn g image c → HasCleanDisk (file_state c)
       → (file_state c).committed ≡ (file_state c).now
   committed_in image c on k = sym (on.serves k).0.clean
-
-  pub closed_of : (one other : Held (FileStore D g)) (closed : Files D) → one ≡ other → IsLive (file_state one)
-      → (AreClean g closed.log closed.db → IsCopied one closed) → IsClosedAs g other closed
-  closed_of one other closed same live copied =
-      subst (λ (c : Held (FileStore D g)). IsClosedAs g c closed) same (record { live = live; copied = copied })
-
-  -- a closing of one connection is that of an equal one
-  pub closed_alike : (result : Result (Files D) (FileStore D g)) (one other : Held (FileStore D g)) → one ≡ other
-      → IsLive (file_state one)
-      → IfOk result (λ closed. AreClean g closed.log closed.db → IsCopied one closed)
-      → IfErr result (λ it. IsUnclosed g one it)
-      → MatchResult result (λ closed. IsClosedAs g other closed) (λ it. IsUnclosed g other it)
-  closed_alike (Ok closed) one other same live copied shut =
-      subst (λ (c : Held (FileStore D g)). IsClosedAs g c closed) same (record { live = live; copied = copied })
-  closed_alike (Err it) one other same live copied shut =
-      subst (λ (c : Held (FileStore D g)). IsUnclosed g c it) same shut
 
   -- tables are made on a connection, and the file is closed
   pub makes : (image : Image) (opened : Held (FileStore D g)) (s : Store (FileStore D g)) (closed : Files D)

@@ -2,20 +2,18 @@
 use Rattle.std.specs.Prelude.{◌≡◌, ◌⊎◌, Bool, false, Option, None, Some}
 use Rattle.sqlite_disk.specs.declared.Disk as disk
 use Rattle.sqlite_disk.specs.declared.Files.{Files}
-use Rattle.sqlite_wal.specs.Reads.{AreClean}
 use Rattle.sqlite_trees.specs.View.{IsQuiet}
 use Rattle.sqlite_store.specs.declared.store.FileStore.{FileStore}
 use Rattle.sqlite_store.specs.FileStore.{view, faults, recovers, is_shielded}
 use Rattle.sqlite.specs.Held.{Held}
-use Rattle.sqlite.specs.State.{HasCleanDisk, IsLive}
+use Rattle.sqlite.specs.State.{HasCleanDisk}
 use Rattle.sqlite.specs.Files.{file_state}
-use Rattle.sqlite.specs.Closing.{IsCopied}
 use Rattle.sqlite.specs.declared.file.Leftover.{Leftover}
 use Rattle.money_core.specs.declared.cause.Cause.{Cause}
 use Rattle.money_core.specs.declared.cause.Cause.TheVariants.{Damaged}
 use Rattle.treasury_files.specs.declared.left.Left.{Left}
 use Rattle.treasury_files.specs.declared.left.Left.TheVariants.{Untouched, Closed, Open, Shut, Unopened}
-use Rattle.treasury_files.specs.Started.{IsLeftBy}
+use Rattle.treasury_files.specs.Started.{IsLeftBy, IsClosedAs}
 
 -- what is left of a connection that was neither closed nor copied, and of one that was closed, where it could be
 abbrev pub IsLeftOpen : {D : Type 0} {g : disk.Ghosts D} → Held (FileStore D g) → Left D g → Type 0
@@ -26,9 +24,7 @@ IsLeftShut {D} {g} c left =
     (it : FileStore D g) × (left ≡ Shut it) × IsQuiet view faults recovers is_shielded c.store it
 
 abbrev pub IsLeftClosed : {D : Type 0} {g : disk.Ghosts D} → Held (FileStore D g) → Left D g → Type 0
-IsLeftClosed {D} {g} c left = IsLive (file_state c)
-    × (((closed : Files D) × (left ≡ Closed closed) × (AreClean g closed.log closed.db → IsCopied c closed))
-    ⊎ IsLeftShut c left)
+IsLeftClosed {D} {g} c left = ((closed : Files D) × (left ≡ Closed closed) × IsClosedAs g c closed) ⊎ IsLeftShut c left
 
 -- and of one whose tables are not opened
 abbrev pub IsLeftRefused : {D : Type 0} {g : disk.Ghosts D} → Held (FileStore D g) → Cause → Bool → Left D g → Type 0

@@ -6,3 +6,4 @@ pub mod Look
 pub mod Counts
 -- What mirrors code, for private clauses: nobody has to believe it
 pub mod Leaving
+pub mod Made

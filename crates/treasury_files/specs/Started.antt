@@ -13,10 +13,16 @@ use Rattle.sqlite.specs.State.{HasCleanDisk, IsLive}
 use Rattle.sqlite.specs.Start.{FindsIn}
 use Rattle.sqlite.specs.Files.{file_state, over_files, IsOpened}
 use Rattle.sqlite.specs.Closing.{IsCopied}
+use Rattle.money_core.specs.declared.cause.Cause.{Cause}
+use Rattle.money_core.specs.declared.cause.Cause.TheVariants.{OutOfMemory, Store as Failed, Damaged}
 use Rattle.treasury_core.specs.Federation.{Federation}
 use Rattle.treasury_store.specs.Rows.{Tables, HoldsEither}
 use Rattle.treasury_store.specs.Store.{TablesAre}
 use Rattle.treasury_store.specs.Treasury.{Treasury, IsTreasuryOf}
+use Rattle.treasury_files.specs.declared.file.Unopened.{Unopened as Why}
+use Rattle.treasury_files.specs.declared.file.Unopened.TheVariants as why
+use Rattle.treasury_files.specs.declared.left.Left.{Left}
+use Rattle.treasury_files.specs.Left.{KeepsFile, HasNoTreasury}
 use Rattle.treasury_files.specs.InFile.{ShowsState, HasTreasury}
 
 -- a store is what is left of a connection that was neither closed nor copied
@@ -31,7 +37,20 @@ pub record IsLeftAs {D : Type 0} {g : disk.Ghosts D} (c : Held (FileStore D g)) 
   pub live : IsLive (file_state c)
   pub by : IsLeftBy c it
 
+-- by which cause a file serves no word
+abbrev pub refusal_of : Why → Cause
+refusal_of why.NoMemory = OutOfMemory
+refusal_of (why.Unusable reason) = Failed
+refusal_of (why.NoTreasury reason) = Damaged
+refusal_of (why.OtherVersion version) = Damaged
+refusal_of (why.Strange told) = Damaged
+
 module _ {D : Type 0} (g : disk.Ghosts D) where
+  -- A file that serves no word holds what it held; where that is 43, it has no treasury, if it was opened.
+  pub record IsUnserved (image : Image) (why : Why) (left : Left D g) : Type 0 where
+    pub keeps : KeepsFile g image left
+    pub reason : refusal_of why ≡ Damaged → HasNoTreasury g image left
+
   -- a connection was opened on files that held this
   pub record IsOpenedOn (image : Image) (opened : Held (FileStore D g)) : Type 0 where
     pub found : HasCleanDisk (file_state opened) → FindsIn image (file_state opened)

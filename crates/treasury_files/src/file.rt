@@ -9,12 +9,13 @@ ghost use Rattle.sqlite.specs.Start.{FindsIn};
 ghost use Rattle.sqlite.specs.Files.{file_state, IsOpened};
 ghost use Rattle.sqlite_trees.specs.View.{doubt};
 ghost use Rattle.sqlite_store.specs.declared.store.FileStore.{FileStore};
+ghost use Rattle.treasury_store.specs.Tables.{store_schema};
 ghost use Rattle.treasury_files.specs.declared.left.Left.TheVariants.{Untouched, Closed};
 ghost use Rattle.treasury_files.specs.Left.{KeepsFile};
 ghost use Rattle.treasury_files.specs.InFile.{MakesOver, most_journal};
-ghost use Rattle.treasury_files.specs.Started.{IsOpenedOn, StartsOn, IsStarted, IsClosedAs, IsUnclosed};
+ghost use Rattle.treasury_files.specs.Started.{refusal_of, IsUnserved, IsOpenedOn, StartsOn, IsStarted};
+ghost use Rattle.treasury_files.specs.Started.{IsClosedAs, IsUnclosed, IsLeftAs};
 ghost use Rattle.treasury_files.specs.Leaving.{unopened_as};
-ghost use Rattle.treasury_files.specs.Started.{IsLeftAs};
 ghost use Rattle.treasury_files.specs.Leaving.{IsLeftOpen, IsLeftClosed, IsLeftRefused, IsAsked};
 
 use crate::beside::{Look, has_log, look_beside};
@@ -186,8 +187,10 @@ fn look_at_new(rt: &HostRuntime, path: &str) -> Result<(), Unopened> {
     }
 }
 
-/// Why a file was not opened.
-fn why_unopened(error: Error) -> Unopened {
+/// Why a file was not opened: never by 43.
+fn why_unopened(error: Error) -> Unopened
+    ensures { refusal_of result ≡ Cause.Damaged → ⊥ }
+{
     match error {
         Error::SqliteFailure(ErrorCode::OutOfMemory) => Unopened::NoMemory,
         Error::SqliteFailure(ErrorCode::DatabaseBusy) => Unopened::Unusable(IN_USE),
@@ -230,6 +233,7 @@ fn connect<S: Start>(
     ensures new { IfOk result IsNew }
     ensures opened { IfOk result (IsOpenedOn ⟦<FileFrom<S> as Disk>⟧ (image_at S.Start)) }
     ensures refused { IfErr result (λ r. KeepsFile ⟦<FileFrom<S> as Disk>⟧ (image_at S.Start) r.left) }
+    ensures never { IfErr result (λ r. refusal_of r.why ≡ Cause.Damaged → ⊥) }
 {
     match Connection::open_from(rt, path, false, start) {
         Ok(conn) => Ok(conn),
@@ -241,7 +245,9 @@ fn connect<S: Start>(
 }
 
 /// Why there is no treasury on a database.
-pub fn unstarted(cause: Cause, damage: &'static str) -> Unopened {
+pub(crate) fn unstarted(cause: Cause, damage: &'static str) -> Unopened
+    ensures { refusal_of result ≡ Cause.Damaged → cause ≡ Cause.Damaged }
+{
     match cause {
         Cause::OutOfMemory => Unopened::NoMemory,
         Cause::Damaged => Unopened::NoTreasury(damage),
@@ -250,7 +256,9 @@ pub fn unstarted(cause: Cause, damage: &'static str) -> Unopened {
 }
 
 /// Why a call on the tables of a database was refused: `damage` says it of tables that are there.
-fn why_uncalled(cause: Cause, damage: &'static str, schema: &Schema) -> Unopened {
+fn why_uncalled(cause: Cause, damage: &'static str, schema: &Schema) -> Unopened
+    ensures { refusal_of result ≡ Cause.Damaged → cause ≡ Cause.Damaged }
+{
     match cause {
         Cause::Store if is_taken(schema) => Unopened::Unusable(TAKEN),
         _ => unstarted(cause, damage),
@@ -261,6 +269,7 @@ fn why_uncalled(cause: Cause, damage: &'static str, schema: &Schema) -> Unopened
 pub(crate) fn unopened_tables<S: Alter>(conn: &mut Connection<S>, cause: Cause) -> Unopened
     ensures same { (cause ≡ Cause.Damaged → ⊥) → conn.new ≡ conn.old }
     ensures clean { doubt (state S.Store conn.old).is_clean ≤ doubt (state S.Store conn.new).is_clean }
+    ensures damaged { refusal_of result ≡ Cause.Damaged → cause ≡ Cause.Damaged }
 {
     let version = match cause {
         Cause::Damaged => found_version(conn),
@@ -330,7 +339,10 @@ fn check_opened(
     path: &str,
     schema: &Schema,
     is_alone: bool,
-) -> Result<(), Unopened> {
+) -> Result<(), Unopened>
+    // Those of version 2 are not refused by 43.
+    ensures { IfErr result (λ why. refusal_of why ≡ Cause.Damaged → schema.now ≡ store_schema → ⊥) }
+{
     match check_tables(rt.alloc(), schema, is_alone) {
         Ok(()) => {}
         Err(unopened) => return Err(unopened),
@@ -351,7 +363,7 @@ fn start_on<D: Disk + Drop>(
 ) -> Result<Treasury<FileStore<D>>, Unserved<D>>
     requires { conn.in_transaction ≡ false }
     ensures { MatchResult result (StartsOn D.Disk conn)
-        (λ r. (image : Image) → IsOpenedOn D.Disk image conn → KeepsFile D.Disk image r.left) }
+        (λ r. (image : Image) → IsOpenedOn D.Disk image conn → IsUnserved D.Disk image r.why r.left) }
 {
     match check_opened(rt, path, conn.schema(), is_alone) {
         Ok(()) => {}
@@ -379,8 +391,9 @@ fn start_on<D: Disk + Drop>(
 
 /// A database whose tables are not opened.
 fn without_tables<D: Disk + Drop>(refused: Refused<FileStore<D>>, is_first: bool) -> Unserved<D>
-    ensures { (conn : Held (FileStore D D.Disk)) × IsAsked D.Disk refused.conn refused.cause conn
+    ensures left { (conn : Held (FileStore D D.Disk)) × IsAsked D.Disk refused.conn refused.cause conn
         × IsLeftRefused conn refused.cause is_first result.left }
+    ensures damaged { refusal_of result.why ≡ Cause.Damaged → refused.cause ≡ Cause.Damaged }
 {
     let Refused { mut conn, cause } = refused;
     let why = unopened_tables(&mut conn, cause);
@@ -393,14 +406,15 @@ fn without_tables<D: Disk + Drop>(refused: Refused<FileStore<D>>, is_first: bool
 /// The treasury whose tables the file has.
 ///
 /// It answers 43 where the file is not there, is empty, or lacks the tables of a treasury, and makes nothing then; 41
-/// where it cannot be opened as a database; or 40. Whatever refuses it, the file holds the rows that it held.
+/// where it cannot be opened as a database; or 40. Whatever refuses it, the file holds the rows that it held; and 43
+/// has its reason, if the file was opened.
 pub fn open_treasury<S: Start>(
     rt: &HostRuntime,
     path: &str,
     start: S,
 ) -> Result<FileTreasury<S>, Unserved<FileFrom<S>>>
     ensures { MatchResult result (IsStarted ⟦<FileFrom<S> as Disk>⟧ (image_at S.Start))
-        (λ r. KeepsFile ⟦<FileFrom<S> as Disk>⟧ (image_at S.Start) r.left) }
+        (λ r. IsUnserved ⟦<FileFrom<S> as Disk>⟧ (image_at S.Start) r.why r.left) }
 {
     let is_alone = match look_at_treasury(rt, path) {
         Ok(is_alone) => is_alone,

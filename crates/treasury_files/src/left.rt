@@ -1,14 +1,8 @@
 //! What a word leaves of the files that it is over. It is a value that is handed back: what is said of it is said of
 //! these files, and they stay locked until `main` drops them.
 
-ghost use Rattle.std.specs.Prelude.{◌≡◌, IfOk, IfErr};
-ghost use Rattle.sqlite_wal.specs.Reads.{AreClean};
-ghost use Rattle.sqlite_trees.specs.View.{IsQuiet};
-ghost use Rattle.sqlite_store.specs.FileStore.{view, faults, recovers, is_shielded};
-ghost use Rattle.sqlite.specs.State.{IsLive};
-ghost use Rattle.sqlite.specs.Files.{file_state};
-ghost use Rattle.sqlite.specs.Closing.{IsCopied};
-ghost use Rattle.treasury_files.specs.Started.{IsLeftBy};
+ghost use Rattle.std.specs.Prelude.{MatchResult};
+ghost use Rattle.treasury_files.specs.Started.{IsLeftBy, IsClosedAs, IsUnclosed};
 
 use sqlite::{Connection, FileStore, Leftover};
 use sqlite_disk::{Disk, Files};
@@ -40,9 +34,7 @@ pub(crate) fn leave<D: Disk + Drop>(conn: Connection<FileStore<D>>) -> FileStore
 pub(crate) fn close<D: Disk + Drop>(
     conn: Connection<FileStore<D>>,
 ) -> Result<Files<D>, FileStore<D>>
-    ensures live { IsLive (file_state conn) }
-    ensures closed { IfOk result (λ files. AreClean D.Disk files.log files.db → IsCopied conn files) }
-    ensures shut { IfErr result (λ it. IsQuiet view faults recovers is_shielded conn.store it) }
+    ensures { MatchResult result (IsClosedAs D.Disk conn) (IsUnclosed D.Disk conn) }
 {
     // What it shows is a database, by this call's contract; so an opening of the file finds its schema again.
     let _ = conn.schema();

@@ -2,7 +2,7 @@
 //! version 1. So a file that is refused for what its log makes of it, or for its rows, stays as it is, and so does the
 //! log.
 
-ghost use Rattle.std.specs.Prelude.{◌≡◌, false, IfOk};
+ghost use Rattle.std.specs.Prelude.{◌≡◌, false};
 
 use crate::beside::log_name;
 use crate::file::{
@@ -12,12 +12,14 @@ use crate::laws::counts_law;
 use crate::shrinking::{Counts, counts_of, is_kept};
 use crate::tables::{check_tables, has_one, is_bare, is_taken};
 use crate::waiting::is_in_use;
+use book_core::Ledger;
 use money_core::Cause;
-use sqlite::{Connection, Error, ErrorCode, Files, Options};
+use sqlite::{Alter, Connection, Error, ErrorCode, Files, Options};
 use sqlite_disk::Disk;
 use std::alloc::Global;
 use std::fs;
-use treasury_memory::{MemoryDisk, MemoryStore};
+use treasury_core::State;
+use treasury_memory::MemoryDisk;
 use treasury_store::{Refused, Store, Treasury};
 
 /// The log's salts tell it from an older log. Nobody opens the copies again.
@@ -51,6 +53,17 @@ enum Obstacle {
     Foreign,
     /// The tables are not those of a treasury, or their rows are no state's.
     Tables(Unopened),
+}
+
+/// What copies of a file show.
+#[derive(Drop)]
+struct Seen {
+    /// Whether there is no table, no index and no view.
+    is_bare: bool,
+    /// Whether a table has the name of a treasury's.
+    has_one: bool,
+    /// How much the treasury has, or what stands against its opening.
+    counts: Result<Counts, Obstacle>,
 }
 
 /// A copy of the file in memory.
@@ -112,37 +125,6 @@ fn why_untried(error: Error) -> Obstacle {
     }
 }
 
-/// A connection to copies, where they could be made.
-fn connect_to(
-    alloc: Global,
-    copied: Result<Files<MemoryDisk>, Unopened>,
-) -> Result<Connection<MemoryStore>, Obstacle>
-    ensures { IfOk result (λ conn. conn.in_transaction ≡ false) }
-{
-    let files = match copied {
-        Ok(files) => files,
-        Err(unopened) => return Err(Obstacle::Copies(unopened)),
-    };
-    match Connection::open_files(alloc, files, Options::new(SEED)) {
-        Ok(conn) => Ok(conn),
-        Err((error, _left)) => Err(why_untried(error)),
-    }
-}
-
-/// A connection to copies in memory of the file and its log.
-fn connect_copies(rt: &HostRuntime, path: &str) -> Result<Connection<MemoryStore>, Obstacle>
-    ensures { IfOk result (λ conn. conn.in_transaction ≡ false) }
-{
-    connect_to(rt.alloc(), copies(rt, path))
-}
-
-/// A connection to a copy in memory of the file alone.
-fn connect_alone(rt: &HostRuntime, path: &str) -> Result<Connection<MemoryStore>, Obstacle>
-    ensures { IfOk result (λ conn. conn.in_transaction ≡ false) }
-{
-    connect_to(rt.alloc(), copy_alone(rt, path))
-}
-
 /// What stands against an opening by what the tables hold. Where a call failed, nothing is known of them.
 fn obstacle_of(unopened: Unopened) -> Obstacle {
     match unopened {
@@ -152,8 +134,8 @@ fn obstacle_of(unopened: Unopened) -> Obstacle {
     }
 }
 
-/// Why the tables of the copies are not opened. A name that is taken keeps a call from making a table.
-fn why_refused(refused: Refused<MemoryStore>) -> Obstacle {
+/// Why the tables of copies are not opened. A name that is taken keeps a call from making a table.
+fn why_refused<S: Alter + Drop>(refused: Refused<S>) -> Obstacle {
     let Refused { mut conn, cause } = refused;
     let has_taken = is_taken(conn.schema());
     match unopened_tables(&mut conn, cause) {
@@ -176,11 +158,20 @@ fn why_unstarted(cause: Cause) -> Obstacle {
     }
 }
 
-/// The treasury that the copies show.
-fn start_copies(
-    alloc: Global,
-    conn: Connection<MemoryStore>,
-) -> Result<Treasury<MemoryStore>, Obstacle>
+/// How much the treasury has whose state memory holds.
+fn counts_in<L: Ledger>(alloc: Global, state: Option<&State<L>>) -> Result<Counts, Obstacle> {
+    let counts = match state {
+        Some(state) => counts_of(alloc, state),
+        None => None,
+    };
+    match counts {
+        Some(counts) => Ok(counts),
+        None => Err(Obstacle::Copies(Unopened::NoMemory)),
+    }
+}
+
+/// How much the treasury has that a connection shows.
+fn counts_on<S: Alter + Drop>(alloc: Global, conn: Connection<S>) -> Result<Counts, Obstacle>
     requires { conn.in_transaction ≡ false }
 {
     match check_tables(alloc, conn.schema(), false) {
@@ -192,47 +183,63 @@ fn start_copies(
         Err(refused) => return Err(why_refused(refused)),
     };
     match Treasury::start(alloc, store) {
-        Ok(treasury) => Ok(treasury),
+        Ok(treasury) => counts_in(alloc, treasury.state()),
         Err(refused) => Err(why_unstarted(refused.cause)),
     }
 }
 
-/// How much the treasury has that the copies show.
-fn counts_on(alloc: Global, conn: Connection<MemoryStore>) -> Result<Counts, Obstacle>
+/// What a connection shows.
+fn seen_on<S: Alter + Drop>(alloc: Global, conn: Connection<S>) -> Seen
     requires { conn.in_transaction ≡ false }
 {
-    let treasury = match start_copies(alloc, conn) {
-        Ok(treasury) => treasury,
-        Err(obstacle) => return Err(obstacle),
-    };
-    let counts = match treasury.state() {
-        Some(state) => counts_of(alloc, state),
-        None => None,
-    };
-    match counts {
-        Some(counts) => Ok(counts),
-        None => Err(Obstacle::Copies(Unopened::NoMemory)),
+    let is_bare = is_bare(conn.schema());
+    let has_one = has_one(conn.schema());
+    Seen {
+        is_bare,
+        has_one,
+        counts: counts_on(alloc, conn),
     }
+}
+
+/// What copies show, where they could be made and are a database.
+fn see(alloc: Global, copied: Result<Files<MemoryDisk>, Unopened>) -> Result<Seen, Obstacle> {
+    let files = match copied {
+        Ok(files) => files,
+        Err(unopened) => return Err(Obstacle::Copies(unopened)),
+    };
+    match Connection::open_files(alloc, files, Options::new(SEED)) {
+        Ok(conn) => Ok(seen_on(alloc, conn)),
+        Err((error, _left)) => Err(why_untried(error)),
+    }
+}
+
+/// What the file shows without its log.
+fn see_alone(rt: &HostRuntime, path: &str) -> Result<Seen, Obstacle> {
+    see(rt.alloc(), copy_alone(rt, path))
+}
+
+/// What the file shows with its log.
+fn see_with_log(rt: &HostRuntime, path: &str) -> Result<Seen, Obstacle> {
+    see(rt.alloc(), copies(rt, path))
 }
 
 /// Whether the file alone is a treasury that has more of something than with its log. A log of its own takes nothing
 /// back.
 fn shrinks(rt: &HostRuntime, path: &str, with_log: &Counts) -> bool {
     counts_law();
-    let conn = match connect_alone(rt, path) {
-        Ok(conn) => conn,
-        Err(_) => return false,
-    };
-    match counts_on(rt.alloc(), conn) {
-        Ok(alone) => !is_kept(&alone, with_log),
+    match see_alone(rt, path) {
+        Ok(seen) => match seen.counts {
+            Ok(alone) => !is_kept(&alone, with_log),
+            Err(_) => false,
+        },
         Err(_) => false,
     }
 }
 
 /// Whether the file alone is a database without tables, as `init` leaves it for a moment.
 fn is_bare_alone(rt: &HostRuntime, path: &str) -> bool {
-    match connect_alone(rt, path) {
-        Ok(conn) => is_bare(conn.schema()),
+    match see_alone(rt, path) {
+        Ok(seen) => seen.is_bare,
         Err(_) => false,
     }
 }
@@ -240,15 +247,15 @@ fn is_bare_alone(rt: &HostRuntime, path: &str) -> bool {
 /// Tries the opening of a file beside a log: what refuses it by what the two hold. Where the copies cannot be made,
 /// nothing is known, and the opening itself says why.
 pub fn rehearse(rt: &HostRuntime, path: &str) -> Result<(), Unopened> {
-    let conn = match connect_copies(rt, path) {
-        Ok(conn) => conn,
+    let seen = match see_with_log(rt, path) {
+        Ok(seen) => seen,
         Err(Obstacle::Foreign) => return Err(Unopened::Unusable(FOREIGN)),
         Err(_) => return Ok(()),
     };
-    if is_bare(conn.schema()) && is_bare_alone(rt, path) {
+    if seen.is_bare && is_bare_alone(rt, path) {
         return Err(Unopened::NoTreasury(UNMADE));
     }
-    match counts_on(rt.alloc(), conn) {
+    match seen.counts {
         Ok(counts) => {
             if shrinks(rt, path, &counts) {
                 Err(Unopened::Unusable(SHRINKING))
@@ -264,14 +271,13 @@ pub fn rehearse(rt: &HostRuntime, path: &str) -> Result<(), Unopened> {
 /// Tries the opening of a file that no log stands beside: what refuses it by what it holds. Where the copy cannot be
 /// made, nothing is known.
 pub fn rehearse_alone(rt: &HostRuntime, path: &str) -> Result<(), Unopened> {
-    let conn = match connect_alone(rt, path) {
-        Ok(conn) => conn,
+    let seen = match see_alone(rt, path) {
+        Ok(seen) => seen,
         Err(_) => return Ok(()),
     };
-    match start_copies(rt.alloc(), conn) {
-        Ok(_treasury) => Ok(()),
+    match seen.counts {
         Err(Obstacle::Tables(unopened)) => Err(unopened),
-        Err(_) => Ok(()),
+        _ => Ok(()),
     }
 }
 
@@ -280,12 +286,10 @@ pub fn rehearse_alone(rt: &HostRuntime, path: &str) -> Result<(), Unopened> {
 fn why_not_again(
     rt: &HostRuntime,
     path: &str,
-    conn: Connection<MemoryStore>,
+    counts: Result<Counts, Obstacle>,
     there: &'static str,
-) -> Unopened
-    requires { conn.in_transaction ≡ false }
-{
-    match counts_on(rt.alloc(), conn) {
+) -> Unopened {
+    match counts {
         Ok(counts) => {
             if shrinks(rt, path, &counts) {
                 Unopened::Unusable(SHRINKING)
@@ -299,10 +303,10 @@ fn why_not_again(
 
 /// Why no tables are made in a file beside a log: 43 where a treasury's are there, else 41.
 pub fn why_not_made(rt: &HostRuntime, path: &str, there: &'static str) -> Unopened {
-    match connect_copies(rt, path) {
-        Ok(conn) => {
-            if has_one(conn.schema()) {
-                why_not_again(rt, path, conn, there)
+    match see_with_log(rt, path) {
+        Ok(seen) => {
+            if seen.has_one {
+                why_not_again(rt, path, seen.counts, there)
             } else {
                 Unopened::Unusable(BESIDE)
             }

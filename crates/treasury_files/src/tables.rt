@@ -1,7 +1,10 @@
 //! What a database has otherwise than a treasury has it: tables that are missing, and tables with other columns.
 
-ghost use Rattle.std.specs.Prelude.{◌≡◌};
+ghost use Rattle.std.specs.Prelude.{◌≡◌, map, IfErr, IsTrue};
 ghost use Rattle.treasury_store.specs.Creating.{has_receipt};
+ghost use Rattle.treasury_store.specs.Opening.{IsEither};
+ghost use Rattle.treasury_files.specs.Made.{names_in, heading};
+ghost use Rattle.treasury_files.specs.Started.{refusal_of};
 
 use crate::file::Unopened;
 use money_core::Cause;
@@ -11,24 +14,36 @@ use std::alloc::Global;
 use treasury_told::explain::push_shown;
 
 /// The tables of a treasury, each with its columns (docs/FORMATS.md, "Tables"), less that of receipts in parts.
-const TABLES: &[(&str, &str)] = &[
-    ("format", "version"),
+const TABLES: &[(&str, &[&str])] = &[
+    ("format", &["version"]),
     (
         "unit",
-        "nr, symbol, decimals, mark, grouped, leftside, spaced",
+        &[
+            "nr", "symbol", "decimals", "mark", "grouped", "leftside", "spaced",
+        ],
     ),
-    ("branch", "nr, name, locked"),
-    ("entry", "branch, nr, day, mark, body"),
-    ("leg", "branch, entry, nr, account, unit, qty"),
-    ("claim", "branch, entry, leg, kind, unit, qty"),
+    ("branch", &["nr", "name", "locked"]),
+    ("entry", &["branch", "nr", "day", "mark", "body"]),
+    ("leg", &["branch", "entry", "nr", "account", "unit", "qty"]),
+    ("claim", &["branch", "entry", "leg", "kind", "unit", "qty"]),
     (
         "transfer",
-        "id, source, target, unit, qty, dispatched, payer, received, payee",
+        &[
+            "id",
+            "source",
+            "target",
+            "unit",
+            "qty",
+            "dispatched",
+            "payer",
+            "received",
+            "payee",
+        ],
     ),
 ];
 
 /// The table of receipts in parts, which version 1 of the tables lacks.
-const RECEIPT: (&str, &str) = ("receipt", "transfer, part, qty, received, payee");
+const RECEIPT: (&str, &[&str]) = ("receipt", &["transfer", "part", "qty", "received", "payee"]);
 
 /// Room for the names of a treasury's columns.
 const MOST_COLUMNS: usize = 80;
@@ -51,6 +66,51 @@ pub fn is_ours(name: &[u8]) -> bool {
         }
     }
     same_name(name, RECEIPT.0.as_bytes())
+}
+
+/// Whether the columns of a table have these names, in this order.
+fn has_columns(table: &Table, names: &[&str]) -> bool
+    ensures { names_in table.now ≡ map (λ name. name.now) names.now → IsTrue result }
+{
+    let columns = table.columns.as_slice();
+    if columns.len() != names.len() {
+        return false;
+    }
+    'name: for place in 0..names.len() {
+        if !same_name(columns[place].name.as_slice(), names[place].as_bytes()) {
+            return false;
+        }
+    }
+    true
+}
+
+/// Whether a table has this name, and columns of these names, in this order.
+fn is_made(table: &Table, name: &str, columns: &[&str]) -> bool
+    ensures { heading table.now ≡ (name.now, map (λ column. column.now) columns.now) → IsTrue result }
+{
+    same_name(table.name.as_slice(), name.as_bytes()) && has_columns(table, columns)
+}
+
+/// Whether the tables have the names and the columns, in order, of those that `init` makes, in either version, and
+/// there is no other table.
+fn are_made(schema: &Schema) -> bool
+    ensures { IsEither schema.now → IsTrue result }
+{
+    let tables = schema.tables.as_slice();
+    if tables.len() < TABLES.len() {
+        return false;
+    }
+    'table: for place in 0..TABLES.len() {
+        let (name, columns) = TABLES[place];
+        if !is_made(&tables[place], name, columns) {
+            return false;
+        }
+    }
+    match tables.len() {
+        7 => true,
+        8 => is_made(&tables[7], RECEIPT.0, RECEIPT.1),
+        _ => false,
+    }
 }
 
 /// Whether the database has a table of receipts in parts, as version 2 has it.
@@ -129,6 +189,15 @@ fn columns_of(alloc: Global, table: &Table) -> Result<Vec<u8>, Cause> {
     Ok(names)
 }
 
+/// The names of a treasury's columns, as one text.
+fn list_of(alloc: Global, columns: &[&str]) -> Result<Vec<u8>, Cause> {
+    let mut names = Vec::with_capacity(alloc, MOST_COLUMNS)?;
+    for column in columns {
+        push_name(column.as_bytes(), &mut names)?;
+    }
+    Ok(names)
+}
+
 /// What is said of missing tables.
 fn say_missing(
     alloc: Global,
@@ -156,14 +225,14 @@ fn say_missing(
 }
 
 /// What is said of a table with other columns.
-fn say_columns(alloc: Global, name: &str, found: &[u8], wanted: &str) -> Result<Vec<u8>, Cause> {
+fn say_columns(alloc: Global, name: &str, found: &[u8], wanted: &[u8]) -> Result<Vec<u8>, Cause> {
     let mut told = Vec::new(alloc);
     told.extend_from_slice(b"the table ")?;
     told.extend_from_slice(name.as_bytes())?;
     told.extend_from_slice(b" has the columns ")?;
     told.extend_from_slice(found)?;
     told.extend_from_slice(b"; in a treasury it has ")?;
-    told.extend_from_slice(wanted.as_bytes())?;
+    told.extend_from_slice(wanted)?;
     Ok(told)
 }
 
@@ -172,23 +241,25 @@ fn check_columns(
     alloc: Global,
     schema: &Schema,
     name: &str,
-    wanted: &str,
+    columns: &[&str],
 ) -> Result<Option<Vec<u8>>, Cause> {
     let Some(table) = table_named(schema, name.as_bytes()) else {
         return Ok(None);
     };
     let found = columns_of(alloc, table)?;
-    if same_name(found.as_slice(), wanted.as_bytes()) {
+    let wanted = list_of(alloc, columns)?;
+    if same_name(found.as_slice(), wanted.as_slice()) {
         Ok(None)
     } else {
-        Ok(Some(say_columns(alloc, name, found.as_slice(), wanted)?))
+        let told = say_columns(alloc, name, found.as_slice(), wanted.as_slice())?;
+        Ok(Some(told))
     }
 }
 
 /// What is said of the first table that has other columns than a treasury's.
 fn other_columns(alloc: Global, schema: &Schema) -> Result<Option<Vec<u8>>, Cause> {
-    for (name, wanted) in TABLES {
-        let told = check_columns(alloc, schema, name, wanted)?;
+    for (name, columns) in TABLES {
+        let told = check_columns(alloc, schema, name, columns)?;
         if told.is_some() {
             return Ok(told);
         }
@@ -210,7 +281,13 @@ fn find_strange(alloc: Global, schema: &Schema, is_alone: bool) -> Result<Option
 
 /// Looks at the tables of a database: 43 where they have not the names and the columns of a treasury's. That `init`
 /// adds them is only said where no log stands beside the file, which is alone then.
-pub fn check_tables(alloc: Global, schema: &Schema, is_alone: bool) -> Result<(), Unopened> {
+pub fn check_tables(alloc: Global, schema: &Schema, is_alone: bool) -> Result<(), Unopened>
+    // Those that `init` makes, in either version, are not refused by 43.
+    ensures { IfErr result (λ why. refusal_of why ≡ Cause.Damaged → IsEither schema.now → ⊥) }
+{
+    if are_made(schema) {
+        return Ok(());
+    }
     match find_strange(alloc, schema, is_alone) {
         Ok(None) => Ok(()),
         Ok(Some(told)) => Err(Unopened::Strange(told)),

@@ -12,10 +12,10 @@ ghost use Rattle.treasury_api.specs.Left.{LeavesRequest};
 ghost use Rattle.treasury_files.specs.declared.left.Left.TheVariants.{Untouched};
 ghost use Rattle.treasury_files.specs.Left.{KeepsFile};
 ghost use Rattle.treasury.specs.Word.{SaysTo};
-ghost use Rattle.treasury.specs.OverFile.{IsRefusedBy, IsFileRefused, SaysToInit, SaysOver, SaysToJournal};
+ghost use Rattle.treasury.specs.OverFile.{IsRefusedBy, SaysToInit, SaysOver, SaysToJournal};
 ghost use Rattle.treasury.specs.OverFile.{SaysToImport, SaysToForm, SaysToWord};
-ghost use Rattle.treasury.specs.OverFileParts.{spoken, IsRoom, refusal_of, IsClosedOrShut};
-ghost use Rattle.treasury_files.specs.Started.{IsStarted};
+ghost use Rattle.treasury.specs.OverFileParts.{spoken, IsRoom, IsClosedOrShut};
+ghost use Rattle.treasury_files.specs.Started.{IsStarted, refusal_of};
 
 use crate::words::said::{Said, done, refused, room_for_line};
 use crate::words::telling::{notes_on, reason_of};
@@ -200,7 +200,7 @@ fn refused_by<D: Disk>(
     unserved: Unserved<D>,
 ) -> Answered<D>
     requires { IsRoom room }
-    ensures refused { IsFileRefused (spoken result.said) }
+    ensures refused { IsRefusedBy (refusal_of unserved.why) (spoken result.said) }
     ensures left { result.left ≡ unserved.left }
 {
     let Unserved { why, left } = unserved;

@@ -1,9 +1,9 @@
 use Rattle.std.proofs.Common.{◌≡◌, ◌∙◌, Result, Ok, Err, sym, ap, subst, arith}
 use Rattle.sqlite.specs.Held.{Held}
 use Rattle.treasury_store.specs.declared.store.Refused.{Refused}
-use Rattle.treasury_files.specs.Started.{IsUnclosed}
+use Rattle.treasury_files.specs.Started.{IsClosedAs, IsUnclosed}
 use Rattle.treasury_files.proofs.LeftLemmas.{keeps_unmade, keeps_made}
-use Rattle.treasury_files.proofs.StartedLemmas.{makes, closed_of}
+use Rattle.treasury_files.proofs.StartedLemmas.{makes}
 use Rattle.treasury_files.proofs.file.make_on.Goals as goal
 
 err_is : {X E : Type 0} (e d : E) → ◌≡◌ {A = Result X E} (Err e) (Err d) → e ≡ d
@@ -26,11 +26,10 @@ pub returns-in-Ok-close : goal.returns-in-Ok-close
 returns-in-Ok-close g c = λ image on.
     makes _ image c.args.conn c.in-Ok.store c.in-Ok-close.files on c.in-Ok.ensures.made c.in-Ok.ensures.free
     c.in-Ok.ensures.clean
-    (closed_of _ c.into_connection.result c.in-Ok.store.conn c.in-Ok-close.files c.into_connection.ensures
-    c.close.ensures.live c.in-Ok-close.ensures.closed)
+    (subst (λ (h : Held _). IsClosedAs _ h c.in-Ok-close.files) c.into_connection.ensures c.in-Ok-close.ensures)
 
 pub returns-in-Err-close : goal.returns-in-Err-close
 returns-in-Err-close g c = λ image on.
     keeps_made _ g.met.D.Disk.seen_may_stay image c.args.conn c.in-Ok.store.conn c.in-Err-close.store on
     c.in-Ok.ensures.free (λ clean. omega (arith, c.in-Ok.ensures.clean, clean))
-    (subst (λ (h : Held _). IsUnclosed _ h c.in-Err-close.store) c.into_connection.ensures c.in-Err-close.ensures.shut)
+    (subst (λ (h : Held _). IsUnclosed _ h c.in-Err-close.store) c.into_connection.ensures c.in-Err-close.ensures)

@@ -36,5 +36,5 @@ returns-clause-says g c =
     (inr (
       c.refused_by-in-Err-open_treasury.ensures.refused,
       subst (λ left. KeepsFile _ (image_at g.S.Start) left) (sym c.refused_by-in-Err-open_treasury.ensures.left)
-          c.in-Err-open_treasury.ensures,
+          c.in-Err-open_treasury.ensures.keeps,
     ))

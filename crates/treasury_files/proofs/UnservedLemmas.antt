@@ -1,0 +1,99 @@
+-- 43 has its reason: what an opened file holds is no treasury of version 2.
+use Rattle.std.proofs.Common.{◌≡◌, ◌⊎◌, Bool, sym, subst, inl, inr, arith}
+use Rattle.sqlite_disk.specs.declared.Disk as disk
+use Rattle.sqlite_wal.specs.Recovery.{Image}
+use Rattle.sqlite_store.specs.declared.store.FileStore.{FileStore}
+use Rattle.sqlite.specs.Effect.{Database}
+use Rattle.sqlite.specs.Held.{Held}
+use Rattle.sqlite.specs.State.{HasCleanDisk}
+use Rattle.sqlite.specs.Files.{file_state, over_files}
+use Rattle.money_core.specs.declared.cause.Cause.{Cause}
+use Rattle.money_core.specs.declared.cause.Cause.TheVariants.{Damaged}
+use Rattle.treasury_core.specs.Federation.{Federation}
+use Rattle.treasury_core.specs.Good.{IsGoodState}
+use Rattle.treasury_core.specs.Rows.{rows}
+use Rattle.treasury_store.specs.Tables.{store_schema}
+use Rattle.treasury_store.specs.Opening.{AreOurs, IsFirst, IsSecond}
+use Rattle.treasury_store.specs.Rows.{Tables, Holds, HoldsEither}
+use Rattle.treasury_store.specs.Store.{TablesAre}
+use Rattle.treasury_files.specs.declared.left.Left.{Left}
+use Rattle.treasury_files.specs.Left.{HoldsOf, IsCleanIn, HasNoTreasury}
+use Rattle.treasury_files.specs.Started.{IsOpenedOn}
+use Rattle.treasury_files.specs.Leaving.{IsLeftOpen, IsLeftShut, IsLeftClosed, IsLeftRefused, IsAsked}
+use Rattle.treasury_files.proofs.LeftLemmas.{shows_same, either_ours}
+
+module _ {D : Type 0} (g : disk.Ghosts D) where
+  -- where what is left of a connection is clean, the connection was
+  clean_open : (c : Held (FileStore D g)) (left : Left D g) → IsLeftOpen c left → IsCleanIn g left
+      → HasCleanDisk (file_state c)
+  clean_open c left (it, is, by) clean =
+      let now = subst (λ (l : Left D g). IsCleanIn g l) is clean in omega (arith, by.quiet.clean, now.0)
+
+  clean_shut : (c : Held (FileStore D g)) (left : Left D g) → IsLeftShut c left → IsCleanIn g left
+      → HasCleanDisk (file_state c)
+  clean_shut c left (it, is, quiet) clean =
+      let now = subst (λ (l : Left D g). IsCleanIn g l) is clean in omega (arith, quiet.clean, now.0)
+
+  clean_either : (c : Held (FileStore D g)) (left : Left D g) → IsLeftOpen c left ⊎ IsLeftClosed c left
+      → IsCleanIn g left → HasCleanDisk (file_state c)
+  clean_either c left (inl left_so) clean = clean_open c left left_so clean
+  clean_either c left (inr (inl (closed, is, closes))) clean =
+      (closes.copied (subst (λ (l : Left D g). IsCleanIn g l) is clean)).was_clean
+  clean_either c left (inr (inr shut)) clean = clean_shut c left shut clean
+
+  clean_refused : (c : Held (FileStore D g)) (cause : Cause) (is_first : Bool) (left : Left D g)
+      → IsLeftRefused c cause is_first left → IsCleanIn g left → HasCleanDisk (file_state c)
+  clean_refused c cause is_first left (inl (why, left_so)) clean = clean_open c left left_so clean
+  clean_refused c cause is_first left (inr shut) clean = clean_shut c left shut clean
+
+  -- a connection that showed the rows of no good state as version 2
+  none_shown : (image : Image) (opened : Held (FileStore D g)) (left : Left D g) → IsOpenedOn g image opened
+      → (IsCleanIn g left → HasCleanDisk (file_state opened))
+      → (IsCleanIn g left → (f : Federation) → HoldsOf image f → Holds (file_state opened).now (rows f) → ⊥)
+      → HasNoTreasury g image left
+  none_shown image opened left on first never = inr (λ clean f holds.
+      let k = first clean in
+      let same = shows_same g image opened (rows f) holds.held (on.found k) (on.serves k) in
+      elim holds.held.tables [
+        | inl second ↦ absurd (never clean f holds (subst (λ (db : Database). Holds db (rows f)) same second))
+        | inr one ↦ one
+      ])
+
+  -- its tables were not those of version 2
+  pub none_checked : (image : Image) (opened : Held (FileStore D g)) (left : Left D g) → IsOpenedOn g image opened
+      → IsLeftOpen opened left → ((file_state opened).now.schema ≡ store_schema → ⊥) → HasNoTreasury g image left
+  none_checked image opened left on left_so other =
+      none_shown image opened left on (clean_open opened left left_so) (λ clean f holds second. other second.shows.schema)
+
+  -- they were not opened
+  pub none_opened : (image : Image) (opened refused last : Held (FileStore D g)) (cause : Cause) (is_first : Bool)
+      (left : Left D g) → IsOpenedOn g image opened → cause ≡ Damaged
+      → (HasCleanDisk (file_state refused) → HasCleanDisk (file_state opened))
+      → (cause ≡ Damaged → HasCleanDisk (file_state refused) → AreOurs (file_state opened).now.schema
+      → IsFirst (file_state opened).now ⊎ IsSecond (file_state opened).now → ⊥)
+      → IsAsked g refused cause last → IsLeftRefused last cause is_first left → HasNoTreasury g image left
+  none_opened image opened refused last cause is_first left on is first damaged asked left_as =
+      none_shown image opened left on (λ clean. first (before clean)) (λ clean f holds second.
+      let there = either_ours (file_state opened).now (rows f) (inl second) in
+      damaged is (before clean) there.0 there.1)
+    where
+      before : IsCleanIn g left → HasCleanDisk (file_state refused)
+      before clean = asked.clean (clean_refused last cause is_first left left_as clean)
+
+  -- or their rows were no state's
+  pub none_started : (image : Image) (opened store last : Held (FileStore D g)) (left : Left D g)
+      → IsOpenedOn g image opened
+      → (HasCleanDisk (file_state store) → HasCleanDisk (file_state opened))
+      → (HasCleanDisk (file_state last) → HasCleanDisk (file_state store))
+      → ((file_state opened).committed ≡ (file_state opened).now → (t : Tables)
+      → HoldsEither (file_state opened).now t → TablesAre over_files store t)
+      → (HasCleanDisk (file_state last) → (f : Federation) → IsGoodState f
+      → TablesAre over_files store (rows f) → ⊥)
+      → IsLeftOpen last left ⊎ IsLeftClosed last left → HasNoTreasury g image left
+  none_started image opened store last left on first middle tables damaged left_as =
+      none_shown image opened left on before (λ clean f holds second.
+      damaged (clean_either last left left_as clean) f holds.good
+      (tables (sym (on.serves (before clean)).0.clean) (rows f) (inl second)))
+    where
+      before : IsCleanIn g left → HasCleanDisk (file_state opened)
+      before clean = first (middle (clean_either last left left_as clean))
