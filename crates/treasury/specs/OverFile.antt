@@ -112,7 +112,8 @@ module _ {D : Type 0} (g : disk.Ghosts D) where
   -- reason; or by 41, and the request may have been done.
   abbrev pub SaysOver : Image → Spelled → Spoken → Left D g → Type 0
   SaysOver image request said left =
-      ((IsRefusedBy OutOfMemory said ⊎ (IsRefusedBy Damaged said × HasNoTreasury g image left)) × KeepsFile g image left)
+      ((IsRefusedBy OutOfMemory said ⊎ (IsRefusedBy Damaged said × HasNoTreasury g image left))
+      × KeepsFile g image left)
       ⊎ ((IsRefusedBy Store said × MayHaveDone image request left) ⊎ AnswersOver image request said left)
 
   -- a cause alone is said, and no file was opened

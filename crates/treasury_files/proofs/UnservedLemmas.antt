@@ -63,7 +63,8 @@ module _ {D : Type 0} (g : disk.Ghosts D) where
   pub none_checked : (image : Image) (opened : Held (FileStore D g)) (left : Left D g) → IsOpenedOn g image opened
       → IsLeftOpen opened left → ((file_state opened).now.schema ≡ store_schema → ⊥) → HasNoTreasury g image left
   none_checked image opened left on left_so other =
-      none_shown image opened left on (clean_open opened left left_so) (λ clean f holds second. other second.shows.schema)
+      none_shown image opened left on (clean_open opened left left_so)
+      (λ clean f holds second. other second.shows.schema)
 
   -- they were not opened
   pub none_opened : (image : Image) (opened refused last : Held (FileStore D g)) (cause : Cause) (is_first : Bool)

@@ -17,5 +17,5 @@ returns-in-Err-connect g c = record {
 }
 
 pub returns : goal.returns
-returns g c = started_by _ (λ r. r.why) (λ r. r.left) c.start_on-started.result (image_at g.S.Start) c.in-Ok-connect.conn
-    c.in-Ok-connect.ensures.opened c.start_on-started.ensures
+returns g c = started_by _ (λ r. r.why) (λ r. r.left) c.start_on-started.result (image_at g.S.Start)
+    c.in-Ok-connect.conn c.in-Ok-connect.ensures.opened c.start_on-started.ensures
