@@ -15,37 +15,46 @@ use Rattle.clap.proofs.WalkLemmas.{one_text-rows}
 use Rattle.sqlite_disk.specs.declared.Disk as disk
 use Rattle.sqlite_disk.specs.declared.Files.{Files}
 use Rattle.sqlite_wal.specs.Recovery.{Image}
+use Rattle.sqlite_wal.specs.Files.{seen_image}
 use Rattle.sqlite_wal.specs.Reads.{AreClean}
 use Rattle.sqlite_wal.proofs.LogLemmas.{SeenMayStay}
+use Rattle.sqlite_pool.proofs.StateLemmas.{may_leave_is}
 use Rattle.sqlite_store.specs.declared.store.FileStore.{FileStore}
-use Rattle.sqlite_store.specs.FileStore.{view}
-use Rattle.sqlite.specs.Held.{Held}
+use Rattle.sqlite_store.specs.FileStore.{view, recovers, files}
+use Rattle.sqlite.specs.Tree.{Trees}
+use Rattle.sqlite.specs.Held.{Held, AreDatabases}
 use Rattle.sqlite.specs.State.{HasCleanDisk}
-use Rattle.sqlite.specs.Files.{file_state, over_files}
+use Rattle.sqlite.specs.Files.{file_state, over_files, HoldsDatabase}
+use Rattle.sqlite.proofs.Theorems.{opens_again}
 use Rattle.money_core.specs.declared.cause.Cause.TheVariants.{OutOfMemory, Store as Failed}
+use Rattle.book_core.specs.declared.refusal.Refusal.{Refusal}
 use Rattle.book_core.specs.declared.refusal.Refusal.TheVariants.{Plain}
 use Rattle.treasury_core.specs.Federation.{Federation}
 use Rattle.treasury_core.specs.Good.{IsGoodState}
 use Rattle.treasury_core.specs.Rows.{rows}
+use Rattle.treasury_store.specs.Rows.{AreTreesOf}
 use Rattle.treasury_store.specs.Store.{TablesAre}
-use Rattle.treasury_store.specs.Treasury.{Treasury}
+use Rattle.treasury_store.specs.Treasury.{Treasury, IsTreasuryOf}
+use Rattle.treasury_api.specs.declared.asking.Asked.{Asked}
 use Rattle.treasury_api.specs.Answer.{answer_text}
 use Rattle.treasury_api.specs.Replied.{standing}
 use Rattle.treasury_api.specs.Step.{Standing}
-use Rattle.treasury_api.specs.Web.{AreServed, HasServed}
+use Rattle.treasury_api.specs.Left.{end_state, LeavesAsked}
+use Rattle.treasury_api.specs.Web.{AnsweredCall, AreServed, LeavesCalls, HasServed}
+use Rattle.treasury_api.proofs.WebLemmas.{one_fails_or, one_fails_map}
 use Rattle.treasury_files.specs.declared.left.Left.{Left}
-use Rattle.treasury_files.specs.declared.left.Left.TheVariants.{Untouched, Closed, Open}
+use Rattle.treasury_files.specs.declared.left.Left.TheVariants.{Untouched, Closed, Open, Shut}
 use Rattle.treasury.specs.OverFile.{Spoken, IsRefusedBy, Tells}
 use Rattle.treasury_files.specs.InFile.{ShowsState, LeavesState}
-use Rattle.treasury_files.specs.Left.{HoldsOf, IsCleanStore, KeepsFile}
+use Rattle.treasury_files.specs.Left.{HoldsOf, IsImageOf, IsCleanStore, KeepsFile}
 use Rattle.treasury.specs.Serving.{IsNumber, LacksNumber, listening, after_listening, ServesOver, LeavesOpen}
-use Rattle.treasury.specs.Serving.{ServesOpen, IsNotClosed, IsServed}
-use Rattle.treasury_files.specs.Started.{IsStarted, IsClosedAs, IsLeftAs}
+use Rattle.treasury.specs.Serving.{HaveRowsAfter, ComesBack, ServesOpen, ServesShut, IsNotClosed, IsServed}
+use Rattle.treasury_files.specs.Started.{IsStarted, IsClosedAs, IsUnclosed, IsLeftAs}
 use Rattle.treasury.specs.ServingParts.{ends_unwritten, IsAnnounced, SaysAtEnd, SaysServing, ServesIfHeard}
 use Rattle.treasury.specs.ServingParts.{KeepsUnheard, EndsBy}
 use Rattle.treasury.specs.declared.words.serving.Ending.{Ending}
 use Rattle.treasury.specs.declared.words.serving.Ending.TheVariants.{Unbound, Unwritten, Unaccepted, Changed, Finished}
-use Rattle.treasury_files.proofs.LeftLemmas.{image_holds, stored_in}
+use Rattle.treasury_files.proofs.LeftLemmas.{image_holds, stored_in, settles}
 use Rattle.treasury_files.proofs.StartedLemmas.{left_behind, committed_in}
 use Rattle.treasury.proofs.OverFileLemmas.{line_of_40, tells_nothing}
 
@@ -165,7 +174,7 @@ module _ {D : Type 0} (g : disk.Ghosts D) where
           (committed_in g image started.opened started.on (at_first k)) f shows) in (
             standing new r.0,
             subst (λ (failed : Bool). AreServed (record { now = f; failed = failed }) served.calls (standing new r.0))
-                started.starts.unfailed r.1.1,
+                started.starts.unfailed r.1.1.0,
             left_behind g new.store.conn closed r.0 closes.live (closes.copied k) r.1.0.store.good
                 r.1.0.store.tables,
           )
@@ -183,6 +192,45 @@ module _ {D : Type 0} (g : disk.Ghosts D) where
         (leaves.by.quiet.outcomes trees came)) next may)
         (λ found. let r : HoldsOf next f = record { good = good; held = found } in r)
 
+    -- what may come back of a connection has the rows that the calls leave which were answered over it
+    came_back : (old new : Treasury (FileStore D g)) (f e : Federation) (calls : List AnsweredCall)
+        (answered : AreServed (standing old f) calls (standing new e)) → IsTreasuryOf over_files new e
+        → HasCleanDisk (file_state new.store.conn) → IsTrue (file_state old.store.conn).is_open
+        → old.store.failed ≡ false
+        → LeavesCalls over_files old new (standing old f) calls (standing new e) answered
+        → (trees : Trees) → (file_state new.store.conn).may_leave trees
+        → HaveRowsAfter trees (standing old f) calls (standing new e) answered
+    came_back old new f e calls answered of clean is_open unfailed leaves trees may =
+        elim (leaves is_open unfailed) [
+          | inl still ↦ (
+              let held = of.store.tables clean still.0 in
+              inl (
+                (file_state new.store.conn).now,
+                settles g stays new.store.conn trees still.0 held.1 may,
+                held.0,
+              ))
+          | inr fails ↦
+              one_fails_or (λ (s : Federation). AreTreesOf trees (rows s))
+              (λ (s : Federation) (asked : Result Asked Refusal). AreTreesOf trees (rows (end_state s asked)))
+              (standing old f) calls (standing new e) answered
+              (one_fails_map (LeavesAsked over_files new.store.conn)
+              (λ (s : Federation) (asked : Result Asked Refusal).
+              AreTreesOf trees (rows s) ⊎ AreTreesOf trees (rows (end_state s asked)))
+              (standing old f) calls (standing new e) answered (λ s asked left. left clean trees may) fails.1)
+        ]
+
+    -- the next word finds what may come back of files that are left open
+    found_in : (it : FileStore D g) → IsTrue (view it).is_numbered → AreDatabases (recovers it)
+        → AreClean g (files it).0 (files it).1 → (next : Image) → IsImageOf g (files it).0 (files it).1 next
+        → ∥ ((trees : Trees) × recovers it trees × HoldsDatabase next trees) ∥₁
+    found_in it numbered sound clean next (inl same) =
+        subst (λ (image : Image). ∥ ((trees : Trees) × recovers it trees × HoldsDatabase image trees) ∥₁) (sym same)
+        (opens_again it numbered sound (seen_image g (files it).0 (files it).1)
+        (may_leave_is it.pool (seen_image g (files it).0 (files it).1) clean
+        (stays (files it).0, stays (files it).1)))
+    found_in it numbered sound clean next (inr out) =
+        opens_again it numbered sound next (may_leave_is it.pool next clean out)
+
     -- its treasury serves connections, and the file is left open
     pub serves_open : (image : Image) (old new : Treasury (FileStore D g)) (it : FileStore D g)
         → IsStarted g image old → HasServed over_files old new → IsLeftAs new.store.conn it
@@ -196,6 +244,7 @@ module _ {D : Type 0} (g : disk.Ghosts D) where
       serves = λ k. started.on.serves (at_first k);
       has = λ k. started.starts.has (served.clean (at_end k));
       answers = answers;
+      finds = λ k next found. found_in it (leaves.by.numbered k.0) (leaves.by.sound k.0) k.1 next found;
     }
       where
         at_end : IsCleanStore g it → HasCleanDisk (file_state new.store.conn)
@@ -205,17 +254,62 @@ module _ {D : Type 0} (g : disk.Ghosts D) where
         at_first k = started.starts.clean (served.clean (at_end k))
 
         answers : IsCleanStore g it → (f : Federation) → ShowsState g started.opened f
-            → (end : Standing) × AreServed (record { now = f; failed = false }) served.calls end
+            → (end : Standing) × (answered : AreServed (record { now = f; failed = false }) served.calls end)
             × (IsTrue (view it).is_open → LeavesOpen g it end.now)
+            × ComesBack g it (record { now = f; failed = false }) served.calls end answered
         answers k f shows =
             let last = at_end k in
-            let r = served.served last f (started.starts.of (served.clean last)
-            (committed_in g image started.opened started.on (at_first k)) f shows) in (
+            let first = served.clean last in
+            let r = served.served last f (started.starts.of first
+            (committed_in g image started.opened started.on (at_first k)) f shows) in
+            let back = came_back old new f r.0 served.calls r.1.1.0 r.1.0 last (started.starts.is_open first)
+            started.starts.unfailed r.1.1.1 in
+            let told = subst (λ (failed : Bool).
+            (answered : AreServed (record { now = f; failed = failed }) served.calls (standing new r.0))
+            × ComesBack g it (record { now = f; failed = failed }) served.calls (standing new r.0) answered)
+            started.starts.unfailed (r.1.1.0, λ trees may. back trees (leaves.by.quiet.outcomes trees may)) in (
               standing new r.0,
-              subst (λ (failed : Bool). AreServed (record { now = f; failed = failed }) served.calls (standing new r.0))
-                  started.starts.unfailed r.1.1,
+              told.0,
               open_behind new.store.conn it r.0 leaves k last r.1.0.store.good r.1.0.store.tables,
+              told.1,
             )
+
+    -- or cannot be closed
+    pub serves_shut : (image : Image) (old new : Treasury (FileStore D g)) (it : FileStore D g)
+        → IsStarted g image old → HasServed over_files old new → IsUnclosed g new.store.conn it
+        → ServesShut g image (Shut it)
+    serves_shut image old new it started served quiet = record {
+      opened = started.opened;
+      it = it;
+      calls = served.calls;
+      is_left = refl;
+      found = λ k. started.on.found (at_first k);
+      serves = λ k. started.on.serves (at_first k);
+      has = λ k. started.starts.has (served.clean (at_end k));
+      answers = answers;
+    }
+      where
+        at_end : IsCleanStore g it → HasCleanDisk (file_state new.store.conn)
+        at_end k = omega (arith, quiet.clean, k.0)
+
+        at_first : IsCleanStore g it → HasCleanDisk (file_state started.opened)
+        at_first k = started.starts.clean (served.clean (at_end k))
+
+        answers : IsCleanStore g it → (f : Federation) → ShowsState g started.opened f
+            → (end : Standing) × (answered : AreServed (record { now = f; failed = false }) served.calls end)
+            × ComesBack g it (record { now = f; failed = false }) served.calls end answered
+        answers k f shows =
+            let last = at_end k in
+            let first = served.clean last in
+            let r = served.served last f (started.starts.of first
+            (committed_in g image started.opened started.on (at_first k)) f shows) in
+            let back = came_back old new f r.0 served.calls r.1.1.0 r.1.0 last (started.starts.is_open first)
+            started.starts.unfailed r.1.1.1 in
+            let told = subst (λ (failed : Bool).
+            (answered : AreServed (record { now = f; failed = failed }) served.calls (standing new r.0))
+            × ComesBack g it (record { now = f; failed = failed }) served.calls (standing new r.0) answered)
+            started.starts.unfailed (r.1.1.0, λ trees may. back trees (quiet.outcomes trees may)) in
+            (standing new r.0, told.0, told.1)
 
   -- a file that is left open was not closed, however serving ended
   pub ends_open : (image : Image) (ending : Ending) (said : Spoken) (left : Left D g) → IsRefusedBy Failed said

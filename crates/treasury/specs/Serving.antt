@@ -1,7 +1,8 @@
 -- What `serve` says and does over a database file (own rules; docs/RULES.md, "The program"), while the disk returns
 -- what was written. Of what a socket gives or takes nothing is said: whichever calls come, they are answered one after
 -- another.
-use Rattle.std.specs.Prelude.{◌≡◌, ◌<◌, ◌⊎◌, ◌^◌, ℕ, false, List, [], ◌++◌, Option, None, Some, codes, IsTrue}
+use Rattle.std.specs.Prelude.{◌≡◌, ◌<◌, ◌⊎◌, ◌^◌, ℕ, false, List, [], ◌++◌, Option, None, Some, Result, codes}
+use Rattle.std.specs.Prelude.{IsTrue}
 use Rattle.std.specs.Io.KnownBytes.{Appends}
 use Rattle.std.specs.Str.Parse.{IsNumeral, without_leading_plus, digits_value}
 use Rattle.clap.specs.Walk.{Row, first_of, one_of}
@@ -10,14 +11,20 @@ use Rattle.sqlite_disk.specs.declared.Files.{Files}
 use Rattle.sqlite_wal.specs.Recovery.{Image}
 use Rattle.sqlite_wal.specs.Reads.{AreClean}
 use Rattle.sqlite_store.specs.declared.store.FileStore.{FileStore}
-use Rattle.sqlite_store.specs.FileStore.{view, files}
+use Rattle.sqlite_store.specs.FileStore.{view, recovers, files}
 use Rattle.sqlite.specs.Held.{Held}
 use Rattle.sqlite.specs.Start.{FindsIn}
-use Rattle.sqlite.specs.Files.{file_state, IsOpened}
+use Rattle.sqlite.specs.Tree.{Trees}
+use Rattle.sqlite.specs.Files.{file_state, IsOpened, HoldsDatabase}
 use Rattle.money_core.specs.declared.cause.Cause.TheVariants.{OutOfMemory, Store, Request as NoRequest, ReadFault}
+use Rattle.book_core.specs.declared.refusal.Refusal.{Refusal}
 use Rattle.treasury_core.specs.Federation.{Federation}
+use Rattle.treasury_core.specs.Rows.{rows}
+use Rattle.treasury_store.specs.Rows.{AreTreesOf}
+use Rattle.treasury_api.specs.declared.asking.Asked.{Asked}
 use Rattle.treasury_api.specs.Step.{Standing}
-use Rattle.treasury_api.specs.Web.{AnsweredCall, AreServed}
+use Rattle.treasury_api.specs.Left.{end_state}
+use Rattle.treasury_api.specs.Web.{AnsweredCall, AreServed, OneFails}
 use Rattle.treasury_files.specs.declared.left.Left.{Left}
 use Rattle.treasury_files.specs.declared.left.Left.TheVariants.{Closed, Open, Shut}
 use Rattle.treasury_files.specs.Left.{HoldsOf, IsImageOf, IsCleanStore, KeepsFile}
@@ -56,6 +63,17 @@ silent = record { text = []; refused = false }
 abbrev pub after_listening : Spoken → Spoken
 after_listening said = record said { text = listening ++ said.text }
 
+-- ---- what calls leave
+
+-- trees with the rows of the state where calls lead that are answered so; or, where one of them failed, which leaves
+-- the state as do those behind it, with the rows of the state where what it asks leads
+abbrev pub HaveRowsAfter : Trees → (s : Standing) (calls : List AnsweredCall) (end : Standing) → AreServed s calls end
+    → Type 0
+HaveRowsAfter trees s calls end answered =
+    AreTreesOf trees (rows end.now)
+    ⊎ OneFails (λ (f : Federation) (asked : Result Asked Refusal). AreTreesOf trees (rows (end_state f asked))) s calls
+    end answered
+
 module _ {D : Type 0} (g : disk.Ghosts D) where
   -- A file was opened and closed, and that is what is left; these calls were answered in between. What its connection
   -- showed first is what the image holds, and that has a treasury. Of whichever state these are the rows: each call is
@@ -76,8 +94,14 @@ module _ {D : Type 0} (g : disk.Ghosts D) where
   abbrev pub LeavesOpen : FileStore D g → Federation → Type 0
   LeavesOpen it f = (next : Image) → IsImageOf g (files it).0 (files it).1 next → ∥ HoldsOf next f ∥₁
 
-  -- The same of a file that was opened and is left open, with its log beside it. If a failure has shut the database, it
-  -- is not said what the two hold.
+  -- whatever may come back of a database has such rows: of the state where calls lead, or where the one leads that
+  -- failed
+  abbrev pub ComesBack : FileStore D g → (s : Standing) (calls : List AnsweredCall) (end : Standing)
+      → AreServed s calls end → Type 0
+  ComesBack it s calls end answered = (trees : Trees) → recovers it trees → HaveRowsAfter trees s calls end answered
+
+  -- The same of a file that was opened and is left open, with its log beside it. The next word finds a database that
+  -- may come back; unless a failure has shut it, the files hold the rows of the state where the last call leads.
   pub record ServesOpen (image : Image) (left : Left D g) : Type 0 where
     pub opened : Held (FileStore D g)
     pub it : FileStore D g
@@ -87,13 +111,29 @@ module _ {D : Type 0} (g : disk.Ghosts D) where
     pub serves : IsCleanStore g it → IsOpened opened
     pub has : IsCleanStore g it → HasTreasury (file_state opened).now
     pub answers : IsCleanStore g it → (f : Federation) → ShowsState g opened f
-        → (end : Standing) × AreServed (record { now = f; failed = false }) calls end
+        → (end : Standing) × (answered : AreServed (record { now = f; failed = false }) calls end)
         × (IsTrue (view it).is_open → LeavesOpen it end.now)
+        × ComesBack it (record { now = f; failed = false }) calls end answered
+    pub finds : IsCleanStore g it → (next : Image) → IsImageOf g (files it).0 (files it).1 next
+        → ∥ ((trees : Trees) × recovers it trees × HoldsDatabase next trees) ∥₁
+
+  -- The same of a file that was opened and could not be closed: of what may come back, and not of what the next word
+  -- finds.
+  pub record ServesShut (image : Image) (left : Left D g) : Type 0 where
+    pub opened : Held (FileStore D g)
+    pub it : FileStore D g
+    pub calls : List AnsweredCall
+    pub is_left : left ≡ Shut it
+    pub found : IsCleanStore g it → FindsIn image (file_state opened)
+    pub serves : IsCleanStore g it → IsOpened opened
+    pub has : IsCleanStore g it → HasTreasury (file_state opened).now
+    pub answers : IsCleanStore g it → (f : Federation) → ShowsState g opened f
+        → (end : Standing) × (answered : AreServed (record { now = f; failed = false }) calls end)
+        × ComesBack it (record { now = f; failed = false }) calls end answered
 
   -- 41: the file was changed by another program, and is left open; or it could not be closed
   abbrev pub IsNotClosed : Image → Spoken → Left D g → Type 0
-  IsNotClosed image said left =
-      IsRefusedBy Store said × (ServesOpen image left ⊎ ((it : FileStore D g) × (left ≡ Shut it)))
+  IsNotClosed image said left = IsRefusedBy Store said × (ServesOpen image left ⊎ ServesShut image left)
 
   -- how it ends once connections can be made: they are served, or one of them cannot be accepted, which is 45; or the
   -- file is not closed

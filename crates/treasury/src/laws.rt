@@ -7,7 +7,8 @@ ghost use Rattle.sqlite_store.specs.declared.store.FileStore.{FileStore};
 ghost use Rattle.sqlite_store.specs.FileStore.{view};
 ghost use Rattle.sqlite.specs.Held.{Held};
 ghost use Rattle.sqlite.specs.Start.{FindsIn};
-ghost use Rattle.sqlite.specs.Files.{file_state, IsOpened};
+ghost use Rattle.sqlite.specs.Tree.{Trees};
+ghost use Rattle.sqlite.specs.Files.{file_state, IsOpened, HoldsDatabase};
 ghost use Rattle.treasury_core.specs.Federation.{Federation};
 ghost use Rattle.treasury_core.specs.Good.{IsGoodState};
 ghost use Rattle.treasury_api.specs.Step.{Standing};
@@ -18,10 +19,10 @@ ghost use Rattle.treasury.specs.Word.{AnswersWord, Told, AreTold, turns_of_words
 ghost use Rattle.treasury_store.specs.Tables.{no_schema};
 ghost use Rattle.treasury_store.specs.Store.{empty_state};
 ghost use Rattle.treasury_files.specs.declared.left.Left.{Left};
-ghost use Rattle.treasury_files.specs.Left.{HoldsOf, IsCleanStore, MayBe};
+ghost use Rattle.treasury_files.specs.Left.{HoldsOf, IsCleanStore, MayBe, MayComeBack};
 ghost use Rattle.treasury_files.specs.InFile.{HoldsState, ShowsState, MakesOver};
 ghost use Rattle.treasury.specs.OverFile.{AreToldOver, AreAnsweredOver, AreToldBut, turns_of_told};
-ghost use Rattle.treasury.specs.Serving.{ServesOver, ServesOpen};
+ghost use Rattle.treasury.specs.Serving.{HaveRowsAfter, ServesOver, ServesOpen, ServesShut};
 
 use sqlite_disk::Disk;
 use treasury_api::calls_law;
@@ -76,10 +77,11 @@ pub fn files_law<D: Disk>()
 }
 
 /// A law of what is served over a file: where the files that were opened hold the rows of a state, the calls that were
-/// answered are a run of the machine of commands, which keeps the books as the headline says, and what is opened next,
-/// with the log or without, holds the rows of the state behind it; also where they were left open, because another
-/// program had changed them, while the disk returns what was written and no failure has shut the database. Costs
-/// nothing.
+/// answered are a run of the machine of commands, which keeps the books as the headline says. While the disk returns
+/// what was written, what is opened next of files that were closed, with the log or without, holds the rows of the
+/// state behind it, and so it does of files that were left open, because another program had changed them, unless a
+/// failure has shut the database. Where one has, and where the files could not be closed, what comes back has these
+/// rows, or, where one of the calls failed, those of the state where it leads. Costs nothing.
 pub fn serving_law<D: Disk>()
     ensures headline { (start : Image) (left : Left D D.Disk) (served : ServesOver D.Disk start left) (f : Federation)
         → HoldsOf start f → AreClean D.Disk served.closed.log served.closed.db
@@ -87,10 +89,18 @@ pub fn serving_law<D: Disk>()
         × KeepBooksTo f (turns_of_calls (record { now = f; failed = false }) served.calls end answered) end.now
         × ((next : Image) → MayBe D.Disk start left next → HoldsState next end.now) }
     ensures left_open { (start : Image) (left : Left D D.Disk) (served : ServesOpen D.Disk start left) (f : Federation)
-        → HoldsOf start f → IsCleanStore D.Disk served.it → IsTrue (view served.it).is_open
+        → HoldsOf start f → IsCleanStore D.Disk served.it
         → (end : Standing) × (answered : AreServed (record { now = f; failed = false }) served.calls end)
         × KeepBooksTo f (turns_of_calls (record { now = f; failed = false }) served.calls end answered) end.now
-        × ((next : Image) → MayBe D.Disk start left next → ∥ HoldsOf next end.now ∥₁) }
+        × (IsTrue (view served.it).is_open → (next : Image) → MayBe D.Disk start left next → ∥ HoldsOf next end.now ∥₁)
+        × ((next : Image) → MayBe D.Disk start left next → ∥ ((trees : Trees) × HoldsDatabase next trees
+        × HaveRowsAfter trees (record { now = f; failed = false }) served.calls end answered) ∥₁) }
+    ensures left_shut { (start : Image) (left : Left D D.Disk) (served : ServesShut D.Disk start left) (f : Federation)
+        → HoldsOf start f → IsCleanStore D.Disk served.it
+        → (end : Standing) × (answered : AreServed (record { now = f; failed = false }) served.calls end)
+        × KeepBooksTo f (turns_of_calls (record { now = f; failed = false }) served.calls end answered) end.now
+        × ((trees : Trees) → MayComeBack D.Disk left trees
+        → HaveRowsAfter trees (record { now = f; failed = false }) served.calls end answered) }
 {
     calls_law();
 }

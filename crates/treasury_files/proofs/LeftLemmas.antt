@@ -290,9 +290,9 @@ module _ {D : Type 0} (g : disk.Ghosts D) where
             let (opens, live) = on.serves (first clean) in
             elim (ours.crash clean trees may) [
               | inl was ↦ stored_in opened t trees live opens.is_open (sym opens.clean) (inl second) was
-              | inr made ↦ (let up = made (ours_second (file_state opened).now.schema second.schema) in
+              | inr made ↦ (let up = made (ours_second (file_state opened).now.schema second.shows.schema) in
                   absurd (true≢false (sym second_more ∙
-                  (ap has_receipt (sym second.schema) ∙ (ap has_receipt up.first.schema ∙ first_bare)))))
+                  (ap has_receipt (sym second.shows.schema) ∙ (ap has_receipt up.first.schema ∙ first_bare)))))
             ]
 
         failed : last ≡ refused → IsLeftRefused last cause is_first left → KeepsFile g image left

@@ -155,7 +155,7 @@ module _ {D : Type 0} (g : disk.Ghosts D) where
     found = λ k. on.found (no_more _ _ first (closes.copied k).was_clean);
     serves = λ k. on.serves (no_more _ _ first (closes.copied k).was_clean);
     free = free;
-    makes = λ k none. left_behind s.conn closed empty_state closes.live (closes.copied k) (made none).good tt
+    makes = λ k none. left_behind s.conn closed empty_state closes.live (closes.copied k) (made none).good
         (made none).tables;
   }
 

@@ -3,7 +3,8 @@ use Rattle.treasury_store.specs.Treasury.{Treasury}
 use Rattle.treasury.specs.OverFileParts.{spoken}
 use Rattle.treasury_files.specs.Started.{IsClosedAs, IsUnclosed, IsLeftAs}
 use Rattle.treasury_files.proofs.StartedLemmas.{keeps_started, keeps_unclosed, keeps_left}
-use Rattle.treasury.proofs.ServingLemmas.{serves_over, serves_open, ends_open, ends_otherwise, keeps_unheard}
+use Rattle.treasury.proofs.ServingLemmas.{serves_over, serves_open, serves_shut, ends_open, ends_otherwise}
+use Rattle.treasury.proofs.ServingLemmas.{keeps_unheard}
 use Rattle.treasury.proofs.words.serving.serve_on_file.Goals as goal
 
 pub returns-then-is_changed-clause-says : goal.returns-then-is_changed-clause-says
@@ -34,7 +35,11 @@ pub returns-in-Err-clause-says : goal.returns-in-Err-clause-says
 returns-in-Err-clause-says g c = λ image values started.
     ends_otherwise _ image c.serve_port-ending.result (spoken c.refused_file-in-Err.result) _
     (c.is_changed.ensures (search rules))
-    (inl (c.refused_file-in-Err.ensures, inr (c.in-Err.store, refl)))
+    (inl (
+      c.refused_file-in-Err.ensures,
+      inr (serves_shut _ g.met.D.Disk.seen_may_stay image c.args.treasury c.serve_port-ending.new.treasury
+          c.in-Err.store started c.serve_port-ending.ensures.served c.in-Err.ensures),
+    ))
     (keeps_unheard _ image c.serve_port-ending.result c.args.treasury c.serve_port-ending.new.treasury _
     c.serve_port-ending.ensures.heard
     (λ same. keeps_unclosed _ g.met.D.Disk.seen_may_stay image c.args.treasury c.in-Err.store started
