@@ -124,33 +124,12 @@ pub const CLOSING: &[Sent] = &[
     ),
 ];
 
-/// The requests of a row, each on its line.
+/// The requests of these, each on its line.
 pub fn requests(rt: &impl Abort, alloc: Global, row: &[Sent]) -> String {
     let mut text = String::new(alloc);
     for (request, _, _) in row {
         text.push_str(*request).expect(rt, "memory");
         text.push('\n').expect(rt, "memory");
-    }
-    text
-}
-
-/// The answers to the first requests of a row, so many.
-pub fn answers(rt: &impl Abort, alloc: Global, row: &[Sent], count: usize) -> String {
-    let mut text = String::new(alloc);
-    for (_, answer, _) in row.iter().take(count) {
-        text.push_str(*answer).expect(rt, "memory");
-    }
-    text
-}
-
-/// What comes of a row whose first requests, so many, were done, when all of it is sent again.
-pub fn answers_again(rt: &impl Abort, alloc: Global, row: &[Sent], done: usize) -> String {
-    let mut text = String::new(alloc);
-    for (_, _, again) in row.iter().take(done) {
-        text.push_str(*again).expect(rt, "memory");
-    }
-    for (_, answer, _) in row.iter().skip(done) {
-        text.push_str(*answer).expect(rt, "memory");
     }
     text
 }

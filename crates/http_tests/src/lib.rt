@@ -2,10 +2,6 @@
 #![tactic(auto)]
 
 #[cfg(test)]
+mod cuts;
+#[cfg(test)]
 mod desk;
-#[cfg(test)]
-mod endings;
-#[cfg(test)]
-mod parts;
-#[cfg(test)]
-mod replies;
