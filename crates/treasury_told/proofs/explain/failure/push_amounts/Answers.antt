@@ -29,8 +29,8 @@ returns-in-Some-clause-value c = λ fits.
     let is = c.in-Some.ensures in
     let rest = to_z-of_z w64 c.in-Some.difference (subst (FitsSigned w64) (sym is.1) is.0) in
     let same = is.1
-        ∙ ap (λ (q : ℤ). q -ℤ to_z w64 (of_z w64 c.args.asserted)) found
-        ∙ ap (λ (q : ℤ). c.args.found -ℤ q) asserted in
+    ∙ ap (λ (q : ℤ). q -ℤ to_z w64 (of_z w64 c.args.asserted)) found
+    ∙ ap (λ (q : ℤ). c.args.found -ℤ q) asserted in
     on_ok_weaker c.push_named_amount-in-Some.result
     (λ e. three_parts old one two c.push_named_amount-in-Some.new.out.items
     (line (codes "asserted") c.args.asserted) (line (codes "found") c.args.found) _
