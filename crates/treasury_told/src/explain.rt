@@ -9,6 +9,7 @@ mod hints;
 mod limits;
 pub(crate) mod lines;
 mod nearly;
+mod numbered;
 pub(crate) mod pieces;
 mod sentences;
 pub(crate) mod shown;

@@ -145,7 +145,7 @@ fn push_noted<L: Ledger>(
     out: &mut Vec<u8>,
 ) -> Result<(), Cause> {
     let styles = state.styles();
-    let places = new_places(alloc, styles, import)?;
+    let places = new_places(alloc, styles, import, noted.candidates.as_slice())?;
     let lines: &[usize] = places.lines.as_slice();
     if let Some(far) = noted.far {
         push_far(alloc, import, lines, far, out)?;

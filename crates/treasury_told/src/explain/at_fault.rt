@@ -1,7 +1,14 @@
 //! Which transaction of a journal is refused by 24 to 28, and for what.
 
-ghost use Rattle.std.specs.Prelude.{◌≡◌};
+ghost use Rattle.std.specs.Prelude.{◌≡◌, find, IfOk, IfSome};
+ghost use Rattle.std.specs.List.{position_from};
+ghost use Rattle.std.specs.Option.{option_map};
+ghost use Rattle.journal_format.specs.Printable.{IsPrintable};
+ghost use Rattle.journal_balance.specs.Legs.{legs_of};
 ghost use Rattle.treasury_core.specs.Mark.{is_product_mark};
+ghost use Rattle.treasury_core.specs.Step.{is_locked};
+ghost use Rattle.treasury_core.specs.Transfer.{is_transit};
+ghost use Rattle.treasury_told.specs.AtFault.{holder_of, is_other, transit_in, is_barred, ArePrintable};
 
 use crate::explain::pieces::{push_amount, push_header};
 use crate::explain::shown::{push_named, push_number, push_shown};
@@ -24,30 +31,69 @@ pub struct AtFault {
     pub unit: Option<Unit>,
 }
 
+/// By what a transaction of a text is refused.
+#[derive(Clone, Copy, Debug, PartialEq, Eq)]
+pub enum Bar {
+    /// Another text has its mark: 24.
+    Clash,
+    /// Only the treasury makes entries with its mark: 25.
+    Mark,
+    /// Only transfers post on one of its accounts: 26.
+    Account,
+    /// Its day is locked: 27.
+    Locked,
+}
+
+/// The one of a cause.
+fn bar_of(cause: Cause) -> Option<Bar> {
+    match cause {
+        Cause::MarkClash => Some(Bar::Clash),
+        Cause::ReservedMark => Some(Bar::Mark),
+        Cause::ReservedAccount => Some(Bar::Account),
+        Cause::Locked => Some(Bar::Locked),
+        _ => None,
+    }
+}
+
+/// Whether the leg is on an account on which only transfers post.
+fn is_transit(leg: &Leg) -> bool
+    ensures { result ≡ is_transit leg.now }
+{
+    is_reserved(leg.account.as_str().as_bytes())
+}
+
+/// The first leg on such an account.
+fn find_transit(legs: &[Leg]) -> Option<&Leg>
+    ensures { option_map (λ l. l.now) result ≡ find is_transit legs.now }
+{
+    for leg in legs {
+        if is_transit(leg) {
+            return Some(leg);
+        }
+    }
+    None
+}
+
 /// The account of the first leg on which only transfers post.
-fn reserved_account(alloc: Global, styles: &Styles, txn: &Txn) -> Result<Option<Text>, Cause> {
+fn reserved_account(alloc: Global, styles: &Styles, txn: &Txn) -> Result<Option<Text>, Cause>
+    ensures { IsPrintable styles.now txn.now
+        → IfOk result (λ account. account ≡ transit_in (legs_of styles.now txn.now)) }
+{
     if !is_printable(txn, styles) {
         return Ok(None);
     }
     let entry = legs(alloc, txn, styles)?;
-    for leg in entry.legs.items() {
-        if is_reserved(leg.account.as_str().as_bytes()) {
-            let account = leg.account.copy()?;
-            return Ok(Some(account));
-        }
+    match find_transit(entry.legs.items()) {
+        Some(leg) => Ok(Some(leg.account.copy()?)),
+        None => Ok(None),
     }
-    Ok(None)
 }
 
-/// Whether the mark is held by a transaction of another text.
-fn is_clash(
-    alloc: Global,
-    styles: &Styles,
-    records: &[Record],
-    list: &[Standing],
-    standing: &Standing,
-) -> Result<bool, Cause> {
-    let held = match standing.holder {
+/// The transaction that holds a mark.
+fn holder_of<'a>(records: &'a [Record], list: &'a [Standing], holder: Holder) -> Option<&'a Txn>
+    ensures { option_map (λ t. t.now) result ≡ holder_of records.now list.now holder }
+{
+    match holder {
         Holder::Nobody => None,
         Holder::Record(place) => match records.get(place) {
             Some(record) => Some(&record.txn),
@@ -57,9 +103,16 @@ fn is_clash(
             Some(earlier) => Some(&earlier.txn),
             None => None,
         },
-    };
+    }
+}
+
+/// Whether a transaction that holds a mark has another text.
+fn is_other(alloc: Global, styles: &Styles, txn: &Txn, held: Option<&Txn>) -> Result<bool, Cause>
+    ensures { IsPrintable styles.now txn.now → IfSome held.entry (λ t. IsPrintable styles.now t.now)
+        → IfOk result (λ is. is ≡ is_other styles.now txn.now (option_map (λ t. t.now) held.entry)) }
+{
     match held {
-        Some(held) => match is_same_text(alloc, styles, held, &standing.txn) {
+        Some(held) => match is_same_text(alloc, styles, held, txn) {
             Ok(is_same) => Ok(!is_same),
             Err(cause) => Err(cause),
         },
@@ -75,53 +128,63 @@ pub fn is_own_mark(mark: &str) -> bool
 }
 
 /// Whether the day is on or before the lock day.
-fn is_locked(lock: Option<Day>, day: Day) -> bool {
+fn is_locked(lock: Option<Day>, day: Day) -> bool
+    ensures { result ≡ is_locked lock day }
+{
     match lock {
         Some(lock) => day.0 <= lock.0,
         None => false,
     }
 }
 
-/// Whether a transaction is refused by that cause, where no earlier one is refused.
-fn is_refused<L: Ledger>(
+/// Whether a transaction of a text is refused so, where no earlier one is refused.
+fn is_barred(
     alloc: Global,
     styles: &Styles,
-    branch: &Branch<L>,
+    lock: Option<Day>,
+    records: &[Record],
     list: &[Standing],
+    bar: Bar,
     standing: &Standing,
-    cause: Cause,
-) -> Result<bool, Cause> {
-    if cause == Cause::MarkClash {
-        return is_clash(alloc, styles, branch.records.items(), list, standing);
-    }
-    if !standing.is_new() {
-        return Ok(false);
-    }
-    if cause == Cause::ReservedMark {
-        return Ok(is_own_mark(standing.mark.as_str()));
-    }
-    if cause == Cause::Locked {
-        return Ok(is_locked(branch.locked, standing.txn.day));
-    }
-    match reserved_account(alloc, styles, &standing.txn) {
-        Ok(account) => Ok(account.is_some()),
-        Err(cause) => Err(cause),
+) -> Result<bool, Cause>
+    ensures { ArePrintable styles.now records.now list.now → IsPrintable styles.now standing.now.txn
+        → IfOk result (λ is. is ≡ is_barred styles.now lock records.now list.now bar standing.now) }
+{
+    match bar {
+        Bar::Clash => {
+            let held = holder_of(records, list, standing.holder);
+            is_other(alloc, styles, &standing.txn, held)
+        }
+        Bar::Mark => Ok(standing.is_new() && is_own_mark(standing.mark.as_str())),
+        Bar::Locked => Ok(standing.is_new() && is_locked(lock, standing.txn.day)),
+        Bar::Account => {
+            if !standing.is_new() {
+                return Ok(false);
+            }
+            match reserved_account(alloc, styles, &standing.txn) {
+                Ok(account) => Ok(account.is_some()),
+                Err(cause) => Err(cause),
+            }
+        }
     }
 }
 
-/// The place of the transaction that is refused by 24 to 27.
-fn refused_place<L: Ledger>(
+/// The place of the first transaction that is refused so.
+pub fn barred_place(
     alloc: Global,
     styles: &Styles,
-    branch: &Branch<L>,
+    lock: Option<Day>,
+    records: &[Record],
     list: &[Standing],
-    cause: Cause,
-) -> Result<Option<usize>, Cause> {
+    bar: Bar,
+) -> Result<Option<usize>, Cause>
+    ensures { ArePrintable styles.now records.now list.now → IfOk result (λ place. place
+        ≡ position_from (is_barred styles.now lock records.now list.now bar) 0 list.now) }
+{
     for (place, standing) in list.iter().enumerate() {
-        match is_refused(alloc, styles, branch, list, standing, cause) {
-            Ok(true) => return Ok(Some(place)),
-            Ok(false) => {}
-            Err(cause) => return Err(cause),
+        let is_first = is_barred(alloc, styles, lock, records, list, bar, standing)?;
+        if is_first {
+            return Ok(Some(place));
         }
     }
     Ok(None)
@@ -202,7 +265,10 @@ pub fn find_at_fault<L: Ledger>(
             Err(cause) => Err(cause),
         };
     }
-    match refused_place(alloc, styles, branch, list.as_slice(), cause) {
+    let Some(bar) = bar_of(cause) else {
+        return Ok(None);
+    };
+    match barred_place(alloc, styles, branch.locked, records, list.as_slice(), bar) {
         Ok(Some(place)) => Ok(Some(AtFault {
             list,
             place,

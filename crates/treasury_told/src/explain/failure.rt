@@ -1,6 +1,13 @@
 //! What is said of a balance assertion that fails: where it stands, what it states, what was found, and the difference.
 
+ghost use Rattle.std.specs.Prelude.{◌≡◌, ◌++◌, OnOk, FitsSigned};
+ghost use Rattle.std.specs.Int.{w64};
+ghost use Rattle.std.specs.Result.{IsOkUnless};
+ghost use Rattle.treasury_told.specs.Failure.{account_text, difference, amounts_text};
+ghost use Rattle.treasury_told.specs.Numbered.{numbered};
+
 use crate::explain::lines::push_source;
+use crate::explain::numbered::{Numbered, entry_at, leg_at};
 use crate::explain::pieces::{push_header, push_named_amount};
 use crate::explain::shown::{push_named, push_number};
 use crate::explain::standing::{Standing, branch_named, standings};
@@ -9,9 +16,9 @@ use crate::explain::{push_origin, push_sentence};
 use book_core::{Entry, Failure, Ledger};
 use journal_balance::legs;
 use journal_format::{Txn, is_printable};
-use money_core::{Cause, Styles};
+use money_core::{Cause, Styles, Unit};
 use std::alloc::Global;
-use treasury_core::{Branch, Record, State};
+use treasury_core::{Record, State};
 use treasury_requests::Request;
 
 /// The branch whose assertions a request may break.
@@ -26,8 +33,11 @@ fn judged_branch(request: &Request) -> &str {
 }
 
 /// Appends the account of the leg of that number.
-fn push_account(entry: &Entry, leg: usize, out: &mut Vec<u8>) -> Result<(), Cause> {
-    match entry.legs.items().get(leg.wrapping_sub(1)) {
+fn push_account(entry: &Entry, leg: usize, out: &mut Vec<u8>) -> Result<(), Cause>
+    ensures value { OnOk result (out.new.items ≡ out.old.items ++ account_text (numbered entry.now.legs leg)) }
+    ensures memory { IsOkUnless result Cause.OutOfMemory }
+{
+    match leg_at(entry, leg) {
         Some(leg) => push_named(b"account", leg.account.as_str().as_bytes(), out),
         None => Ok(()),
     }
@@ -53,35 +63,26 @@ fn push_entry(
 }
 
 /// Appends what is asserted, what is found, and their difference.
-fn push_sides(
+pub fn push_amounts(
     alloc: Global,
     styles: &Styles,
-    failure: &Failure,
+    unit: Unit,
+    asserted: i64,
+    found: i64,
     out: &mut Vec<u8>,
-) -> Result<(), Cause> {
-    let unit = failure.unit;
-    push_named_amount(alloc, styles, b"asserted", unit, failure.asserted, out)?;
-    push_named_amount(alloc, styles, b"found", unit, failure.found, out)?;
-    match failure.found.checked_sub(failure.asserted) {
+) -> Result<(), Cause>
+    ensures value { FitsSigned w64 (difference asserted found)
+        → OnOk result (out.new.items ≡ out.old.items ++ amounts_text styles.now unit asserted found) }
+    ensures memory { IsOkUnless result Cause.OutOfMemory }
+{
+    push_named_amount(alloc, styles, b"asserted", unit, asserted, out)?;
+    push_named_amount(alloc, styles, b"found", unit, found, out)?;
+    match found.checked_sub(asserted) {
         Some(difference) => {
             push_named_amount(alloc, styles, b"difference", unit, difference, out)
         }
         None => Ok(()),
     }
-}
-
-/// The place in a text of the new transaction that would become the entry of that number, after so many entries.
-fn new_at(list: &[Standing], held: usize, entry: usize) -> Option<usize> {
-    let mut number = held;
-    for (place, standing) in list.iter().enumerate() {
-        if standing.is_new() {
-            number = number.saturating_add(1);
-            if number == entry {
-                return Some(place);
-            }
-        }
-    }
-    None
 }
 
 /// The transactions of the text of a request; none where it is no import.
@@ -126,68 +127,62 @@ fn push_new(
 }
 
 /// Appends the sentence and the place of an assertion that the branch holds.
-fn push_held<L: Ledger>(
+fn push_held(
     alloc: Global,
-    branch: &Branch<L>,
+    record: &Record,
     failure: &Failure,
     out: &mut Vec<u8>,
 ) -> Result<(), Cause> {
     push_sentence(b"", Cause::ClaimFailed, out)?;
-    let number = failure.place.entry;
-    match branch.records.items().get(number.wrapping_sub(1)) {
-        Some(record) => {
-            push_account(&record.entry, failure.place.leg, out)?;
-            push_entry(alloc, number, &record.txn, false, out)
-        }
-        None => Ok(()),
-    }
+    push_account(&record.entry, failure.place.leg, out)?;
+    push_entry(alloc, failure.place.entry, &record.txn, false, out)
 }
 
-/// What the failing assertion looks at: that of a new transaction, or of a held record.
+/// What the failing assertion looks at, which that entry has.
 fn watched_of(
     alloc: Global,
     styles: &Styles,
-    records: &[Record],
-    new: Option<&Standing>,
+    entry: Option<Numbered<'_>>,
     failure: &Failure,
 ) -> Result<Option<Watched>, Cause> {
-    match new {
-        Some(standing) if is_printable(&standing.txn, styles) => {
+    match entry {
+        Some(Numbered::New(standing)) if is_printable(&standing.txn, styles) => {
             let entry = legs(alloc, &standing.txn, styles)?;
             watched_by(&entry, failure.place.leg)
         }
-        Some(_) => Ok(None),
-        None => match records.get(failure.place.entry.wrapping_sub(1)) {
-            Some(record) => watched_by(&record.entry, failure.place.leg),
-            None => Ok(None),
-        },
+        Some(Numbered::Held(record)) => watched_by(&record.entry, failure.place.leg),
+        _ => Ok(None),
     }
 }
 
-/// Appends what a failed assertion of a branch states, what was found, the difference, and which new transactions of an
-/// import may be why.
-fn explain_on<L: Ledger>(
+/// Appends what a failed assertion of a branch with these records states, what was found, the difference, and which new
+/// transactions of an import may be why.
+fn explain_on(
     alloc: Global,
     styles: &Styles,
-    branch: &Branch<L>,
+    records: &[Record],
     request: &Request,
     source: &str,
     failure: &Failure,
     out: &mut Vec<u8>,
 ) -> Result<(), Cause> {
-    let records = branch.records.items();
     let list = transactions_of(alloc, styles, records, request);
     let list: &[Standing] = list.as_slice();
-    let new = match new_at(list, records.len(), failure.place.entry) {
-        Some(place) => list.get(place),
-        None => None,
-    };
-    match new {
-        Some(new) => push_new(alloc, styles, new, request, source, failure, out)?,
-        None => push_held(alloc, branch, failure, out)?,
+    let entry = entry_at(records, list, failure.place.entry);
+    match entry {
+        Some(Numbered::New(new)) => push_new(alloc, styles, new, request, source, failure, out)?,
+        Some(Numbered::Held(record)) => push_held(alloc, record, failure, out)?,
+        None => push_sentence(b"", Cause::ClaimFailed, out)?,
     }
-    push_sides(alloc, styles, failure, out)?;
-    match watched_of(alloc, styles, records, new, failure)? {
+    push_amounts(
+        alloc,
+        styles,
+        failure.unit,
+        failure.asserted,
+        failure.found,
+        out,
+    )?;
+    match watched_of(alloc, styles, entry, failure)? {
         Some(watched) => push_all_touching(
             alloc, styles, records, list, source, &watched, failure, out,
         ),
@@ -207,10 +202,20 @@ pub fn explain_failure<L: Ledger>(
 ) -> Result<(), Cause> {
     let styles = state.styles();
     match branch_named(state, judged_branch(request)) {
-        Some(branch) => explain_on(alloc, styles, branch, request, source, failure, out),
+        Some(branch) => {
+            let records = branch.records.items();
+            explain_on(alloc, styles, records, request, source, failure, out)
+        }
         None => {
             push_sentence(b"", Cause::ClaimFailed, out)?;
-            push_sides(alloc, styles, failure, out)
+            push_amounts(
+                alloc,
+                styles,
+                failure.unit,
+                failure.asserted,
+                failure.found,
+                out,
+            )
         }
     }
 }

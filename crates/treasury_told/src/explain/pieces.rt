@@ -1,10 +1,21 @@
 //! Pieces of an explanation: amounts, days and headers.
 
+ghost use Rattle.std.specs.Prelude.{◌≡◌, ◌++◌, OnOk};
+ghost use Rattle.std.specs.Result.{IsOkUnless};
+ghost use Rattle.treasury_told.specs.Pieces.{is_written, shown_amount, named_amount};
+
 use crate::explain::shown::push_shown;
 use journal_format::Txn;
 use journal_lines::{Status, is_day_number, print_date};
 use money_core::{Cause, Day, Styles, Unit, is_declared, print_amount};
 use std::alloc::Global;
+
+/// Whether a text writes the amount.
+fn is_written(styles: &Styles, unit: Unit, qty: i64) -> bool
+    ensures { result ≡ is_written styles.now unit qty }
+{
+    is_declared(unit, qty, styles)
+}
 
 /// Appends an amount. One that no text writes is shown as `?`.
 pub fn push_amount(
@@ -13,8 +24,11 @@ pub fn push_amount(
     unit: Unit,
     qty: i64,
     out: &mut Vec<u8>,
-) -> Result<(), Cause> {
-    if is_declared(unit, qty, styles) {
+) -> Result<(), Cause>
+    ensures value { OnOk result (out.new.items ≡ out.old.items ++ shown_amount styles.now unit qty) }
+    ensures memory { IsOkUnless result Cause.OutOfMemory }
+{
+    if is_written(styles, unit, qty) {
         print_amount(alloc, unit, qty, styles, out)
     } else {
         out.extend_from_slice(b"?")?;
@@ -61,7 +75,10 @@ pub fn push_named_amount(
     unit: Unit,
     qty: i64,
     out: &mut Vec<u8>,
-) -> Result<(), Cause> {
+) -> Result<(), Cause>
+    ensures value { OnOk result (out.new.items ≡ out.old.items ++ named_amount styles.now name.now unit qty) }
+    ensures memory { IsOkUnless result Cause.OutOfMemory }
+{
     out.extend_from_slice(b"  ")?;
     out.extend_from_slice(name)?;
     out.extend_from_slice(b": ")?;

@@ -224,7 +224,10 @@ pub fn standings(
 }
 
 /// Whether two transactions have the same canonical text, their marks aside.
-pub fn is_same_text(alloc: Global, styles: &Styles, txn: &Txn, other: &Txn) -> Result<bool, Cause> {
+pub fn is_same_text(alloc: Global, styles: &Styles, txn: &Txn, other: &Txn) -> Result<bool, Cause>
+    ensures { IsPrintable styles.now txn.now → IsPrintable styles.now other.now
+        → IfOk result (λ is. is ≡ bytes_eq (body_text styles.now txn.now) (body_text styles.now other.now)) }
+{
     if !is_printable(txn, styles) || !is_printable(other, styles) {
         return Ok(false);
     }

@@ -1,5 +1,6 @@
 //! New transactions that may have broken an assertion, and the held ones that they may be.
 
+use crate::explain::numbered::leg_at;
 use crate::explain::pieces::push_header;
 use crate::explain::push_origin;
 use crate::explain::shown::push_number;
@@ -23,7 +24,7 @@ pub struct Watched {
 
 /// What the assertion on the leg of that number looks at.
 pub fn watched_by(entry: &Entry, leg: usize) -> Result<Option<Watched>, Cause> {
-    let Some(own) = entry.legs.items().get(leg.wrapping_sub(1)) else {
+    let Some(own) = leg_at(entry, leg) else {
         return Ok(None);
     };
     let mut is_with_subaccounts = false;

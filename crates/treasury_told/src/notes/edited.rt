@@ -17,12 +17,59 @@ use treasury_core::Record;
 /// The most days between an entry and the same one with another day.
 const MOST_DAYS: i32 = 6;
 
-/// What keys begin with: of a day, header and accounts; of a header, accounts and amounts; of these and a day.
-const OF_DAY: u8 = b'd';
+/// How many bytes of a key have the day.
+const DAY_BYTES: usize = 4;
 
-const OF_AMOUNTS: u8 = b'a';
+/// The day, the header and accounts, and the amounts of a record, one behind the other: what it is looked up by.
+#[derive(Drop)]
+struct Key {
+    bytes: Vec<u8>,
+    /// Where the amounts begin.
+    amounts: usize,
+}
 
-const OF_ALL: u8 = b'n';
+impl Key {
+    fn new(alloc: Global) -> Self {
+        Key {
+            bytes: Vec::new(alloc),
+            amounts: 0,
+        }
+    }
+
+    /// Makes it that of a record.
+    fn put(&mut self, record: &Record) -> Result<(), Cause> {
+        self.bytes.clear();
+        self.bytes
+            .extend_from_slice(&record.entry.day.0.to_be_bytes())?;
+        push_names(record, &mut self.bytes)?;
+        self.amounts = self.bytes.len();
+        push_amounts(record, &mut self.bytes)
+    }
+
+    /// Makes it that of the same record on another day.
+    fn put_day(&mut self, day: i32) {
+        if self.bytes.len() >= DAY_BYTES {
+            self.bytes[..DAY_BYTES].copy_from_slice(&day.to_be_bytes());
+        }
+    }
+
+    /// The day, header and accounts.
+    fn of_day(&self) -> &[u8] {
+        let (key, _) = self.bytes.split_at(self.amounts.min(self.bytes.len()));
+        key
+    }
+
+    /// The header, accounts and amounts.
+    fn of_amounts(&self) -> &[u8] {
+        let (_, key) = self.bytes.split_at(DAY_BYTES.min(self.bytes.len()));
+        key
+    }
+
+    /// All of them.
+    fn of_all(&self) -> &[u8] {
+        self.bytes.as_slice()
+    }
+}
 
 /// Appends the header, without its day, and the accounts of a record.
 fn push_names(record: &Record, key: &mut Vec<u8>) -> Result<(), Cause> {
@@ -53,115 +100,80 @@ fn push_amounts(record: &Record, key: &mut Vec<u8>) -> Result<(), Cause> {
     Ok(())
 }
 
-/// The key of the day, header and accounts of a record.
-fn key_of_day(alloc: Global, record: &Record) -> Result<Vec<u8>, Cause> {
-    let mut key = Vec::new(alloc);
-    key.push(OF_DAY)?;
-    key.extend_from_slice(&record.entry.day.0.to_be_bytes())?;
-    push_names(record, &mut key)?;
-    Ok(key)
-}
-
-/// The key of the header, accounts and amounts of a record.
-fn key_of_amounts(alloc: Global, record: &Record) -> Result<Vec<u8>, Cause> {
-    let mut key = Vec::new(alloc);
-    key.push(OF_AMOUNTS)?;
-    push_names(record, &mut key)?;
-    push_amounts(record, &mut key)?;
-    Ok(key)
-}
-
-/// The key of the header, accounts and amounts of a record, so many days later.
-fn key_of_all(alloc: Global, record: &Record, later: i32) -> Result<Vec<u8>, Cause> {
-    let mut key = Vec::new(alloc);
-    key.push(OF_ALL)?;
-    key.extend_from_slice(&record.entry.day.0.saturating_add(later).to_be_bytes())?;
-    push_names(record, &mut key)?;
-    push_amounts(record, &mut key)?;
-    Ok(key)
+/// The places of records, by parts of their keys.
+#[derive(Drop)]
+struct Places {
+    by_day: HashMap<Vec<u8>, usize>,
+    by_amounts: HashMap<Vec<u8>, usize>,
+    by_all: HashMap<Vec<u8>, usize>,
 }
 
 /// Puts a place under a key that has none.
 fn put_first(
+    alloc: Global,
     places: &mut HashMap<Vec<u8>, usize>,
-    key: Vec<u8>,
+    key: &[u8],
     place: usize,
 ) -> Result<(), Cause> {
-    if places.get(key.as_slice()).is_none() {
-        let _ = places.insert(key, place)?;
+    if places.get(key).is_none() {
+        let mut own = Vec::with_capacity(alloc, key.len())?;
+        own.extend_from_slice(key)?;
+        let _ = places.insert(own, place)?;
     }
     Ok(())
 }
 
-/// Puts the place of a record under its keys.
-fn put_record(
-    alloc: Global,
-    places: &mut HashMap<Vec<u8>, usize>,
-    record: &Record,
-    place: usize,
-) -> Result<(), Cause> {
-    put_first(places, key_of_day(alloc, record)?, place)?;
-    put_first(places, key_of_amounts(alloc, record)?, place)?;
-    put_first(places, key_of_all(alloc, record, 0)?, place)
+impl Places {
+    fn new(alloc: Global) -> Self {
+        Places {
+            by_day: HashMap::new(alloc),
+            by_amounts: HashMap::new(alloc),
+            by_all: HashMap::new(alloc),
+        }
+    }
+
+    /// Puts the place of a record with that key.
+    fn put(&mut self, alloc: Global, key: &Key, place: usize) -> Result<(), Cause> {
+        put_first(alloc, &mut self.by_day, key.of_day(), place)?;
+        put_first(alloc, &mut self.by_amounts, key.of_amounts(), place)?;
+        put_first(alloc, &mut self.by_all, key.of_all(), place)
+    }
+
+    /// The first place that has the header, the accounts and the day of the record with that key.
+    fn find_on_day(&self, key: &Key) -> Option<usize> {
+        self.by_day.get(key.of_day()).copied()
+    }
+
+    /// A place that has the header, accounts and amounts of the record with that key, and a day near its own.
+    fn find_near(&self, key: &mut Key, day: Day) -> Option<usize> {
+        if self.by_amounts.get(key.of_amounts()).is_none() {
+            return None;
+        }
+        for days in 1..=MOST_DAYS {
+            key.put_day(day.0.saturating_sub(days));
+            if let Some(place) = self.by_all.get(key.of_all()) {
+                return Some(*place);
+            }
+            key.put_day(day.0.saturating_add(days));
+            if let Some(place) = self.by_all.get(key.of_all()) {
+                return Some(*place);
+            }
+        }
+        None
+    }
 }
 
 /// The places of the unmarked records, by their keys.
-fn places_by_key(alloc: Global, records: &[Record]) -> Result<HashMap<Vec<u8>, usize>, Cause> {
-    let mut places = HashMap::new(alloc);
+fn places_by_key(alloc: Global, records: &[Record]) -> Result<Places, Cause> {
+    let mut places = Places::new(alloc);
+    let mut key = Key::new(alloc);
     for (place, record) in records.iter().enumerate() {
         if !is_marked(record) {
-            put_record(alloc, &mut places, record, place)?;
+            key.put(record)?;
+            places.put(alloc, &key, place)?;
         }
     }
     Ok(places)
-}
-
-/// A place among those by keys that has the header, accounts and amounts of the record, and a day near its own.
-fn find_near(
-    alloc: Global,
-    places: &HashMap<Vec<u8>, usize>,
-    record: &Record,
-) -> Result<Option<usize>, Cause> {
-    let key = key_of_amounts(alloc, record)?;
-    if places.get(key.as_slice()).is_none() {
-        return Ok(None);
-    }
-    for days in 1..=MOST_DAYS {
-        let before = key_of_all(alloc, record, 0i32.saturating_sub(days))?;
-        if let Some(place) = places.get(before.as_slice()) {
-            return Ok(Some(*place));
-        }
-        let after = key_of_all(alloc, record, days)?;
-        if let Some(place) = places.get(after.as_slice()) {
-            return Ok(Some(*place));
-        }
-    }
-    Ok(None)
-}
-
-/// A place among those by keys that has the header, the accounts and the day of the record.
-fn find_on_day(
-    alloc: Global,
-    places: &HashMap<Vec<u8>, usize>,
-    record: &Record,
-) -> Result<Option<usize>, Cause> {
-    let key = key_of_day(alloc, record)?;
-    Ok(places.get(key.as_slice()).copied())
-}
-
-/// Whether one of the records that are looked up may be the held one, edited.
-fn may_be_edited(
-    alloc: Global,
-    places: &HashMap<Vec<u8>, usize>,
-    held: &Record,
-) -> Result<bool, Cause> {
-    if find_on_day(alloc, places, held)?.is_some() {
-        return Ok(true);
-    }
-    match find_near(alloc, places, held) {
-        Ok(place) => Ok(place.is_some()),
-        Err(cause) => Err(cause),
-    }
 }
 
 /// Whether a record is unmarked, and its day so near to those of the span that one of them may be the same.
@@ -196,9 +208,15 @@ pub fn find_candidates(
         return Ok(found);
     }
     let places = places_by_key(alloc, new)?;
+    let mut key = Key::new(alloc);
     for (place, record) in held.iter().enumerate() {
-        if is_near(span, record) && may_be_edited(alloc, &places, record)? {
-            found.push(place)?;
+        if is_near(span, record) {
+            key.put(record)?;
+            let may_be_edited = places.find_on_day(&key).is_some()
+                || places.find_near(&mut key, record.entry.day).is_some();
+            if may_be_edited {
+                found.push(place)?;
+            }
         }
     }
     Ok(found)
@@ -211,12 +229,14 @@ fn missing_of(
     held: &[Record],
     candidates: &[usize],
     new_places: &NewPlaces,
-) -> Result<HashMap<Vec<u8>, usize>, Cause> {
-    let mut missing = HashMap::new(alloc);
+) -> Result<Places, Cause> {
+    let mut missing = Places::new(alloc);
+    let mut key = Key::new(alloc);
     for place in candidates {
         if let Some(record) = held.get(*place) {
             if new_places.is_missing(*place, record.entry.day) {
-                put_record(alloc, &mut missing, record, *place)?;
+                key.put(record)?;
+                missing.put(alloc, &key, *place)?;
             }
         }
     }
@@ -224,29 +244,29 @@ fn missing_of(
 }
 
 /// Whether two records have the same amounts.
-fn has_amounts_of(alloc: Global, record: &Record, other: &Record) -> Result<bool, Cause> {
-    let mut own = Vec::new(alloc);
-    push_amounts(record, &mut own)?;
-    let mut others = Vec::new(alloc);
-    push_amounts(other, &mut others)?;
-    Ok(own.as_slice() == others.as_slice())
+fn has_amounts_of(record: &Record, other: &Record) -> bool {
+    let (legs, others) = (record.entry.legs.items(), other.entry.legs.items());
+    if legs.len() != others.len() {
+        return false;
+    }
+    for (leg, other) in legs.iter().zip(others) {
+        if leg.unit != other.unit || leg.qty != other.qty {
+            return false;
+        }
+    }
+    true
 }
 
-/// The place of the held record that a new one was before it was edited, if it may have been.
-fn find_before(
-    alloc: Global,
-    held: &[Record],
-    missing: &HashMap<Vec<u8>, usize>,
-    record: &Record,
-) -> Result<Option<usize>, Cause> {
-    if let Some(place) = find_on_day(alloc, missing, record)? {
+/// The place of the held record that a new one with that key was before it was edited, if it may have been.
+fn find_before(held: &[Record], missing: &Places, record: &Record, key: &mut Key) -> Option<usize> {
+    if let Some(place) = missing.find_on_day(key) {
         if let Some(before) = held.get(place) {
-            if !has_amounts_of(alloc, record, before)? {
-                return Ok(Some(place));
+            if !has_amounts_of(record, before) {
+                return Some(place);
             }
         }
     }
-    find_near(alloc, missing, record)
+    missing.find_near(key, record.entry.day)
 }
 
 /// Appends the note of a new record, and of the held one that it may have been.
@@ -264,7 +284,7 @@ fn push_note(
     out.extend_from_slice(b"note: ")?;
     push_origin(import.source, line, out)?;
     push_header(alloc, &new.txn, out)?;
-    out.extend_from_slice(if has_amounts_of(alloc, new, held)? {
+    out.extend_from_slice(if has_amounts_of(new, held) {
         b" has the accounts and the amounts of entry "
     } else {
         b" has the accounts and not the amounts of entry "
@@ -286,14 +306,16 @@ pub fn push_edited(
     out: &mut Vec<u8>,
 ) -> Result<(), Cause> {
     let missing = missing_of(alloc, import.held, candidates, new_places)?;
+    let mut key = Key::new(alloc);
     let mut next = 0usize;
     let mut count = 0usize;
     for (at, record) in import.new.iter().enumerate() {
         let is_noted = matches!(again.get(next), Some(noted) if noted.new == at);
         if is_noted {
             next = next.saturating_add(1);
-        } else if !missing.is_empty() && !is_marked(record) {
-            if let Some(place) = find_before(alloc, import.held, &missing, record)? {
+        } else if !missing.by_day.is_empty() && !is_marked(record) {
+            key.put(record)?;
+            if let Some(place) = find_before(import.held, &missing, record, &mut key) {
                 let line = new_places.lines.as_slice().get(at);
                 if count < MOST {
                     push_note(

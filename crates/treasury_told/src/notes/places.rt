@@ -1,27 +1,32 @@
 //! Where an import's new transactions stand in its text, and which of the held ones the text has too.
+//!
+//! Mostly the headers tell: where each transaction with a header is new, or none is, none of them is read. The others
+//! are read once more, to tell the new ones from repeats; so are those that may be a held one that is asked for.
+//! Transactions of the same text have the same header, so that they are read together, and numbered as in the file.
 
-use crate::explain::standing::{Holder, standings};
+use crate::explain::standing::{Holder, Standing, standings};
 use crate::notes::Import;
 use crate::notes::days::{Span, span_of};
-use journal_lines::{LineKind, Lines, is_block_end, kind};
+use journal_lines::{LineKind, Lines, Status, is_block_end, kind, read_header};
 use money_core::{Cause, Day, Styles};
 use std::alloc::Global;
 use std::collections::HashMap;
+use treasury_core::Record;
 
 /// Where an import's new transactions stand in its text, and what else the text has.
 #[derive(Drop)]
 pub struct NewPlaces {
     /// The lines of the headers of the new transactions, in order.
     pub lines: Vec<usize>,
-    /// The places of the held records that the text repeats, from 0.
+    /// The places of those held records that were asked for and that the text repeats, from 0.
     repeated: HashMap<usize, ()>,
     /// The first and the last day of the text.
     span: Option<Span>,
 }
 
 impl NewPlaces {
-    /// Whether the text passes over the held record at that place: its day is between the first and the last day of the
-    /// text, and the text does not have it.
+    /// Whether the text passes over the held record at that place, which was asked for: its day is between the first
+    /// and the last day of the text, and the text does not have it.
     pub fn is_missing(&self, place: usize, day: Day) -> bool {
         match self.span {
             Some(span) => span.holds(day) && self.repeated.get(&place).is_none(),
@@ -30,8 +35,15 @@ impl NewPlaces {
     }
 }
 
-/// The lines of the headers of a text, in order.
-fn header_lines(alloc: Global, text: &[u8]) -> Result<Vec<usize>, Cause> {
+/// A header line of a text.
+#[derive(Clone, Copy)]
+struct HeaderLine<'a> {
+    number: usize,
+    text: &'a [u8],
+}
+
+/// The header lines of a text, in order.
+fn header_lines<'a>(alloc: Global, text: &'a [u8]) -> Result<Vec<HeaderLine<'a>>, Cause> {
     let mut lines = Vec::new(alloc);
     let mut in_block = false;
     for (number, line) in Lines::new(text) {
@@ -41,30 +53,252 @@ fn header_lines(alloc: Global, text: &[u8]) -> Result<Vec<usize>, Cause> {
             let kind = kind(line);
             in_block = kind == LineKind::Block;
             if kind == LineKind::Header {
-                lines.push(number)?;
+                lines.push(HeaderLine { number, text: line })?;
             }
         }
     }
     Ok(lines)
 }
 
-/// The same by reading the text once more.
-fn places_by_reading(
+/// The numbers of these lines.
+fn numbers_of(alloc: Global, headers: &[HeaderLine<'_>]) -> Result<Vec<usize>, Cause> {
+    let mut numbers = Vec::with_capacity(alloc, headers.len())?;
+    for header in headers {
+        numbers.push(header.number)?;
+    }
+    Ok(numbers)
+}
+
+/// Replaces the key by that of a header.
+fn put_key(
+    key: &mut Vec<u8>,
+    day: Day,
+    status: Option<Status>,
+    code: Option<&[u8]>,
+    description: &[u8],
+) -> Result<(), Cause> {
+    key.clear();
+    key.extend_from_slice(&day.0.to_be_bytes())?;
+    key.push(match (status, code.is_some()) {
+        (None, false) => b' ',
+        (None, true) => b'(',
+        (Some(Status::Pending), false) => b'!',
+        (Some(Status::Pending), true) => b'?',
+        (Some(Status::Cleared), false) => b'*',
+        (Some(Status::Cleared), true) => b'+',
+    })?;
+    if let Some(code) = code {
+        key.extend_from_slice(code)?;
+        key.push(0)?;
+    }
+    key.extend_from_slice(description)?;
+    Ok(())
+}
+
+/// Replaces the key by that of a record's header.
+fn put_key_of(record: &Record, key: &mut Vec<u8>) -> Result<(), Cause> {
+    let txn = &record.txn;
+    let code = match &txn.code {
+        Some(code) => Some(code.as_str().as_bytes()),
+        None => None,
+    };
+    put_key(
+        key,
+        txn.day,
+        txn.status,
+        code,
+        txn.description.as_str().as_bytes(),
+    )
+}
+
+/// The transactions with one header: how many are new, and how many the text has.
+#[derive(Clone, Copy)]
+struct Alike {
+    new: usize,
+    in_text: usize,
+}
+
+impl Alike {
+    /// Whether their headers do not tell which of them are new.
+    fn is_open(self) -> bool {
+        self.new != self.in_text
+    }
+}
+
+/// The transactions with the header of a new record, or of one that is asked for.
+#[derive(Drop)]
+struct Groups {
+    /// The place in the list, by the key of the header.
+    places: HashMap<Vec<u8>, usize>,
+    list: Vec<Alike>,
+}
+
+impl Groups {
+    /// Puts a header with that key into its group, and whether it is that of a new record.
+    fn put(&mut self, alloc: Global, key: &[u8], is_new: bool) -> Result<(), Cause> {
+        let new = usize::from(is_new);
+        if let Some(place) = self.places.get(key) {
+            if let Some(alike) = self.list.get_mut(*place) {
+                alike.new = alike.new.saturating_add(new);
+            }
+            return Ok(());
+        }
+        let mut own = Vec::with_capacity(alloc, key.len())?;
+        own.extend_from_slice(key)?;
+        let _ = self.places.insert(own, self.list.len())?;
+        self.list.push(Alike { new, in_text: 0 })?;
+        Ok(())
+    }
+
+    /// The group of a header line with that key, which the text has.
+    fn count(&mut self, key: &[u8]) -> Option<usize> {
+        let place = *self.places.get(key)?;
+        let alike = self.list.get_mut(place)?;
+        alike.in_text = alike.in_text.saturating_add(1);
+        Some(place)
+    }
+}
+
+/// The groups of the new records, and of those held ones that are asked for.
+fn groups_of(alloc: Global, import: &Import<'_>, asked: &[usize]) -> Result<Groups, Cause> {
+    let mut groups = Groups {
+        places: HashMap::new(alloc),
+        list: Vec::new(alloc),
+    };
+    let mut key = Vec::new(alloc);
+    for record in import.new {
+        put_key_of(record, &mut key)?;
+        groups.put(alloc, key.as_slice(), true)?;
+    }
+    for place in asked {
+        if let Some(record) = import.held.get(*place) {
+            put_key_of(record, &mut key)?;
+            groups.put(alloc, key.as_slice(), false)?;
+        }
+    }
+    Ok(groups)
+}
+
+/// A header of a text, and the group that it is in, if it is in one.
+#[derive(Clone, Copy)]
+struct Head {
+    line: usize,
+    day: Day,
+    group: Option<usize>,
+}
+
+/// The headers of a text, which are counted in their groups.
+fn heads_of(
     alloc: Global,
-    styles: &Styles,
-    import: &Import<'_>,
+    lines: &[HeaderLine<'_>],
+    groups: &mut Groups,
+) -> Result<Vec<Head>, Cause> {
+    let mut heads = Vec::with_capacity(alloc, lines.len())?;
+    let mut key = Vec::new(alloc);
+    for line in lines {
+        let header = match read_header(line.text) {
+            Ok(header) => header,
+            Err(cause) => return Err(cause),
+        };
+        put_key(
+            &mut key,
+            header.day,
+            header.status,
+            header.code,
+            header.description,
+        )?;
+        heads.push(Head {
+            line: line.number,
+            day: header.day,
+            group: groups.count(key.as_slice()),
+        })?;
+    }
+    Ok(heads)
+}
+
+/// What the headers tell of a transaction.
+#[derive(Clone, Copy, PartialEq, Eq)]
+enum Told {
+    New,
+    /// It is held, and was not asked for.
+    Held,
+    Nothing,
+}
+
+/// What the headers tell of a transaction with that one.
+fn told_of(groups: &[Alike], head: Head) -> Told {
+    let Some(place) = head.group else {
+        return Told::Held;
+    };
+    match groups.get(place) {
+        Some(alike) if alike.is_open() => Told::Nothing,
+        Some(_) => Told::New,
+        None => Told::Held,
+    }
+}
+
+/// The transactions of a text of which the headers tell nothing.
+fn open_text(
+    alloc: Global,
+    text: &[u8],
+    groups: &[Alike],
+    heads: &[Head],
+) -> Result<Vec<u8>, Cause> {
+    let mut open = Vec::new(alloc);
+    let mut next = 0usize;
+    let mut is_open = false;
+    for (number, line) in Lines::new(text) {
+        match heads.get(next) {
+            Some(head) if head.line == number => {
+                is_open = told_of(groups, *head) == Told::Nothing;
+                next = next.saturating_add(1);
+            }
+            // An entry ends at the first line that is not indented.
+            _ => is_open = is_open && kind(line) == LineKind::Indented,
+        }
+        if is_open {
+            open.extend_from_slice(line)?;
+            open.push(b'\n')?;
+        }
+    }
+    Ok(open)
+}
+
+/// Who holds the transaction at that place.
+fn holder_at(read: &[Standing], place: usize) -> Option<Holder> {
+    match read.get(place) {
+        Some(standing) => Some(standing.holder),
+        None => None,
+    }
+}
+
+/// The lines of the new transactions, and the held ones that are repeated, where those of which the headers tell
+/// nothing were read.
+fn places_by_heads(
+    alloc: Global,
+    groups: &[Alike],
+    heads: &[Head],
+    read: &[Standing],
 ) -> Result<NewPlaces, Cause> {
     let mut lines = Vec::new(alloc);
     let mut repeated = HashMap::new(alloc);
     let mut span: Option<Span> = None;
-    for standing in standings(alloc, styles, import.held, import.text)? {
-        span = Span::with_day(span, standing.txn.day);
-        match standing.holder {
-            Holder::Nobody => lines.push(standing.line)?,
-            Holder::Record(place) => {
-                let _ = repeated.insert(place, ())?;
+    let mut next = 0usize;
+    for head in heads {
+        span = Span::with_day(span, head.day);
+        match told_of(groups, *head) {
+            Told::New => lines.push(head.line)?,
+            Told::Held => {}
+            Told::Nothing => {
+                match holder_at(read, next) {
+                    Some(Holder::Nobody) => lines.push(head.line)?,
+                    Some(Holder::Record(place)) => {
+                        let _ = repeated.insert(place, ())?;
+                    }
+                    _ => {}
+                }
+                next = next.saturating_add(1);
             }
-            Holder::Earlier(_) => {}
         }
     }
     Ok(NewPlaces {
@@ -74,17 +308,32 @@ fn places_by_reading(
     })
 }
 
-/// Where an import's new transactions stand.
+/// Where an import's new transactions stand, and which of the held records at the places that are asked for its text
+/// repeats.
 ///
 /// Where none of its transactions is a repeat, these are all headers.
-pub fn new_places(alloc: Global, styles: &Styles, import: &Import<'_>) -> Result<NewPlaces, Cause> {
+pub fn new_places(
+    alloc: Global,
+    styles: &Styles,
+    import: &Import<'_>,
+    asked: &[usize],
+) -> Result<NewPlaces, Cause> {
     let lines = header_lines(alloc, import.text)?;
-    if lines.len() != import.new.len() {
-        return places_by_reading(alloc, styles, import);
+    if lines.len() == import.new.len() {
+        return Ok(NewPlaces {
+            lines: numbers_of(alloc, lines.as_slice())?,
+            repeated: HashMap::new(alloc),
+            span: span_of(import.new),
+        });
     }
-    Ok(NewPlaces {
-        lines,
-        repeated: HashMap::new(alloc),
-        span: span_of(import.new),
-    })
+    let mut groups = groups_of(alloc, import, asked)?;
+    let heads = heads_of(alloc, lines.as_slice(), &mut groups)?;
+    let (groups, heads) = (groups.list.as_slice(), heads.as_slice());
+    let open = open_text(alloc, import.text, groups, heads)?;
+    let read = if open.is_empty() {
+        Vec::new(alloc)
+    } else {
+        standings(alloc, styles, import.held, open.as_slice())?
+    };
+    places_by_heads(alloc, groups, heads, read.as_slice())
 }
