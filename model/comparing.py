@@ -16,8 +16,9 @@ import sqlite3
 import subprocess
 import tempfile
 import time
+from urllib.parse import quote, urlencode
 
-from model.http import PATHS
+from model.http import BRANCH_COMMANDS, PATHS
 from model.random_texts import TOP
 from model.treasury import Treasury
 
@@ -79,14 +80,27 @@ def words_of(item):
 
 
 def call_of(item, line):
-    """The bytes of a connection that asks for the same: of a report half of the time by its path."""
+    """The bytes of a connection that asks for the same: a report half of the time by its path, and a command now and
+    then by that of its branch, or of another."""
     if isinstance(item, tuple):
         return item[0]
     if isinstance(item, dict) and item.get("do") in PATHS and len(line) % 2:
         parts = [item.get(key) or "?" for key in PATHS[item["do"]]]
-        if all(re.fullmatch("[a-z0-9-]+", part) for part in parts) and len(item) == len(parts) + 1:
-            return b"GET /%s HTTP/1.1\r\nHost: localhost\r\n\r\n" % "/".join([item["do"], *parts]).encode()
-    return b"POST /commands HTTP/1.1\r\nHost: localhost\r\nContent-Length: %d\r\n\r\n" % len(line) + line
+        query = [(key, item[key]) for key in ("tag", "account") if item["do"] == "register" and key in item]
+        if all(re.fullmatch("[a-z0-9-]+", part) for part in parts) and len(item) == len(parts) + len(query) + 1:
+            target = "/".join([item["do"], *parts]) + "?" * bool(query)
+            target += urlencode(query, quote_via=quote, safe="", errors="surrogateescape")
+            return b"GET /%s HTTP/1.1\r\nHost: localhost\r\n\r\n" % target.encode()
+    target = "/commands" + branch_path(item, line)
+    return b"POST %s HTTP/1.1\r\nHost: localhost\r\nContent-Length: %d\r\n\r\n" % (target.encode(), len(line)) + line
+
+
+def branch_path(item, line):
+    """What stands behind the path of commands: for each third one its branch, or now and then another."""
+    if not isinstance(item, dict) or len(line) % 3:
+        return ""
+    name = item.get("to", "north") if len(line) % 12 == 0 else item.get(BRANCH_COMMANDS.get(item.get("do")))
+    return "/" + name if isinstance(name, str) and re.fullmatch("[a-z0-9-]+", name) else ""
 
 
 def rows_of(folder):
@@ -233,6 +247,8 @@ def by_http(folder, program, steps, rng):
             happened[f"a reply with {wanted[9:12].decode() or 'nothing'}"] += 1
             if isinstance(item, dict):
                 happened[f"{call.split(b' ')[0].decode()} of {item.get('do')}"] += 1
+                if call.startswith(b"POST /commands/"):
+                    happened[f"a branch's path is answered {wanted[9:12].decode()}"] += 1
             if fault == "full":
                 resource.prlimit(service.process.pid, resource.RLIMIT_FSIZE, (rng.randrange(120000), NO_LIMIT))
             found = service.ask(call, rng.random() ** 3 * 0.01 if fault == "killed" else None)

@@ -4,7 +4,7 @@ import re
 from collections import namedtuple
 
 from model.refusals import Refused, refuse_if
-from model.requests import read_day
+from model.requests import read_day, read_request
 
 MAX_HEAD, MAX_HEADERS, MAX_BODY = 16_384, 32, 8_388_608
 # A head, with its headers as pairs of a name in small letters and a value, and where it ends
@@ -23,9 +23,19 @@ PATHS = {
     "branches": [],
     "commodities": [],
     "journal": ["branch"],
+    "register": ["branch"],
     "transfers": ["day"],
     "transit": ["day"],
 }
+# The commands of a branch, and the key whose value is the branch
+BRANCH_COMMANDS = {"import": "branch", "dispatch": "from", "receive": "branch", "lock": "branch", "close": "branch"}
+COMMANDS_OF = re.compile("/commands/([^/]+)", re.S)
+BAD_ESCAPE = re.compile(r"%(?![0-9A-Fa-f]{2})")
+ESCAPE = re.compile(rb"%(..)")
+
+
+class Forbidden(Exception):
+    """A request is no command of the branch in its path."""
 
 
 class Cut(Exception):
@@ -124,13 +134,41 @@ def read_body(head, data):
     return data[head.end : end]
 
 
+def decoded(text):
+    """FORMATS, "HTTP": a key or a value of a query without its escapes (44)."""
+    refuse_if(BAD_ESCAPE.search(text), 44)
+    try:
+        return ESCAPE.sub(lambda it: bytes([int(it[1], 16)]), text.encode()).decode()
+    except UnicodeDecodeError:
+        raise Refused(44) from None
+
+
+def read_query(query):
+    """FORMATS, "HTTP": the keys of a register's query (44)."""
+    pairs = [piece.partition("=") for piece in query.split("&")]
+    refuse_if(any(not sign for _, sign, _ in pairs), 44)
+    keys = {decoded(key): decoded(value) for key, _, value in pairs}
+    refuse_if(len(keys) < len(pairs) or not {"account"} <= set(keys) <= {"account", "tag"}, 44)
+    return keys
+
+
+def command_of(branch, text):
+    """FORMATS, "HTTP": the request of a body, which has to be a command of the branch (44 comes before that)."""
+    keys = read_request(text)
+    if keys.get(BRANCH_COMMANDS.get(keys["do"])) != branch:
+        raise Forbidden
+    return keys
+
+
 def report_asked(head):
-    """FORMATS, "HTTP": the request of a path (44 for a date that is none), or None if there is no such route."""
-    path = head.target.partition("?")[0]
+    """FORMATS, "HTTP": the request of a path (44 for a date or a query that is none), or None if there is no such
+    route."""
+    path, _, query = head.target.partition("?")
     do, *parts = path[1:].split("/")
     if head.method != "GET" or path[:1] != "/" or do not in PATHS or len(parts) != len(PATHS[do]) or "" in parts:
         return None
-    return read_day({"do": do, **dict(zip(PATHS[do], parts))})
+    keys = read_query(query) if do == "register" else {}
+    return read_day({"do": do, **dict(zip(PATHS[do], parts)), **keys})
 
 
 def status_of(number):
@@ -148,13 +186,19 @@ def answer(treasury, data):
         head = read_whole_head(data)
         if is_foreign(head):
             return "403 Forbidden", "forbidden\n"
-        if (head.method, head.target.partition("?")[0]) == ("POST", "/commands"):
+        path = head.target.partition("?")[0]
+        branch = COMMANDS_OF.fullmatch(path)
+        if (head.method, path) == ("POST", "/commands"):
             number, lines = treasury.outcome(read_body(head, data))
+        elif head.method == "POST" and branch:
+            number, lines = treasury.perform(command_of(branch[1], read_body(head, data)))
         else:
             keys = report_asked(head)
             if keys is None:
                 return "404 Not Found", "not found\n"
             number, lines = treasury.perform(keys)
+    except Forbidden:
+        return "403 Forbidden", "forbidden\n"
     except Refused as refused:
         number, lines = refused.number, [refused.answer()]
     return status_of(number), "".join(lines)

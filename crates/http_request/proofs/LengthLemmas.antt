@@ -1,5 +1,5 @@
 -- How long a body is.
-use Rattle.std.proofs.Common.{◌≡◌, ◌≤◌, ◌<◌, ◌&&◌, ℕ, List, Bool, true, false, Option, Some, if◌then◌else◌, length}
+use Rattle.std.proofs.Common.{◌≡◌, ◌≤◌, ◌<◌, ◌&&◌, ℕ, List, Bool, true, false, Some, if◌then◌else◌, length}
 use Rattle.std.proofs.Common.{get_or, zero, suc, ◌∷◌, [], arith, refl, subst}
 use Rattle.std.specs.Prelude.{None, codes, nat_le}
 use Rattle.std.specs.List.{list_all}

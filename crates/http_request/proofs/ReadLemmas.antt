@@ -18,15 +18,20 @@ use Rattle.http_request.specs.Head.{IsHead}
 use Rattle.http_request.specs.Found.{HasHead, IsBad, EndsEarly}
 use Rattle.http_request.specs.Path.{path_of}
 use Rattle.http_request.specs.Routes.{Routed, commands, balance, journal, transit, branches, commodities}
-use Rattle.http_request.specs.Routes.{accounts, transfers, LeadsTo, HasNoRoute}
+use Rattle.http_request.specs.Routes.{accounts, transfers, register, LeadsTo, HasNoRoute}
+use Rattle.http_request.specs.Query.{query_of, wish_of}
+use Rattle.http_request.specs.declared.query.Wish.{Wish}
 use Rattle.http_request.specs.declared.routes.Route.{Route}
 use Rattle.http_request.specs.Length.{body_length}
 use Rattle.http_request.specs.Foreign.{is_foreign}
-use Rattle.http_request.specs.Call.{Reads, IsStopped, is_foreign_head, length_of, Leads, most_read}
-use Rattle.http_request.specs.Calling.{shown, call_at, CallsFor, CallsBy, LacksBytes}
+use Rattle.http_request.specs.Call.{Reads, IsStopped, is_foreign_head, length_of, wish_at, Leads, most_read}
+use Rattle.http_request.specs.Calling.{shown, register_by, wanted_at, Wants, CallsBy, LacksBytes}
+use Rattle.http_request.specs.declared.reading.Wanted.{Wanted}
+use Rattle.http_request.specs.declared.reading.Wanted.TheVariants as wanted
 use Rattle.http_request.specs.declared.call.Call.{Call}
-use Rattle.http_request.specs.declared.call.Call.TheVariants.{Unreadable, Foreign, Nowhere, Command, Balance, Journal}
+use Rattle.http_request.specs.declared.call.Call.TheVariants.{Unreadable, Foreign, Nowhere, Balance, Journal}
 use Rattle.http_request.specs.declared.call.Call.TheVariants.{Transit, Branches, Commodities, Accounts, Transfers}
+use Rattle.http_request.specs.declared.call.Call.TheVariants.{Register}
 use Rattle.http_request.proofs.LengthLemmas.{body_bound}
 
 -- ---- routes
@@ -41,9 +46,11 @@ unfolding is_token_byte
 post_token = (omega arith, AllPass-from_list_all is_token_byte (codes "POST") refl)
 
 pub no_method : (method path : List ℕ) → (IsToken method → ⊥) → HasNoRoute method path
-no_method method path none commands leads = none (subst IsToken (sym leads.0) post_token)
+no_method method path none (commands None) leads = none (subst IsToken (sym leads.0) post_token)
+no_method method path none (commands (Some branch)) leads = none (subst IsToken (sym leads.0) post_token)
 no_method method path none (balance branch date) leads = none (subst IsToken (sym leads.0) get_token)
 no_method method path none (journal branch) leads = none (subst IsToken (sym leads.0) get_token)
+no_method method path none (register branch) leads = none (subst IsToken (sym leads.0) get_token)
 no_method method path none (transit date) leads = none (subst IsToken (sym leads.0) get_token)
 no_method method path none branches leads = none (subst IsToken (sym leads.0) get_token)
 no_method method path none commodities leads = none (subst IsToken (sym leads.0) get_token)
@@ -51,16 +58,19 @@ no_method method path none (accounts branch) leads = none (subst IsToken (sym le
 no_method method path none (transfers date) leads = none (subst IsToken (sym leads.0) get_token)
 
 -- what needs its body is a command
-pub is_command : (method path : List ℕ) → CallsFor method path None → LeadsTo method path commands
-is_command method path (inl (is, none)) = absurd cc
-is_command method path (inr (commands, leads, is)) = leads
-is_command method path (inr (balance branch date, leads, is)) = absurd cc
-is_command method path (inr (journal branch, leads, is)) = absurd cc
-is_command method path (inr (transit date, leads, is)) = absurd cc
-is_command method path (inr (branches, leads, is)) = absurd cc
-is_command method path (inr (commodities, leads, is)) = absurd cc
-is_command method path (inr (accounts branch, leads, is)) = absurd cc
-is_command method path (inr (transfers date, leads, is)) = absurd cc
+pub is_command : (method target : List ℕ) (named : Option (List ℕ)) → Wants method target (wanted.Command named)
+    → LeadsTo method (path_of target) (commands named)
+is_command method target named (inl (is, none)) = absurd cc
+is_command method target named (inr (commands same, leads, is)) =
+    subst (λ (b : Option (List ℕ)). LeadsTo method (path_of target) (commands b)) (let e : same ≡ named = cc in e) leads
+is_command method target named (inr (balance branch date, leads, is)) = absurd cc
+is_command method target named (inr (journal branch, leads, is)) = absurd cc
+is_command method target named (inr (register branch, leads, is)) = absurd cc
+is_command method target named (inr (transit date, leads, is)) = absurd cc
+is_command method target named (inr (branches, leads, is)) = absurd cc
+is_command method target named (inr (commodities, leads, is)) = absurd cc
+is_command method target named (inr (accounts branch, leads, is)) = absurd cc
+is_command method target named (inr (transfers date, leads, is)) = absurd cc
 
 -- ---- heads
 
@@ -128,7 +138,8 @@ module _ (r0 r1 : Option (List ℕ)) (text : List ℕ) (headers : List HeaderSpa
 
   -- another, that leads to no route, or to that of a report
   pub head_calls : is_foreign (map (header_bytes text) (take spans.headers headers)) ≡ false → (call : Call)
-      → CallsFor (span_bytes text spans.method) (path_of (span_bytes text spans.path)) (Some call) → Reads r0 r1 call
+      → Wants (span_bytes text spans.method) (span_bytes text spans.path) (wanted.Whole call)
+      → Reads r0 r1 call
   head_calls own call (inl (is, none)) = subst (Reads r0 r1) (let same : Nowhere ≡ call = cc in same)
       (record {
         seen = text;
@@ -148,8 +159,8 @@ module _ (r0 r1 : Option (List ℕ)) (text : List ℕ) (headers : List HeaderSpa
       }
 
       by_route : (route : Routed) → LeadsTo (span_bytes text spans.method) (path_of (span_bytes text spans.path)) route
-          → Some call ≡ call_at route → Reads r0 r1 call
-      by_route commands leads is = absurd cc
+          → wanted.Whole call ≡ wanted_at (query_of (span_bytes text spans.path)) route → Reads r0 r1 call
+      by_route (commands named) leads is = absurd cc
       by_route (balance branch date) leads is = subst (Reads r0 r1) (let same : Balance branch date ≡ call = cc in same)
           (record {
             seen = text;
@@ -166,6 +177,30 @@ module _ (r0 r1 : Option (List ℕ)) (text : List ℕ) (headers : List HeaderSpa
             calls = (h.head, h.rest, leading (journal branch) leads);
             stops = h.stops;
           })
+      by_route (register branch) leads is = by_wish (wish_of (query_of (span_bytes text spans.path))) refl is
+        where
+          asked : wish_of (query_of (span_bytes text spans.path)) ≡ wish_at h.head
+          asked = ap (λ (t : List ℕ). wish_of (query_of t)) h.at.path
+
+          by_wish : (wish : Option Wish) → wish_of (query_of (span_bytes text spans.path)) ≡ wish
+              → wanted.Whole call ≡ wanted.Whole (register_by branch wish) → Reads r0 r1 call
+          by_wish None none is = subst (Reads r0 r1) (let same : Unreadable ≡ call = cc in same)
+              (record {
+                seen = text;
+                read = h.read;
+                bounded = (let b = h.bounded in omega arith);
+                calls = inr (inr (h.head, h.rest, branch, leading (register branch) leads, sym asked ∙ none));
+                stops = h.stops;
+              })
+          by_wish (Some wish) said is =
+              subst (Reads r0 r1) (let same : Register branch wish.account wish.tag ≡ call = cc in same)
+              (record {
+                seen = text;
+                read = h.read;
+                bounded = (let b = h.bounded in omega arith);
+                calls = (h.head, h.rest, leading (register branch) leads, sym asked ∙ said);
+                stops = h.stops;
+              })
       by_route (transit date) leads is = subst (Reads r0 r1) (let same : Transit date ≡ call = cc in same)
           (record {
             seen = text;
@@ -207,16 +242,17 @@ module _ (r0 r1 : Option (List ℕ)) (text : List ℕ) (headers : List HeaderSpa
             stops = h.stops;
           })
 
-  module _ (r2 : Option (List ℕ)) (own : is_foreign (map (header_bytes text) (take spans.headers headers)) ≡ false)
-      (leads : LeadsTo (span_bytes text spans.method) (path_of (span_bytes text spans.path)) commands) where
-    leads_there : LeadsTo h.head.method (path_of h.head.target) commands
-    leads_there = there (λ (m p : List ℕ). LeadsTo m p commands) leads
+  module _ (r2 branch : Option (List ℕ))
+      (own : is_foreign (map (header_bytes text) (take spans.headers headers)) ≡ false)
+      (leads : LeadsTo (span_bytes text spans.method) (path_of (span_bytes text spans.path)) (commands branch)) where
+    leads_there : LeadsTo h.head.method (path_of h.head.target) (commands branch)
+    leads_there = there (λ (m p : List ℕ). LeadsTo m p (commands branch)) leads
 
     size_is : (o : Option ℕ) → body_length (map (header_bytes text) (take spans.headers headers)) ≡ o
         → length_of h.head ≡ o
     size_is o e = sym (ap body_length h.at.fields) ∙ e
 
-    still : (more : List ℕ) → Leads (text ++ more) h.head (h.rest ++ more) commands
+    still : (more : List ℕ) → Leads (text ++ more) h.head (h.rest ++ more) (commands branch)
     still more = record {
       is_head = head_more text h.head h.rest more h.is_head;
       own = foreign_is false own;
@@ -239,17 +275,18 @@ module _ (r0 r1 : Option (List ℕ)) (text : List ℕ) (headers : List HeaderSpa
 
     pub command_calls : (o : Option ℕ) (call : Call)
         → body_length (map (header_bytes text) (take spans.headers headers)) ≡ o
-        → CallsBy o r1 r2 (drop spans.len text) call → Reads r0 r2 call
+        → CallsBy branch o r1 r2 (drop spans.len text) call → Reads r0 r2 call
     command_calls None call size (kept, is) = subst (Reads r0 r2) (sym is) (record {
       seen = text;
       read = subst (λ (r : Option (List ℕ)). Consumes r0 r text) (sym kept) h.read;
       bounded = (let b = h.bounded in omega arith);
-      calls = inr (
+      calls = inr (inl (
         h.head,
         h.rest,
+        branch,
         record { is_head = h.is_head; own = foreign_is false own; leads = leads_there },
         size_is None size,
-      );
+      ));
       stops = h.stops;
     })
     command_calls (Some n) call size (body, has, is) = subst (Reads r0 r2) (sym is) (record {
@@ -284,15 +321,15 @@ module _ (r0 r1 : Option (List ℕ)) (text : List ℕ) (headers : List HeaderSpa
           seen = text ++ lacks.more;
           read = Consumes-trans r0 r1 r2 text lacks.more h.read lacks.read;
           bounded = (let l = whole_length lacks.more in let m = most n size in omega arith);
-          cut = inr (h.head, h.rest ++ lacks.more, n, still lacks.more, size_is (Some n) size, short);
+          cut = inr (h.head, h.rest ++ lacks.more, branch, n, still lacks.more, size_is (Some n) size, short);
         }
 
     -- the same of a result
     pub command_told : {E : Type 0} (result : Result Call E) (o : Option ℕ) (begun : List ℕ)
         → o ≡ body_length (map (header_bytes text) (take spans.headers headers)) → begun ≡ drop spans.len text
-        → IfOk result (CallsBy o r1 r2 begun) → IfOk result (Reads r0 r2)
+        → IfOk result (CallsBy branch o r1 r2 begun) → IfOk result (Reads r0 r2)
     command_told (Ok call) o begun size rest calls =
-        command_calls o call (sym size) (subst (λ (t : List ℕ). CallsBy o r1 r2 t call) rest calls)
+        command_calls o call (sym size) (subst (λ (t : List ℕ). CallsBy branch o r1 r2 t call) rest calls)
     command_told (Err e) o begun size rest calls = tt
 
     pub stop_told : (o : Option ℕ) (begun : List ℕ)
@@ -308,18 +345,18 @@ pub route_told : (found : Option Route) (m n path : List ℕ) → n ≡ m
 route_told (Some route) m n path same leads none = subst (λ (t : List ℕ). LeadsTo t path (shown route)) same leads
 route_told None m n path same leads none = subst (λ (t : List ℕ). HasNoRoute t path) same (none refl)
 
--- what a method and an equal path call for
-pub call_told : (call : Option Call) (m n p q : List ℕ) → m ≡ n → p ≡ q → CallsFor m (path_of p) call
-    → CallsFor n (path_of q) call
-call_told call m n p q same alike calls =
-    subst (λ (t : List ℕ). CallsFor n (path_of t) call) alike
-    (subst (λ (t : List ℕ). CallsFor t (path_of p) call) same calls)
+-- what a method and an equal target call for
+pub wanted_told : (found : Wanted) (m n p q : List ℕ) → m ≡ n → p ≡ q → Wants m p found → Wants n q found
+wanted_told found m n p q same alike wants =
+    subst (λ (t : List ℕ). Wants n t found) alike (subst (λ (t : List ℕ). Wants t p found) same wants)
 
 -- what a route calls for, and what nothing does
-pub calls_told : {E : Type 0} (result : Result (Option Call) E) (m p : List ℕ) (route : Route)
-    → LeadsTo m p (shown route) → IfOk result (λ call. call ≡ call_at (shown route)) → IfOk result (CallsFor m p)
-calls_told (Ok call) m p route leads is = inr (shown route, leads, is)
-calls_told (Err e) m p route leads is = tt
+pub wants_told : {E : Type 0} (result : Result Wanted E) (m target query : List ℕ) (route : Route)
+    → LeadsTo m (path_of target) (shown route) → query ≡ query_of target
+    → IfOk result (λ found. found ≡ wanted_at query (shown route)) → IfOk result (Wants m target)
+wants_told (Ok found) m target query route leads same is =
+    inr (shown route, leads, is ∙ ap (λ (q : List ℕ). wanted_at q (shown route)) same)
+wants_told (Err e) m target query route leads same is = tt
 
-pub calls_nowhere : (m p : List ℕ) → HasNoRoute m p → CallsFor m p (Some Nowhere)
-calls_nowhere m p none = inl (refl, none)
+pub wants_nowhere : (m target : List ℕ) → HasNoRoute m (path_of target) → Wants m target (wanted.Whole Nowhere)
+wants_nowhere m target none = inl (refl, none)

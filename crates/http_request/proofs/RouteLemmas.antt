@@ -11,7 +11,7 @@ use Rattle.matchit.specs.Rows.{RowsOf}
 use Rattle.matchit.specs.Router.{RouteOf}
 use Rattle.http_request.specs.declared.routes.Shape.{Shape}
 use Rattle.http_request.specs.Routes.{is_part, Routed, commands, balance, journal, transit, branches, commodities}
-use Rattle.http_request.specs.Routes.{accounts, transfers, LeadsTo}
+use Rattle.http_request.specs.Routes.{accounts, transfers, register, LeadsTo}
 use Rattle.http_request.specs.Rows.{shape_rows, name_row, parts_row, shape_of}
 
 -- ---- a walk over rows
@@ -100,6 +100,10 @@ behind-name b bs p e cut =
     ∙ (ap (λ (q : ℕ × Rows). seek (q.0 - 1) q.1 (bs ++ 47 ∷ p)) cut
     ∙ (passes (suc (length bs) - 1) rs bs (47 ∷ p) (omega arith) ∙ by-byte rs 47 p refl refl)))
 
+behind_commands : GoesOnAt (codes "/commands/")
+unfolding param_step
+behind_commands p = behind-name 99 (codes "ommands") p refl refl
+
 behind_balance : GoesOnAt (codes "/balance/")
 unfolding param_step
 behind_balance p = behind-name 98 (codes "alance") p refl refl
@@ -107,6 +111,10 @@ behind_balance p = behind-name 98 (codes "alance") p refl refl
 behind_journal : GoesOnAt (codes "/journal/")
 unfolding param_step
 behind_journal p = behind-name 106 (codes "ournal") p refl refl
+
+behind_register : GoesOnAt (codes "/register/")
+unfolding param_step
+behind_register p = behind-name 114 (codes "egister") p refl refl
 
 behind_transit : GoesOnAt (codes "/transit/")
 unfolding param_step
@@ -141,11 +149,15 @@ has_bytes (b ∷ bs) e = omega arith
 pub found_shape : (method path : List ℕ) (route : Routed) → ((i : ℕ) → get_or path i 0 < 256)
     → LeadsTo method path route → Finds path (shape_of route)
 unfolding seek param_step
-found_shape method path commands bytes (m, is) = (name_row, ap (first shape_rows) is, refl)
+found_shape method path (commands None) bytes (m, is) = (name_row, ap (first shape_rows) is, refl)
+found_shape method path (commands (Some part)) bytes (m, is, good) =
+    parts_found path (codes "/commands/") part bytes is (has_bytes part good) behind_commands
 found_shape method path branches bytes (m, is) = (name_row, ap (first shape_rows) is, refl)
 found_shape method path commodities bytes (m, is) = (name_row, ap (first shape_rows) is, refl)
 found_shape method path (journal part) bytes (m, is, good) =
     parts_found path (codes "/journal/") part bytes is (has_bytes part good) behind_journal
+found_shape method path (register part) bytes (m, is, good) =
+    parts_found path (codes "/register/") part bytes is (has_bytes part good) behind_register
 found_shape method path (transit part) bytes (m, is, good) =
     parts_found path (codes "/transit/") part bytes is (has_bytes part good) behind_transit
 found_shape method path (accounts part) bytes (m, is, good) =

@@ -1,5 +1,5 @@
 -- Mirrors code: how the body of a request is read.
-use Rattle.std.specs.Prelude.{◌≡◌, ◌≤◌, ◌<◌, ◌+◌, ◌++◌, ℕ, List, length, take, Option, max}
+use Rattle.std.specs.Prelude.{◌≡◌, ◌≤◌, ◌<◌, ◌++◌, ℕ, List, length, take, Option, max}
 use Rattle.std.specs.Io.KnownBytes.{Consumes}
 
 -- a text has grown by what was read

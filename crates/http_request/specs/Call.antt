@@ -8,12 +8,15 @@ use Rattle.http_request.specs.Head.{IsHead, NeverHead, CanEnd}
 use Rattle.http_request.specs.Spaces.{spaces}
 use Rattle.http_request.specs.Path.{path_of}
 use Rattle.http_request.specs.Routes.{Routed, commands, balance, journal, transit, branches, commodities}
-use Rattle.http_request.specs.Routes.{accounts, transfers, LeadsTo, HasNoRoute}
+use Rattle.http_request.specs.Routes.{accounts, transfers, register, LeadsTo, HasNoRoute}
+use Rattle.http_request.specs.Query.{query_of, wish_of}
+use Rattle.http_request.specs.declared.query.Wish.{Wish}
 use Rattle.http_request.specs.Length.{body_length}
 use Rattle.http_request.specs.Foreign.{is_foreign}
 use Rattle.http_request.specs.declared.call.Call.{Call}
 use Rattle.http_request.specs.declared.call.Call.TheVariants.{Unreadable, Foreign, Nowhere, Command, Balance, Journal}
 use Rattle.http_request.specs.declared.call.Call.TheVariants.{Transit, Branches, Commodities, Accounts, Transfers}
+use Rattle.http_request.specs.declared.call.Call.TheVariants.{Register}
 
 -- how long the body of a command is
 abbrev pub length_of : RequestHead → Option ℕ
@@ -32,21 +35,33 @@ pub record Leads (seen : List ℕ) (head : RequestHead) (rest : List ℕ) (route
 abbrev pub LeadTo : List ℕ → Routed → Type 0
 LeadTo seen route = (head : RequestHead) × (rest : List ℕ) × Leads seen head rest route
 
--- What the bytes call for. Nothing where they begin no head, or where the length of a command's body is not stated as
--- it has to be. A head that is foreign calls for nothing else, whatever it asks for. A command has its whole body, and
--- what stands behind it is not looked at.
+-- what the query of a target asks a register of
+abbrev pub wish_at : RequestHead → Option Wish
+wish_at head = wish_of (query_of head.target)
+
+-- What the bytes call for. Nothing where they begin no head, where the length of a command's body is not stated as it
+-- has to be, or where a register is not asked of what its query has to say. A head that is foreign calls for nothing
+-- else, whatever it asks for. A command has its whole body, and what stands behind it is not looked at.
 abbrev pub Calls : List ℕ → Call → Type 0
 Calls seen Unreadable =
-    NeverHead seen ⊎ ((head : RequestHead) × (rest : List ℕ) × Leads seen head rest commands × (length_of head ≡ None))
+    NeverHead seen
+    ⊎ ((head : RequestHead) × (rest : List ℕ) × (branch : Option (List ℕ)) × Leads seen head rest (commands branch)
+    × (length_of head ≡ None))
+    ⊎ ((head : RequestHead) × (rest : List ℕ) × (branch : List ℕ) × Leads seen head rest (register branch)
+    × (wish_at head ≡ None))
 Calls seen Foreign = (head : RequestHead) × (rest : List ℕ) × IsHead seen head rest × (is_foreign_head head ≡ true)
 Calls seen Nowhere =
     (head : RequestHead) × (rest : List ℕ) × IsHead seen head rest × (is_foreign_head head ≡ false)
     × HasNoRoute head.method (path_of head.target)
-Calls seen (Command body) =
-    (head : RequestHead) × (rest : List ℕ) × (n : ℕ) × Leads seen head rest commands × (length_of head ≡ Some n)
+Calls seen (Command branch body) =
+    (head : RequestHead) × (rest : List ℕ) × (n : ℕ) × Leads seen head rest (commands branch)
+    × (length_of head ≡ Some n)
     × (n ≤ length rest) × (body ≡ take n rest)
 Calls seen (Balance branch date) = LeadTo seen (balance branch date)
 Calls seen (Journal branch) = LeadTo seen (journal branch)
+Calls seen (Register branch account tag) =
+    (head : RequestHead) × (rest : List ℕ) × Leads seen head rest (register branch)
+    × (wish_at head ≡ Some (record { account = account; tag = tag }))
 Calls seen (Transit date) = LeadTo seen (transit date)
 Calls seen Branches = LeadTo seen branches
 Calls seen Commodities = LeadTo seen commodities
@@ -68,7 +83,7 @@ pub record StopsAtHead (seen : List ℕ) : Type 0 where
 
 -- where no command is called for, nothing is read behind the part that ends its head
 abbrev pub StopsFor : List ℕ → Call → Type 0
-StopsFor seen (Command body) = ⊤
+StopsFor seen (Command branch body) = ⊤
 StopsFor seen call = StopsAtHead seen
 
 -- what was read calls for this
@@ -84,8 +99,8 @@ pub record Reads (r0 r1 : Option (List ℕ)) (call : Call) : Type 0 where
 abbrev pub IsCutOff : List ℕ → Type 0
 IsCutOff seen =
     (HasNoRequest seen × (CanEnd seen ⊎ ((spaces seen ≡ 1) × MayBecomeRequest seen)))
-    ⊎ ((head : RequestHead) × (rest : List ℕ) × (n : ℕ) × Leads seen head rest commands × (length_of head ≡ Some n)
-    × (length rest < n))
+    ⊎ ((head : RequestHead) × (rest : List ℕ) × (branch : Option (List ℕ)) × (n : ℕ)
+    × Leads seen head rest (commands branch) × (length_of head ≡ Some n) × (length rest < n))
 
 -- a first part of a request was read
 pub record IsStopped (r0 r1 : Option (List ℕ)) : Type 0 where

@@ -1,6 +1,7 @@
 -- What a reader has to believe, in reading order
 pub mod Head
 pub mod Path
+pub mod Query
 pub mod Routes
 pub mod Fields
 pub mod Length

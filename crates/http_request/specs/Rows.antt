@@ -1,11 +1,11 @@
 -- Mirrors code: the rows of the router, which are the shapes of paths.
-use Rattle.std.specs.Prelude.{◌≡◌, ℕ, List, [], ◌∷◌, codes}
+use Rattle.std.specs.Prelude.{◌≡◌, ℕ, List, [], ◌∷◌, codes, Some, None}
 use Rattle.matchit.specs.Rows.{RowsOf, param_token, catch_all_token}
 use Rattle.matchit.specs.Router.{RouteOf}
 use Rattle.http_request.specs.declared.routes.Shape.{Shape}
 use Rattle.http_request.specs.declared.routes.Shape.TheVariants.{Name, Parts}
 use Rattle.http_request.specs.Routes.{Routed, commands, balance, journal, transit, branches, commodities}
-use Rattle.http_request.specs.Routes.{accounts, transfers, LeadsTo}
+use Rattle.http_request.specs.Routes.{accounts, transfers, register, LeadsTo}
 
 -- a path that is a name alone
 abbrev pub name_row : RouteOf Shape
@@ -26,9 +26,11 @@ shape_rows = (parts_row.pattern, parts_row) ∷ (name_row.pattern, name_row) ∷
 
 -- the shape of a route's path
 abbrev pub shape_of : Routed → Shape
-shape_of commands = Name
+shape_of (commands None) = Name
+shape_of (commands (Some branch)) = Parts
 shape_of (balance branch date) = Parts
 shape_of (journal branch) = Parts
+shape_of (register branch) = Parts
 shape_of (transit date) = Parts
 shape_of branches = Name
 shape_of commodities = Name

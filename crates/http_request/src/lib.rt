@@ -8,6 +8,7 @@ mod foreign;
 mod head;
 mod length;
 mod path;
+mod query;
 mod reading;
 mod routes;
 

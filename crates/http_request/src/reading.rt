@@ -5,9 +5,9 @@ ghost use Rattle.std.specs.Result.{IsOkUnless};
 ghost use Rattle.std.specs.Str.{IsUtf8};
 ghost use Rattle.httparse.specs.Spans.{IsRequestWithin, header_bytes};
 ghost use Rattle.http_request.specs.Foreign.{is_foreign};
-ghost use Rattle.http_request.specs.Path.{path_of};
+ghost use Rattle.http_request.specs.Query.{wish_of};
 ghost use Rattle.http_request.specs.Call.{Reads, IsStopped};
-ghost use Rattle.http_request.specs.Calling.{shown, call_at, CallsFor, CallsBy, LacksBytes};
+ghost use Rattle.http_request.specs.Calling.{shown, register_by, wanted_at, Wants, CallsBy, LacksBytes};
 
 use crate::body::read_body;
 use crate::call::Call;
@@ -15,57 +15,95 @@ use crate::foreign::is_foreign;
 use crate::head::{MAX_HEADERS, read_head};
 use crate::length::body_length;
 use crate::path::path_of;
+use crate::query::{query_of, wish_of};
 use crate::routes::{Route, find_route};
 use httparse::spans::{EMPTY_HEADER_SPAN, HeaderSpan, RequestSpans};
 use money_core::{Cause, Items, Text};
 use std::alloc::Global;
 use std::io::Read;
 
-/// What a route calls for; `None` where it is the one of commands, whose body has to be read.
-fn call_at(alloc: Global, route: Route<'_>) -> Result<Option<Call>, Cause>
-    ensures value { IfOk result (λ call. call ≡ call_at (shown route.entry)) }
+/// What a method and a target call for, before a body is read.
+enum Wanted {
+    /// This, which has no body.
+    Whole(Call),
+    /// A command, whose body has to be read; only of a branch, where the path names one.
+    Command { branch: Option<Text> },
+}
+
+/// What is called for of the register of a branch with this query.
+fn register_by(alloc: Global, branch: &str, query: &str) -> Result<Call, Cause>
+    ensures value { IfOk result (λ call. call ≡ register_by branch.now (wish_of query.now)) }
+    ensures memory { IsOkUnless result Cause.OutOfMemory }
+{
+    match wish_of(alloc, query) {
+        Ok(Some(wish)) => {
+            let branch = Text::of(alloc, branch)?;
+            Ok(Call::Register {
+                branch,
+                account: wish.account,
+                tag: wish.tag,
+            })
+        }
+        Ok(None) => Ok(Call::Unreadable),
+        Err(cause) => Err(cause),
+    }
+}
+
+/// What a route calls for with this query.
+fn wanted_at(alloc: Global, route: Route<'_>, query: &str) -> Result<Wanted, Cause>
+    ensures value { IfOk result (λ wanted. wanted ≡ wanted_at query.now (shown route.entry)) }
     ensures memory { IsOkUnless result Cause.OutOfMemory }
 {
     match route {
-        Route::Commands => Ok(None),
+        Route::Commands => Ok(Wanted::Command { branch: None }),
+        Route::CommandsOf { branch } => {
+            let branch = Text::of(alloc, branch)?;
+            Ok(Wanted::Command {
+                branch: Some(branch),
+            })
+        }
         Route::Balance { branch, date } => {
             let branch = Text::of(alloc, branch)?;
             let date = Text::of(alloc, date)?;
-            Ok(Some(Call::Balance { branch, date }))
+            Ok(Wanted::Whole(Call::Balance { branch, date }))
         }
         Route::Journal { branch } => {
             let branch = Text::of(alloc, branch)?;
-            Ok(Some(Call::Journal { branch }))
+            Ok(Wanted::Whole(Call::Journal { branch }))
+        }
+        Route::Register { branch } => {
+            let call = register_by(alloc, branch, query)?;
+            Ok(Wanted::Whole(call))
         }
         Route::Transit { date } => {
             let date = Text::of(alloc, date)?;
-            Ok(Some(Call::Transit { date }))
+            Ok(Wanted::Whole(Call::Transit { date }))
         }
-        Route::Branches => Ok(Some(Call::Branches)),
-        Route::Commodities => Ok(Some(Call::Commodities)),
+        Route::Branches => Ok(Wanted::Whole(Call::Branches)),
+        Route::Commodities => Ok(Wanted::Whole(Call::Commodities)),
         Route::Accounts { branch } => {
             let branch = Text::of(alloc, branch)?;
-            Ok(Some(Call::Accounts { branch }))
+            Ok(Wanted::Whole(Call::Accounts { branch }))
         }
         Route::Transfers { date } => {
             let date = Text::of(alloc, date)?;
-            Ok(Some(Call::Transfers { date }))
+            Ok(Wanted::Whole(Call::Transfers { date }))
         }
     }
 }
 
-/// What a method and a target call for; `None` where that is a command, whose body has to be read.
-fn call_for(alloc: Global, method: &[u8], target: &[u8]) -> Result<Option<Call>, Cause>
+/// What a method and a target call for.
+fn wanted_by(alloc: Global, method: &[u8], target: &[u8]) -> Result<Wanted, Cause>
     requires { IsUtf8 target.now }
-    ensures calls { IfOk result (CallsFor method.now (path_of target.now)) }
+    ensures wants { IfOk result (Wants method.now target.now) }
     ensures memory { IsOkUnless result Cause.OutOfMemory }
 {
     let Ok(target) = str::from_utf8(target) else {
         unreachable!()
     };
     match find_route(alloc, method, path_of(target)) {
-        Ok(Some(route)) => call_at(alloc, route),
-        Ok(None) => Ok(Some(Call::Nowhere)),
+        Ok(Some(route)) => wanted_at(alloc, route, query_of(target)),
+        Ok(None) => Ok(Wanted::Whole(Call::Nowhere)),
         Err(cause) => Err(cause),
     }
 }
@@ -75,17 +113,21 @@ fn call_for(alloc: Global, method: &[u8], target: &[u8]) -> Result<Option<Call>,
 fn read_command<R: Read>(
     alloc: Global,
     reader: &mut R,
+    branch: Option<Text>,
     begun: &[u8],
     size: Option<usize>,
 ) -> Result<Call, Cause>
-    ensures calls { IfOk result (CallsBy size (R.remaining reader.old) (R.remaining reader.new) begun.now) }
+    ensures calls { IfOk result (CallsBy branch size (R.remaining reader.old) (R.remaining reader.new) begun.now) }
     ensures early { result ≡ Err Cause.ReadFault
         → LacksBytes size (R.remaining reader.old) (R.remaining reader.new) begun.now }
     ensures causes { IfErr result (λ cause. (cause ≡ Cause.ReadFault) ⊎ (cause ≡ Cause.OutOfMemory)) }
 {
     match size {
         Some(size) => match read_body(alloc, reader, begun, size) {
-            Ok(body) => Ok(Call::Command(Items::from_vec(body))),
+            Ok(body) => Ok(Call::Command {
+                branch,
+                body: Items::from_vec(body),
+            }),
             Err(cause) => Err(cause),
         },
         None => Ok(Call::Unreadable),
@@ -120,11 +162,11 @@ pub fn read_call<R: Read>(alloc: Global, reader: &mut R) -> Result<Call, Cause>
     if is_foreign_head(&text, &headers, &spans) {
         return Ok(Call::Foreign);
     }
-    match call_for(alloc, spans.method.of(&text), spans.path.of(&text)) {
-        Ok(Some(call)) => Ok(call),
-        Ok(None) => {
+    match wanted_by(alloc, spans.method.of(&text), spans.path.of(&text)) {
+        Ok(Wanted::Whole(call)) => Ok(call),
+        Ok(Wanted::Command { branch }) => {
             let size = body_length(&text, &headers[..spans.headers]);
-            read_command(alloc, reader, &text[spans.len..], size)
+            read_command(alloc, reader, branch, &text[spans.len..], size)
         }
         Err(cause) => Err(cause),
     }

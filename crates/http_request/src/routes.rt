@@ -27,8 +27,10 @@ enum Shape {
 #[derive(Clone, Copy, Debug, Drop)]
 pub enum Route<'p> {
     Commands,
+    CommandsOf { branch: &'p str },
     Balance { branch: &'p str, date: &'p str },
     Journal { branch: &'p str },
+    Register { branch: &'p str },
     Transit { date: &'p str },
     Branches,
     Commodities,
@@ -38,7 +40,7 @@ pub enum Route<'p> {
 
 /// A router with the shapes of the paths that have a route.
 ///
-/// It is made for each request, so it does not hold the routes themselves: the eight would cost eight times as much.
+/// It is made for each request, so it does not hold the routes themselves: they would cost many times as much.
 fn make_shapes(alloc: Global) -> Result<Router<Shape>, InsertError>
     ensures { IfOk result (λ router. router ≡ shape_rows) }
 {
@@ -120,6 +122,9 @@ fn report_of_parts<'p>(path: &'p str) -> Option<Route<'p>>
     if let Some(branch) = part_behind(path, "/journal/") {
         return Some(Route::Journal { branch });
     }
+    if let Some(branch) = part_behind(path, "/register/") {
+        return Some(Route::Register { branch });
+    }
     if let Some(date) = part_behind(path, "/transit/") {
         return Some(Route::Transit { date });
     }
@@ -132,6 +137,29 @@ fn report_of_parts<'p>(path: &'p str) -> Option<Route<'p>>
     }
 }
 
+/// The route of a `POST` to a path with parts.
+fn command_of_parts<'p>(path: &'p str) -> Option<Route<'p>>
+    ensures found { IfSome result (λ route. LeadsTo (codes "POST") path.now (shown route)) }
+    ensures missing { result ≡ None → HasNoRouteOf Shape.Parts (codes "POST") path.now }
+{
+    match part_behind(path, "/commands/") {
+        Some(branch) => Some(Route::CommandsOf { branch }),
+        None => None,
+    }
+}
+
+/// The route of a method and a path with parts.
+fn route_of_parts<'p>(method: &Method, path: &'p str) -> Option<Route<'p>>
+    ensures found { IfSome result (λ route. LeadsTo method.now path.now (shown route)) }
+    ensures missing { result ≡ None → HasNoRouteOf Shape.Parts method.now path.now }
+{
+    match method.as_str() {
+        "GET" => report_of_parts(path),
+        "POST" => command_of_parts(path),
+        _ => None,
+    }
+}
+
 /// The route of a method and a path of this shape.
 fn route_of_shape<'p>(shape: Shape, method: &Method, path: &'p str) -> Option<Route<'p>>
     ensures found { IfSome result (λ route. LeadsTo method.now path.now (shown route)) }
@@ -139,8 +167,7 @@ fn route_of_shape<'p>(shape: Shape, method: &Method, path: &'p str) -> Option<Ro
 {
     match shape {
         Shape::Name => route_of_name(method, path),
-        Shape::Parts if method.as_str() == "GET" => report_of_parts(path),
-        Shape::Parts => None,
+        Shape::Parts => route_of_parts(method, path),
     }
 }
 

@@ -16,6 +16,7 @@ pub mod HistoryLemmas
 pub mod OneRequestLemmas
 pub mod WebReplyLemmas
 pub mod WebLemmas
+pub mod BranchLemmas
 pub mod RunEndLemmas
 pub mod WorkedValues
 pub mod WorkedHistory

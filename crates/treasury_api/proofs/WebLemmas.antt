@@ -9,11 +9,9 @@ use Rattle.sqlite.specs.Store.{Ghosts}
 use Rattle.sqlite.specs.State.{HasCleanDisk}
 use Rattle.sqlite.specs.Held.{Held, state}
 use Rattle.http_request.specs.declared.call.Call.{Call}
-use Rattle.http_request.specs.declared.call.Call.TheVariants.{Unreadable, Foreign, Nowhere, Command, Balance, Journal}
-use Rattle.http_request.specs.declared.call.Call.TheVariants.{Transit, Branches, Commodities, Accounts, Transfers}
 use Rattle.http_request.specs.Call.{IsStopped}
 use Rattle.money_core.specs.declared.cause.Cause.{Cause}
-use Rattle.money_core.specs.declared.cause.Cause.TheVariants.{OutOfMemory, ReadFault, WriteFault, Request as NoRequest}
+use Rattle.money_core.specs.declared.cause.Cause.TheVariants.{OutOfMemory, ReadFault, WriteFault}
 use Rattle.money_core.specs.declared.cause.Cause.TheVariants.{Store as Failed}
 use Rattle.money_core.specs.Cause.{number_of}
 use Rattle.book_core.specs.declared.refusal.Refusal.{Refusal}
@@ -96,71 +94,37 @@ open_but_failed {S = S} g old new result refusal cause status text is told code 
 
 -- ---- a call
 
--- one that is foreign
-pub foreign_answered : {S : Type 0} (g : Ghosts S) (t : Treasury S) (status : ℕ) (body : List ℕ) → status ≡ 403
-    → body ≡ codes "forbidden\n" → AnswersOn g t Foreign status body t
-foreign_answered g t status body is said =
-    record {
-      clean = λ k. k;
-      answers = λ k f of. (f, (of, inl (refl, (is, said), refl)));
-      left = refl;
-      open_but = λ k is_open. inl is_open;
-      shuts = shuts_same g t.store.conn;
-      closed = λ failed. refl;
-    }
-
--- one that has no route
-pub nowhere_answered : {S : Type 0} (g : Ghosts S) (t : Treasury S) (status : ℕ) (body : List ℕ) → status ≡ 404
-    → body ≡ codes "not found\n" → AnswersOn g t Nowhere status body t
-nowhere_answered g t status body is said =
-    record {
-      clean = λ k. k;
-      answers = λ k f of. (f, (of, inl (refl, (is, said), refl)));
-      left = refl;
-      open_but = λ k is_open. inl is_open;
-      shuts = shuts_same g t.store.conn;
-      closed = λ failed. refl;
-    }
-
-no_answer : (call : Call) (status : ℕ) (body : List ℕ) → call ≢ Foreign → call ≢ Nowhere → status ≡ 400
-    → body ≡ answer_text [] (Err (Plain NoRequest)) → IsNoAnswer call status body
-no_answer Unreadable status body own other is said = (is, said)
-no_answer Foreign status body own other is said = absurd (own refl)
-no_answer Nowhere status body own other is said = absurd (other refl)
-no_answer (Command text) status body own other is said = (is, said)
-no_answer (Balance branch date) status body own other is said = (is, said)
-no_answer (Journal branch) status body own other is said = (is, said)
-no_answer (Transit date) status body own other is said = (is, said)
-no_answer Branches status body own other is said = (is, said)
-no_answer Commodities status body own other is said = (is, said)
-no_answer (Accounts branch) status body own other is said = (is, said)
-no_answer (Transfers date) status body own other is said = (is, said)
-
 -- one that asks nothing
 pub nothing_answered : {S : Type 0} (g : Ghosts S) (t : Treasury S) (call : Call) (status : ℕ) (body : List ℕ)
-    → call ≢ Foreign → call ≢ Nowhere → None ≡ asked_by call → status ≡ 400
-    → body ≡ answer_text [] (Err (Plain NoRequest)) → AnswersOn g t call status body t
-nothing_answered g t call status body own other none is said =
+    → asked_by call ≡ None → IsNoAnswer call status body → AnswersOn g t call status body t
+nothing_answered g t call status body none said =
     record {
       clean = λ k. k;
-      answers = λ k f of.
-          (f, (of, inl (sym none, no_answer call status body own other is said, refl)));
-      left = subst (λ (o : Option Spelled). MatchOption o (t ≡ t) (LeavesRequest g t t)) none refl;
+      answers = λ k f of. (f, (of, inl (none, said, refl)));
+      left = subst (λ (o : Option Spelled). MatchOption o (t ≡ t) (LeavesRequest g t t)) (sym none) refl;
       open_but = λ k is_open. inl is_open;
       shuts = shuts_same g t.store.conn;
       closed = λ failed. refl;
     }
+
+-- the same of the reply that was made
+pub told_nothing : {S : Type 0} (g : Ghosts S) (t : Treasury S) (call : Call) (status code : ℕ) (body text : List ℕ)
+    → status ≡ code → body ≡ text → (asked_by call ≡ None) × IsNoAnswer call code text
+    → AnswersOn g t call status body t
+told_nothing g t call status code body text is said (none, told) =
+    nothing_answered g t call status body none
+    (subst (λ (n : ℕ). IsNoAnswer call n body) (sym is) (subst (IsNoAnswer call code) (sym said) told))
 
 -- one that asks for a request
 pub request_answered : {S : Type 0} (g : Ghosts S) (old new : Treasury S) (call : Call) (request : Spelled) (status : ℕ)
-    (body : List ℕ) → Some request ≡ asked_by call
+    (body : List ℕ) → asked_by call ≡ Some request
     → RepliesOn g old request body (λ (reply : Result Answer Refusal). status ≡ status_of reply) new
     → LeavesRequest g old new request → IsOpenButFailed g old status new → ShutsByFault g old.store.conn new.store.conn
     → (IsTrue old.store.failed → new ≡ old) → AnswersOn g old call status body new
 request_answered g old new call request status body asks replies left open_but shuts closed = record {
   clean = replies.clean;
-  answers = λ k f of. let r = replies.answers k f of in (r.0, (r.1.0, inr (request, sym asks, r.1.1)));
-  left = subst (λ (o : Option Spelled). MatchOption o (new ≡ old) (LeavesRequest g old new)) asks left;
+  answers = λ k f of. let r = replies.answers k f of in (r.0, (r.1.0, inr (request, asks, r.1.1)));
+  left = subst (λ (o : Option Spelled). MatchOption o (new ≡ old) (LeavesRequest g old new)) (sym asks) left;
   open_but = open_but;
   shuts = shuts;
   closed = closed;

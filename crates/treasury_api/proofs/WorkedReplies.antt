@@ -1,13 +1,15 @@
 -- Statuses and replies, worked out by hand.
-use Rattle.std.specs.Prelude.{◌≡◌, ◌++◌, ℕ, List, Ok, Err, None, Some, codes, refl}
+use Rattle.std.specs.Prelude.{◌≡◌, ℕ, Ok, Err, None, Some, codes, refl, true, false}
+use Rattle.money_core.specs.declared.day.Day.{Day}
 use Rattle.std.specs.Fmt.{digits}
 use Rattle.money_core.specs.declared.cause.Cause.TheVariants as cause
 use Rattle.book_core.specs.declared.refusal.Refusal.TheVariants.{Plain, Text}
 use Rattle.treasury_core.specs.declared.command.Answer.TheVariants.{Done, Entered, Repeated}
-use Rattle.http_request.specs.declared.call.Call.TheVariants.{Unreadable, Foreign, Nowhere, Balance, Journal, Transit}
+use Rattle.http_request.specs.declared.call.Call.TheVariants.{Unreadable, Foreign, Nowhere, Journal}
 use Rattle.treasury_requests.specs.declared.request.Request.TheVariants as asking
 use Rattle.treasury_requests.specs.Request.{in_earnest}
-use Rattle.treasury_api.specs.Web.{asked_by}
+use Rattle.treasury_api.specs.BranchCommand.{is_command_of}
+use Rattle.treasury_api.specs.Web.{asked_by, only_of}
 use Rattle.treasury_api.specs.WebReply.{status_of, whole_reply}
 
 -- the table of statuses, at the ends of its rows
@@ -49,3 +51,32 @@ forbidden = refl
 pub parts : (asked_by (Journal (codes "%6eorth")) ≡ Some (in_earnest (asking.Journal (codes "%6eorth"))))
     × (asked_by Unreadable ≡ None) × (asked_by Foreign ≡ None) × (asked_by Nowhere ≡ None)
 parts = (refl, refl, refl, refl)
+
+-- a transfer is dispatched by the branch that it is from, and received by the one that it is to
+pub transferred : (day : Day)
+    → (is_command_of (codes "north")
+    (asking.Dispatch (codes "t1") (codes "north") (codes "south") day (codes "1.00 EUR") (codes "assets:bank")) ≡ true)
+    × (is_command_of (codes "south")
+    (asking.Dispatch (codes "t1") (codes "north") (codes "south") day (codes "1.00 EUR") (codes "assets:bank")) ≡ false)
+    × (is_command_of (codes "south")
+    (asking.Receive (codes "t1") (codes "south") day (codes "assets:bank") None) ≡ true)
+    × (is_command_of (codes "north")
+    (asking.Receive (codes "t1") (codes "south") day (codes "assets:bank") None) ≡ false)
+transferred day = (refl, refl, refl, refl)
+
+-- a branch is not that of a longer name, nor of one in other letters; a new branch is of none, whatever its name
+pub of_branches : (day : Day) → (is_command_of (codes "north") (asking.Lock (codes "north") day) ≡ true)
+    × (is_command_of (codes "north") (asking.Lock (codes "northern") day) ≡ false)
+    × (is_command_of (codes "north") (asking.Lock (codes "North") day) ≡ false)
+    × (is_command_of (codes "north") (asking.Branch (codes "north")) ≡ false)
+    × (is_command_of (codes "north") (asking.Journal (codes "north")) ≡ false)
+of_branches day = (refl, refl, refl, refl, refl)
+
+-- by the route of a branch its commands are asked for, and those of no other; by the route of commands all are
+pub by_routes : (day : Day)
+    → (only_of (Some (codes "north")) (Some (in_earnest (asking.Lock (codes "north") day)))
+    ≡ Some (in_earnest (asking.Lock (codes "north") day)))
+    × (only_of (Some (codes "south")) (Some (in_earnest (asking.Lock (codes "north") day))) ≡ None)
+    × (only_of None (Some (in_earnest (asking.Lock (codes "north") day)))
+    ≡ Some (in_earnest (asking.Lock (codes "north") day)))
+by_routes day = (refl, refl, refl)

@@ -2,7 +2,7 @@
 -- commands are left out; another command is refused in place of each that was. Each is a run that leads to the same
 -- state and keeps the books, so that a law of some run would admit it.
 use Rattle.std.proofs.Common.{◌≡◌, ◌∙◌, ◌≢◌, ◌≤◌, ◌<◌, ◌⊎◌, ℕ, suc, List, [], ◌∷◌, ◌++◌, length, Result, Ok, Err}
-use Rattle.std.proofs.Common.{Some, refl, sym, ap, inl, inr, true≢false, arith}
+use Rattle.std.proofs.Common.{Some, None, refl, sym, ap, inl, inr, true≢false, arith}
 use Rattle.std.specs.Prelude.{IsTrue, codes}
 use Rattle.money_core.specs.declared.cause.Cause.TheVariants.{OutOfMemory}
 use Rattle.book_core.specs.declared.refusal.Refusal.{Refusal}
@@ -194,7 +194,7 @@ others_in_place start calls end served good has =
 -- over nothing a branch is called for, and memory runs out
 abbrev pub refused_call : List ℕ → AnsweredCall
 refused_call body =
-    record { call = CalledCommand body; status = 503; body = answer_text [] (Err (Plain OutOfMemory)) }
+    record { call = CalledCommand None body; status = 503; body = answer_text [] (Err (Plain OutOfMemory)) }
 
 abbrev pub end_of_call : Standing
 end_of_call = next at_first (Ok (Command (cmd.Branch (codes "north")))) (Err (Plain OutOfMemory))

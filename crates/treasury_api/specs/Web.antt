@@ -2,7 +2,8 @@
 -- "HTTP"). What the bytes of a connection call for, `http_request` says.
 use mathlib.Core.Logic.{inl, inr}
 use Rattle.std.specs.Prelude.{◌≡◌, ◌<◌, ◌⊎◌, ℕ, false, List, [], ◌∷◌, ◌++◌, take, length, Option, Some, None}
-use Rattle.std.specs.Prelude.{option_map, Result, Err, MatchOption, MatchResult, IsTrue, codes}
+use Rattle.std.specs.Prelude.{option_map, Result, Err, MatchOption, MatchResult, IsTrue, codes, ⊤, if◌then◌else◌}
+use Rattle.std.specs.List.{AllByRecursion}
 use Rattle.std.specs.Io.KnownBytes.{Appends}
 use Rattle.sqlite.specs.Store.{Ghosts}
 use Rattle.sqlite.specs.State.{HasCleanDisk}
@@ -10,6 +11,7 @@ use Rattle.sqlite.specs.Held.{state}
 use Rattle.http_request.specs.declared.call.Call.{Call}
 use Rattle.http_request.specs.declared.call.Call.TheVariants.{Unreadable, Foreign, Nowhere, Command, Balance, Journal}
 use Rattle.http_request.specs.declared.call.Call.TheVariants.{Transit, Branches, Commodities, Accounts, Transfers}
+use Rattle.http_request.specs.declared.call.Call.TheVariants.{Register}
 use Rattle.http_request.specs.Call.{Reads, IsStopped}
 use Rattle.money_core.specs.declared.cause.Cause.{Cause}
 use Rattle.money_core.specs.declared.cause.Cause.TheVariants.{OutOfMemory, ReadFault, WriteFault, Request as NoRequest}
@@ -32,26 +34,45 @@ use Rattle.treasury_api.specs.Left.{LeavesAsked, LeavesRequest}
 use Rattle.treasury_api.specs.Replied.{standing}
 use Rattle.treasury_api.specs.OneRequest.{AnswersRequest, command_of}
 use Rattle.treasury_api.specs.WebReply.{status_of, whole_reply}
+use Rattle.treasury_api.specs.BranchCommand.{is_command_of, IsCommandOf}
+
+-- the request; but none where only commands of a branch are called for, and it is none of them
+abbrev pub only_of : Option (List ℕ) → Option Spelled → Option Spelled
+only_of None request = request
+only_of (Some branch) None = None
+only_of (Some branch) (Some request) = if is_command_of branch request.request then Some request else None
 
 -- the request that is called for; none where nothing is, as by a date that is none
 abbrev pub asked_by : Call → Option Spelled
 asked_by Unreadable = None
 asked_by Foreign = None
 asked_by Nowhere = None
-asked_by (Command body) = spelled body
+asked_by (Command branch body) = only_of branch (spelled body)
 asked_by (Balance branch date) = option_map (λ day. in_earnest (asking.Balance branch day)) (date_of date)
 asked_by (Journal branch) = Some (in_earnest (asking.Journal branch))
+asked_by (Register branch account tag) = Some (in_earnest (asking.Register branch account tag))
 asked_by (Transit date) = option_map (λ day. in_earnest (asking.Transit day)) (date_of date)
 asked_by Branches = Some (in_earnest asking.Branches)
 asked_by Commodities = Some (in_earnest asking.Commodities)
 asked_by (Accounts branch) = Some (in_earnest (asking.Accounts branch))
 asked_by (Transfers date) = option_map (λ day. in_earnest (asking.Transfers day)) (date_of date)
 
--- the reply to a call that asks nothing: 403 where it is foreign, 404 where it has no route, else 44
+-- 403, as it is replied to what is foreign, or is a request but no command of the branch
+abbrev pub IsForbidden : ℕ → List ℕ → Type 0
+IsForbidden status body = (status ≡ 403) × (body ≡ codes "forbidden\n")
+
+-- 44, as it is replied to what is no request
+abbrev pub IsNoRequest : ℕ → List ℕ → Type 0
+IsNoRequest status body = (status ≡ 400) × (body ≡ answer_text [] (Err (Plain NoRequest)))
+
+-- the reply to a call that asks nothing: 403 where it is foreign, or a request that is no command of its branch; 404
+-- where it has no route; else 44
 abbrev pub IsNoAnswer : Call → ℕ → List ℕ → Type 0
-IsNoAnswer Foreign status body = (status ≡ 403) × (body ≡ codes "forbidden\n")
+IsNoAnswer Foreign status body = IsForbidden status body
 IsNoAnswer Nowhere status body = (status ≡ 404) × (body ≡ codes "not found\n")
-IsNoAnswer call status body = (status ≡ 400) × (body ≡ answer_text [] (Err (Plain NoRequest)))
+IsNoAnswer (Command branch text) status body =
+    MatchOption (spelled text) (IsNoRequest status body) (λ request. IsForbidden status body)
+IsNoAnswer call status body = IsNoRequest status body
 
 -- A call is answered, and leads on: its request as any is, by a reply that gives the status.
 abbrev pub AnswersCall : Standing → Call → ℕ → List ℕ → Standing → Type 0
@@ -156,6 +177,16 @@ LeavesCalls g old new s calls end served =
     IsTrue (state g old.store.conn).is_open → old.store.failed ≡ false
     → (IsTrue (state g new.store.conn).is_open × (new.store.failed ≡ false))
     ⊎ (IsTrue new.store.failed × OneFails (LeavesAsked g new.store.conn) s calls end served)
+
+-- by this call no command is asked for, or only one of the branch of that name
+abbrev pub CommandsOnly : List ℕ → Call → Type 0
+CommandsOnly name (Command None body) = ⊥
+CommandsOnly name (Command (Some branch) body) = branch ≡ name
+CommandsOnly name call = ⊤
+
+-- each of the turns is a command of that branch
+abbrev pub AreCommandsOf : List ℕ → List Turn → Type 0
+AreCommandsOf name turns = AllByRecursion (λ (turn : Turn). IsCommandOf name turn.command) turns
 
 -- What connections make of a treasury, of which these calls were answered: of whichever state it was, while the disk
 -- returned what was written, it is of the state where they lead, and they leave what they may. Behind a call of the

@@ -1,6 +1,7 @@
 //! HTTP: one request is read from a connection, answered on a treasury, and its reply written.
 
 mod answering;
+mod branch;
 mod laws;
 mod reply;
 mod serving;

@@ -9,76 +9,117 @@ ghost use Rattle.treasury_api.specs.Answer.{answer_text};
 ghost use Rattle.treasury_api.specs.Left.{LeavesRequest};
 ghost use Rattle.treasury_api.specs.OneRequest.{RepliesOn};
 ghost use Rattle.treasury_api.specs.WebReply.{status_of};
-ghost use Rattle.treasury_api.specs.Web.{asked_by, IsOpenButFailed, AnswersOn};
-ghost use Rattle.treasury_api.specs.WebServing.{code_of, HasDays};
+ghost use Rattle.treasury_api.specs.Web.{IsOpenButFailed, AnswersOn};
+ghost use Rattle.treasury_api.specs.WebServing.{code_of, IsSought, sought_of, SeeksDays};
 
 use crate::answering::answer;
 use crate::answers::{MOST_PLAIN, answer_line};
 use crate::running::refuse_by;
+use crate::web::branch::is_command_of;
 use crate::web::reply::Reply;
 use crate::web::status::{Status, status_of};
 use book_core::Refusal;
 use http_request::Call;
 use journal_lines::read_date;
-use money_core::{Cause, Styles, Text};
+use money_core::{Cause, Items, Styles, Text};
 use sqlite::Alter;
 use std::alloc::Global;
 use treasury_requests::{Request, Spelled, read_line};
 use treasury_store::Treasury;
 
-/// The request, which is no dry run.
-fn in_earnest(request: Request) -> Spelled
-    ensures { result ≡ in_earnest request }
+/// What a call asks for.
+enum Sought {
+    /// This request.
+    Request(Spelled),
+    /// Nothing: it is foreign, or its request is no command of its branch.
+    Forbidden,
+    /// Nothing: it has no route.
+    Nowhere,
+    /// Nothing: it is no request.
+    NoRequest,
+}
+
+/// The request, where it may be asked for by the route of that branch.
+fn sought_of(branch: Option<Text>, request: Spelled) -> Sought
+    ensures { result ≡ sought_of branch request }
 {
-    Spelled {
+    match branch {
+        Some(branch) if !is_command_of(&request.request, branch.as_str()) => Sought::Forbidden,
+        _ => Sought::Request(request),
+    }
+}
+
+/// What a command asks for with that body, by the route of a branch where there is one.
+fn sought_by_body(alloc: Global, branch: Option<Text>, body: Items<u8>) -> Result<Sought, Cause>
+    ensures sought { IfOk result (IsSought (Call.Command branch body)) }
+    ensures days { IfOk result SeeksDays }
+    ensures memory { IsOkUnless result Cause.OutOfMemory }
+{
+    match read_line(alloc, body.items()) {
+        Ok(request) => Ok(sought_of(branch, request)),
+        Err(Cause::Request) => Ok(Sought::NoRequest),
+        Err(_) => Err(Cause::OutOfMemory),
+    }
+}
+
+/// The request for a report, which is no dry run.
+fn report(request: Request) -> Sought
+    ensures { result ≡ Sought.Request (in_earnest request) }
+{
+    Sought::Request(Spelled {
         request,
         is_dry_run: false,
-    }
+    })
 }
 
 /// The request for the balances of a branch, where the date is one.
-fn balance_at(branch: Text, date: Text) -> Option<Spelled>
-    ensures asked { result ≡ asked_by (Call.Balance branch date) }
-    ensures days { HasDays result }
+fn balance_at(branch: Text, date: Text) -> Sought
+    ensures sought { IsSought (Call.Balance branch date) result }
+    ensures days { SeeksDays result }
 {
     match read_date(date.as_str().as_bytes()) {
-        Some(day) => Some(in_earnest(Request::Balance { branch, day })),
-        None => None,
+        Some(day) => report(Request::Balance { branch, day }),
+        None => Sought::NoRequest,
     }
 }
 
-/// The request that is called for; `None` where nothing is. Answers 40 where there is no memory to read it.
-fn request_by(alloc: Global, call: Call) -> Result<Option<Spelled>, Cause>
-    ensures asked { IfOk result (λ request. request ≡ asked_by call) }
-    ensures days { IfOk result HasDays }
+/// What is called for. Answers 40 where there is no memory to read it.
+fn sought_by(alloc: Global, call: Call) -> Result<Sought, Cause>
+    ensures sought { IfOk result (IsSought call) }
+    ensures days { IfOk result SeeksDays }
     ensures memory { IsOkUnless result Cause.OutOfMemory }
 {
     match call {
-        Call::Unreadable => Ok(None),
-        Call::Foreign => Ok(None),
-        Call::Nowhere => Ok(None),
-        Call::Command(body) => match read_line(alloc, body.items()) {
-            Ok(request) => Ok(Some(request)),
-            Err(Cause::Request) => Ok(None),
-            Err(_) => Err(Cause::OutOfMemory),
-        },
+        Call::Unreadable => Ok(Sought::NoRequest),
+        Call::Foreign => Ok(Sought::Forbidden),
+        Call::Nowhere => Ok(Sought::Nowhere),
+        Call::Command { branch, body } => sought_by_body(alloc, branch, body),
         Call::Balance { branch, date } => Ok(balance_at(branch, date)),
-        Call::Journal { branch } => Ok(Some(in_earnest(Request::Journal { branch }))),
+        Call::Journal { branch } => Ok(report(Request::Journal { branch })),
+        Call::Register {
+            branch,
+            account,
+            tag,
+        } => Ok(report(Request::Register {
+            branch,
+            account,
+            tag,
+        })),
         Call::Transit { date } => match read_date(date.as_str().as_bytes()) {
-            Some(day) => Ok(Some(in_earnest(Request::Transit { day }))),
-            None => Ok(None),
+            Some(day) => Ok(report(Request::Transit { day })),
+            None => Ok(Sought::NoRequest),
         },
-        Call::Branches => Ok(Some(in_earnest(Request::Branches))),
-        Call::Commodities => Ok(Some(in_earnest(Request::Commodities))),
-        Call::Accounts { branch } => Ok(Some(in_earnest(Request::Accounts { branch }))),
+        Call::Branches => Ok(report(Request::Branches)),
+        Call::Commodities => Ok(report(Request::Commodities)),
+        Call::Accounts { branch } => Ok(report(Request::Accounts { branch })),
         Call::Transfers { date } => match read_date(date.as_str().as_bytes()) {
-            Some(day) => Ok(Some(in_earnest(Request::Transfers { day }))),
-            None => Ok(None),
+            Some(day) => Ok(report(Request::Transfers { day })),
+            None => Ok(Sought::NoRequest),
         },
     }
 }
 
-/// The reply to a call that is foreign, in room for a plain line.
+/// The reply to a call that is foreign, or to a request that is no command of its branch, in room for a plain line.
 fn forbidden(room: Vec<u8>) -> Reply
     requires empty { room.items ≡ [] }
     requires room { MOST_PLAIN ≤ vec_capacity room }
@@ -181,13 +222,11 @@ pub fn answer_call<S: Alter>(
     ensures err { OnErr result (treasury.new ≡ treasury.old) }
     ensures memory { IsOkUnless result Cause.OutOfMemory }
 {
-    match call {
-        Call::Foreign => Ok(forbidden(room)),
-        Call::Nowhere => Ok(not_found(room)),
-        call => match request_by(alloc, call) {
-            Ok(Some(request)) => Ok(answer_request(alloc, &request, treasury, room)),
-            Ok(None) => Ok(no_request(alloc, room)),
-            Err(cause) => Err(cause),
-        },
+    match sought_by(alloc, call) {
+        Ok(Sought::Request(request)) => Ok(answer_request(alloc, &request, treasury, room)),
+        Ok(Sought::Forbidden) => Ok(forbidden(room)),
+        Ok(Sought::Nowhere) => Ok(not_found(room)),
+        Ok(Sought::NoRequest) => Ok(no_request(alloc, room)),
+        Err(cause) => Err(cause),
     }
 }

@@ -1,5 +1,6 @@
 use Rattle.treasury_api.specs.Web.{turns_of_calls}
 use Rattle.treasury_api.proofs.WebLemmas.{calls_run, refused_leaves}
+use Rattle.treasury_api.proofs.BranchLemmas.{calls_own}
 use Rattle.treasury_api.proofs.web.laws.calls_law.Goals as goal
 
 pub returns-clause-headline : goal.returns-clause-headline
@@ -9,3 +10,6 @@ returns-clause-headline c start calls end good served =
 
 pub returns-clause-refused : goal.returns-clause-refused
 returns-clause-refused c = refused_leaves
+
+pub returns-clause-own : goal.returns-clause-own
+returns-clause-own c = calls_own

@@ -1,0 +1,205 @@
+-- What is asked for by the route of a branch is of that branch.
+use Rattle.std.proofs.Common.{◌≡◌, ◌⊎◌, ◌∷◌, ℕ, ℤ, List, [], Bool, true, false, Option, Some, None, Result, Ok}
+use Rattle.std.proofs.Common.{Err, if◌then◌else◌, refl, subst, inl, inr, option_map}
+use Rattle.std.specs.List.{AllByRecursion}
+use Rattle.http_request.specs.declared.call.Call.{Call}
+use Rattle.http_request.specs.declared.call.Call.TheVariants.{Unreadable, Foreign, Nowhere, Balance, Journal, Transit}
+use Rattle.http_request.specs.declared.call.Call.TheVariants.{Branches, Commodities, Accounts, Transfers, Register}
+use Rattle.http_request.specs.declared.call.Call.TheVariants.{Command as CalledCommand}
+use Rattle.money_core.specs.declared.cause.Cause.{Cause}
+use Rattle.money_core.specs.declared.day.Day.{Day}
+use Rattle.money_core.specs.declared.style.Style.{Style}
+use Rattle.money_core.specs.declared.unit.Unit.{Unit}
+use Rattle.money_core.specs.Reading.{amount}
+use Rattle.journal_lines.specs.DateReading.{date_of}
+use Rattle.book_core.specs.declared.refusal.Refusal.{Refusal}
+use Rattle.treasury_core.specs.declared.command.Answer.{Answer}
+use Rattle.treasury_core.specs.declared.command.Command.{Command as AnyCommand}
+use Rattle.treasury_core.proofs.BytesLemmas.{same_bytes}
+use Rattle.treasury_core.proofs.ChangeLemmas.{all-append}
+use Rattle.treasury_core.specs.History.{Turn}
+use Rattle.treasury_requests.specs.declared.request.WrittenPart.{WrittenPart}
+use Rattle.treasury_requests.specs.declared.request.Spelled.{Spelled}
+use Rattle.treasury_requests.specs.declared.request.Request.{Request}
+use Rattle.treasury_requests.specs.declared.request.Request.TheVariants as asking
+use Rattle.treasury_requests.specs.Request.{spelled, in_earnest, is_report, HasDayNumbers}
+use Rattle.treasury_api.specs.declared.asking.Asked.{Asked}
+use Rattle.treasury_api.specs.declared.asking.Asked.TheVariants.{Command, DryRun, Report}
+use Rattle.treasury_api.specs.declared.web.answering.Sought.TheVariants as sought
+use Rattle.treasury_api.specs.Asked.{asked_by_amount, asked_by_part, asked_by_receipt, RequestAsks, AsksOf}
+use Rattle.treasury_api.specs.Step.{Standing, is_failure}
+use Rattle.treasury_api.specs.History.{command_if}
+use Rattle.treasury_api.specs.OneRequest.{AnswersRequest, command_of}
+use Rattle.treasury_api.specs.BranchCommand.{is_command_of, IsCommandOf}
+use Rattle.treasury_api.specs.Web.{only_of, asked_by, AnsweredCall, AreServed, turns_of_calls}
+use Rattle.treasury_api.specs.Web.{CommandsOnly, AreCommandsOf}
+use Rattle.treasury_api.specs.WebServing.{sought_of, SeeksDays}
+use Rattle.treasury_api.proofs.SpelledLemmas.{spelled_command}
+
+-- ---- a body that is read
+
+pub sought_days : (branch : Option (List ℕ)) (request : Spelled) → HasDayNumbers request.request
+    → SeeksDays (sought_of branch request)
+sought_days None request days = days
+sought_days (Some name) request days = by_own (is_command_of name request.request)
+  where
+    by_own : (own : Bool) → SeeksDays (if own then sought.Request request else sought.Forbidden)
+    by_own true = days
+    by_own false = tt
+
+-- ---- a command that is asked for
+
+same_command : (c d : AnyCommand) → ◌≡◌ {A = Result Asked Refusal} (Ok (Command c)) (Ok (Command d)) → d ≡ c
+same_command c d e = cc
+
+amount_own : (name id from to account : List ℕ) (day : Day) (m : Result (Unit × ℤ) Cause) (c : AnyCommand)
+    → from ≡ name → Ok (Command c) ≡ asked_by_amount id from to day account m → IsCommandOf name c
+amount_own name id from to account day (Ok (unit, qty)) c own e = subst (IsCommandOf name) (same_command c _ e) own
+amount_own name id from to account day (Err cause) c own e = absurd cc
+
+part_own : (name id branch account key : List ℕ) (day : Day) (m : Result (Unit × ℤ) Cause) (c : AnyCommand)
+    → branch ≡ name → Ok (Command c) ≡ asked_by_part id branch day account key m → IsCommandOf name c
+part_own name id branch account key day (Ok (unit, qty)) c own e = subst (IsCommandOf name) (same_command c _ e) own
+part_own name id branch account key day (Err cause) c own e = absurd cc
+
+receipt_own : (styles : List Style) (name id branch account : List ℕ) (day : Day) (part : Option WrittenPart)
+    (c : AnyCommand)
+    → branch ≡ name → Ok (Command c) ≡ asked_by_receipt styles id branch day account part → IsCommandOf name c
+receipt_own styles name id branch account day None c own e = subst (IsCommandOf name) (same_command c _ e) own
+receipt_own styles name id branch account day (Some part) c own e =
+    part_own name id branch account part.key day (amount styles part.amount) c own e
+
+-- a request that is a command of the branch asks for one
+request_own : (styles : List Style) (name : List ℕ) (request : Request) (c : AnyCommand)
+    → is_command_of name request ≡ true → RequestAsks styles request (Ok (Command c)) → IsCommandOf name c
+request_own styles name (asking.Branch other) c own asks = absurd cc
+request_own styles name (asking.Commodity sample) c own asks = absurd cc
+request_own styles name (asking.Import branch journal) c own (inl (list, (reads, e))) =
+    subst (IsCommandOf name) (same_command c _ e) (same_bytes branch name own)
+request_own styles name (asking.Import branch journal) c own (inr (fault, (first, e))) = absurd cc
+request_own styles name (asking.Dispatch id from to day text account) c own asks =
+    amount_own name id from to account day (amount styles text) c (same_bytes from name own) asks
+request_own styles name (asking.Receive id branch day account part) c own asks =
+    receipt_own styles name id branch account day part c (same_bytes branch name own) asks
+request_own styles name (asking.Lock branch day) c own asks =
+    subst (IsCommandOf name) (same_command c _ asks) (same_bytes branch name own)
+request_own styles name (asking.Close branch day accounts into) c own asks =
+    subst (IsCommandOf name) (same_command c _ asks) (same_bytes branch name own)
+request_own styles name (asking.Balance branch day) c own asks = absurd cc
+request_own styles name (asking.Register branch account tag) c own asks = absurd cc
+request_own styles name (asking.Transit day) c own asks = absurd cc
+request_own styles name (asking.Journal branch) c own asks = absurd cc
+request_own styles name asking.Branches c own asks = absurd cc
+request_own styles name asking.Commodities c own asks = absurd cc
+request_own styles name (asking.Accounts branch) c own asks = absurd cc
+request_own styles name (asking.Transfers day) c own asks = absurd cc
+
+-- a report asks for none
+report_none : (styles : List Style) (request : Request) (c : AnyCommand) → is_report request ≡ true
+    → RequestAsks styles request (Ok (Command c)) → ⊥
+report_none styles (asking.Branch other) c report asks = absurd cc
+report_none styles (asking.Commodity sample) c report asks = absurd cc
+report_none styles (asking.Import branch journal) c report asks = absurd cc
+report_none styles (asking.Dispatch id from to day text account) c report asks = absurd cc
+report_none styles (asking.Receive id branch day account part) c report asks = absurd cc
+report_none styles (asking.Lock branch day) c report asks = absurd cc
+report_none styles (asking.Close branch day accounts into) c report asks = absurd cc
+report_none styles (asking.Balance branch day) c report asks = absurd cc
+report_none styles (asking.Register branch account tag) c report asks = absurd cc
+report_none styles (asking.Transit day) c report asks = absurd cc
+report_none styles (asking.Journal branch) c report asks = absurd cc
+report_none styles asking.Branches c report asks = absurd cc
+report_none styles asking.Commodities c report asks = absurd cc
+report_none styles (asking.Accounts branch) c report asks = absurd cc
+report_none styles (asking.Transfers day) c report asks = absurd cc
+
+-- the request is a command of the branch, or a report
+abbrev MayAsk : List ℕ → Request → Type 0
+MayAsk name request = (is_command_of name request ≡ true) ⊎ (is_report request ≡ true)
+
+command_own : (styles : List Style) (name : List ℕ) (request : Request) (c : AnyCommand) → MayAsk name request
+    → RequestAsks styles request (Ok (Command c)) → IsCommandOf name c
+command_own styles name request c (inl own) asks = request_own styles name request c own asks
+command_own styles name request c (inr report) asks = absurd (report_none styles request c report asks)
+
+-- the command of such a request, if one is performed
+one_own : (failure : Bool) (name : List ℕ) (turn : Turn) → IsCommandOf name turn.command
+    → AreCommandsOf name (if failure then [] else turn ∷ [])
+one_own true name turn own = tt
+one_own false name turn own = (own, tt)
+
+if_own : (failed : Bool) (styles : List Style) (name : List ℕ) (request : Spelled) (asked : Result Asked Refusal)
+    (reply : Result Answer Refusal)
+    → MayAsk name request.request → AsksOf failed styles request asked → AreCommandsOf name (command_if asked reply)
+if_own false styles name request (Ok (Command c)) reply may asks =
+    one_own (is_failure reply) name (record { command = c; reply = reply })
+    (command_own styles name request.request c may (spelled_command styles request c asks))
+if_own true styles name request (Ok (Command c)) reply may asks = absurd cc
+if_own failed styles name request (Ok (DryRun c)) reply may asks = tt
+if_own failed styles name request (Ok (Report report)) reply may asks = tt
+if_own failed styles name request (Err refusal) reply may asks = tt
+
+-- ---- a call
+
+-- the request of a body, by the route of a branch
+body_own : (branch : List ℕ) (read : Option Spelled) (request : Spelled) → only_of (Some branch) read ≡ Some request
+    → is_command_of branch request.request ≡ true
+body_own branch None request e = absurd cc
+body_own branch (Some one) request e = by_own (is_command_of branch one.request) refl e
+  where
+    by_own : (own : Bool) → is_command_of branch one.request ≡ own → (if own then Some one else None) ≡ Some request
+        → is_command_of branch request.request ≡ true
+    by_own true own e =
+        let same : one ≡ request = cc in
+        subst (λ (r : Spelled). is_command_of branch r.request ≡ true) same own
+    by_own false own e = absurd cc
+
+-- the request of a report, and of one through a day
+report_is : (report : Request) (request : Spelled) → is_report report ≡ true → Some (in_earnest report) ≡ Some request
+    → is_report request.request ≡ true
+report_is report request is e =
+    let same : in_earnest report ≡ request = cc in
+    subst (λ (r : Spelled). is_report r.request ≡ true) same is
+
+dated_is : (make : Day → Request) (day : Option Day) (request : Spelled) → ((d : Day) → is_report (make d) ≡ true)
+    → option_map (λ d. in_earnest (make d)) day ≡ Some request → is_report request.request ≡ true
+dated_is make None request is e = absurd cc
+dated_is make (Some day) request is e = report_is (make day) request (is day) e
+
+asked_own : (name : List ℕ) (call : Call) (request : Spelled) → CommandsOnly name call → asked_by call ≡ Some request
+    → MayAsk name request.request
+asked_own name Unreadable request only e = absurd cc
+asked_own name Foreign request only e = absurd cc
+asked_own name Nowhere request only e = absurd cc
+asked_own name (CalledCommand None body) request only e = absurd only
+asked_own name (CalledCommand (Some branch) body) request only e =
+    inl (subst (λ (b : List ℕ). is_command_of b request.request ≡ true) only
+    (body_own branch (spelled body) request e))
+asked_own name (Balance branch date) request only e =
+    inr (dated_is (asking.Balance branch) (date_of date) request (λ d. refl) e)
+asked_own name (Journal branch) request only e = inr (report_is (asking.Journal branch) request refl e)
+asked_own name (Register branch account tag) request only e =
+    inr (report_is (asking.Register branch account tag) request refl e)
+asked_own name (Transit date) request only e = inr (dated_is asking.Transit (date_of date) request (λ d. refl) e)
+asked_own name Branches request only e = inr (report_is asking.Branches request refl e)
+asked_own name Commodities request only e = inr (report_is asking.Commodities request refl e)
+asked_own name (Accounts branch) request only e = inr (report_is (asking.Accounts branch) request refl e)
+asked_own name (Transfers date) request only e = inr (dated_is asking.Transfers (date_of date) request (λ d. refl) e)
+
+-- ---- calls one after another
+
+turn_own : (name : List ℕ) (s : Standing) (request : Spelled) (said : List ℕ) (reply : Result Answer Refusal)
+    (t : Standing) → MayAsk name request.request → (answers : AnswersRequest s request said reply t)
+    → AreCommandsOf name (command_of answers)
+turn_own name s request said reply t may answers =
+    if_own s.failed s.now.styles name request answers.asked reply may answers.asks
+
+pub calls_own : (name : List ℕ) (start : Standing) (calls : List AnsweredCall) (end : Standing)
+    → AllByRecursion (λ (answered : AnsweredCall). CommandsOnly name answered.call) calls
+    → (served : AreServed start calls end) → AreCommandsOf name (turns_of_calls start calls end served)
+calls_own name start [] end only served = tt
+calls_own name start (c ∷ cs) end (first, others) (mid, inl nothing, rest) = calls_own name mid cs end others rest
+calls_own name start (c ∷ cs) end (first, others) (mid, inr (request, asked, (reply, (answers, told))), rest) =
+    all-append (λ (turn : Turn). IsCommandOf name turn.command) _ _
+    (turn_own name start request c.body reply mid (asked_own name c.call request first asked) answers)
+    (calls_own name mid cs end others rest)
