@@ -35,7 +35,8 @@ pub fn treasury_on(rt: &impl Abort, alloc: Global, disks: Disks, is_new: bool) -
     Treasury::start(alloc, store).ok()
 }
 
-/// The disks of the treasury, and whether it was closed as it should be.
+/// The disks of the treasury, and whether it was closed as it should be. Each test ends so: to drop a treasury whole
+/// would have the prover see how each part of it is dropped.
 pub fn closed(treasury: Fused) -> (Disks, bool) {
     match treasury.into_store().into_connection().close_files() {
         Ok(disks) => (disks, true),

@@ -1,6 +1,6 @@
 //! Runs whose reader fails after each byte of a request, and whose writer fails after each byte of an answer.
 
-use crate::desk::{Fused, answered, fused, ran, treasury_on};
+use crate::desk::{Fused, answered, closed, fused, ran, treasury_on};
 use crate::rows::{ENTRY, Sent, requests};
 use money_core::Cause;
 use sqlite::Files;
@@ -62,6 +62,7 @@ fn assert_cuts(rt: &impl Abort, alloc: Global, row: &[Sent], count: usize) {
             .get(request.len().saturating_add(1)..)
             .expect(rt, "the requests behind it");
     }
+    assert!(rt; closed(treasury).1);
 }
 
 /// Does so for each number of bytes.

@@ -45,6 +45,7 @@ fn assert_stands(rt: &impl Abort, alloc: Global, disks: Disks, row: &[Sent], don
             "{request}, {done} done"
         );
     }
+    assert!(rt; closed(treasury).1);
 }
 
 /// Stops a row after so many calls of each disk, and opens these again, with what was written and with only what was

@@ -118,4 +118,6 @@ fn a_request_is_done_if_it_comes_whole_also_where_its_reply_is_cut_off(rt: HostR
     let alloc = rt.alloc();
     let mut treasury = begun(&rt, alloc);
     assert_each(&rt, alloc, &mut treasury, SENT);
+    // (to drop a treasury whole would have the prover see how each part of it is dropped)
+    drop(treasury.into_store().into_connection());
 }

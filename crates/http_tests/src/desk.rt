@@ -11,8 +11,14 @@ use treasury_store::{Store, Treasury};
 /// A treasury of nothing.
 pub fn begun(rt: &impl Abort, alloc: Global) -> Treasury<MemStore> {
     let conn = Connection::open_in_memory(alloc).expect(rt, "memory");
-    let store = Store::create(alloc, conn).ok().expect(rt, "a store");
-    Treasury::start(alloc, store).ok().expect(rt, "a treasury")
+    let store = match Store::create(alloc, conn) {
+        Ok(store) => store,
+        Err(_) => panic!(rt; "not made"),
+    };
+    match Treasury::start(alloc, store) {
+        Ok(treasury) => treasury,
+        Err(_) => panic!(rt; "not started"),
+    }
 }
 
 /// Gives so many bytes at most at each read, and fails behind the last.
