@@ -12,8 +12,11 @@ use treasury_store::{Store, Treasury};
 /// A log and a database file.
 pub type Disks = Files<Fuse<Memory>>;
 
+/// What a connection stands on here.
+type Fuses = FileStore<Fuse<Memory>>;
+
 /// A treasury over them.
-pub type Fused = Treasury<FileStore<Fuse<Memory>>>;
+pub type Fused = Treasury<Fuses>;
 
 /// A disk that has these bytes, and passes so many calls.
 pub fn fused(rt: &impl Abort, alloc: Global, bytes: &[u8], calls: u64) -> Fuse<Memory> {
@@ -22,17 +25,51 @@ pub fn fused(rt: &impl Abort, alloc: Global, bytes: &[u8], calls: u64) -> Fuse<M
     Fuse::new(memory, calls)
 }
 
+/// A store with new tables; none where a call of the disks fails.
+fn created(rt: &impl Abort, alloc: Global, conn: Connection<Fuses>) -> Option<Store<Fuses>> {
+    assert!(rt; conn.is_autocommit());
+    match Store::create(alloc, conn) {
+        Ok(store) => Some(store),
+        Err(refused) => {
+            let _ = refused.conn.close();
+            None
+        }
+    }
+}
+
+/// A store with the tables that are there; none where there are none.
+fn opened(rt: &impl Abort, alloc: Global, conn: Connection<Fuses>) -> Option<Store<Fuses>> {
+    assert!(rt; conn.is_autocommit());
+    match Store::open(alloc, conn) {
+        Ok(store) => Some(store),
+        Err(refused) => {
+            let _ = refused.conn.close();
+            None
+        }
+    }
+}
+
+/// A treasury of what the store is of; none where a call of the disks fails.
+fn started(alloc: Global, store: Store<Fuses>) -> Option<Fused> {
+    match Treasury::start(alloc, store) {
+        Ok(treasury) => Some(treasury),
+        Err(unstarted) => {
+            let _ = unstarted.store.into_connection().close();
+            None
+        }
+    }
+}
+
 /// A new treasury on the disks, or that of their tables; none where a call of them fails, or there are no tables.
 pub fn treasury_on(rt: &impl Abort, alloc: Global, disks: Disks, is_new: bool) -> Option<Fused> {
     assert!(rt; disks.may_be_used());
     let conn = Connection::open_files(alloc, disks, Options::new(7)).ok()?;
-    assert!(rt; conn.is_autocommit());
     let store = if is_new {
-        Store::create(alloc, conn).ok()?
+        created(rt, alloc, conn)?
     } else {
-        Store::open(alloc, conn).ok()?
+        opened(rt, alloc, conn)?
     };
-    Treasury::start(alloc, store).ok()
+    started(alloc, store)
 }
 
 /// The disks of the treasury, and whether it was closed as it should be. Each test ends so: to drop a treasury whole
