@@ -200,7 +200,7 @@ def odd_call(rng, body, name):
     chance = rng.random()
     if chance < 0.4:
         lengths = {"length": str(len(body)), "more": str(len(body) + 1), "less": str(len(body) - 1)}
-        path = rng.choice(("/commands", "/commands", f"/commands/{name}")).encode()
+        path = rng.choice(("/commands", "/commands", "/commands?x=/y", f"/commands/{name}")).encode()
         whole = b"POST " + path + b" HTTP/1.1\r\n" + odd(rng, "heads", **lengths).encode("latin-1") + b"\r\n\r\n" + body
         end = len(whole) - rng.choice((rng.randrange(len(whole)), len(body) + rng.randrange(20)))
         return whole[:end] if chance < 0.1 else whole + rng.choice((b"", b"more"))
