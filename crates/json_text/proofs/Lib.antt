@@ -1,0 +1,9 @@
+pub mod GrowLemmas
+pub mod CommaLemmas
+pub mod LineLemmas
+pub mod LengthLemmas
+pub mod Spelling
+pub mod Lexing
+pub mod Reading
+pub mod Members
+pub mod WorkedValues
