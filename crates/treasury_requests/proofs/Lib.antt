@@ -1,3 +1,5 @@
 pub mod RequestLemmas
 pub mod WorkedReports
 pub mod WorkedDryRuns
+pub mod FaultLemmas
+pub mod WorkedFaults

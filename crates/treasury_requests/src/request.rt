@@ -9,7 +9,9 @@ ghost use Rattle.treasury_requests.specs.Request.{is_report};
 
 use crate::bytes::Bytes;
 pub use form::{Form, PartForm};
+pub(crate) use form::{form_of, text_at, yes_or_no};
 use money_core::{Cause, Copied, Day, Text};
+pub(crate) use reading::owned_text;
 pub use reading::{read_command, read_line, request_of};
 
 /// A part of a transfer, with its texts as they were written.

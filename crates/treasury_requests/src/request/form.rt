@@ -113,7 +113,7 @@ impl Form<'_> {
 }
 
 /// The text at a key.
-fn text_at<'a>(value: &'a Value, key: &str) -> Option<&'a str>
+pub(crate) fn text_at<'a>(value: &'a Value, key: &str) -> Option<&'a str>
     ensures { option_map (λ s. s.now) result ≡ text_at key.now (view value.now) }
 {
     value.get(key).and_then(Value::as_str)
@@ -374,7 +374,7 @@ fn form_by<'a>(word: &str, value: &'a Value) -> Option<Form<'a>>
 }
 
 /// Whether a text says that it is a dry run: `yes` or `no`.
-fn yes_or_no(text: &str) -> Option<bool>
+pub(crate) fn yes_or_no(text: &str) -> Option<bool>
     ensures { result ≡ yes_or_no text.now }
 {
     match text {

@@ -13,7 +13,7 @@ use serde_json::Value;
 use std::alloc::Global;
 
 /// A text of its own, if there is one.
-fn owned_text(alloc: Global, text: Option<&str>) -> Result<Option<Text>, Cause>
+pub(crate) fn owned_text(alloc: Global, text: Option<&str>) -> Result<Option<Text>, Cause>
     ensures equal { IfOk result (λ owned. owned ≡ option_copied text.entry) }
     ensures memory { IsOkUnless result Cause.OutOfMemory }
 {

@@ -1,0 +1,181 @@
+-- Why bytes are no request: the first of these faults (own rule; docs/FORMATS.md, "Requests").
+use Rattle.std.specs.Prelude.{◌≡◌, ℕ, ◌+◌, Bool, true, false, not, ◌||◌, if◌then◌else◌, List, [], ◌∷◌, ◌++◌}
+use Rattle.std.specs.Prelude.{Option, Some, None, is_some, option_map, option_and_then}
+use Rattle.std.specs.Prelude.{String, string_bytes}
+use Rattle.std.specs.declared.alloc.Global.{Global}
+use Rattle.std.specs.List.{find, list_any}
+use Rattle.std.specs.Option.{option_or, unwrap_or, IsSome}
+use Rattle.std.specs.Str.{bytes_eq, IsUtf8, IsValidUpTo}
+use Rattle.serde_json.specs.Data.{Data, null, boolean, number, string, array, object, Members, no_members, member}
+use Rattle.serde_json.specs.Find.{get}
+use Rattle.serde_json.specs.Read.{read}
+use Rattle.journal_lines.specs.DateReading.{date_of}
+use Rattle.treasury_requests.specs.declared.fault.words.Word.{Word}
+use Rattle.treasury_requests.specs.declared.fault.words.Word.TheVariants as word
+use Rattle.treasury_requests.specs.declared.fault.words.Key.{Key}
+use Rattle.treasury_requests.specs.declared.fault.words.Key.TheVariants as key
+use Rattle.treasury_requests.specs.declared.fault.Kind.{Kind}
+use Rattle.treasury_requests.specs.declared.fault.Kind.TheVariants as kind
+use Rattle.treasury_requests.specs.declared.fault.RequestFault.{RequestFault}
+use Rattle.treasury_requests.specs.declared.fault.RequestFault.TheVariants as by
+use Rattle.treasury_requests.specs.Request.{text_at, yes_or_no, spelled}
+use Rattle.treasury_requests.specs.Words.{key_name, all_words, has_name, needed, further}
+
+-- what a value is
+abbrev pub kind_of : Data → Kind
+kind_of null = kind.Null
+kind_of (boolean b) = kind.Boolean
+kind_of (number n) = kind.Number
+kind_of (string s) = kind.String
+kind_of (array ds) = kind.Array
+kind_of (object ms) = kind.Object
+
+-- what a value is that is no string
+abbrev pub odd_kind : Data → Option Kind
+odd_kind null = Some kind.Null
+odd_kind (boolean b) = Some kind.Boolean
+odd_kind (number n) = Some kind.Number
+odd_kind (string s) = None
+odd_kind (array ds) = Some kind.Array
+odd_kind (object ms) = Some kind.Object
+
+-- the value at a key
+abbrev pub value_at : Data → Key → Option Data
+value_at d k = get (key_name k) d
+
+abbrev pub has_key : Data → Key → Bool
+has_key d k = is_some (value_at d k)
+
+abbrev pub lacks_key : Data → Key → Bool
+lacks_key d k = not (has_key d k)
+
+-- what the value at a key is, if it is no string
+abbrev pub odd_kind_at : Data → Key → Option Kind
+odd_kind_at d k = option_and_then odd_kind (value_at d k)
+
+-- the keys beside `do` that the request of a word may have
+abbrev pub keys_of : Word → List Key
+keys_of w = needed w ++ further w
+
+-- a key is written so
+abbrev pub is_written : List ℕ → Key → Bool
+is_written name k = bytes_eq (key_name k) name
+
+-- the request of a word may have a key that is written so
+abbrev pub may_have : Word → List ℕ → Bool
+may_have w name = is_written name key.Do || list_any (is_written name) (keys_of w)
+
+abbrev pub is_other : Word → List ℕ → Bool
+is_other w name = not (may_have w name)
+
+-- the same of a string
+abbrev pub is_other_string : Word → String Global → Bool
+is_other_string w name = is_other w (string_bytes name)
+
+-- the keys of an object, in byte order
+abbrev pub names_in : Members → List (List ℕ)
+names_in no_members = []
+names_in (member name d ms) = name ∷ names_in ms
+
+abbrev pub names_of : Data → List (List ℕ)
+names_of null = []
+names_of (boolean b) = []
+names_of (number n) = []
+names_of (string s) = []
+names_of (array ds) = []
+names_of (object ms) = names_in ms
+
+-- the first key that it may not have
+abbrev pub other_key : Word → Data → Option (List ℕ)
+other_key w d = find (is_other w) (names_of d)
+
+-- a key is missing that it has to have
+abbrev pub missing_fault : Word → Data → Option RequestFault
+missing_fault w d = option_map (λ k. by.MissingKey w k (other_key w d)) (find (lacks_key d) (needed w))
+
+-- the value of one of its keys is no string
+abbrev pub odd_fault_at : Data → Key → Option RequestFault
+odd_fault_at d k = option_map (by.ValueOfKind k) (odd_kind_at d k)
+
+abbrev pub is_odd : Data → Key → Bool
+is_odd d k = is_some (odd_kind_at d k)
+
+abbrev pub odd_fault_in : Data → List Key → Option RequestFault
+odd_fault_in d ks = option_and_then (odd_fault_at d) (find (is_odd d) ks)
+
+abbrev pub odd_fault : Word → Data → Option RequestFault
+odd_fault w d = option_or (odd_fault_in d (needed w)) (odd_fault_in d (further w))
+
+-- its day is no date
+abbrev pub date_fault_in : List ℕ → Option RequestFault
+date_fault_in text = if is_some (date_of text) then None else Some (by.NoDate text)
+
+abbrev pub date_fault : Data → Option RequestFault
+date_fault d = option_and_then date_fault_in (text_at (key_name key.Day) d)
+
+-- a receipt has one of two keys that only go together
+abbrev pub half_of : Option (List ℕ) → Bool → Bool → Option RequestFault
+half_of other true true = None
+half_of other true false = Some (by.Half key.Part key.Amount other)
+half_of other false true = Some (by.Half key.Amount key.Part other)
+half_of other false false = None
+
+abbrev pub is_receipt : Word → Bool
+is_receipt word.Receive = true
+is_receipt _ = false
+
+abbrev pub half_fault : Word → Data → Option RequestFault
+half_fault w d =
+    if is_receipt w then half_of (other_key w d) (has_key d key.Part) (has_key d key.Amount) else None
+
+-- what says whether it is a dry run says neither
+abbrev pub choice_fault_in : List ℕ → Option RequestFault
+choice_fault_in text = if is_some (yes_or_no text) then None else Some (by.NoChoice text)
+
+abbrev pub choice_fault : Data → Option RequestFault
+choice_fault d = option_and_then choice_fault_in (text_at (key_name key.DryRun) d)
+
+-- the first fault of the keys beside `do` and of their values; if it is none of the others, there are keys that the
+-- request may not have
+abbrev pub keys_fault : Word → Data → RequestFault
+keys_fault w d =
+    unwrap_or (option_or (missing_fault w d) (option_or (half_fault w d) (option_or (odd_fault w d)
+    (option_or (date_fault d) (choice_fault d))))) (by.OtherKeys w (other_key w d))
+
+-- the first fault of an object in which `do` has that text
+abbrev pub word_fault : Data → List ℕ → Option Word → RequestFault
+word_fault d text None = by.UnknownWord text
+word_fault d text (Some w) = keys_fault w d
+
+-- the same where `do` has that value, if it is there
+abbrev pub do_fault : Data → Option Data → RequestFault
+do_fault d None = by.NoWord
+do_fault d (Some null) = by.WordOfKind kind.Null
+do_fault d (Some (boolean b)) = by.WordOfKind kind.Boolean
+do_fault d (Some (number n)) = by.WordOfKind kind.Number
+do_fault d (Some (string s)) = word_fault d s (find (has_name s) all_words)
+do_fault d (Some (array ds)) = by.WordOfKind kind.Array
+do_fault d (Some (object ms)) = by.WordOfKind kind.Object
+
+-- the first fault of a value that is no request
+abbrev pub value_fault : Data → RequestFault
+value_fault null = by.NotAnObject kind.Null
+value_fault (boolean b) = by.NotAnObject kind.Boolean
+value_fault (number n) = by.NotAnObject kind.Number
+value_fault (string s) = by.NotAnObject kind.String
+value_fault (array ds) = by.NotAnObject kind.Array
+value_fault (object ms) = do_fault (object ms) (value_at (object ms) key.Do)
+
+-- bytes that are no request have this first fault: they are no UTF-8 from the byte on that ends the last part that is;
+-- they are no JSON, at some place; or they are the value that has it
+pub record HasFault (bytes : List ℕ) (fault : RequestFault) : Type 0 where
+  pub no_request : spelled bytes ≡ None
+  pub no_utf8 : ¬ (IsUtf8 bytes) → (n : ℕ) × IsValidUpTo bytes n × (fault ≡ by.NotUtf8 (n + 1))
+  pub no_json : IsUtf8 bytes → read bytes ≡ None
+      → (line : ℕ) × (byte : ℕ) × (cut : Bool) × (fault ≡ by.NotJson line byte cut)
+  pub value : (d : Data) → IsUtf8 bytes → read bytes ≡ Some d → fault ≡ value_fault d
+
+-- the first fault of bytes, if they are no request
+abbrev pub IsFirstFault : List ℕ → Option RequestFault → Type 0
+IsFirstFault bytes None = IsSome (spelled bytes)
+IsFirstFault bytes (Some fault) = HasFault bytes fault
