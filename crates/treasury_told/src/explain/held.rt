@@ -3,7 +3,7 @@
 use crate::explain::hints::{push_amount_form, push_sample, push_sample_form, push_samples};
 use crate::explain::pieces::push_day;
 use crate::explain::shown::{push_line, push_named, push_number, push_shown};
-use crate::explain::standing::branch_named;
+use crate::explain::standing::{branch_named, lock_of};
 use crate::explain::transfers::{part_of, push_id, push_transfer_of};
 use book_core::{Ledger, MAX_ENTRIES};
 use money_core::{Cause, Text, read_style};
@@ -75,10 +75,7 @@ pub fn push_lock<L: Ledger>(
     let Some(name) = branch_of(request) else {
         return Ok(());
     };
-    let Some(branch) = branch_named(state, name.as_str()) else {
-        return Ok(());
-    };
-    let Some(day) = branch.locked else {
+    let Some(day) = lock_of(state, name.as_str()) else {
         return Ok(());
     };
     out.extend_from_slice(b"  ")?;

@@ -1,9 +1,15 @@
 //! One sentence for each refusal (docs/RULES.md, "Refusals", where they stand word for word).
 
+ghost use Rattle.std.specs.Prelude.{◌≡◌};
+ghost use Rattle.treasury_told.specs.Sentence.{sentence_of};
+
 use money_core::Cause;
 
 /// When the refusal comes.
-pub fn sentence(cause: Cause) -> &'static str {
+#[tactic(auto, unfolding(crate::specs::Sentence::sentence_of))]
+pub fn sentence(cause: Cause) -> &'static str
+    ensures { result.now ≡ sentence_of cause }
+{
     match cause {
         Cause::Utf8 =>
             "a line is not UTF-8, or holds an ASCII control character (0 to 31, 127) other than tab",

@@ -1,73 +1,128 @@
 //! What the transaction at the line of a fault has.
 
+ghost use Rattle.std.specs.Prelude.{◌≡◌, ◌⊎◌, nat_eq, true, List, IfOk, IfErr, IfSome};
+ghost use Rattle.std.specs.List.{list_all};
+ghost use Rattle.money_core.specs.declared.cause.Fault.{Fault as FirstFault};
+ghost use Rattle.money_core.specs.AmountText.{IsDeclared};
+ghost use Rattle.money_core.specs.Cost.{cost};
+ghost use Rattle.money_core.specs.Price.{is_price};
+ghost use Rattle.journal_format.specs.declared.txn.Located.{Located as Placed};
+ghost use Rattle.journal_format.specs.Fault.{IsFirstFault};
+ghost use Rattle.journal_format.specs.Pieces.{Reads};
+ghost use Rattle.journal_format.specs.Printable.{IsPrintable, is_posting};
+ghost use Rattle.journal_balance.specs.Legs.{in_unit, cost_value, value_of, sum_of};
+ghost use Rattle.treasury_told.specs.LeftOver.{transaction_on};
+
 use crate::explain::pieces::push_named_amount;
-use journal_format::{Posting, Txn, read_journal};
-use money_core::{Cause, Styles, Unit, cost_of, is_declared, is_price};
+use journal_format::{Located, Posting, Txn, read_journal};
+use money_core::{Cause, Price, Styles, Unit, cost_of};
 use std::alloc::Global;
 
-/// The value of a posting, with its commodity; nothing where it has none, or is not exact.
-fn value_of(styles: &Styles, posting: &Posting) -> Option<(Unit, i64)> {
-    let (unit, qty) = posting.amount?;
-    match &posting.price {
-        Some(price) => {
-            if !is_declared(unit, qty, styles) || !is_price(price, styles) {
-                return None;
-            }
-            match cost_of(qty, unit, price, styles) {
-                Ok(cost) => Some((price.unit(), cost)),
-                Err(_) => None,
-            }
-        }
-        None => Some((unit, qty)),
+/// The quantity in its own commodity, and 0 in every other.
+fn in_unit(unit: Unit, own: Unit, qty: i64) -> i64
+    ensures { result ≡ in_unit unit own qty }
+{
+    if own.0 == unit.0 { qty } else { 0 }
+}
+
+/// What a quantity of a commodity costs, or 0 where the cost has a fault.
+fn cost_value(qty: i64, unit: Unit, price: &Price, styles: &Styles) -> i64
+    requires amount { IsDeclared styles.now unit qty }
+    requires price { is_price styles.now price.now ≡ true }
+    ensures { result ≡ cost_value (cost styles.now qty unit price.now) }
+{
+    match cost_of(qty, unit, price, styles) {
+        Ok(cost) => cost,
+        Err(_) => 0,
     }
 }
 
-/// The sum of the values of the postings in a commodity; nothing where it is too large.
-fn sum_in(styles: &Styles, postings: &[Posting], unit: Unit) -> Option<i64> {
-    let mut sum = 0i64;
+/// The value of a posting in a commodity, in its smallest units.
+fn value_of(posting: &Posting, unit: Unit, styles: &Styles) -> i64
+    requires { is_posting styles.now posting.now ≡ true }
+    ensures { result ≡ value_of styles.now unit posting.now.amount posting.now.price }
+{
+    let Some((own, qty)) = posting.amount else {
+        return 0;
+    };
+    match posting.price {
+        Some(price) => in_unit(unit, price.unit(), cost_value(qty, own, &price, styles)),
+        None => in_unit(unit, own, qty),
+    }
+}
+
+/// The sum of the values of postings in a commodity, in its smallest units.
+pub fn sum_of(postings: &[Posting], unit: Unit, styles: &Styles) -> i128
+    requires { list_all (is_posting styles.now) postings.now ≡ true }
+    ensures { result ≡ sum_of styles.now unit postings.now }
+{
+    let mut sum: i128 = 0;
     for posting in postings {
-        if let Some((of, qty)) = value_of(styles, posting) {
-            if of == unit {
-                sum = sum.checked_add(qty)?;
-            }
-        }
+        let value = value_of(posting, unit, styles);
+        sum += i128::from(value);
     }
-    Some(sum)
+    sum
 }
 
-/// Appends what the values of a transaction leave over, commodity by commodity.
-fn push_rest(alloc: Global, styles: &Styles, txn: &Txn, out: &mut Vec<u8>) -> Result<(), Cause> {
+/// Appends what the values of postings leave over, commodity by commodity.
+fn push_rest(
+    alloc: Global,
+    styles: &Styles,
+    postings: &[Posting],
+    out: &mut Vec<u8>,
+) -> Result<(), Cause>
+    requires { list_all (is_posting styles.now) postings.now ≡ true }
+{
     for number in 0..styles.len() {
         let unit = Unit(number as u16);
-        match sum_in(styles, txn.postings.items(), unit) {
-            Some(0) => {}
-            Some(sum) => push_named_amount(alloc, styles, b"left over", unit, sum, out)?,
-            None => {}
+        match i64::try_from(sum_of(postings, unit, styles)) {
+            Ok(0) => {}
+            Ok(sum) => push_named_amount(alloc, styles, b"left over", unit, sum, out)?,
+            Err(_) => {}
         }
     }
     Ok(())
 }
 
-/// The transaction whose header stands at that line.
+/// Whether the header of a transaction stands on that line.
+fn is_on(located: &Located, line: usize) -> bool
+    ensures { result ≡ nat_eq located.now.line line }
+{
+    located.line == line
+}
+
+/// The transaction whose header stands on that line.
+fn on_line(list: Vec<Located>, line: usize) -> Option<Txn>
+    ensures { result ≡ transaction_on line list.items }
+{
+    for located in list {
+        if is_on(&located, line) {
+            return Some(located.txn);
+        }
+    }
+    None
+}
+
+/// The transaction of a text whose header stands on that line.
 pub fn transaction_at(
     alloc: Global,
     styles: &Styles,
     text: &[u8],
     line: usize,
-) -> Result<Option<Txn>, Cause> {
-    let list = match read_journal(alloc, text, styles) {
-        Ok(list) => list,
-        Err(fault) => return Err(fault.cause),
-    };
-    for located in list {
-        if located.line == line {
-            return Ok(Some(located.txn));
-        }
+) -> Result<Option<Txn>, Cause>
+    ensures value { (list : List Placed) → Reads styles.now text.now list
+        → IfOk result (λ txn. txn ≡ transaction_on line list) }
+    ensures printable { IfOk result (λ txn. IfSome txn (IsPrintable styles.now)) }
+    ensures err { IfErr result (λ cause. (cause ≡ Cause.OutOfMemory)
+        ⊎ ((first : FirstFault) × IsFirstFault styles.now text.now first × (cause ≡ first.cause))) }
+{
+    match read_journal(alloc, text, styles) {
+        Ok(list) => Ok(on_line(list, line)),
+        Err(fault) => Err(fault.cause),
     }
-    Ok(None)
 }
 
-/// Appends what the transaction whose header stands at that line leaves over.
+/// Appends what the transaction whose header stands on that line leaves over.
 pub fn push_left_over(
     alloc: Global,
     styles: &Styles,
@@ -76,7 +131,7 @@ pub fn push_left_over(
     out: &mut Vec<u8>,
 ) -> Result<(), Cause> {
     match transaction_at(alloc, styles, text, line) {
-        Ok(Some(txn)) => push_rest(alloc, styles, &txn, out),
+        Ok(Some(txn)) => push_rest(alloc, styles, txn.postings.items(), out),
         Ok(None) => Ok(()),
         Err(cause) => Err(cause),
     }

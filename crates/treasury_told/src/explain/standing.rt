@@ -1,11 +1,11 @@
 //! The transactions of a journal's text, with the lines of their headers, and which of them a branch has not.
 
 ghost use Rattle.std.specs.Prelude.{◌≡◌, ◌+◌, ◌<◌, ◌^◌, ◌⊎◌, ℕ, List, [], ◌∷◌, ◌++◌, cond, Some, None, IfOk};
-ghost use Rattle.std.specs.Prelude.{IfErr, OnOk};
+ghost use Rattle.std.specs.Prelude.{IfErr, OnOk, find};
 ghost use Rattle.std.specs.Global.{Vec as Bytes};
 ghost use Rattle.std.specs.HashMap.{get_by_text};
 ghost use Rattle.std.specs.List.{AllByRecursion};
-ghost use Rattle.std.specs.Option.{option_or};
+ghost use Rattle.std.specs.Option.{option_map, option_or};
 ghost use Rattle.std.specs.Result.{IsOkUnless};
 ghost use Rattle.std.specs.Str.{bytes_eq};
 ghost use Rattle.money_core.specs.declared.cause.Fault.{Fault as FirstFault};
@@ -16,14 +16,16 @@ ghost use Rattle.journal_format.specs.Fault.{IsFirstFault};
 ghost use Rattle.journal_format.specs.Pieces.{Reads};
 ghost use Rattle.journal_format.specs.Printable.{IsPrintable};
 ghost use Rattle.treasury_core.specs.Counted.{count_of, counted_more, AreCounted};
+ghost use Rattle.treasury_core.specs.Federation.{has_name, lock_of};
 ghost use Rattle.treasury_core.specs.Kept.{IsIndexOf};
 ghost use Rattle.treasury_core.specs.Mark.{mark_of};
+ghost use Rattle.treasury_core.specs.Seen.{branch_of, branches_of};
 ghost use Rattle.treasury_core.specs.Step.{number_in};
 ghost use Rattle.treasury_told.specs.Standing.{is_nobody, holder_at, located_of, AreStanding};
 
 use book_core::Ledger;
 use journal_format::{Located, Txn, body, is_printable, read_journal};
-use money_core::{Cause, Copied, Styles, Text};
+use money_core::{Cause, Copied, Day, Styles, Text};
 use std::alloc::Global;
 use std::collections::HashMap;
 use treasury_core::{Branch, Record, State, mark_of};
@@ -59,14 +61,33 @@ impl Standing {
     }
 }
 
-/// The branch of that name.
-pub fn branch_named<'a, L: Ledger>(state: &'a State<L>, name: &str) -> Option<&'a Branch<L>> {
-    for branch in state.branches() {
+/// The first of some branches that has the name.
+fn first_named<'a, L: Ledger>(branches: &'a [Branch<L>], name: &str) -> Option<&'a Branch<L>>
+    ensures { option_map (λ b. branch_of b.now) result ≡ find (has_name name.now) (branches_of branches.now) }
+{
+    for branch in branches {
         if branch.name.as_str() == name {
             return Some(branch);
         }
     }
     None
+}
+
+/// The branch of that name.
+pub fn branch_named<'a, L: Ledger>(state: &'a State<L>, name: &str) -> Option<&'a Branch<L>>
+    ensures { option_map (λ b. branch_of b.now) result ≡ find (has_name name.now) state.now.branches }
+{
+    first_named(state.branches(), name)
+}
+
+/// The day through which the branch of that name is locked, if it is.
+pub fn lock_of<L: Ledger>(state: &State<L>, name: &str) -> Option<Day>
+    ensures { result ≡ lock_of state.now name.now }
+{
+    match branch_named(state, name) {
+        Some(branch) => branch.locked,
+        None => None,
+    }
 }
 
 /// The number of the next unmarked transaction with that canonical text, which is counted.

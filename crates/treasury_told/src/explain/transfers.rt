@@ -1,5 +1,13 @@
 //! What is held of the transfer that a request is on, and the forms of its ID and of a part's key.
 
+ghost use Rattle.std.specs.Prelude.{◌≡◌, ◌-ℤ◌, true, ◌++◌, find, OnOk, IfSome};
+ghost use Rattle.std.specs.Option.{option_map};
+ghost use Rattle.std.specs.Result.{IsOkUnless};
+ghost use Rattle.treasury_core.specs.Good.{HasGoodParts};
+ghost use Rattle.treasury_core.specs.Step.{has_key};
+ghost use Rattle.treasury_core.specs.Transfer.{has_id, is_key, left_of, receipts_of, sum_of};
+ghost use Rattle.treasury_told.specs.HeldTransfer.{id_of, part_of, transfer_in, left_line};
+
 use crate::explain::pieces::{push_amount, push_day, push_named_amount};
 use crate::explain::shown::{push_line, push_named, push_shown};
 use book_core::Ledger;
@@ -17,7 +25,9 @@ const KEY_FORM: &[u8] =
 const MAX_ID: usize = 64;
 
 /// The ID of the transfer that a request is on.
-fn id_of(request: &Request) -> Option<&Text> {
+fn id_of(request: &Request) -> Option<&Text>
+    ensures { option_map (λ id. id.now) result ≡ id_of request.now }
+{
     match request {
         Request::Dispatch { id, .. } => Some(id),
         Request::Receive { id, .. } => Some(id),
@@ -26,7 +36,9 @@ fn id_of(request: &Request) -> Option<&Text> {
 }
 
 /// The part of a request.
-pub fn part_of(request: &Request) -> Option<&WrittenPart> {
+pub fn part_of(request: &Request) -> Option<&WrittenPart>
+    ensures { option_map (λ part. part.now) result ≡ part_of request.now }
+{
     match request {
         Request::Receive { part, .. } => part.as_ref(),
         _ => None,
@@ -77,20 +89,41 @@ fn push_transfer(
     push_receipt(alloc, transfer, out)
 }
 
+/// What the parts of a transfer leave of its amount.
+fn rest_of(transfer: &Transfer) -> i64
+    requires { HasGoodParts transfer.now }
+    ensures { result ≡ transfer.now.qty -ℤ sum_of transfer.now.parts }
+{
+    let mut left = transfer.qty;
+    'part: for part in transfer.parts.items() {
+        left -= part.qty;
+    }
+    left
+}
+
+/// What is left of a transfer.
+pub fn left_of(transfer: &Transfer) -> i64
+    requires { HasGoodParts transfer.now }
+    ensures { result ≡ left_of transfer.now }
+{
+    match &transfer.receipt {
+        Some(_) => 0,
+        None => rest_of(transfer),
+    }
+}
+
 /// Appends what is left of a transfer.
-fn push_left(
+pub fn push_left(
     alloc: Global,
     styles: &Styles,
     transfer: &Transfer,
     out: &mut Vec<u8>,
-) -> Result<(), Cause> {
-    let mut left = transfer.qty;
-    for part in transfer.parts.items() {
-        left = left.saturating_sub(part.qty);
-    }
-    if transfer.receipt.is_some() {
-        left = 0;
-    }
+) -> Result<(), Cause>
+    requires { HasGoodParts transfer.now }
+    ensures value { OnOk result (out.new.items ≡ out.old.items ++ left_line styles.now transfer.now) }
+    ensures memory { IsOkUnless result Cause.OutOfMemory }
+{
+    let left = left_of(transfer);
     push_named_amount(alloc, styles, b"left", transfer.unit, left, out)
 }
 
@@ -112,6 +145,28 @@ fn push_part(
     Ok(())
 }
 
+/// The receipt of a part under that key.
+pub fn part_under<'a>(transfer: &'a Transfer, key: &str) -> Option<&'a Part>
+    ensures value { option_map (λ part. part.now) result ≡ find (has_key key.now) transfer.now.parts }
+    // Under the key of a part, this is the receipt by which a request is decided.
+    ensures decides { is_key key.now ≡ true
+        → find (has_key key.now) transfer.now.parts ≡ find (has_key key.now) (receipts_of transfer.now) }
+{
+    first_under(transfer.parts.items(), key)
+}
+
+/// The first of some receipts that has the key.
+fn first_under<'a>(parts: &'a [Part], key: &str) -> Option<&'a Part>
+    ensures { option_map (λ part. part.now) result ≡ find (has_key key.now) parts.now }
+{
+    for part in parts {
+        if part.key.as_str() == key {
+            return Some(part);
+        }
+    }
+    None
+}
+
 /// Appends what is held under the key that a request has, or that nothing is left for one without a part.
 fn push_key(
     alloc: Global,
@@ -119,16 +174,14 @@ fn push_key(
     transfer: &Transfer,
     request: &Request,
     out: &mut Vec<u8>,
-) -> Result<(), Cause> {
+) -> Result<(), Cause>
+    requires { HasGoodParts transfer.now }
+{
     match part_of(request) {
-        Some(asked) => {
-            for part in transfer.parts.items() {
-                if part.key.as_str() == asked.key.as_str() {
-                    return push_part(alloc, styles, transfer, part, out);
-                }
-            }
-            Ok(())
-        }
+        Some(asked) => match part_under(transfer, asked.key.as_str()) {
+            Some(part) => push_part(alloc, styles, transfer, part, out),
+            None => Ok(()),
+        },
         None => match &transfer.receipt {
             Some(_) => Ok(()),
             None => push_left(alloc, styles, transfer, out),
@@ -143,7 +196,9 @@ fn push_asked(
     transfer: &Transfer,
     request: &Request,
     out: &mut Vec<u8>,
-) -> Result<(), Cause> {
+) -> Result<(), Cause>
+    requires { HasGoodParts transfer.now }
+{
     if let Some(part) = part_of(request) {
         let (unit, qty) = read_amount(part.amount.as_str(), styles)?;
         push_named_amount(alloc, styles, b"asked", unit, qty, out)?;
@@ -151,15 +206,28 @@ fn push_asked(
     push_left(alloc, styles, transfer, out)
 }
 
-/// The transfer that a request is on.
-pub fn transfer_of<'a, L: Ledger>(state: &'a State<L>, request: &Request) -> Option<&'a Transfer> {
-    let id = id_of(request)?;
-    for transfer in state.transfers() {
-        if transfer.id.as_str() == id.as_str() {
+/// The first of some transfers that has the ID.
+fn first_with<'a>(transfers: &'a [Transfer], id: &str) -> Option<&'a Transfer>
+    ensures { option_map (λ t. t.now) result ≡ find (has_id id.now) transfers.now }
+{
+    for transfer in transfers {
+        if transfer.id.as_str() == id {
             return Some(transfer);
         }
     }
     None
+}
+
+/// The transfer that a request is on.
+pub fn transfer_of<'a, L: Ledger>(state: &'a State<L>, request: &Request) -> Option<&'a Transfer>
+    ensures value { option_map (λ t. t.now) result ≡ transfer_in state.now (id_of request.now) }
+    ensures good { IfSome result (λ t. HasGoodParts t.now) }
+{
+    state.is_good();
+    match id_of(request) {
+        Some(id) => first_with(state.transfers(), id.as_str()),
+        None => None,
+    }
 }
 
 /// Appends what is held of the transfer that a request is on; by the cause also what is held under its key, or what is

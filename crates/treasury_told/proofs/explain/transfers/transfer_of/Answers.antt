@@ -1,0 +1,11 @@
+use Rattle.std.proofs.Common.{◌∙◌, ap, List}
+use Rattle.std.specs.Prelude.{find}
+use Rattle.treasury_core.specs.declared.transfer.Transfer.{Transfer}
+use Rattle.treasury_core.specs.Transfer.{has_id}
+use Rattle.treasury_told.proofs.TransferLemmas.{parts_good}
+use Rattle.treasury_told.proofs.explain.transfers.transfer_of.Goals as goal
+
+pub returns-in-Some-clause-good : goal.returns-in-Some-clause-good
+returns-in-Some-clause-good g c =
+    parts_good c.args.state.now c.as_str.result.now c.first_with.result c.is_good.ensures
+    (c.first_with.ensures ∙ ap (λ (ts : List Transfer). find (has_id c.as_str.result.now) ts) c.transfers.ensures)
