@@ -5,11 +5,13 @@ use money_core::Cause;
 use sqlite_schema::names::same_name;
 use sqlite_schema::schema::Schema;
 use std::alloc::Global;
-use treasury_told::explain::{push_number, push_shown};
-use treasury_told::notes::MOST;
+use terminal_text::{push_number, push_shown};
 
 /// How the names begin that SQLite gives: of the indexes of keys, and of tables such as those of `ANALYZE`.
 const OF_SQLITE: &[u8] = b"sqlite_";
+
+/// The most names that the note has; of more, it says how many more there are.
+const MOST: usize = 5;
 
 /// What a database has beside the tables of a treasury: the first names, and how many there are.
 #[derive(Drop)]

@@ -183,7 +183,12 @@ fn counts_on<S: Alter + Drop>(alloc: Global, conn: Connection<S>) -> Result<Coun
         Err(refused) => return Err(why_refused(refused)),
     };
     match Treasury::start(alloc, store) {
-        Ok(treasury) => counts_in(alloc, treasury.state()),
+        Ok(treasury) => {
+            let counts = counts_in(alloc, treasury.state());
+            // (to drop a treasury whole would have the prover see how each part of it is dropped)
+            drop(treasury.into_store().into_connection());
+            counts
+        }
         Err(refused) => Err(why_unstarted(refused.cause)),
     }
 }

@@ -11,7 +11,7 @@ use money_core::Cause;
 use sqlite_schema::names::same_name;
 use sqlite_schema::schema::{Schema, Table};
 use std::alloc::Global;
-use treasury_told::explain::push_shown;
+use terminal_text::push_shown;
 
 /// The tables of a treasury, each with its columns (docs/FORMATS.md, "Tables"), less that of receipts in parts.
 const TABLES: &[(&str, &[&str])] = &[
