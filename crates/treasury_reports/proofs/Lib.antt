@@ -9,5 +9,7 @@ pub mod RegisterLemmas
 pub mod NameLemmas
 pub mod ListLemmas
 pub mod SampleLemmas
+pub mod RowLemmas
 pub mod WorkedReports
+pub mod WorkedRows
 pub mod WorkedLists

@@ -33,7 +33,9 @@ use Rattle.treasury_core.specs.Good.{IsGoodRecord, IsGoodState}
 use Rattle.treasury_core.proofs.OwnLemmas.{of_branch}
 use Rattle.treasury_reports.specs.declared.listed.Listed.{Listed}
 use Rattle.treasury_reports.specs.RegisterReport.{listed_leg, listed_legs, listed_in, listed_from, put_by_day, by_day}
-use Rattle.treasury_reports.specs.RegisterReport.{legs_in, is_wanted, register_line, register_lines}
+use Rattle.treasury_reports.specs.RegisterReport.{legs_in, is_wanted}
+use Rattle.treasury_reports.specs.declared.layout.Layout.{Layout}
+use Rattle.treasury_reports.specs.Layout.{register_piece, register_pieces}
 use Rattle.treasury_reports.specs.Lent.{IsListable, HaveRoom, sum_at, AreSums}
 use Rattle.treasury_reports.proofs.SortLemmas.{all_by_day}
 
@@ -225,22 +227,24 @@ pub took : (all : List Listed) (i : ℕ) (x : Listed) → i < length all → x �
 took all i x below e = take_more all i x below ∙ ap (λ (y : Listed). take i all ++ y ∷ []) (sym e)
 
 -- the lines behind one more
-pub lines_next : (styles : List Style) (all : List Listed) (i : ℕ) (x : Listed) (sum : ℤ) (text next : List ℕ)
+pub lines_next : (layout : Layout) (styles : List Style) (all : List Listed) (i : ℕ) (x : Listed) (sum : ℤ)
+    (text next : List ℕ)
     → i < length all → x ≡ get_or all i x → sum ≡ value x.leg.unit (legs_in (take i all ++ x ∷ []))
-    → next ≡ text ++ register_line styles x sum
-    → text ++ register_lines styles (take i all) (drop i all) ≡ register_lines styles [] all
-    → next ++ register_lines styles (take (i + 1) all) (drop (i + 1) all) ≡ register_lines styles [] all
-lines_next styles all i x sum text next below e s n h =
+    → next ≡ text ++ register_piece layout styles x sum
+    → text ++ register_pieces layout styles (take i all) (drop i all) ≡ register_pieces layout styles [] all
+    → next ++ register_pieces layout styles (take (i + 1) all) (drop (i + 1) all) ≡ register_pieces layout styles [] all
+lines_next layout styles all i x sum text next below e s n h =
     let behind : drop i all ≡ x ∷ drop (i + 1) all =
     rw add-one (drop-cons all i x below ∙ ap (λ (y : Listed). y ∷ drop (suc i) all) (sym e)) in
     let before : take (i + 1) all ≡ take i all ++ x ∷ [] = took all i x below e in
-    ap (λ (t : List ℕ). t ++ register_lines styles (take (i + 1) all) (drop (i + 1) all))
-    (n ∙ ap (λ (z : ℤ). text ++ register_line styles x z) s)
-    ∙ ap (λ (l : List Listed). (text ++ register_line styles x (value x.leg.unit (legs_in (take i all ++ x ∷ []))))
-    ++ register_lines styles l (drop (i + 1) all)) before
-    ∙ append_assoc text (register_line styles x (value x.leg.unit (legs_in (take i all ++ x ∷ []))))
-    (register_lines styles (take i all ++ x ∷ []) (drop (i + 1) all))
-    ∙ ap (λ (l : List Listed). text ++ register_lines styles (take i all) l) (sym behind) ∙ h
+    ap (λ (t : List ℕ). t ++ register_pieces layout styles (take (i + 1) all) (drop (i + 1) all))
+    (n ∙ ap (λ (z : ℤ). text ++ register_piece layout styles x z) s)
+    ∙ ap (λ (l : List Listed).
+    (text ++ register_piece layout styles x (value x.leg.unit (legs_in (take i all ++ x ∷ []))))
+    ++ register_pieces layout styles l (drop (i + 1) all)) before
+    ∙ append_assoc text (register_piece layout styles x (value x.leg.unit (legs_in (take i all ++ x ∷ []))))
+    (register_pieces layout styles (take i all ++ x ∷ []) (drop (i + 1) all))
+    ∙ ap (λ (l : List Listed). text ++ register_pieces layout styles (take i all) l) (sym behind) ∙ h
 
 -- one more leg of a record, and one more record
 pub legs_more : (account : List ℕ) (n : ℕ) (r : Record) (x : Leg) (xs : List Leg) (old before after : List Listed)

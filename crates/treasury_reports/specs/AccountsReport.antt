@@ -1,5 +1,5 @@
 -- The accounts of a branch (own rule; docs/FORMATS.md, "Accounts report").
-use Rattle.std.specs.Prelude.{ℕ, List, ◌++◌, codes}
+use Rattle.std.specs.Prelude.{ℕ, List, [], ◌∷◌, ◌++◌, map, codes}
 use Rattle.std.specs.List.{flat_map}
 use Rattle.treasury_core.specs.Federation.{Federation, book_of}
 use Rattle.treasury_reports.specs.BalanceReport.{book_accounts}
@@ -11,3 +11,10 @@ account_line account = account ++ codes "\n"
 -- the report: the accounts of all legs of a branch's book, each once, in byte order
 abbrev pub accounts_text : Federation → List ℕ → List ℕ
 accounts_text f name = flat_map account_line (book_accounts (book_of f name))
+
+-- in JSON, a row of one cell for each
+abbrev pub account_cells : List ℕ → List (List ℕ)
+account_cells account = account ∷ []
+
+abbrev pub accounts_rows : Federation → List ℕ → List (List (List ℕ))
+accounts_rows f name = map account_cells (book_accounts (book_of f name))

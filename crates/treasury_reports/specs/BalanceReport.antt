@@ -7,6 +7,7 @@ use Rattle.std.specs.declared.cmp.Ordering.TheVariants.{Less, Equal, Greater}
 use Rattle.money_core.specs.declared.style.Style.{Style}
 use Rattle.money_core.specs.declared.unit.Unit.{Unit as Commodity}
 use Rattle.money_core.specs.declared.day.Day.{Day}
+use Rattle.money_core.specs.AmountText.{printed_in}
 use Rattle.book_core.specs.declared.entry.Entry.{Entry}
 use Rattle.book_core.specs.declared.account.Reach.TheVariants.{Own}
 use Rattle.book_core.specs.declared.place.Until.TheVariants.{Through}
@@ -65,3 +66,23 @@ book_balances styles entries day = flat_map (account_lines styles entries day) (
 -- the report of a branch
 abbrev pub balance_text : Federation → List ℕ → Day → List ℕ
 balance_text f name day = book_balances f.styles (book_of f name) day
+
+-- in JSON, the row of one balance, amount and account; none where it is zero
+abbrev pub amount_row : List Style → List ℕ → Commodity → ℤ → List (List (List ℕ))
+amount_row styles account unit quantity =
+    if int_eq quantity (pos 0) then [] else (printed_in styles unit quantity ∷ (account ∷ [])) ∷ []
+
+-- a row for each line of the report
+abbrev pub balance_row : List Style → List Entry → Day → List ℕ → Commodity → List (List (List ℕ))
+balance_row styles entries day account unit =
+    amount_row styles account unit (balance Own entries account unit (Through day))
+
+abbrev pub account_rows : List Style → List Entry → Day → List ℕ → List (List (List ℕ))
+account_rows styles entries day account =
+    flat_map (balance_row styles entries day account) (first_units (length styles))
+
+unfoldable pub book_rows : List Style → List Entry → Day → List (List (List ℕ))
+book_rows styles entries day = flat_map (account_rows styles entries day) (book_accounts entries)
+
+abbrev pub balance_rows : Federation → List ℕ → Day → List (List (List ℕ))
+balance_rows f name day = book_rows f.styles (book_of f name) day

@@ -1,6 +1,6 @@
 -- The branches, with their locks (own rule; docs/FORMATS.md, "Branches report").
 use Rattle.std.specs.Prelude.{ℕ, ◌&&◌, Bool, if◌then◌else◌, List, ◌++◌, length, codes, decimal, pos, negsuc, int_le}
-use Rattle.std.specs.Prelude.{Option, Some, None}
+use Rattle.std.specs.Prelude.{Option, Some, None, [], ◌∷◌, map}
 use Rattle.std.specs.List.{flat_map}
 use Rattle.money_core.specs.declared.day.Day.{Day}
 use Rattle.journal_lines.specs.Date.{printed_date}
@@ -25,3 +25,15 @@ branch_line b =
 -- the report: the branches, in order of declaration
 abbrev pub branches_text : Federation → List ℕ
 branches_text f = flat_map branch_line f.branches
+
+-- a lock day in JSON, an empty text where there is none
+abbrev pub lock_cell : Option Day → List ℕ
+lock_cell None = []
+lock_cell (Some day) = if is_calendar day then printed_date day else codes "?"
+
+-- in JSON, the cells of a branch: lock day, number of entries and name
+abbrev pub branch_cells : Branch → List (List ℕ)
+branch_cells b = lock_cell b.locked ∷ (decimal (length b.records) ∷ (b.name ∷ []))
+
+abbrev pub branches_rows : Federation → List (List (List ℕ))
+branches_rows f = map branch_cells f.branches

@@ -1,5 +1,6 @@
 -- The commodities, by their samples (own rule; docs/FORMATS.md, "Commodities report").
 use Rattle.std.specs.Prelude.{◌≡◌, ℕ, Bool, if◌then◌else◌, List, ◌∷◌, ◌++◌, codes, replicate, slice_get, Some}
+use Rattle.std.specs.Prelude.{[], map}
 use Rattle.std.specs.List.{flat_map}
 use Rattle.money_core.specs.declared.style.Style.{Style}
 use Rattle.money_core.specs.declared.mark.Mark.{Mark}
@@ -29,6 +30,13 @@ sample_line s = sample_text s ++ codes "\n"
 -- the report: the commodities, in declared order
 abbrev pub commodities_text : Federation → List ℕ
 commodities_text f = flat_map sample_line f.styles
+
+-- in JSON, a row of one cell for each: its sample
+abbrev pub sample_cells : Style → List (List ℕ)
+sample_cells s = sample_text s ∷ []
+
+abbrev pub commodities_rows : Federation → List (List (List ℕ))
+commodities_rows f = map sample_cells f.styles
 
 -- what stands in each line is a sample of its style
 abbrev pub AreSamples : List Style → Type 0

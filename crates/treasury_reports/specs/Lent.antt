@@ -1,5 +1,5 @@
 -- Mirrors code: lists of loans, and sums in a table.
-use Rattle.std.specs.Prelude.{◌≡◌, ℕ, ◌<◌, ◌≤◌, ℤ, List, [], map, length, slice_index_or, pos, if◌then◌else◌}
+use Rattle.std.specs.Prelude.{◌≡◌, ◌<◌, ◌≤◌, ℤ, List, map, length, slice_index_or, pos}
 use Rattle.money_core.specs.declared.day.Day.{Day}
 use denote.Ref.{Bor}
 use Rattle.money_core.specs.declared.style.Style.{Style}
@@ -12,7 +12,6 @@ use Rattle.treasury_core.specs.declared.transfer.Transfer.{Transfer}
 use Rattle.treasury_core.specs.Fair.{IsFair}
 use Rattle.treasury_reports.specs.declared.listed.Listed.{Listed}
 use Rattle.treasury_reports.specs.RegisterReport.{legs_in}
-use Rattle.treasury_reports.specs.TransfersReport.{is_pending, transfer_line}
 
 -- what is lent
 abbrev pub lent : {X : Type 0} → List (Bor X) → List X
@@ -28,10 +27,6 @@ pub record IsListableTransfer (styles : List Style) (t : Transfer) : Type 0 wher
   pub fair : IsFair t
   pub day : IsDayNumber t.day
   pub amount : IsDeclared styles t.unit t.qty
-
--- the line of a transfer, where something of it is open through the day
-abbrev pub pending_line : List Style → Day → Transfer → List ℕ
-pending_line styles day t = if is_pending day t then transfer_line styles day t else []
 
 -- together they move no more than the limit in any commodity
 abbrev pub HaveRoom : List Listed → Type 0

@@ -10,3 +10,4 @@ pub mod AccountsReport
 pub mod TransfersReport
 -- What mirrors code, for private clauses: nobody has to believe it
 pub mod Lent
+pub mod Layout

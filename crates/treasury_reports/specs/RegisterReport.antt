@@ -4,6 +4,7 @@ use Rattle.std.specs.Prelude.{◌∷◌, ◌++◌, map, length, take, drop, code
 use Rattle.std.specs.List.{list_any, position_or_len}
 use Rattle.std.specs.Str.{bytes_eq}
 use Rattle.money_core.specs.declared.style.Style.{Style}
+use Rattle.money_core.specs.AmountText.{printed_in}
 use Rattle.book_core.specs.declared.leg.Leg.{Leg}
 use Rattle.book_core.specs.Account.{is_inside}
 use Rattle.book_core.specs.Balance.{value}
@@ -99,3 +100,18 @@ register_lines styles before (x ∷ xs) =
 -- the register of an account and its subaccounts in a branch, in order of place
 unfoldable pub register_text : Federation → List ℕ → List ℕ → Option (List ℕ) → List ℕ
 register_text f name account tag = register_lines f.styles [] (by_day (listed_from account tag 1 (records_of f name)))
+
+-- in JSON, the cells of a listed leg: day, entry number, amount, sum so far, account and description
+unfoldable pub register_cells : List Style → Listed → ℤ → List (List ℕ)
+register_cells styles x sum =
+    printed_date x.day ∷ (decimal x.number ∷ (printed_in styles x.leg.unit x.leg.qty
+    ∷ (printed_in styles x.leg.unit sum ∷ (x.leg.account ∷ (x.description ∷ [])))))
+
+-- a row for each line of the report, with the same sums
+abbrev pub rows_behind : List Style → List Listed → List Listed → List (List (List ℕ))
+rows_behind styles before [] = []
+rows_behind styles before (x ∷ xs) =
+    register_cells styles x (value x.leg.unit (legs_in (before ++ x ∷ []))) ∷ rows_behind styles (before ++ x ∷ []) xs
+
+unfoldable pub register_rows : Federation → List ℕ → List ℕ → Option (List ℕ) → List (List (List ℕ))
+register_rows f name account tag = rows_behind f.styles [] (by_day (listed_from account tag 1 (records_of f name)))

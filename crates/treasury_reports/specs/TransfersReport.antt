@@ -1,10 +1,11 @@
 -- The transfers of which something is open (own rule; docs/FORMATS.md, "Transfers report").
-use Rattle.std.specs.Prelude.{◌≡◌, ℕ, Bool, not, List, ◌++◌, codes, filter, pos}
+use Rattle.std.specs.Prelude.{◌≡◌, ℕ, Bool, not, List, ◌++◌, codes, filter, pos, [], ◌∷◌, map}
 use Rattle.std.specs.List.{flat_map}
 use Rattle.std.specs.Ordering.{int_eq}
 use Rattle.money_core.specs.declared.style.Style.{Style}
 use Rattle.money_core.specs.declared.unit.Unit.{Unit as Commodity}
 use Rattle.money_core.specs.declared.day.Day.{Day}
+use Rattle.money_core.specs.AmountText.{printed_in}
 use Rattle.journal_lines.specs.Date.{printed_date}
 use Rattle.treasury_core.specs.declared.transfer.Transfer.{Transfer}
 use Rattle.treasury_core.specs.Federation.{Federation}
@@ -32,6 +33,15 @@ transfer_line styles day t =
 -- the report
 unfoldable pub transfers_text : Federation → Day → List ℕ
 transfers_text f day = flat_map (transfer_line f.styles day) (pending day f.transfers)
+
+-- in JSON, the cells of a transfer: day, amount, open amount, from, to and ID
+unfoldable pub transfer_cells : List Style → Day → Transfer → List (List ℕ)
+transfer_cells styles day t =
+    printed_date t.day ∷ (printed_in styles t.unit t.qty ∷ (printed_in styles t.unit (open_of t day)
+    ∷ (t.source ∷ (t.target ∷ (t.id ∷ [])))))
+
+unfoldable pub transfers_rows : Federation → Day → List (List (List ℕ))
+transfers_rows f day = map (transfer_cells f.styles day) (pending day f.transfers)
 
 -- what is open of those that are listed is, from each branch to each and in each commodity, what the transit report has
 abbrev pub AddUpToTransit : List Transfer → Day → Type 0

@@ -1,9 +1,10 @@
 -- What is on its way between branches (own rule; docs/FORMATS.md, "Transit report").
-use Rattle.std.specs.Prelude.{ℕ, nat_eq, Bool, ◌&&◌, if◌then◌else◌, List, [], ◌++◌, length, codes, int_le}
+use Rattle.std.specs.Prelude.{ℕ, nat_eq, Bool, ◌&&◌, if◌then◌else◌, List, [], ◌∷◌, ◌++◌, length, codes, int_le}
 use Rattle.std.specs.List.{list_any, flat_map}
 use Rattle.std.specs.Str.{bytes_eq}
 use Rattle.money_core.specs.declared.unit.Unit.{Unit as Commodity}
 use Rattle.money_core.specs.declared.day.Day.{Day}
+use Rattle.money_core.specs.AmountText.{printed_in}
 use Rattle.treasury_core.specs.declared.transfer.Transfer.{Transfer}
 use Rattle.treasury_core.specs.Federation.{Federation}
 use Rattle.treasury_core.specs.Transfer.{open_amount}
@@ -48,3 +49,22 @@ lines_from f day from = flat_map (way_lines f day from) (branch_names f)
 -- the report: from each branch to each, in byte order of their names
 unfoldable pub transit_text : Federation → Day → List ℕ
 transit_text f day = flat_map (lines_from f day) (branch_names f)
+
+-- in JSON, the cells of an open amount: the amount, from and to
+abbrev pub open_cells : Federation → Day → List ℕ → List ℕ → Commodity → List (List ℕ)
+open_cells f day from to unit =
+    printed_in f.styles unit (open_amount f.transfers from to unit day) ∷ (from ∷ (to ∷ []))
+
+-- a row for each line of the report
+abbrev pub transit_row : Federation → Day → List ℕ → List ℕ → Commodity → List (List (List ℕ))
+transit_row f day from to unit =
+    if has_way f.transfers from to unit day then open_cells f day from to unit ∷ [] else []
+
+abbrev pub way_rows : Federation → Day → List ℕ → List ℕ → List (List (List ℕ))
+way_rows f day from to = flat_map (transit_row f day from to) (first_units (length f.styles))
+
+abbrev pub rows_from : Federation → Day → List ℕ → List (List (List ℕ))
+rows_from f day from = flat_map (way_rows f day from) (branch_names f)
+
+unfoldable pub transit_rows : Federation → Day → List (List (List ℕ))
+transit_rows f day = flat_map (rows_from f day) (branch_names f)

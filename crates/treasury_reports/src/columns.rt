@@ -1,11 +1,13 @@
 //! Columns of a report.
 
-ghost use Rattle.std.specs.Prelude.{◌≡◌, ◌++◌, decimal, OnOk};
+ghost use Rattle.std.specs.Prelude.{◌≡◌, ◌++◌, decimal, OnOk, IfOk, string_bytes};
 ghost use Rattle.std.specs.Result.{IsOkUnless};
-ghost use Rattle.money_core.specs.AmountText.{IsDeclared};
+ghost use Rattle.money_core.specs.AmountText.{IsDeclared, printed_in};
+ghost use Rattle.journal_lines.specs.Date.{IsDayNumber, printed_date};
 ghost use Rattle.treasury_reports.specs.Columns.{is_continuation, char_count, right_aligned, amount_column};
 
-use money_core::{Cause, Styles, Unit, print_amount};
+use journal_lines::print_date;
+use money_core::{Cause, Day, Styles, Unit, print_amount};
 use std::alloc::{AllocError, Global};
 
 /// How wide an amount stands in a report, in characters.
@@ -63,4 +65,44 @@ pub fn push_amount(
     print_amount(alloc, unit, qty, styles, &mut amount)?;
     push_right_aligned(out, AMOUNT_WIDTH, &amount)?;
     Ok(())
+}
+
+/// A quantity of a commodity, in smallest units, as an amount alone.
+pub(crate) fn amount_cell(
+    alloc: Global,
+    styles: &Styles,
+    unit: Unit,
+    qty: i64,
+) -> Result<Vec<u8>, Cause>
+    requires { IsDeclared styles.now unit qty }
+    ensures ok { IfOk result (λ cell. cell.items ≡ printed_in styles.now unit qty) }
+    ensures memory { IsOkUnless result Cause.OutOfMemory }
+{
+    let mut cell = Vec::new(alloc);
+    match print_amount(alloc, unit, qty, styles, &mut cell) {
+        Ok(()) => Ok(cell),
+        Err(cause) => Err(cause),
+    }
+}
+
+/// A day, as its date alone.
+pub(crate) fn date_cell(alloc: Global, day: Day) -> Result<Vec<u8>, Cause>
+    requires { IsDayNumber day }
+    ensures ok { IfOk result (λ cell. cell.items ≡ printed_date day) }
+    ensures memory { IsOkUnless result Cause.OutOfMemory }
+{
+    let mut cell = Vec::new(alloc);
+    match print_date(alloc, day, &mut cell) {
+        Ok(()) => Ok(cell),
+        Err(cause) => Err(cause),
+    }
+}
+
+/// The number of an entry, or of entries, alone.
+pub(crate) fn number_cell(alloc: Global, number: usize) -> Result<String, Cause>
+    ensures ok { IfOk result (λ cell. string_bytes cell ≡ decimal number) }
+    ensures memory { IsOkUnless result Cause.OutOfMemory }
+{
+    let cell = format!(in alloc; "{number}")?;
+    Ok(cell)
 }

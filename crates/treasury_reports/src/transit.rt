@@ -4,12 +4,16 @@ ghost use Rattle.std.specs.Prelude.{◌≡◌, ◌++◌, ◌<◌, filter, length
 ghost use Rattle.std.specs.Result.{IsOkUnless};
 ghost use Rattle.std.specs.List.{list_any, flat_map};
 ghost use Rattle.std.specs.Str.{bytes_eq};
+ghost use Rattle.json_text.specs.JsonText.{rows_text};
 ghost use Rattle.treasury_core.specs.Federation.{Federation};
-ghost use Rattle.treasury_reports.specs.TransitReport.{is_from, is_way, open_line, transit_line, way_lines, lines_from};
-ghost use Rattle.treasury_reports.specs.TransitReport.{branch_names, transit_text};
+ghost use Rattle.treasury_reports.specs.TransitReport.{is_from, is_way, open_line, branch_names, transit_text};
+ghost use Rattle.treasury_reports.specs.TransitReport.{open_cells, transit_rows};
+ghost use Rattle.treasury_reports.specs.Layout.{comma_row, open_piece, transit_piece, way_pieces, pieces_from};
+ghost use Rattle.treasury_reports.specs.Layout.{transit_pieces};
 ghost use Rattle.treasury_reports.specs.Lent.{lent};
 
-use crate::columns::push_amount;
+use crate::columns::{amount_cell, push_amount};
+use crate::layout::{Layout, push_cells, push_rows};
 use crate::names::names_in_order;
 use book_core::Ledger;
 use money_core::{Cause, Day, Text, Unit};
@@ -69,7 +73,7 @@ fn has_unit(sent: &[&Transfer], unit: Unit) -> bool
 }
 
 /// Appends the line of what is open between two branches in a commodity.
-fn push_open<L: Ledger>(
+fn push_open_line<L: Ledger>(
     alloc: Global,
     state: &State<L>,
     day: Day,
@@ -93,7 +97,50 @@ fn push_open<L: Ledger>(
     Ok(())
 }
 
-/// Appends that line, where a transfer was sent so in the commodity.
+/// Appends the row of what is open between two branches in a commodity.
+fn push_open_row<L: Ledger>(
+    alloc: Global,
+    state: &State<L>,
+    day: Day,
+    from: &str,
+    to: &str,
+    unit: Unit,
+    rows: &mut Vec<u8>,
+) -> Result<(), Cause>
+    requires { unit.0 < length state.now.styles }
+    ensures ok { OnOk result (rows.new.items
+        ≡ rows.old.items ++ comma_row (open_cells state.now day from.now to.now unit)) }
+    ensures memory { IsOkUnless result Cause.OutOfMemory }
+{
+    state.is_good();
+    let qty = open_amount(state, from, to, unit, day);
+    let amount = amount_cell(alloc, state.styles(), unit, qty)?;
+    push_cells(&[&amount, from.as_bytes(), to.as_bytes()], rows)
+}
+
+/// Appends the line of what is open between two branches in a commodity, or its row.
+fn push_open<L: Ledger>(
+    alloc: Global,
+    state: &State<L>,
+    day: Day,
+    from: &str,
+    to: &str,
+    unit: Unit,
+    layout: Layout,
+    text: &mut Vec<u8>,
+) -> Result<(), Cause>
+    requires { unit.0 < length state.now.styles }
+    ensures ok { OnOk result (text.new.items
+        ≡ text.old.items ++ open_piece layout state.now day from.now to.now unit) }
+    ensures memory { IsOkUnless result Cause.OutOfMemory }
+{
+    match layout {
+        Layout::Text => push_open_line(alloc, state, day, from, to, unit, text),
+        Layout::Json => push_open_row(alloc, state, day, from, to, unit, text),
+    }
+}
+
+/// Appends that line or row, where a transfer was sent so in the commodity.
 fn push_unit<L: Ledger>(
     alloc: Global,
     state: &State<L>,
@@ -102,21 +149,23 @@ fn push_unit<L: Ledger>(
     to: &str,
     sent: &[&Transfer],
     unit: Unit,
+    layout: Layout,
     text: &mut Vec<u8>,
 ) -> Result<(), Cause>
     requires known { unit.0 < length state.now.styles }
     requires sent { lent sent.now ≡ filter (is_way from.now to.now day) state.now.transfers }
-    ensures ok { OnOk result (text.new.items ≡ text.old.items ++ transit_line state.now day from.now to.now unit) }
+    ensures ok { OnOk result (text.new.items
+        ≡ text.old.items ++ transit_piece layout state.now day from.now to.now unit) }
     ensures memory { IsOkUnless result Cause.OutOfMemory }
 {
     if has_unit(sent, unit) {
-        push_open(alloc, state, day, from, to, unit, text)
+        push_open(alloc, state, day, from, to, unit, layout, text)
     } else {
         Ok(())
     }
 }
 
-/// Appends the lines from one branch to another, given the transfers that were sent so.
+/// Appends the lines or rows from one branch to another, given the transfers that were sent so.
 fn push_way<L: Ledger>(
     alloc: Global,
     state: &State<L>,
@@ -124,17 +173,28 @@ fn push_way<L: Ledger>(
     from: &str,
     to: &str,
     sent: &[&Transfer],
+    layout: Layout,
     text: &mut Vec<u8>,
 ) -> Result<(), Cause>
     requires { lent sent.now ≡ filter (is_way from.now to.now day) state.now.transfers }
-    ensures ok { OnOk result (text.new.items ≡ text.old.items ++ way_lines state.now day from.now to.now) }
+    ensures ok { OnOk result (text.new.items ≡ text.old.items ++ way_pieces layout state.now day from.now to.now) }
     ensures memory { IsOkUnless result Cause.OutOfMemory }
 {
     let styles = state.styles();
     styles.are_styles();
     let mut number = 0;
     'units: while styles.style(Unit(number)).is_some() {
-        match push_unit(alloc, state, day, from, to, sent, Unit(number), text) {
+        match push_unit(
+            alloc,
+            state,
+            day,
+            from,
+            to,
+            sent,
+            Unit(number),
+            layout,
+            text,
+        ) {
             Ok(()) => number += 1,
             Err(cause) => return Err(cause),
         }
@@ -142,36 +202,42 @@ fn push_way<L: Ledger>(
     Ok(())
 }
 
-/// Appends the lines from one branch to each of the branches.
+/// Appends the lines or rows from one branch to each of the branches.
 fn push_from<L: Ledger>(
     alloc: Global,
     state: &State<L>,
     day: Day,
     names: &[Text],
     from: &str,
+    layout: Layout,
     text: &mut Vec<u8>,
 ) -> Result<(), Cause>
     requires { names.now ≡ branch_names state.now }
-    ensures ok { OnOk result (text.new.items ≡ text.old.items ++ lines_from state.now day from.now) }
+    ensures ok { OnOk result (text.new.items ≡ text.old.items ++ pieces_from layout state.now day from.now) }
     ensures memory { IsOkUnless result Cause.OutOfMemory }
 {
     let sent = sent_from(alloc, state.transfers(), from, day)?;
     'targets: for to in names {
         let part = sent_to(alloc, &sent, to.as_str())?;
-        push_way(alloc, state, day, from, to.as_str(), &part, text)?;
+        push_way(alloc, state, day, from, to.as_str(), &part, layout, text)?;
     }
     Ok(())
 }
 
-/// The lines from each branch to each.
-fn text_of<L: Ledger>(alloc: Global, state: &State<L>, day: Day) -> Result<Vec<u8>, Cause>
-    ensures ok { IfOk result (λ text. text.items ≡ transit_text state.now day) }
+/// The lines or rows from each branch to each.
+fn text_of<L: Ledger>(
+    alloc: Global,
+    state: &State<L>,
+    day: Day,
+    layout: Layout,
+) -> Result<Vec<u8>, Cause>
+    ensures ok { IfOk result (λ text. text.items ≡ transit_pieces layout state.now day) }
     ensures memory { IsOkUnless result Cause.OutOfMemory }
 {
     let names = names_in_order(alloc, state.branches())?;
     let mut text = Vec::new(alloc);
     'sources: for from in &names {
-        push_from(alloc, state, day, &names, from.as_str(), &mut text)?;
+        push_from(alloc, state, day, &names, from.as_str(), layout, &mut text)?;
     }
     Ok(text)
 }
@@ -191,12 +257,32 @@ pub fn transit_report<L: Ledger>(
     ensures err { OnErr result (out.new.items ≡ out.old.items) }
     ensures memory { IsOkUnless result Cause.OutOfMemory }
 {
-    let text = match text_of(alloc, state, day) {
+    let text = match text_of(alloc, state, day, Layout::Text) {
         Ok(text) => text,
         Err(cause) => return Err(cause),
     };
     match out.extend_from_slice(&text) {
         Ok(()) => Ok(()),
         Err(error) => Err(Cause::from(error)),
+    }
+}
+
+/// Appends it in JSON: an array of rows, each an array of three cells, the open amount, the branch that it comes from
+/// and the one that it goes to.
+///
+/// Where memory is refused, it answers 40, and the vector is as it was.
+pub fn transit_json<L: Ledger>(
+    alloc: Global,
+    state: &State<L>,
+    day: Day,
+    out: &mut Vec<u8>,
+) -> Result<(), Cause>
+    ensures ok { OnOk result (out.new.items ≡ out.old.items ++ rows_text (transit_rows state.now day)) }
+    ensures err { OnErr result (out.new.items ≡ out.old.items) }
+    ensures memory { IsOkUnless result Cause.OutOfMemory }
+{
+    match text_of(alloc, state, day, Layout::Json) {
+        Ok(rows) => push_rows(&rows, out),
+        Err(cause) => Err(cause),
     }
 }

@@ -25,8 +25,8 @@ add_to-sum-requires-clause-small c =
     subst (λ (z : ℤ). unsigned_abs z ≤ limit) (sym is)
     (within_abs _ (sum_within all i x c.requires.room c.lines-test.true c.one-item.is))
 
-pub push_line-requires-clause-sum : goal.push_line-requires-clause-sum
-push_line-requires-clause-sum c =
+pub push_listed-requires-clause-sum : goal.push_listed-requires-clause-sum
+push_listed-requires-clause-sum c =
     let x = c.one-item.result in
     let all = c.args.all.now in
     let i = c.lines.one-index in
@@ -58,6 +58,7 @@ lines-preserved c =
       sums = subst (AreSums styles c.add_to-sum.new.sums.items) (sym (took all i x c.lines-test.true c.one-item.is))
           (sums_next styles c.lines.sums.items c.add_to-sum.new.sums.items (take i all) x _ c.add_to-sum.ensures.sums
           c.lines.invariant.wide one.amount.known is c.lines.invariant.sums);
-      text = lines_next styles all i x _ c.lines.text.items c.push_line.new.out.items c.lines-test.true c.one-item.is
-          sum c.in_ok-push_line.ensures.ok c.lines.invariant.text;
+      text = lines_next c.args.layout styles all i x _ c.lines.text.items c.push_listed.new.out.items c.lines-test.true
+          c.one-item.is
+          sum c.in_ok-push_listed.ensures.ok c.lines.invariant.text;
     }

@@ -1,7 +1,10 @@
 use Rattle.std.proofs.Common.{◌≡◌, ◌++◌, ◌∙◌, [], List, ℕ, ap, option_copied}
 use Rattle.money_core.specs.declared.style.Style.{Style}
 use Rattle.treasury_core.specs.declared.record.Record.{Record}
-use Rattle.treasury_reports.specs.RegisterReport.{register_text, register_lines, by_day, listed_from}
+use Rattle.treasury_reports.specs.declared.layout.Layout.TheVariants.{Text}
+use Rattle.treasury_reports.specs.RegisterReport.{register_text, by_day, listed_from}
+use Rattle.treasury_reports.specs.Layout.{register_pieces}
+use Rattle.treasury_reports.proofs.RowLemmas.{register_text_pieces}
 use Rattle.treasury_reports.proofs.RegisterLemmas.{good_records, room_of}
 use Rattle.treasury_reports.proofs.register.register_report.Goals as goal
 
@@ -17,8 +20,9 @@ unfolding register_text
 returns-in-Ok-extend_from_slice-clause-ok g c =
     let text = c.deref.ensures.value ∙ c.in-Ok.ensures.ok ∙ ap
     (λ (styles : List Style).
-    register_lines styles []
+    register_pieces Text styles []
     (by_day (listed_from c.args.account.now (option_copied c.args.tag) 1 c.in-Some.records.now))) c.styles.ensures
-    ∙ ap (λ (rs : List Record). register_lines c.args.state.now.styles []
-    (by_day (listed_from c.args.account.now (option_copied c.args.tag) 1 rs))) c.in-Some.ensures.1 in
+    ∙ ap (λ (rs : List Record). register_pieces Text c.args.state.now.styles []
+    (by_day (listed_from c.args.account.now (option_copied c.args.tag) 1 rs))) c.in-Some.ensures.1
+    ∙ register_text_pieces c.args.state.now.styles [] _ in
     c.in-Ok-extend_from_slice.ensures.items ∙ ap (λ (t : List ℕ). c.args.out.now.items ++ t) text

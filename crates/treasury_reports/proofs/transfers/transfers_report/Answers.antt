@@ -3,7 +3,8 @@ use Rattle.std.specs.List.{flat_map}
 use Rattle.money_core.specs.declared.style.Style.{Style}
 use Rattle.treasury_core.specs.declared.transfer.Transfer.{Transfer}
 use Rattle.treasury_reports.specs.TransfersReport.{is_pending, transfer_line, transfers_text}
-use Rattle.treasury_reports.specs.Lent.{pending_line}
+use Rattle.treasury_reports.specs.declared.layout.Layout.TheVariants.{Text}
+use Rattle.treasury_reports.specs.Layout.{pending_piece}
 use Rattle.treasury_reports.proofs.ListLemmas.{flat_map-filter, transfers_listable}
 use Rattle.treasury_reports.proofs.transfers.transfers_report.Goals as goal
 
@@ -16,7 +17,8 @@ unfolding transfers_text
 returns-in-Ok-extend_from_slice-clause-ok g c =
     let f = c.args.state.now in
     let text = c.deref.ensures.value ∙ c.in-Ok.ensures.ok ∙ ap
-    (λ (styles : List Style). flat_map (pending_line styles c.args.day) c.transfers.result.now) c.styles.ensures ∙ ap
-    (λ (ts : List Transfer). flat_map (pending_line f.styles c.args.day) ts) c.transfers.ensures ∙ flat_map-filter
+    (λ (styles : List Style). flat_map (pending_piece Text styles c.args.day) c.transfers.result.now) c.styles.ensures
+    ∙ ap
+    (λ (ts : List Transfer). flat_map (pending_piece Text f.styles c.args.day) ts) c.transfers.ensures ∙ flat_map-filter
     (is_pending c.args.day) (transfer_line f.styles c.args.day) f.transfers in
     c.in-Ok-extend_from_slice.ensures.items ∙ ap (λ (t : List ℕ). c.args.out.now.items ++ t) text

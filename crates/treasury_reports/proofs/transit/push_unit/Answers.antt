@@ -2,7 +2,8 @@ use Rattle.std.proofs.Common.{◌≡◌, ◌++◌, ◌∙◌, List, ℕ, [], Boo
 use Rattle.std.specs.Prelude.{if◌then◌else◌}
 use Rattle.std.specs.List.{list_any}
 use Rattle.treasury_core.specs.declared.transfer.Transfer.{Transfer}
-use Rattle.treasury_reports.specs.TransitReport.{is_way, open_line}
+use Rattle.treasury_reports.specs.TransitReport.{is_way}
+use Rattle.treasury_reports.specs.Layout.{open_piece}
 use Rattle.treasury_reports.proofs.FilterLemmas.{any-filter}
 use Rattle.treasury_reports.proofs.transit.push_unit.Goals as goal
 
@@ -16,7 +17,7 @@ returns-then-has_unit-clause-ok g c =
     subst (λ (b : Bool). OnOk c.push_open.result
     (c.push_open.new.text.items
     ≡ c.args.text.now.items
-    ++ (if b then open_line f c.args.day c.args.from.now c.args.to.now c.args.unit else []))) (sym there)
+    ++ (if b then open_piece c.args.layout f c.args.day c.args.from.now c.args.to.now c.args.unit else []))) (sym there)
     c.push_open.ensures.ok
 
 pub returns-else-has_unit-clause-ok : goal.returns-else-has_unit-clause-ok
@@ -27,5 +28,6 @@ returns-else-has_unit-clause-ok g c =
     (list_any (λ (t : Transfer). nat_eq t.unit.0 c.args.unit.0)) (sym c.requires.sent) ∙ sym c.has_unit.ensures ∙
     c.if-has_unit.false in
     sym (ap (λ (b : Bool). c.args.text.now.items
-    ++ (if b then open_line f c.args.day c.args.from.now c.args.to.now c.args.unit else [])) there ∙ append-nil
+    ++ (if b then open_piece c.args.layout f c.args.day c.args.from.now c.args.to.now c.args.unit else [])) there
+    ∙ append-nil
     c.args.text.now.items)

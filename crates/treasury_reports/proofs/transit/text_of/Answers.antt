@@ -4,15 +4,16 @@ use Rattle.std.proofs.lemmas.List.{take_all}
 use Rattle.treasury_core.specs.Federation.{Branch}
 use Rattle.treasury_core.specs.History.{names_of}
 use Rattle.treasury_reports.specs.BalanceReport.{ordered_names}
-use Rattle.treasury_reports.specs.TransitReport.{lines_from, branch_names, transit_text}
+use Rattle.treasury_reports.specs.TransitReport.{branch_names}
+use Rattle.treasury_reports.specs.Layout.{pieces_from}
 use Rattle.treasury_reports.proofs.transit.text_of.Goals as goal
 
 pub returns-clause-ok : goal.returns-clause-ok
-unfolding transit_text
 returns-clause-ok g c =
     let f = c.args.state.now in
     let named : c.in_ok-names.names.items ≡ branch_names f =
     c.in_ok-names.ensures.value ∙ ap (λ (bs : List Branch). ordered_names (names_of bs)) c.branches.ensures.value in
     let many = ap (λ (xs : List (List ℕ)). length xs) named in
     let past : length (branch_names f) ≤ c.sources.from-index = omega (arith, many) in
-    c.sources.invariant ∙ ap (flat_map (lines_from f c.args.day)) (take_all c.sources.from-index (branch_names f) past)
+    c.sources.invariant ∙ ap (flat_map (pieces_from c.args.layout f c.args.day))
+    (take_all c.sources.from-index (branch_names f) past)

@@ -5,7 +5,7 @@ use Rattle.treasury_core.specs.Transfer.{open_amount}
 use Rattle.treasury_reports.specs.Columns.{amount_column}
 use Rattle.treasury_reports.proofs.AppendLemmas.{then}
 use Rattle.treasury_reports.proofs.OpenLemmas.{open_is_declared}
-use Rattle.treasury_reports.proofs.transit.push_open.Goals as goal
+use Rattle.treasury_reports.proofs.transit.push_open_line.Goals as goal
 
 pub push_amount-requires : goal.push_amount-requires
 push_amount-requires g c =

@@ -4,7 +4,7 @@ use Rattle.treasury_core.specs.declared.record.Record.{Record}
 use Rattle.treasury_reports.specs.Columns.{right_aligned}
 use Rattle.treasury_reports.specs.BranchesReport.{lock_column, branch_line}
 use Rattle.treasury_reports.proofs.AppendLemmas.{then}
-use Rattle.treasury_reports.proofs.branches.push_branch.Goals as goal
+use Rattle.treasury_reports.proofs.branches.push_branch_line.Goals as goal
 
 pub returns-clause-ok : goal.returns-clause-ok
 unfolding branch_line

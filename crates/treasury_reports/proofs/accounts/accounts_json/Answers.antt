@@ -1,0 +1,22 @@
+use Rattle.std.proofs.Common.{◌≡◌, ◌∙◌, List, ap}
+use Rattle.std.specs.List.{flat_map}
+use Rattle.book_core.specs.declared.entry.Entry.{Entry}
+use Rattle.treasury_core.specs.Federation.{book_of}
+use Rattle.treasury_reports.specs.declared.layout.Layout.TheVariants.{Json}
+use Rattle.treasury_reports.specs.BalanceReport.{book_accounts}
+use Rattle.treasury_reports.specs.AccountsReport.{account_cells, accounts_rows}
+use Rattle.treasury_reports.specs.Layout.{account_piece}
+use Rattle.treasury_reports.proofs.AccountOrder.{accounts_are_one}
+use Rattle.treasury_reports.proofs.RowLemmas.{appended_rows, mapped_rows}
+use Rattle.treasury_reports.proofs.accounts.accounts_json.Goals as goal
+
+pub returns-in-Ok-clause-ok : goal.returns-in-Ok-clause-ok
+returns-in-Ok-clause-ok g c =
+    let f = c.args.state.now in
+    let name = c.args.branch.now in
+    let names = accounts_are_one (g.L.Ledger.book c.in-Some.ledger.now) c.accounts.result.now c.accounts.ensures in
+    let listed = names ∙ ap (λ (es : List Entry). book_accounts es) c.in-Some.ensures.found.1 in
+    appended_rows c.push_rows.result _ _ _ (accounts_rows f name)
+    (c.deref.ensures.value ∙ c.in-Ok.ensures.ok ∙ ap (flat_map (account_piece Json)) listed
+    ∙ mapped_rows account_cells (book_accounts (book_of f name)))
+    c.push_rows.ensures.ok

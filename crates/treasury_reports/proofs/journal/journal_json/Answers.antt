@@ -1,0 +1,32 @@
+use Rattle.std.proofs.Common.{◌≡◌, ◌∙◌, List, ap}
+use Rattle.std.specs.List.{flat_map}
+use Rattle.money_core.specs.declared.style.Style.{Style}
+use Rattle.journal_format.specs.declared.txn.Txn.{Txn}
+use Rattle.treasury_core.specs.declared.record.Record.{Record}
+use Rattle.treasury_core.specs.Federation.{records_of}
+use Rattle.treasury_core.specs.History.{txns_in}
+use Rattle.treasury_reports.specs.JournalReport.{txn_cells, journal_rows}
+use Rattle.treasury_reports.specs.Layout.{comma_row}
+use Rattle.treasury_reports.proofs.ListLemmas.{flat_map-map}
+use Rattle.treasury_reports.proofs.RegisterLemmas.{good_records}
+use Rattle.treasury_reports.proofs.RowLemmas.{appended_rows, mapped_rows}
+use Rattle.treasury_reports.proofs.journal.journal_json.Goals as goal
+
+pub rows_of-requires : goal.rows_of-requires
+rows_of-requires g c =
+    rw (c.styles.ensures, c.in-Some.ensures.1) (good_records c.args.state.now c.args.branch.now c.is_good.ensures)
+
+pub returns-in-Ok-clause-ok : goal.returns-in-Ok-clause-ok
+unfolding journal_rows
+returns-in-Ok-clause-ok g c =
+    let f = c.args.state.now in
+    let name = c.args.branch.now in
+    let written = λ (styles : List Style) (rs : List Record).
+    flat_map (λ (r : Record). comma_row (txn_cells styles r.txn)) rs in
+    appended_rows c.push_rows.result _ _ _ (journal_rows f name)
+    (c.deref.ensures.value ∙ c.in-Ok.ensures.ok
+    ∙ ap (λ (styles : List Style). written styles c.in-Some.records.now) c.styles.ensures
+    ∙ ap (λ (rs : List Record). written f.styles rs) c.in-Some.ensures.1
+    ∙ flat_map-map (λ (r : Record). r.txn) (λ (t : Txn). comma_row (txn_cells f.styles t)) (records_of f name)
+    ∙ mapped_rows (txn_cells f.styles) (txns_in (records_of f name)))
+    c.push_rows.ensures.ok
