@@ -4,4 +4,6 @@ pub mod RouteLemmas
 pub mod LengthLemmas
 pub mod QueryLemmas
 pub mod ReadLemmas
+pub mod AcceptLemmas
 pub mod WorkedRequests
+pub mod WorkedAccept

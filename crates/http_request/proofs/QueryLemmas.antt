@@ -42,7 +42,7 @@ no_text written bytes same none = by_escape (is_escaped written)
 -- ---- pieces
 
 -- where a byte does not stand
-lacks_byte : (c : ℕ) (text : List ℕ) → position_or_len (λ b. b == c) text ≡ length text
+pub lacks_byte : (c : ℕ) (text : List ℕ) → position_or_len (λ b. b == c) text ≡ length text
     → All (λ x. (x == c) ≡ false) text
 lacks_byte c text end =
     All-from_get_or (λ x. (x == c) ≡ false) text 0

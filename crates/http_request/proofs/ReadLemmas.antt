@@ -10,7 +10,7 @@ use Rattle.std.proofs.KnownBytes.{Consumes-trans}
 use Rattle.std.specs.Io.KnownBytes.{Consumes}
 use Rattle.http_header.specs.Token.{IsToken, is_token_byte}
 use Rattle.httparse.specs.Grammar.{RequestHead, print_request}
-use Rattle.httparse.specs.Spans.{header_bytes, span_bytes}
+use Rattle.httparse.specs.Spans.{header_bytes, span_bytes, name_and_value}
 use Rattle.httparse.specs.declared.spans.HeaderSpan.{HeaderSpan}
 use Rattle.httparse.specs.declared.spans.RequestSpans.{RequestSpans}
 use Rattle.httparse.proofs.GrammarLemmas.{ReadsRequest-append}
@@ -24,7 +24,10 @@ use Rattle.http_request.specs.declared.query.Wish.{Wish}
 use Rattle.http_request.specs.declared.routes.Route.{Route}
 use Rattle.http_request.specs.Length.{body_length}
 use Rattle.http_request.specs.Foreign.{is_foreign}
-use Rattle.http_request.specs.Call.{Reads, IsStopped, is_foreign_head, length_of, wish_at, Leads, most_read}
+use Rattle.http_request.specs.Accept.{form_of}
+use Rattle.http_request.specs.declared.call.Form.{Form}
+use Rattle.http_request.specs.declared.call.Form.TheVariants as form
+use Rattle.http_request.specs.Call.{Reads, IsStopped, is_foreign_head, length_of, wish_at, Leads, AsksIn, most_read}
 use Rattle.http_request.specs.Calling.{shown, register_by, wanted_at, Wants, CallsBy, LacksBytes}
 use Rattle.http_request.specs.declared.reading.Wanted.{Wanted}
 use Rattle.http_request.specs.declared.reading.Wanted.TheVariants as wanted
@@ -103,22 +106,35 @@ stopped_early r0 r1 text ends =
       cut = inl (ends.none, ends.may);
     }
 
-pub read_bad : (r0 r1 : Option (List ℕ)) (text : List ℕ) → IsBad r0 r1 text → Reads r0 r1 Unreadable
+-- what was read calls for this, in a form
+abbrev pub ReadsAs : Option (List ℕ) → Option (List ℕ) → Form → Call → Type 0
+ReadsAs r0 r1 asked call = Reads r0 r1 (record { call = call; form = asked })
+
+pub read_bad : (r0 r1 : Option (List ℕ)) (text : List ℕ) → IsBad r0 r1 text → ReadsAs r0 r1 form.Text Unreadable
 read_bad r0 r1 text bad =
     record {
       seen = text;
       read = bad.read;
       bounded = (let b = bad.bounded in omega arith);
       calls = inl bad.never;
+      asks = inr (bad.never, refl);
       stops = bad.stops;
     }
 
 module _ (r0 r1 : Option (List ℕ)) (text : List ℕ) (headers : List HeaderSpan) (spans : RequestSpans)
-    (h : HasHead r0 r1 text headers spans) where
+    (h : HasHead r0 r1 text headers spans) (asked : Form)
+    (is_asked : asked ≡ form_of (map (header_bytes text) (take spans.headers headers))) where
   there : (P : List ℕ → List ℕ → Type 0) → P (span_bytes text spans.method) (path_of (span_bytes text spans.path))
       → P h.head.method (path_of h.head.target)
   there P leads = subst (λ (t : List ℕ). P h.head.method (path_of t)) h.at.path
       (subst (λ (m : List ℕ). P m (path_of (span_bytes text spans.path))) h.at.method leads)
+
+  -- the form that it asks for
+  asks_of : asked ≡ form_of (map name_and_value h.head.fields)
+  asks_of = is_asked ∙ ap form_of h.at.fields
+
+  asks_here : AsksIn text asked
+  asks_here = inl (h.head, h.rest, h.is_head, asks_of)
 
   -- whether it is foreign
   foreign_is : (b : Bool) → is_foreign (map (header_bytes text) (take spans.headers headers)) ≡ b
@@ -126,26 +142,29 @@ module _ (r0 r1 : Option (List ℕ)) (text : List ℕ) (headers : List HeaderSpa
   foreign_is b e = sym (ap is_foreign h.at.fields) ∙ e
 
   -- a head that is
-  pub foreign_calls : is_foreign (map (header_bytes text) (take spans.headers headers)) ≡ true → Reads r0 r1 Foreign
+  pub foreign_calls : is_foreign (map (header_bytes text) (take spans.headers headers)) ≡ true
+      → ReadsAs r0 r1 asked Foreign
   foreign_calls is =
       record {
         seen = text;
         read = h.read;
         bounded = (let b = h.bounded in omega arith);
         calls = (h.head, h.rest, h.is_head, foreign_is true is);
+        asks = asks_here;
         stops = h.stops;
       }
 
   -- another, that leads to no route, or to that of a report
   pub head_calls : is_foreign (map (header_bytes text) (take spans.headers headers)) ≡ false → (call : Call)
       → Wants (span_bytes text spans.method) (span_bytes text spans.path) (wanted.Whole call)
-      → Reads r0 r1 call
-  head_calls own call (inl (is, none)) = subst (Reads r0 r1) (let same : Nowhere ≡ call = cc in same)
+      → ReadsAs r0 r1 asked call
+  head_calls own call (inl (is, none)) = subst (ReadsAs r0 r1 asked) (let same : Nowhere ≡ call = cc in same)
       (record {
         seen = text;
         read = h.read;
         bounded = (let b = h.bounded in omega arith);
         calls = (h.head, h.rest, h.is_head, foreign_is false own, there HasNoRoute none);
+        asks = asks_here;
         stops = h.stops;
       })
   head_calls own call (inr (route, leads, is)) = by_route route leads is
@@ -159,86 +178,96 @@ module _ (r0 r1 : Option (List ℕ)) (text : List ℕ) (headers : List HeaderSpa
       }
 
       by_route : (route : Routed) → LeadsTo (span_bytes text spans.method) (path_of (span_bytes text spans.path)) route
-          → wanted.Whole call ≡ wanted_at (query_of (span_bytes text spans.path)) route → Reads r0 r1 call
+          → wanted.Whole call ≡ wanted_at (query_of (span_bytes text spans.path)) route → ReadsAs r0 r1 asked call
       by_route (commands named) leads is = absurd cc
-      by_route (balance branch date) leads is = subst (Reads r0 r1) (let same : Balance branch date ≡ call = cc in same)
+      by_route (balance branch date) leads is = subst (ReadsAs r0 r1 asked)
+          (let same : Balance branch date ≡ call = cc in same)
           (record {
             seen = text;
             read = h.read;
             bounded = (let b = h.bounded in omega arith);
             calls = (h.head, h.rest, leading (balance branch date) leads);
+            asks = asks_here;
             stops = h.stops;
           })
-      by_route (journal branch) leads is = subst (Reads r0 r1) (let same : Journal branch ≡ call = cc in same)
+      by_route (journal branch) leads is = subst (ReadsAs r0 r1 asked) (let same : Journal branch ≡ call = cc in same)
           (record {
             seen = text;
             read = h.read;
             bounded = (let b = h.bounded in omega arith);
             calls = (h.head, h.rest, leading (journal branch) leads);
+            asks = asks_here;
             stops = h.stops;
           })
       by_route (register branch) leads is = by_wish (wish_of (query_of (span_bytes text spans.path))) refl is
         where
-          asked : wish_of (query_of (span_bytes text spans.path)) ≡ wish_at h.head
-          asked = ap (λ (t : List ℕ). wish_of (query_of t)) h.at.path
+          wished : wish_of (query_of (span_bytes text spans.path)) ≡ wish_at h.head
+          wished = ap (λ (t : List ℕ). wish_of (query_of t)) h.at.path
 
           by_wish : (wish : Option Wish) → wish_of (query_of (span_bytes text spans.path)) ≡ wish
-              → wanted.Whole call ≡ wanted.Whole (register_by branch wish) → Reads r0 r1 call
-          by_wish None none is = subst (Reads r0 r1) (let same : Unreadable ≡ call = cc in same)
+              → wanted.Whole call ≡ wanted.Whole (register_by branch wish) → ReadsAs r0 r1 asked call
+          by_wish None none is = subst (ReadsAs r0 r1 asked) (let same : Unreadable ≡ call = cc in same)
               (record {
                 seen = text;
                 read = h.read;
                 bounded = (let b = h.bounded in omega arith);
-                calls = inr (inr (h.head, h.rest, branch, leading (register branch) leads, sym asked ∙ none));
+                calls = inr (inr (h.head, h.rest, branch, leading (register branch) leads, sym wished ∙ none));
+                asks = asks_here;
                 stops = h.stops;
               })
           by_wish (Some wish) said is =
-              subst (Reads r0 r1) (let same : Register branch wish.account wish.tag ≡ call = cc in same)
+              subst (ReadsAs r0 r1 asked) (let same : Register branch wish.account wish.tag ≡ call = cc in same)
               (record {
                 seen = text;
                 read = h.read;
                 bounded = (let b = h.bounded in omega arith);
-                calls = (h.head, h.rest, leading (register branch) leads, sym asked ∙ said);
+                calls = (h.head, h.rest, leading (register branch) leads, sym wished ∙ said);
+                asks = asks_here;
                 stops = h.stops;
               })
-      by_route (transit date) leads is = subst (Reads r0 r1) (let same : Transit date ≡ call = cc in same)
+      by_route (transit date) leads is = subst (ReadsAs r0 r1 asked) (let same : Transit date ≡ call = cc in same)
           (record {
             seen = text;
             read = h.read;
             bounded = (let b = h.bounded in omega arith);
             calls = (h.head, h.rest, leading (transit date) leads);
+            asks = asks_here;
             stops = h.stops;
           })
-      by_route branches leads is = subst (Reads r0 r1) (let same : Branches ≡ call = cc in same)
+      by_route branches leads is = subst (ReadsAs r0 r1 asked) (let same : Branches ≡ call = cc in same)
           (record {
             seen = text;
             read = h.read;
             bounded = (let b = h.bounded in omega arith);
             calls = (h.head, h.rest, leading branches leads);
+            asks = asks_here;
             stops = h.stops;
           })
-      by_route commodities leads is = subst (Reads r0 r1) (let same : Commodities ≡ call = cc in same)
+      by_route commodities leads is = subst (ReadsAs r0 r1 asked) (let same : Commodities ≡ call = cc in same)
           (record {
             seen = text;
             read = h.read;
             bounded = (let b = h.bounded in omega arith);
             calls = (h.head, h.rest, leading commodities leads);
+            asks = asks_here;
             stops = h.stops;
           })
-      by_route (accounts branch) leads is = subst (Reads r0 r1) (let same : Accounts branch ≡ call = cc in same)
+      by_route (accounts branch) leads is = subst (ReadsAs r0 r1 asked) (let same : Accounts branch ≡ call = cc in same)
           (record {
             seen = text;
             read = h.read;
             bounded = (let b = h.bounded in omega arith);
             calls = (h.head, h.rest, leading (accounts branch) leads);
+            asks = asks_here;
             stops = h.stops;
           })
-      by_route (transfers date) leads is = subst (Reads r0 r1) (let same : Transfers date ≡ call = cc in same)
+      by_route (transfers date) leads is = subst (ReadsAs r0 r1 asked) (let same : Transfers date ≡ call = cc in same)
           (record {
             seen = text;
             read = h.read;
             bounded = (let b = h.bounded in omega arith);
             calls = (h.head, h.rest, leading (transfers date) leads);
+            asks = asks_here;
             stops = h.stops;
           })
 
@@ -275,8 +304,8 @@ module _ (r0 r1 : Option (List ℕ)) (text : List ℕ) (headers : List HeaderSpa
 
     pub command_calls : (o : Option ℕ) (call : Call)
         → body_length (map (header_bytes text) (take spans.headers headers)) ≡ o
-        → CallsBy branch o r1 r2 (drop spans.len text) call → Reads r0 r2 call
-    command_calls None call size (kept, is) = subst (Reads r0 r2) (sym is) (record {
+        → CallsBy branch o r1 r2 (drop spans.len text) call → ReadsAs r0 r2 asked call
+    command_calls None call size (kept, is) = subst (ReadsAs r0 r2 asked) (sym is) (record {
       seen = text;
       read = subst (λ (r : Option (List ℕ)). Consumes r0 r text) (sym kept) h.read;
       bounded = (let b = h.bounded in omega arith);
@@ -287,9 +316,10 @@ module _ (r0 r1 : Option (List ℕ)) (text : List ℕ) (headers : List HeaderSpa
         record { is_head = h.is_head; own = foreign_is false own; leads = leads_there },
         size_is None size,
       ));
+      asks = asks_here;
       stops = h.stops;
     })
-    command_calls (Some n) call size (body, has, is) = subst (Reads r0 r2) (sym is) (record {
+    command_calls (Some n) call size (body, has, is) = subst (ReadsAs r0 r2 asked) (sym is) (record {
       seen = text ++ has.more;
       read = Consumes-trans r0 r1 r2 text has.more h.read has.read;
       bounded = (
@@ -309,6 +339,7 @@ module _ (r0 r1 : Option (List ℕ)) (text : List ℕ) (headers : List HeaderSpa
         subst (λ (t : List ℕ). n ≤ length (t ++ has.more)) rest_is has.long,
         has.is ∙ ap (λ (t : List ℕ). take n (t ++ has.more)) rest_is,
       );
+      asks = inl (h.head, h.rest ++ has.more, (still has.more).is_head, asks_of);
       stops = tt;
     })
 
@@ -324,13 +355,12 @@ module _ (r0 r1 : Option (List ℕ)) (text : List ℕ) (headers : List HeaderSpa
           cut = inr (h.head, h.rest ++ lacks.more, branch, n, still lacks.more, size_is (Some n) size, short);
         }
 
-    -- the same of a result
-    pub command_told : {E : Type 0} (result : Result Call E) (o : Option ℕ) (begun : List ℕ)
+    -- the same, of what is equal
+    pub command_told : (call : Call) (o : Option ℕ) (begun : List ℕ)
         → o ≡ body_length (map (header_bytes text) (take spans.headers headers)) → begun ≡ drop spans.len text
-        → IfOk result (CallsBy branch o r1 r2 begun) → IfOk result (Reads r0 r2)
-    command_told (Ok call) o begun size rest calls =
+        → CallsBy branch o r1 r2 begun call → ReadsAs r0 r2 asked call
+    command_told call o begun size rest calls =
         command_calls o call (sym size) (subst (λ (t : List ℕ). CallsBy branch o r1 r2 t call) rest calls)
-    command_told (Err e) o begun size rest calls = tt
 
     pub stop_told : (o : Option ℕ) (begun : List ℕ)
         → o ≡ body_length (map (header_bytes text) (take spans.headers headers)) → begun ≡ drop spans.len text

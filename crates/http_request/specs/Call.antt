@@ -13,6 +13,10 @@ use Rattle.http_request.specs.Query.{query_of, wish_of}
 use Rattle.http_request.specs.declared.query.Wish.{Wish}
 use Rattle.http_request.specs.Length.{body_length}
 use Rattle.http_request.specs.Foreign.{is_foreign}
+use Rattle.http_request.specs.Accept.{form_of}
+use Rattle.http_request.specs.declared.call.Form.{Form}
+use Rattle.http_request.specs.declared.call.Form.TheVariants as form
+use Rattle.http_request.specs.declared.call.Received.{Received}
 use Rattle.http_request.specs.declared.call.Call.{Call}
 use Rattle.http_request.specs.declared.call.Call.TheVariants.{Unreadable, Foreign, Nowhere, Command, Balance, Journal}
 use Rattle.http_request.specs.declared.call.Call.TheVariants.{Transit, Branches, Commodities, Accounts, Transfers}
@@ -86,13 +90,21 @@ abbrev pub StopsFor : List ℕ → Call → Type 0
 StopsFor seen (Command branch body) = ⊤
 StopsFor seen call = StopsAtHead seen
 
--- what was read calls for this
-pub record Reads (r0 r1 : Option (List ℕ)) (call : Call) : Type 0 where
+-- the form in which a reply is asked for: that of the head, or text where the bytes begin none
+abbrev pub AsksIn : List ℕ → Form → Type 0
+AsksIn seen asked =
+    ((head : RequestHead) × (rest : List ℕ) × IsHead seen head rest
+    × (asked ≡ form_of (map name_and_value head.fields)))
+    ⊎ (NeverHead seen × (asked ≡ form.Text))
+
+-- what was read calls for this, and asks for its reply in this form
+pub record Reads (r0 r1 : Option (List ℕ)) (received : Received) : Type 0 where
   pub seen : List ℕ
   pub read : Consumes r0 r1 seen
   pub bounded : length seen ≤ most_read
-  pub calls : Calls seen call
-  pub stops : StopsFor seen call
+  pub calls : Calls seen received.call
+  pub asks : AsksIn seen received.form
+  pub stops : StopsFor seen received.call
 
 -- The bytes are a first part of a request: of its head, which some bytes could still end within the limits (inside its
 -- target that is not asked), or of its body.

@@ -6,6 +6,7 @@ pub mod Routes
 pub mod Fields
 pub mod Length
 pub mod Foreign
+pub mod Accept
 pub mod Spaces
 pub mod Call
 -- What mirrors code, for private clauses: nobody has to believe it

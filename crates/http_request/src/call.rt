@@ -2,6 +2,22 @@
 
 use money_core::{Items, Text};
 
+/// In which form a reply is asked for.
+#[derive(Clone, Copy, Debug, PartialEq, Eq)]
+pub enum Form {
+    /// Plain text, as where nothing is said of it.
+    Text,
+    /// JSON.
+    Json,
+}
+
+/// A request that was read: what it calls for, and in which form it asks for its reply.
+#[derive(Debug, Drop)]
+pub struct Received {
+    pub call: Call,
+    pub form: Form,
+}
+
 /// What a request calls for, with the parts of its path as they stand, and of its query as they are decoded.
 #[derive(Debug, Drop)]
 pub enum Call {

@@ -1,6 +1,7 @@
 //! One HTTP request to a treasury, read from a connection: what it calls for.
 #![tactic(auto)]
 
+mod accept;
 mod body;
 mod call;
 mod fields;
@@ -12,5 +13,5 @@ mod query;
 mod reading;
 mod routes;
 
-pub use call::Call;
+pub use call::{Call, Form, Received};
 pub use reading::read_call;

@@ -5,12 +5,14 @@ ghost use Rattle.std.specs.Result.{IsOkUnless};
 ghost use Rattle.std.specs.Str.{IsUtf8};
 ghost use Rattle.httparse.specs.Spans.{IsRequestWithin, header_bytes};
 ghost use Rattle.http_request.specs.Foreign.{is_foreign};
+ghost use Rattle.http_request.specs.Accept.{form_of};
 ghost use Rattle.http_request.specs.Query.{wish_of};
 ghost use Rattle.http_request.specs.Call.{Reads, IsStopped};
 ghost use Rattle.http_request.specs.Calling.{shown, register_by, wanted_at, Wants, CallsBy, LacksBytes};
 
+use crate::accept::form_of;
 use crate::body::read_body;
-use crate::call::Call;
+use crate::call::{Call, Form, Received};
 use crate::foreign::is_foreign;
 use crate::head::{MAX_HEADERS, read_head};
 use crate::length::body_length;
@@ -142,12 +144,20 @@ fn is_foreign_head(text: &[u8], headers: &[HeaderSpan], spans: &RequestSpans) ->
     is_foreign(text, &headers[..spans.headers])
 }
 
-/// Reads one request, and says what it calls for.
+/// In which form the head with these spans asks for a reply.
+fn form_of_head(text: &[u8], headers: &[HeaderSpan], spans: &RequestSpans) -> Form
+    requires { IsRequestWithin text.now headers.now spans.now }
+    ensures { result ≡ form_of (map (header_bytes text.now) (take spans.now.headers headers.now)) }
+{
+    form_of(text, &headers[..spans.headers])
+}
+
+/// Reads one request, and says what it calls for, and in which form it asks for its reply.
 ///
 /// Its head has at most 16 KiB and 32 headers, its body at most 8 MiB; of a `GET` no body is read. 45 comes where a
 /// read fails, whatever its error, or the input ends, before the request is there; where no bytes could have made it
 /// one, it is `Unreadable`. 40 comes where there is no memory for its text.
-pub fn read_call<R: Read>(alloc: Global, reader: &mut R) -> Result<Call, Cause>
+pub fn read_call<R: Read>(alloc: Global, reader: &mut R) -> Result<Received, Cause>
     ensures ok { IfOk result (Reads (R.remaining reader.old) (R.remaining reader.new)) }
     ensures early { result ≡ Err Cause.ReadFault → IsStopped (R.remaining reader.old) (R.remaining reader.new) }
     ensures causes { IfErr result (λ cause. (cause ≡ Cause.ReadFault) ⊎ (cause ≡ Cause.OutOfMemory)) }
@@ -156,17 +166,29 @@ pub fn read_call<R: Read>(alloc: Global, reader: &mut R) -> Result<Call, Cause>
     let mut headers = [EMPTY_HEADER_SPAN; MAX_HEADERS];
     let spans = match read_head(reader, &mut text, &mut headers) {
         Ok(Some(spans)) => spans,
-        Ok(None) => return Ok(Call::Unreadable),
+        Ok(None) => {
+            return Ok(Received {
+                call: Call::Unreadable,
+                form: Form::Text,
+            });
+        }
         Err(cause) => return Err(cause),
     };
+    let form = form_of_head(&text, &headers, &spans);
     if is_foreign_head(&text, &headers, &spans) {
-        return Ok(Call::Foreign);
+        return Ok(Received {
+            call: Call::Foreign,
+            form,
+        });
     }
     match wanted_by(alloc, spans.method.of(&text), spans.path.of(&text)) {
-        Ok(Wanted::Whole(call)) => Ok(call),
+        Ok(Wanted::Whole(call)) => Ok(Received { call, form }),
         Ok(Wanted::Command { branch }) => {
             let size = body_length(&text, &headers[..spans.headers]);
-            read_command(alloc, reader, branch, &text[spans.len..], size)
+            match read_command(alloc, reader, branch, &text[spans.len..], size) {
+                Ok(call) => Ok(Received { call, form }),
+                Err(cause) => Err(cause),
+            }
         }
         Err(cause) => Err(cause),
     }

@@ -34,15 +34,17 @@ use Rattle.treasury_requests.specs.declared.request.Request.TheVariants.{Branche
 use Rattle.treasury_requests.specs.declared.request.Request.TheVariants.{Commodities as ForCommodities}
 use Rattle.treasury_requests.specs.declared.request.Request.TheVariants.{Accounts as ForAccounts}
 use Rattle.treasury_requests.specs.declared.request.Request.TheVariants.{Transfers as ForTransfers}
+use Rattle.http_request.specs.declared.call.Form.{Form}
+use Rattle.http_request.specs.declared.call.Form.TheVariants as form
 use Rattle.treasury_api.specs.declared.asking.Asked.{Asked}
 use Rattle.treasury_api.specs.declared.asking.Asked.TheVariants.{Command, DryRun, Report}
 use Rattle.treasury_api.specs.declared.report.Report.TheVariants as report
 use Rattle.treasury_api.specs.Asked.{asked_by_sample, asked_by_amount, asked_by_part, asked_by_receipt, cut_list}
 use Rattle.treasury_api.specs.Asked.{JournalAsks, RequestAsks, or_dry_run, SpelledAsks, AsksOf}
 use Rattle.treasury_api.specs.declared.report.Report.{Report as AnyReport}
-use Rattle.treasury_api.specs.Report.{report_text, has_its_branch}
+use Rattle.treasury_api.specs.Report.{report_in, has_its_branch}
 use Rattle.treasury_api.specs.Step.{is_failure}
-use Rattle.treasury_api.specs.Replied.{IsReplied}
+use Rattle.treasury_api.specs.Replied.{IsRepliedIn}
 use Rattle.treasury_api.specs.Serving.{IsReady, OrMemory}
 use Rattle.money_core.proofs.ReadingLemmas.{one_of_causes}
 use Rattle.money_core.specs.declared.unit.Unit.{Unit as Commodity}
@@ -97,20 +99,26 @@ spelled_asks law styles request =
 -- ---- a treasury that holds its state, or does not
 
 -- the treasury on which a request is answered: it asks something, and is replied to
+abbrev pub IsAnsweredIn : {S T : Type 0} → Form → Ghosts S → Bool → Treasury S → Federation → Spelled
+    → Result T Refusal → List ℕ → List ℕ → Type 0
+IsAnsweredIn form g failed new f request result before written =
+    (asked : Result Asked Refusal) × (AsksOf failed f.styles request asked
+    × IsRepliedIn form g failed new f asked result before written)
+
+-- the same as text
 abbrev pub IsAnswered : {S T : Type 0} → Ghosts S → Bool → Treasury S → Federation → Spelled → Result T Refusal → List ℕ
     → List ℕ → Type 0
 IsAnswered g failed new f request result before written =
-    (asked : Result Asked Refusal) × (AsksOf failed f.styles request asked
-    × IsReplied g failed new f asked result before written)
+    IsAnsweredIn form.Text g failed new f request result before written
 
 -- the state could not be had: the reply is 40, 41 or 42, whatever is asked
-pub unheld : {S T : Type 0} → ReadsAll
+pub unheld : {S T : Type 0} {form : Form} → ReadsAll
     → (g : Ghosts S) (failed : Bool) (new : Treasury S) (f : Federation) (request : Spelled) (cause : Cause)
     (held : Result (Unit {0}) Cause) (result : Result T Refusal) (before written : List ℕ)
     → held ≡ Err cause → result ≡ Err (Plain cause) → IsTreasuryOf g new f → (held ≡ Err Damaged → ⊥)
     → (failed ≡ false → AnswersState held new.store.failed)
     → (IsTrue failed → (held ≡ Err Closed) × (new.store.failed ≡ failed)) → written ≡ before
-    → IsAnswered g failed new f request result before written
+    → IsAnsweredIn form g failed new f request result before written
 unheld law g true new f request cause held result before written is refuses of undamaged answers closed same =
     let k = closed cc in
     let e : cause ≡ Closed = cause_of held cause Closed is k.0 in (
@@ -124,7 +132,8 @@ unheld law g true new f request cause held result before written is refuses of u
   where
     cause_of : (r : Result (Unit {0}) Cause) (x y : Cause) → r ≡ Err x → r ≡ Err y → x ≡ y
     cause_of r x y h k = cc
-unheld law g false new f request cause held result before written is refuses of undamaged answers closed same =
+unheld {form = form} law g false new f request cause held result before written is refuses of undamaged answers closed
+    same =
     let asked = spelled_asks law f.styles request in (
       asked.0,
       (
@@ -135,7 +144,7 @@ unheld law g false new f request cause held result before written is refuses of 
     )
   where
     by_answer : (asked : Result Asked Refusal) → AnswersState {T = Unit {0}} (Err cause) new.store.failed
-        → IsReplied g false new f asked result before written
+        → IsRepliedIn form g false new f asked result before written
     by_answer asked (inl (inl (memory, unfailed))) =
         refused g false new f asked (Plain cause) result before written refuses
         (inr (inl (ap (λ (x : Cause). Err (Plain x)) memory))) of
@@ -154,12 +163,14 @@ held_unfailed true x held is closed = absurd (let k = (closed cc).0 in cc)
 
 -- ---- the reply, by what is asked
 
-pub answered : {S T : Type 0} (g : Ghosts S) (failed : Bool) (new : Treasury S) (f : Federation) (request : Spelled)
+pub answered : {S T : Type 0} {form : Form} (g : Ghosts S) (failed : Bool) (new : Treasury S) (f : Federation)
+    (request : Spelled)
     (asked : Result Asked Refusal) (result : Result T Refusal) (before written : List ℕ)
-    → failed ≡ false → SpelledAsks f.styles request asked → IsReplied g false new f asked result before written
-    → IsAnswered g failed new f request result before written
-answered g failed new f request asked result before written unfailed asks replied =
-    subst (λ (b : Bool). IsAnswered g b new f request result before written) (sym unfailed) (asked, (asks, replied))
+    → failed ≡ false → SpelledAsks f.styles request asked → IsRepliedIn form g false new f asked result before written
+    → IsAnsweredIn form g failed new f request result before written
+answered {form = form} g failed new f request asked result before written unfailed asks replied =
+    subst (λ (b : Bool). IsAnsweredIn form g b new f request result before written) (sym unfailed)
+    (asked, (asks, replied))
 
 -- what is asked, where the texts are read
 pub meant : (styles others : List Style) (request : Spelled) (asked other : Asked) → styles ≡ others → asked ≡ other
@@ -229,12 +240,12 @@ texts_stay styles (ForAccounts name) refusal asks = absurd cc
 texts_stay styles (ForTransfers day) refusal asks = absurd cc
 
 -- a refusal of the texts, or want of memory for them
-pub refused_texts : {S T : Type 0} → ReadsAll
+pub refused_texts : {S T : Type 0} {form : Form} → ReadsAll
     → (g : Ghosts S) (failed : Bool) (new : Treasury S) (f : Federation) (request : Spelled) (refusal : Refusal)
     (result : Result T Refusal) (before written : List ℕ)
     → failed ≡ false → OrMemory (SpelledAsks f.styles request) (Err refusal) → result ≡ Err refusal
     → IsTreasuryOf g new f → new.store.failed ≡ false → written ≡ before
-    → IsAnswered g failed new f request result before written
+    → IsAnsweredIn form g failed new f request result before written
 refused_texts law g failed new f request refusal result before written unfailed (inl memory) is of still same =
     let k : refusal ≡ Plain OutOfMemory = cc in
     let asked = spelled_asks law f.styles request in
@@ -249,10 +260,11 @@ refused_texts law g failed new f request refusal result before written unfailed 
 -- ---- a report
 
 -- its lines stand behind what was written before
-pub reported : {S T : Type 0} (g : Ghosts S) (new : Treasury S) (f : Federation) (report : AnyReport) (x : T)
+pub reported : {S T : Type 0} {form : Form} (g : Ghosts S) (new : Treasury S) (f : Federation) (report : AnyReport)
+    (x : T)
     (before written : List ℕ) → IsTreasuryOf g new f → new.store.failed ≡ false
-    → has_its_branch f report ≡ true → written ≡ before ++ report_text f report
-    → IsReplied g false new f (Ok (Report report)) (Ok x) before written
+    → has_its_branch f report ≡ true → written ≡ before ++ report_in form f report
+    → IsRepliedIn form g false new f (Ok (Report report)) (Ok x) before written
 reported g new f report x before written of still there said = record {
   reply = Ok Done;
   replies = inl (ap (λ (t : Bool). if not t then Err (Plain UnknownBranch) else Ok Done) (sym there));
@@ -262,12 +274,13 @@ reported g new f report x before written of still there said = record {
 }
 
 -- its branch is not there, or memory is refused
-pub unreported : {S T : Type 0} (g : Ghosts S) (new : Treasury S) (f : Federation) (report : AnyReport) (cause : Cause)
+pub unreported : {S T : Type 0} {form : Form} (g : Ghosts S) (new : Treasury S) (f : Federation) (report : AnyReport)
+    (cause : Cause)
     (made : Result (Unit {0}) Cause) (result : Result T Refusal) (before written : List ℕ) → made ≡ Err cause
     → result ≡ Err (Plain cause) → IsTreasuryOf g new f → new.store.failed ≡ false
     → (made ≡ Err UnknownBranch) ↔ (has_its_branch f report ≡ false) → (cause ≡ UnknownBranch) ⊎ (cause ≡ OutOfMemory)
     → written ≡ before
-    → IsReplied g false new f (Ok (Report report)) result before written
+    → IsRepliedIn form g false new f (Ok (Report report)) result before written
 unreported g new f report cause made result before written is refuses of still unknown (inl nowhere) same =
     let none = unknown.0 (is ∙ ap (λ (x : Cause). Err x) nowhere) in
     refused g false new f (Ok (Report report)) (Plain cause) result before written refuses

@@ -29,9 +29,9 @@ use Rattle.treasury_api.specs.declared.web.answering.Sought.TheVariants as sough
 use Rattle.treasury_api.specs.Asked.{asked_by_amount, asked_by_part, asked_by_receipt, RequestAsks, AsksOf}
 use Rattle.treasury_api.specs.Step.{Standing, is_failure}
 use Rattle.treasury_api.specs.History.{command_if}
-use Rattle.treasury_api.specs.OneRequest.{AnswersRequest, command_of}
+use Rattle.treasury_api.specs.OneRequest.{AnswersAs, command_of}
 use Rattle.treasury_api.specs.BranchCommand.{is_command_of, IsCommandOf}
-use Rattle.treasury_api.specs.Web.{only_of, asked_by, AnsweredCall, AreServed, turns_of_calls}
+use Rattle.treasury_api.specs.Web.{only_of, asked_by, IsBodyIn, AnsweredCall, AreServed, turns_of_calls}
 use Rattle.treasury_api.specs.Web.{CommandsOnly, AreCommandsOf}
 use Rattle.treasury_api.specs.WebServing.{sought_of, SeeksDays}
 use Rattle.treasury_api.proofs.SpelledLemmas.{spelled_command}
@@ -188,10 +188,11 @@ asked_own name (Transfers date) request only e = inr (dated_is asking.Transfers 
 
 -- ---- calls one after another
 
-turn_own : (name : List ℕ) (s : Standing) (request : Spelled) (said : List ℕ) (reply : Result Answer Refusal)
-    (t : Standing) → MayAsk name request.request → (answers : AnswersRequest s request said reply t)
+turn_own : (name : List ℕ) (s : Standing) (request : Spelled)
+    (Says : Result Asked Refusal → Result Answer Refusal → Type 0) (reply : Result Answer Refusal) (t : Standing)
+    → MayAsk name request.request → (answers : AnswersAs s request Says reply t)
     → AreCommandsOf name (command_of answers)
-turn_own name s request said reply t may answers =
+turn_own name s request Says reply t may answers =
     if_own s.failed s.now.styles name request answers.asked reply may answers.asks
 
 pub calls_own : (name : List ℕ) (start : Standing) (calls : List AnsweredCall) (end : Standing)
@@ -201,5 +202,6 @@ calls_own name start [] end only served = tt
 calls_own name start (c ∷ cs) end (first, others) (mid, inl nothing, rest) = calls_own name mid cs end others rest
 calls_own name start (c ∷ cs) end (first, others) (mid, inr (request, asked, (reply, (answers, told))), rest) =
     all-append (λ (turn : Turn). IsCommandOf name turn.command) _ _
-    (turn_own name start request c.body reply mid (asked_own name c.call request first asked) answers)
+    (turn_own name start request (IsBodyIn c.form c.body start.now) reply mid
+    (asked_own name c.call request first asked) answers)
     (calls_own name mid cs end others rest)

@@ -16,11 +16,12 @@ use Rattle.treasury_core.specs.declared.delta.Addition.{Addition}
 use Rattle.treasury_core.specs.History.{Replies as Steps}
 use Rattle.treasury_store.specs.Treasury.{Treasury, IsTreasuryOf, IsListed}
 use Rattle.treasury_store.proofs.OwnRefusalLemmas.{reply_not_failed, listed_reply}
+use Rattle.http_request.specs.declared.call.Form.{Form}
 use Rattle.treasury_api.specs.declared.asking.Asked.TheVariants.{DryRun}
 use Rattle.treasury_api.specs.Answer.{answer_text}
 use Rattle.treasury_api.specs.Step.{MayReply, is_failure}
 use Rattle.treasury_api.specs.Left.{FailsWith}
-use Rattle.treasury_api.specs.Replied.{IsReplied, IsPrintableIn}
+use Rattle.treasury_api.specs.Replied.{IsRepliedIn, IsPrintableIn}
 use Rattle.treasury_api.specs.Serving.{IsForeseen}
 use Rattle.treasury_api.proofs.PrintableLemmas.{decided_printable}
 use Rattle.treasury_api.proofs.ReplyLemmas.{in_memory, failure_is, same_line}
@@ -73,9 +74,9 @@ may_reply : (f : Federation) (c : AnyCommand) (r : Result Answer Refusal) → St
 may_reply f c r (inl step) = inl step
 may_reply f c r (inr memory) = inr (inl memory)
 
-pub foreseen : {S T : Type 0} (g : Ghosts S) (new : Treasury S) (f : Federation) (c : AnyCommand)
+pub foreseen : {S T : Type 0} {form : Form} (g : Ghosts S) (new : Treasury S) (f : Federation) (c : AnyCommand)
     (result : Result T Refusal) (before written : List ℕ) → IsTreasuryOf g new f → new.store.failed ≡ false
-    → IsForeseen f c result before written → IsReplied g false new f (Ok (DryRun c)) result before written
+    → IsForeseen f c result before written → IsRepliedIn form g false new f (Ok (DryRun c)) result before written
 foreseen g new f c result before written of still (r, (steps, text)) = record {
   reply = r;
   replies = may_reply f c r steps;

@@ -15,7 +15,9 @@ pub mod ServeLemmas
 pub mod HistoryLemmas
 pub mod OneRequestLemmas
 pub mod WebReplyLemmas
+pub mod ObjectLemmas
 pub mod WebLemmas
+pub mod JsonLemmas
 pub mod BranchLemmas
 pub mod RunEndLemmas
 pub mod WorkedValues

@@ -12,6 +12,8 @@ use Rattle.treasury_core.specs.Federation.{Federation}
 use Rattle.treasury_core.specs.History.{Turn, IsRun, state_after}
 use Rattle.treasury_store.specs.Treasury.{Treasury, IsTreasuryOf}
 use Rattle.treasury_requests.specs.declared.request.Spelled.{Spelled}
+use Rattle.http_request.specs.declared.call.Form.{Form}
+use Rattle.http_request.specs.declared.call.Form.TheVariants as form
 use Rattle.treasury_api.specs.declared.asking.Asked.{Asked}
 use Rattle.treasury_api.specs.declared.asking.Asked.TheVariants.{Command, DryRun, Report}
 use Rattle.treasury_requests.specs.Request.{HasDayNumbers}
@@ -19,9 +21,10 @@ use Rattle.treasury_api.specs.Asked.{AsksOf, SpelledAsks}
 use Rattle.treasury_api.specs.Answer.{answer_text}
 use Rattle.treasury_api.specs.Step.{Standing, MayReply, after, is_failure}
 use Rattle.treasury_api.specs.History.{command_if}
-use Rattle.treasury_api.specs.OneRequest.{AnswersRequest, RepliesOn, request_text, is_refusal, command_of}
+use Rattle.treasury_api.specs.OneRequest.{AnswersAs, AnswersRequest, RepliesAs, RepliesOn, request_text}
+use Rattle.treasury_api.specs.OneRequest.{is_refusal, command_of}
 use Rattle.treasury_api.specs.Replied.{standing, body_of, IsLineOf}
-use Rattle.treasury_api.proofs.AnswerLemmas.{IsAnswered}
+use Rattle.treasury_api.proofs.AnswerLemmas.{IsAnsweredIn, IsAnswered}
 use Rattle.treasury_api.proofs.AskedLemmas.{request_fits}
 use Rattle.treasury_api.proofs.SpelledLemmas.{spelled_command}
 use Rattle.treasury_api.proofs.HistoryLemmas.{command_replied, failure_leaves}
@@ -29,8 +32,8 @@ use Rattle.treasury_api.proofs.ServeLemmas.{after_plain, leads, refused_only, da
 
 -- what is written is the text of the reply
 written_text : (f : Federation) (failed : Bool) (asked : Result Asked Refusal) (answer : Answer) (written : List ℕ)
-    → MayReply (record { now = f; failed = failed }) asked (Ok answer) → written ≡ [] ++ body_of f asked answer
-    → written ≡ request_text f asked (Ok answer)
+    → MayReply (record { now = f; failed = failed }) asked (Ok answer)
+    → written ≡ [] ++ body_of form.Text f asked answer → written ≡ request_text f asked (Ok answer)
 written_text f failed (Ok (Command c)) answer written replies said = said
 written_text f failed (Ok (DryRun c)) answer written replies said = said
 written_text f failed (Ok (Report report)) answer written replies said = said
@@ -44,26 +47,32 @@ refusal_line f (Ok (DryRun c)) refusal = refl
 refusal_line f (Ok (Report report)) refusal = refl
 refusal_line f (Err e) refusal = refl
 
--- a request that is done, repeated or reported
-pub said_done : {S : Type 0} (g : Ghosts S) (old new : Treasury S) (written : List ℕ) (request : Spelled)
+-- a request that is done, repeated or reported, of which is said what follows from what was written
+pub replied_done : {S : Type 0} (form : Form) (g : Ghosts S) (old new : Treasury S) (written : List ℕ)
+    (request : Spelled) (Says : Federation → Result Asked Refusal → Result Answer Refusal → Type 0)
     (Tells : Result Answer Refusal → Type 0) (made : Result (Unit {0}) Refusal) (x : Unit {0}) → made ≡ Ok x
     → HasDayNumbers request.request
     → (HasCleanDisk (state g new.store.conn) → HasCleanDisk (state g old.store.conn))
     → (HasCleanDisk (state g new.store.conn) → (f : Federation) → IsTreasuryOf g old f
-    → IsAnswered g old.store.failed new f request made [] written)
-    → ((answer : Answer) → Tells (Ok answer)) → RepliesOn g old request written Tells new
-said_done g old new written request Tells made x ok days clean answers tells = record {
+    → IsAnsweredIn form g old.store.failed new f request made [] written)
+    → ((f : Federation) (asked : Result Asked Refusal) (answer : Answer)
+    → AsksOf old.store.failed f.styles request asked
+    → MayReply (record { now = f; failed = old.store.failed }) asked (Ok answer)
+    → written ≡ [] ++ body_of form f asked answer → Says f asked (Ok answer))
+    → ((answer : Answer) → Tells (Ok answer)) → RepliesAs g old request Says Tells new
+replied_done form g old new written request Says Tells made x ok days clean answers says tells = record {
   clean = clean;
   answers = λ k f of. by_reply f (answers k f of);
 }
   where
-    by_reply : (f : Federation) → IsAnswered g old.store.failed new f request made [] written
+    by_reply : (f : Federation) → IsAnsweredIn form g old.store.failed new f request made [] written
         → (end : Federation) × (IsTreasuryOf g new end
         × ((reply : Result Answer Refusal)
-        × (AnswersRequest (standing old f) request written reply (standing new end) × Tells reply)))
+        × (AnswersAs (standing old f) request (Says f) reply (standing new end) × Tells reply)))
     by_reply f (asked, (asks, r)) =
         let told = subst (λ (m : Result (Unit {0}) Refusal).
-        MatchResult m (λ _. (answer : Answer) × ((r.reply ≡ Ok answer) × (written ≡ [] ++ body_of f asked answer)))
+        MatchResult m (λ _. (answer : Answer) × ((r.reply ≡ Ok answer)
+        × (written ≡ [] ++ body_of form f asked answer)))
         (λ refusal. (r.reply ≡ Err refusal) × (written ≡ []))) ok r.text in
         let replies = subst (λ (y : Result Answer Refusal).
         MayReply (record { now = f; failed = old.store.failed }) asked y) told.1.0 r.replies in (
@@ -78,7 +87,7 @@ said_done g old new written request Tells made x ok days clean answers tells = r
                   days = days;
                   asks = asks;
                   replies = replies;
-                  text = written_text f old.store.failed asked told.0 written replies told.1.1;
+                  text = says f asked told.0 asks replies told.1.1;
                   left = leads old new f asked (Ok told.0)
                       (r.left ∙ ap (λ (y : Result Answer Refusal). old.store.failed || is_failure y) told.1.0);
                 },
@@ -88,22 +97,39 @@ said_done g old new written request Tells made x ok days clean answers tells = r
           ),
         )
 
--- what is told of the line of a refusal: that it is the refusal's, or that of 40 in its place
-abbrev pub IsToldAs : Federation → Refusal → List ℕ → (Result Answer Refusal → Type 0) → Type 0
-IsToldAs f refusal text Tells =
-    ((text ≡ answer_text f.styles (Err refusal)) × Tells (Err refusal))
-    ⊎ ((text ≡ answer_text f.styles (Err (Plain OutOfMemory))) × (is_failure (Err refusal) ≡ false)
-    × Tells (Err (Plain OutOfMemory)))
-
--- a request that is refused: by its line, or by that of 40 in its place
-pub said_as : {S : Type 0} (g : Ghosts S) (old new : Treasury S) (written text : List ℕ) (request : Spelled)
-    (Tells : Result Answer Refusal → Type 0) (made : Result (Unit {0}) Refusal) (refusal : Refusal) → made ≡ Err refusal
+-- the same with the text of the reply
+pub said_done : {S : Type 0} (g : Ghosts S) (old new : Treasury S) (written : List ℕ) (request : Spelled)
+    (Tells : Result Answer Refusal → Type 0) (made : Result (Unit {0}) Refusal) (x : Unit {0}) → made ≡ Ok x
     → HasDayNumbers request.request
     → (HasCleanDisk (state g new.store.conn) → HasCleanDisk (state g old.store.conn))
     → (HasCleanDisk (state g new.store.conn) → (f : Federation) → IsTreasuryOf g old f
     → IsAnswered g old.store.failed new f request made [] written)
-    → ((f : Federation) → IsTreasuryOf g new f → IsToldAs f refusal text Tells) → RepliesOn g old request text Tells new
-said_as g old new written text request Tells made refusal refused days clean answers said = record {
+    → ((answer : Answer) → Tells (Ok answer)) → RepliesOn g old request written Tells new
+said_done g old new written request Tells made x ok days clean answers tells =
+    replied_done form.Text g old new written request
+    (λ (f : Federation) (asked : Result Asked Refusal) (r : Result Answer Refusal). written ≡ request_text f asked r)
+    Tells made x ok days clean answers
+    (λ f asked answer asks replies said. written_text f old.store.failed asked answer written replies said) tells
+
+-- what is said and told of a refusal: that it is the refusal, or 40 in its place, which is no failure then
+abbrev pub IsRefusedAs : (Federation → Result Asked Refusal → Result Answer Refusal → Type 0)
+    → (Result Answer Refusal → Type 0) → Federation → Refusal → Type 0
+IsRefusedAs Says Tells f refusal =
+    (((asked : Result Asked Refusal) → Says f asked (Err refusal)) × Tells (Err refusal))
+    ⊎ (((asked : Result Asked Refusal) → Says f asked (Err (Plain OutOfMemory)))
+    × (is_failure (Err refusal) ≡ false) × Tells (Err (Plain OutOfMemory)))
+
+-- a request that is refused: so, or by 40 in its place
+pub replied_as : {S : Type 0} (form : Form) (g : Ghosts S) (old new : Treasury S) (written : List ℕ)
+    (request : Spelled) (Says : Federation → Result Asked Refusal → Result Answer Refusal → Type 0)
+    (Tells : Result Answer Refusal → Type 0) (made : Result (Unit {0}) Refusal) (refusal : Refusal) → made ≡ Err refusal
+    → HasDayNumbers request.request
+    → (HasCleanDisk (state g new.store.conn) → HasCleanDisk (state g old.store.conn))
+    → (HasCleanDisk (state g new.store.conn) → (f : Federation) → IsTreasuryOf g old f
+    → IsAnsweredIn form g old.store.failed new f request made [] written)
+    → ((f : Federation) → IsTreasuryOf g new f → IsRefusedAs Says Tells f refusal)
+    → RepliesAs g old request Says Tells new
+replied_as form g old new written request Says Tells made refusal refused days clean answers said = record {
   clean = clean;
   answers = λ k f of. by_reply f (answers k f of);
 }
@@ -111,10 +137,10 @@ said_as g old new written text request Tells made refusal refused days clean ans
     by_line : (f : Federation) (asked : Result Asked Refusal) → AsksOf old.store.failed f.styles request asked
         → MayReply (record { now = f; failed = old.store.failed }) asked (Err refusal) → IsTreasuryOf g new f
         → new.store.failed ≡ (old.store.failed || is_failure (Err refusal))
-        → IsToldAs f refusal text Tells
+        → IsRefusedAs Says Tells f refusal
         → (reply : Result Answer Refusal)
-        × (AnswersRequest (standing old f) request text reply (standing new f) × Tells reply)
-    by_line f asked asks replies of left (inl (told, tells)) = (
+        × (AnswersAs (standing old f) request (Says f) reply (standing new f) × Tells reply)
+    by_line f asked asks replies of left (inl (says, tells)) = (
       Err refusal,
       (
         record {
@@ -122,14 +148,14 @@ said_as g old new written text request Tells made refusal refused days clean ans
           days = days;
           asks = asks;
           replies = replies;
-          text = told ∙ refusal_line f asked refusal;
+          text = says asked;
           left = ap (λ (x : Federation). standing new x) (after_plain f asked refusal) ∙ leads old new f asked
               (Err refusal) left;
         },
         tells,
       ),
     )
-    by_line f asked asks replies of left (inr (told, harmless, tells)) = (
+    by_line f asked asks replies of left (inr (says, harmless, tells)) = (
       Err (Plain OutOfMemory),
       (
         record {
@@ -137,7 +163,7 @@ said_as g old new written text request Tells made refusal refused days clean ans
           days = days;
           asks = asks;
           replies = inr (inl refl);
-          text = told ∙ refusal_line f asked (Plain OutOfMemory);
+          text = says asked;
           left = ap (λ (x : Federation). standing new x) (after_plain f asked (Plain OutOfMemory))
               ∙ leads old new f asked (Err (Plain OutOfMemory))
               (left ∙ ap (λ (b : Bool). old.store.failed || b) harmless);
@@ -146,13 +172,14 @@ said_as g old new written text request Tells made refusal refused days clean ans
       ),
     )
 
-    by_reply : (f : Federation) → IsAnswered g old.store.failed new f request made [] written
+    by_reply : (f : Federation) → IsAnsweredIn form g old.store.failed new f request made [] written
         → (end : Federation) × (IsTreasuryOf g new end
         × ((reply : Result Answer Refusal)
-        × (AnswersRequest (standing old f) request text reply (standing new end) × Tells reply)))
+        × (AnswersAs (standing old f) request (Says f) reply (standing new end) × Tells reply)))
     by_reply f (asked, (asks, r)) =
         let told = subst (λ (m : Result (Unit {0}) Refusal).
-        MatchResult m (λ _. (answer : Answer) × ((r.reply ≡ Ok answer) × (written ≡ [] ++ body_of f asked answer)))
+        MatchResult m (λ _. (answer : Answer) × ((r.reply ≡ Ok answer)
+        × (written ≡ [] ++ body_of form f asked answer)))
         (λ e. (r.reply ≡ Err e) × (written ≡ []))) refused r.text in
         let of : IsTreasuryOf g new f =
         subst (IsTreasuryOf g new) (sym (after_plain f asked refusal))
@@ -165,6 +192,33 @@ said_as g old new written text request Tells made refusal refused days clean ans
                 (r.left ∙ ap (λ (y : Result Answer Refusal). old.store.failed || is_failure y) told.0) (said f of),
           ),
         )
+
+-- what is told of the line of a refusal: that it is the refusal's, or that of 40 in its place
+abbrev pub IsToldAs : Federation → Refusal → List ℕ → (Result Answer Refusal → Type 0) → Type 0
+IsToldAs f refusal text Tells =
+    ((text ≡ answer_text f.styles (Err refusal)) × Tells (Err refusal))
+    ⊎ ((text ≡ answer_text f.styles (Err (Plain OutOfMemory))) × (is_failure (Err refusal) ≡ false)
+    × Tells (Err (Plain OutOfMemory)))
+
+-- the same of the text of the reply
+pub said_as : {S : Type 0} (g : Ghosts S) (old new : Treasury S) (written text : List ℕ) (request : Spelled)
+    (Tells : Result Answer Refusal → Type 0) (made : Result (Unit {0}) Refusal) (refusal : Refusal) → made ≡ Err refusal
+    → HasDayNumbers request.request
+    → (HasCleanDisk (state g new.store.conn) → HasCleanDisk (state g old.store.conn))
+    → (HasCleanDisk (state g new.store.conn) → (f : Federation) → IsTreasuryOf g old f
+    → IsAnswered g old.store.failed new f request made [] written)
+    → ((f : Federation) → IsTreasuryOf g new f → IsToldAs f refusal text Tells) → RepliesOn g old request text Tells new
+said_as g old new written text request Tells made refusal refused days clean answers said =
+    replied_as form.Text g old new written request
+    (λ (f : Federation) (asked : Result Asked Refusal) (r : Result Answer Refusal). text ≡ request_text f asked r)
+    Tells made refusal refused days clean answers (λ f of. by_line f (said f of))
+  where
+    by_line : (f : Federation) → IsToldAs f refusal text Tells
+        → IsRefusedAs (λ (f : Federation) (asked : Result Asked Refusal) (r : Result Answer Refusal).
+        text ≡ request_text f asked r) Tells f refusal
+    by_line f (inl (told, tells)) = inl ((λ asked. told ∙ refusal_line f asked refusal), tells)
+    by_line f (inr (told, harmless, tells)) =
+        inr ((λ asked. told ∙ refusal_line f asked (Plain OutOfMemory)), harmless, tells)
 
 -- the same where it is told alike of both lines
 pub said_refusal : {S : Type 0} (g : Ghosts S) (old new : Treasury S) (written text : List ℕ) (request : Spelled)
@@ -215,11 +269,11 @@ behind f request (Ok (Report report)) r turns end days asks replies rest = rest
 behind f request (Err refusal) r turns end days asks replies rest = rest
 
 -- the command of a request that is answered, if it is one, and those behind it
-pub request_run : (f : Federation) (request : Spelled) (text : List ℕ) (reply : Result Answer Refusal) (t : Standing)
-    (turns : List Turn) (end : Federation)
-    → (answers : AnswersRequest (record { now = f; failed = false }) request text reply t) → IsRunTo t.now turns end
+pub request_run : (f : Federation) (request : Spelled) (Says : Result Asked Refusal → Result Answer Refusal → Type 0)
+    (reply : Result Answer Refusal) (t : Standing) (turns : List Turn) (end : Federation)
+    → (answers : AnswersAs (record { now = f; failed = false }) request Says reply t) → IsRunTo t.now turns end
     → IsRunTo f (command_of answers ++ turns) end
-request_run f request text reply t turns end answers rest =
+request_run f request Says reply t turns end answers rest =
     behind f request answers.asked reply turns end answers.days answers.asks answers.replies
     (subst (λ (g : Federation). IsRunTo g turns end) (ap (λ (s : Standing). s.now) answers.left) rest)
 
@@ -232,7 +286,8 @@ refusal_leaves f (Ok (DryRun c)) (Err refusal) refused = refl
 refusal_leaves f (Ok (Report report)) (Err refusal) refused = refl
 refusal_leaves f (Err fault) (Err refusal) refused = refl
 
-pub request_leaves : (s : Standing) (request : Spelled) (text : List ℕ) (reply : Result Answer Refusal) (t : Standing)
-    → AnswersRequest s request text reply t → is_refusal reply ≡ true → t.now ≡ s.now
-request_leaves s request text reply t answers refused =
+pub request_leaves : (s : Standing) (request : Spelled) (Says : Result Asked Refusal → Result Answer Refusal → Type 0)
+    (reply : Result Answer Refusal) (t : Standing) → AnswersAs s request Says reply t → is_refusal reply ≡ true
+    → t.now ≡ s.now
+request_leaves s request Says reply t answers refused =
     ap (λ (x : Standing). x.now) answers.left ∙ refusal_leaves s.now answers.asked reply refused

@@ -15,11 +15,12 @@ use Rattle.treasury_core.specs.Step.{reply as command_reply, delta}
 use Rattle.treasury_core.specs.History.{Replies as Steps}
 use Rattle.treasury_store.specs.Treasury.{Treasury, IsTreasuryOf, Performs, FailsBy, AddsNothing}
 use Rattle.treasury_store.specs.Treasury.{MayReply as MayPerform}
+use Rattle.http_request.specs.declared.call.Form.{Form}
 use Rattle.treasury_api.specs.declared.asking.Asked.{Asked}
 use Rattle.treasury_api.specs.declared.asking.Asked.TheVariants.{Command, DryRun, Report}
 use Rattle.treasury_api.specs.Answer.{answer_text, IsPrintableRefusal}
 use Rattle.treasury_api.specs.Step.{MayReply, after, is_failure}
-use Rattle.treasury_api.specs.Replied.{IsReplied, IsPrintableIn, body_of}
+use Rattle.treasury_api.specs.Replied.{IsRepliedIn, IsPrintableIn, body_of}
 use Rattle.treasury_api.specs.Serving.{IsHeldFor}
 use Rattle.treasury_api.proofs.PrintableLemmas.{decided_printable}
 
@@ -54,35 +55,36 @@ pub refusal_is : {T : Type 0} (r : Result T Refusal) (refusal other : Refusal) �
     → refusal ≡ other
 refusal_is r refusal other h k = cc
 
-refusal_text : {T : Type 0} (f : Federation) (asked : Result Asked Refusal) (r : Result Answer Refusal)
+refusal_text : {T : Type 0} (form : Form) (f : Federation) (asked : Result Asked Refusal) (r : Result Answer Refusal)
     (refusal : Refusal) (result : Result T Refusal) (before written : List ℕ) → r ≡ Err refusal → result ≡ Err refusal
     → written ≡ before → MatchResult result
-    (λ _. (answer : Answer) × ((r ≡ Ok answer) × (written ≡ before ++ body_of f asked answer)))
+    (λ _. (answer : Answer) × ((r ≡ Ok answer) × (written ≡ before ++ body_of form f asked answer)))
     (λ e. (r ≡ Err e) × (written ≡ before))
-refusal_text f asked r refusal (Ok x) before written replied is same = absurd cc
-refusal_text f asked r refusal (Err e) before written replied is same =
+refusal_text form f asked r refusal (Ok x) before written replied is same = absurd cc
+refusal_text form f asked r refusal (Err e) before written replied is same =
     let k : refusal ≡ e = refusal_is (Err e) refusal e is refl in
     (replied ∙ ap (λ (x : Refusal). Err x) k, same)
 
 -- a refusal leaves the state
-pub refused : {S T : Type 0} (g : Ghosts S) (failed : Bool) (new : Treasury S) (f : Federation)
+pub refused : {S T : Type 0} {form : Form} (g : Ghosts S) (failed : Bool) (new : Treasury S) (f : Federation)
     (asked : Result Asked Refusal) (refusal : Refusal) (result : Result T Refusal) (before written : List ℕ)
     → result ≡ Err refusal → MayReply (record { now = f; failed = failed }) asked (Err refusal) → IsTreasuryOf g new f
     → new.store.failed ≡ (failed || is_failure (Err refusal)) → written ≡ before
-    → IsReplied g failed new f asked result before written
-refused g failed new f asked refusal result before written is replies of left same = record {
+    → IsRepliedIn form g failed new f asked result before written
+refused {form = form} g failed new f asked refusal result before written is replies of left same = record {
   reply = Err refusal;
   replies = replies;
   of = subst (IsTreasuryOf g new) (sym (after_refusal f asked refusal)) of;
   left = left;
-  text = refusal_text f asked (Err refusal) refusal result before written refl is same;
+  text = refusal_text form f asked (Err refusal) refusal result before written refl is same;
 }
 
 -- want of memory
-pub refused_memory : {S T : Type 0} (g : Ghosts S) (new : Treasury S) (f : Federation) (asked : Result Asked Refusal)
+pub refused_memory : {S T : Type 0} {form : Form} (g : Ghosts S) (new : Treasury S) (f : Federation)
+    (asked : Result Asked Refusal)
     (result : Result T Refusal) (before written : List ℕ)
     → result ≡ Err (Plain OutOfMemory) → IsTreasuryOf g new f → new.store.failed ≡ false → written ≡ before
-    → IsReplied g false new f asked result before written
+    → IsRepliedIn form g false new f asked result before written
 refused_memory g new f asked result before written is of unfailed same =
     refused g false new f asked (Plain OutOfMemory) result before written is (inr (inl refl)) of unfailed same
 
@@ -99,12 +101,12 @@ may_reply f c r (inl (inl step)) = inl step
 may_reply f c r (inl (inr memory)) = inr (inl memory)
 may_reply f c r (inr failed) = inr (inr (refl, failed))
 
-pub performed : {S T : Type 0} (g : Ghosts S) (new : Treasury S) (f : Federation) (c : AnyCommand)
+pub performed : {S T : Type 0} {form : Form} (g : Ghosts S) (new : Treasury S) (f : Federation) (c : AnyCommand)
     (r : Result Answer Refusal) (result : Result T Refusal) (before written : List ℕ)
     → Performs g new f c r → FailsBy r new.store.failed
     → MatchResult result (λ _. (answer : Answer) × ((r ≡ Ok answer) × (written ≡ before ++ answer_text [] (Ok answer))))
     (λ refusal. (r ≡ Err refusal) × (written ≡ before))
-    → IsReplied g false new f (Ok (Command c)) result before written
+    → IsRepliedIn form g false new f (Ok (Command c)) result before written
 performed {T = T} g new f c r result before written performs fails text = record {
   reply = r;
   replies = may_reply f c r performs.replies;

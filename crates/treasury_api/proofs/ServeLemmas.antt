@@ -35,17 +35,19 @@ use Rattle.treasury_requests.specs.declared.request.Request.TheVariants.{Branche
 use Rattle.treasury_requests.specs.declared.request.Request.TheVariants.{Commodities as ForCommodities}
 use Rattle.treasury_requests.specs.declared.request.Request.TheVariants.{Accounts as ForAccounts}
 use Rattle.treasury_requests.specs.declared.request.Request.TheVariants.{Transfers as ForTransfers}
+use Rattle.http_request.specs.declared.call.Form.TheVariants as form
 use Rattle.treasury_api.specs.declared.asking.Asked.{Asked}
 use Rattle.treasury_api.specs.declared.asking.Asked.TheVariants.{Command, DryRun, Report}
 use Rattle.treasury_api.specs.declared.report.Report.{Report as AnyReport}
 use Rattle.treasury_requests.specs.Request.{spelled, is_report}
-use Rattle.treasury_api.specs.Asked.{AsksOf, Asks, RequestAsks, asked_by_sample, asked_by_amount, asked_by_part}
+use Rattle.treasury_api.specs.Asked.{AsksOf, Asks, RequestAsks, SpelledAsks, asked_by_sample, asked_by_amount}
+use Rattle.treasury_api.specs.Asked.{asked_by_part}
 use Rattle.treasury_api.specs.Report.{report_text, has_its_branch}
 use Rattle.treasury_api.specs.Answer.{answer_text, IsPlainAnswer}
 use Rattle.treasury_api.specs.Step.{Answers, MayReply, after, next, reply_text, is_failure}
 use Rattle.treasury_api.specs.Left.{IsOpenBut, LeavesRequest, LeavesReply}
 use Rattle.treasury_api.specs.Replied.{standing, body_of, IsLineOf, IsLineIn, Serves}
-use Rattle.treasury_api.specs.Serving.{end_of_report}
+use Rattle.treasury_api.specs.Serving.{end_of_report, OrMemory}
 use Rattle.treasury_api.specs.WebReply.{cause_of}
 use Rattle.treasury_api.specs.WebServing.{IsLineBy, IsToldBy}
 use Rattle.treasury_api.proofs.AnswerLemmas.{ReadsAll, IsAnswered, spelled_asks}
@@ -220,13 +222,13 @@ dry_run_asks styles (ForReceive id name day account part) c asks = refl
 dry_run_asks styles (ForLock name day) c asks = refl
 dry_run_asks styles (ForClose name day accounts into) c asks = refl
 
-asks_report : (failed : Bool) (styles : List Style) (request : Spelled) (c : AnyCommand)
+pub asks_report : (failed : Bool) (styles : List Style) (request : Spelled) (c : AnyCommand)
     → AsksOf failed styles request (Ok (Command c)) → is_report request.request ≡ false
 asks_report true styles request c asks = absurd cc
 asks_report false styles request c asks =
     command_asks styles request.request c (spelled_command styles request c asks)
 
-asks_dry_run : (failed : Bool) (styles : List Style) (request : Spelled) (c : AnyCommand)
+pub asks_dry_run : (failed : Bool) (styles : List Style) (request : Spelled) (c : AnyCommand)
     → AsksOf failed styles request (Ok (DryRun c)) → is_report request.request ≡ false
 asks_dry_run true styles request c asks = absurd cc
 asks_dry_run false styles request c asks = elim (spelled_dry_run styles request c asks) [
@@ -248,7 +250,7 @@ by_part : (id name account key : List ℕ) (day : Day) (r : Result (Commodity ×
 by_part id name account key day (Ok (unit, qty)) report P e = absurd cc
 by_part id name account key day (Err cause) report P e = absurd cc
 
-report_asks : (styles : List Style) (request : Request) (report : AnyReport)
+pub report_asks : (styles : List Style) (request : Request) (report : AnyReport)
     → RequestAsks styles request (Ok (Report report)) → is_report request ≡ true
 report_asks styles (ForBranch name) report asks = absurd cc
 report_asks styles (ForCommodity sample) report asks = by_sample (style_of sample) report _ asks
@@ -270,11 +272,19 @@ report_asks styles ForCommodities report asks = refl
 report_asks styles (ForAccounts name) report asks = refl
 report_asks styles (ForTransfers day) report asks = refl
 
-no_report : (failed : Bool) (styles : List Style) (request : Spelled) (report : AnyReport)
+pub no_report : (failed : Bool) (styles : List Style) (request : Spelled) (report : AnyReport)
     → AsksOf failed styles request (Ok (Report report)) → is_report request.request ≡ true
 no_report true styles request report asks = absurd cc
 no_report false styles request report asks =
     report_asks styles request.request report (spelled_report styles request report asks)
+
+-- what is asked is a report where the request is one
+pub asked_report : (styles : List Style) (request : Spelled) (asked : Asked) (report : AnyReport)
+    → asked ≡ Report report → OrMemory (SpelledAsks styles request) (Ok asked) → is_report request.request ≡ true
+asked_report styles request asked report is (inl memory) = absurd cc
+asked_report styles request asked report is (inr asks) =
+    no_report false styles request report
+    (subst (λ (x : Asked). SpelledAsks styles request (Ok x)) is asks)
 
 -- what is replied leads on
 pub leads : {S : Type 0} (old new : Treasury S) (f : Federation) (asked : Result Asked Refusal)
@@ -306,7 +316,8 @@ refused_only f failed refusal answer P (inr (inr e)) = absurd (let k = e.1 in cc
 -- the text of an answer: the line that ends a report stands behind it
 whole_text : (f : Federation) (failed : Bool) (request : Spelled) (asked : Result Asked Refusal) (answer : Answer)
     (written text : List ℕ) → AsksOf failed f.styles request asked
-    → MayReply (record { now = f; failed = failed }) asked (Ok answer) → written ≡ [] ++ body_of f asked answer
+    → MayReply (record { now = f; failed = failed }) asked (Ok answer) → written ≡ []
+    ++ body_of form.Text f asked answer
     → text ≡ written ++ end_of_report request.request → text ≡ reply_text f asked (Ok answer)
 whole_text f failed request (Ok (Command c)) answer written text asks replies said ended =
     let none : end_of_report request.request ≡ [] =
@@ -363,7 +374,8 @@ served g old new line written text request made x is ok beside answers ended = r
         × ((a : Answers (standing old f) line text (standing new end)) × LeavesReply g old new f a.asked a.reply))
     by_reply clean f of (asked, (asks, r)) =
         let told = subst (λ (m : Result (Unit {0}) Refusal).
-        MatchResult m (λ _. (answer : Answer) × ((r.reply ≡ Ok answer) × (written ≡ [] ++ body_of f asked answer)))
+        MatchResult m (λ _. (answer : Answer)
+        × ((r.reply ≡ Ok answer) × (written ≡ [] ++ body_of form.Text f asked answer)))
         (λ refusal. (r.reply ≡ Err refusal) × (written ≡ []))) ok r.text in (
           after f asked r.reply,
           (
@@ -439,7 +451,8 @@ served_memory g old new line written text request made x is ok beside answers re
         → IsAnswered g old.store.failed new f request made [] written → Told f
     by_reply clean f of (asked, (asks, r)) =
         let told = subst (λ (m : Result (Unit {0}) Refusal).
-        MatchResult m (λ _. (answer : Answer) × ((r.reply ≡ Ok answer) × (written ≡ [] ++ body_of f asked answer)))
+        MatchResult m (λ _. (answer : Answer)
+        × ((r.reply ≡ Ok answer) × (written ≡ [] ++ body_of form.Text f asked answer)))
         (λ refusal. (r.reply ≡ Err refusal) × (written ≡ []))) ok r.text in
         by_asked f asked told.0 asks (subst
         (λ (y : Result Answer Refusal). MayReply (record { now = f; failed = old.store.failed }) asked y) told.1.0
@@ -545,7 +558,8 @@ served_refusal g old new line written text request made refusal is refused besid
         → IsAnswered g old.store.failed new f request made [] written → Told f
     by_reply clean f was (asked, (asks, r)) =
         let told = subst (λ (m : Result (Unit {0}) Refusal).
-        MatchResult m (λ _. (answer : Answer) × ((r.reply ≡ Ok answer) × (written ≡ [] ++ body_of f asked answer)))
+        MatchResult m (λ _. (answer : Answer)
+        × ((r.reply ≡ Ok answer) × (written ≡ [] ++ body_of form.Text f asked answer)))
         (λ e. (r.reply ≡ Err e) × (written ≡ []))) refused r.text in
         let of : IsTreasuryOf g new f =
         subst (IsTreasuryOf g new) (sym (after_plain f asked refusal))

@@ -9,6 +9,7 @@ use Rattle.sqlite.specs.Store.{Ghosts}
 use Rattle.sqlite.specs.State.{HasCleanDisk}
 use Rattle.sqlite.specs.Held.{Held, state}
 use Rattle.http_request.specs.declared.call.Call.{Call}
+use Rattle.http_request.specs.declared.call.Form.{Form}
 use Rattle.http_request.specs.Call.{IsStopped}
 use Rattle.money_core.specs.declared.cause.Cause.{Cause}
 use Rattle.money_core.specs.declared.cause.Cause.TheVariants.{OutOfMemory, ReadFault, WriteFault}
@@ -29,9 +30,10 @@ use Rattle.treasury_api.specs.Step.{Standing, after, is_failure}
 use Rattle.treasury_api.specs.Left.{FailsWith, IsOpenBut, LeavesAsked, LeavesRequest}
 use Rattle.treasury_api.specs.Replied.{standing}
 use Rattle.treasury_api.specs.History.{command_if}
-use Rattle.treasury_api.specs.OneRequest.{AnswersRequest, RepliesOn, is_refusal, command_of}
+use Rattle.treasury_api.specs.OneRequest.{AnswersAs, RepliesAs, is_refusal, command_of}
 use Rattle.treasury_api.specs.WebReply.{status_of, status_of_number, whole_reply}
-use Rattle.treasury_api.specs.Web.{asked_by, IsNoAnswer, AnswersCall, IsOpenButFailed, AnswersOn, AnswersRead, FailsBy}
+use Rattle.treasury_api.specs.Web.{asked_by, IsNoAnswer, IsBodyIn, AnswersCall, IsOpenButFailed, AnswersOn}
+use Rattle.treasury_api.specs.Web.{IsRefusal44, AnswersRead, FailsBy}
 use Rattle.treasury_api.specs.Web.{ServesOne, AnsweredCall, AreServed, turns_of_calls, OneFails, LeavesCalls, HasServed}
 use Rattle.treasury_api.specs.WebServing.{IsToldBy}
 use Rattle.treasury_api.proofs.ReplyLemmas.{state_is, refusal_is, failure_is}
@@ -95,9 +97,9 @@ open_but_failed {S = S} g old new result refusal cause status text is told code 
 -- ---- a call
 
 -- one that asks nothing
-pub nothing_answered : {S : Type 0} (g : Ghosts S) (t : Treasury S) (call : Call) (status : ℕ) (body : List ℕ)
-    → asked_by call ≡ None → IsNoAnswer call status body → AnswersOn g t call status body t
-nothing_answered g t call status body none said =
+pub nothing_answered : {S : Type 0} (g : Ghosts S) (t : Treasury S) (form : Form) (call : Call) (status : ℕ)
+    (body : List ℕ) → asked_by call ≡ None → IsNoAnswer form call status body → AnswersOn g t form call status body t
+nothing_answered g t form call status body none said =
     record {
       clean = λ k. k;
       answers = λ k f of. (f, (of, inl (none, said, refl)));
@@ -108,20 +110,30 @@ nothing_answered g t call status body none said =
     }
 
 -- the same of the reply that was made
-pub told_nothing : {S : Type 0} (g : Ghosts S) (t : Treasury S) (call : Call) (status code : ℕ) (body text : List ℕ)
-    → status ≡ code → body ≡ text → (asked_by call ≡ None) × IsNoAnswer call code text
-    → AnswersOn g t call status body t
-told_nothing g t call status code body text is said (none, told) =
-    nothing_answered g t call status body none
-    (subst (λ (n : ℕ). IsNoAnswer call n body) (sym is) (subst (IsNoAnswer call code) (sym said) told))
+pub told_nothing : {S : Type 0} (g : Ghosts S) (t : Treasury S) (form : Form) (call : Call) (status code : ℕ)
+    (body text : List ℕ) → status ≡ code → body ≡ text
+    → (asked_by call ≡ None) × ((form : Form) → IsNoAnswer form call code text) → AnswersOn g t form call status body t
+told_nothing g t form call status code body text is said (none, told) =
+    nothing_answered g t form call status body none
+    (subst (λ (n : ℕ). IsNoAnswer form call n body) (sym is)
+    (subst (IsNoAnswer form call code) (sym said) (told form)))
+
+-- one that is no request
+pub told_unasked : {S : Type 0} (g : Ghosts S) (t : Treasury S) (form : Form) (call : Call) (status : ℕ) (body : List ℕ)
+    → status ≡ 400 → IsRefusal44 form body
+    → (asked_by call ≡ None) × ((form : Form) (body : List ℕ) → IsRefusal44 form body → IsNoAnswer form call 400 body)
+    → AnswersOn g t form call status body t
+told_unasked g t form call status body is said (none, told) =
+    nothing_answered g t form call status body none
+    (subst (λ (n : ℕ). IsNoAnswer form call n body) (sym is) (told form body said))
 
 -- one that asks for a request
-pub request_answered : {S : Type 0} (g : Ghosts S) (old new : Treasury S) (call : Call) (request : Spelled) (status : ℕ)
-    (body : List ℕ) → asked_by call ≡ Some request
-    → RepliesOn g old request body (λ (reply : Result Answer Refusal). status ≡ status_of reply) new
+pub request_answered : {S : Type 0} (g : Ghosts S) (old new : Treasury S) (form : Form) (call : Call)
+    (request : Spelled) (status : ℕ) (body : List ℕ) → asked_by call ≡ Some request
+    → RepliesAs g old request (IsBodyIn form body) (λ (reply : Result Answer Refusal). status ≡ status_of reply) new
     → LeavesRequest g old new request → IsOpenButFailed g old status new → ShutsByFault g old.store.conn new.store.conn
-    → (IsTrue old.store.failed → new ≡ old) → AnswersOn g old call status body new
-request_answered g old new call request status body asks replies left open_but shuts closed = record {
+    → (IsTrue old.store.failed → new ≡ old) → AnswersOn g old form call status body new
+request_answered g old new form call request status body asks replies left open_but shuts closed = record {
   clean = replies.clean;
   answers = λ k f of. let r = replies.answers k f of in (r.0, (r.1.0, inr (request, asks, r.1.1)));
   left = subst (λ (o : Option Spelled). MatchOption o (new ≡ old) (LeavesRequest g old new)) (sym asks) left;
@@ -133,13 +145,14 @@ request_answered g old new call request status body asks replies left open_but s
 -- ---- calls one after another
 
 -- a request that is answered, whether or not a call of the database has failed, and commands behind it
-request_run_of : (failed : Bool) (f : Federation) (request : Spelled) (text : List ℕ) (reply : Result Answer Refusal)
-    (t : Standing) (turns : List Turn) (end : Federation)
-    → (answers : AnswersRequest (record { now = f; failed = failed }) request text reply t) → IsRunTo t.now turns end
+request_run_of : (failed : Bool) (f : Federation) (request : Spelled)
+    (Says : Result Asked Refusal → Result Answer Refusal → Type 0) (reply : Result Answer Refusal) (t : Standing)
+    (turns : List Turn) (end : Federation)
+    → (answers : AnswersAs (record { now = f; failed = failed }) request Says reply t) → IsRunTo t.now turns end
     → IsRunTo f (command_of answers ++ turns) end
-request_run_of false f request text reply t turns end answers rest =
-    request_run f request text reply t turns end answers rest
-request_run_of true f request text reply t turns end answers rest =
+request_run_of false f request Says reply t turns end answers rest =
+    request_run f request Says reply t turns end answers rest
+request_run_of true f request Says reply t turns end answers rest =
     let left : t.now ≡ f = ap (λ (s : Standing). s.now) answers.left ∙ ap
     (λ (asked : Result Asked Refusal). after f asked reply) answers.asks in
     subst (λ (asked : Result Asked Refusal). IsRunTo f (command_if asked reply ++ turns) end) (sym answers.asks)
@@ -152,17 +165,18 @@ calls_run start [] end same = (tt, ap (λ (s : Standing). s.now) same)
 calls_run start (c ∷ cs) end (mid, inl (none, answer, left), rest) =
     subst (λ (s : Standing). IsRunTo s.now (turns_of_calls mid cs end rest) end.now) left (calls_run mid cs end rest)
 calls_run start (c ∷ cs) end (mid, inr (request, asks, (reply, (answers, told))), rest) =
-    request_run_of start.failed start.now request c.body reply mid (turns_of_calls mid cs end rest) end.now answers
+    request_run_of start.failed start.now request (IsBodyIn c.form c.body start.now) reply mid
+    (turns_of_calls mid cs end rest) end.now answers
     (calls_run mid cs end rest)
 
 -- behind a call of the database that failed a call leaves the state
-closed_leaves : (failed : Bool) (f : Federation) (call : Call) (status : ℕ) (body : List ℕ) (t : Standing)
-    → failed ≡ true → AnswersCall (record { now = f; failed = failed }) call status body t
+closed_leaves : (failed : Bool) (f : Federation) (form : Form) (call : Call) (status : ℕ) (body : List ℕ)
+    (t : Standing) → failed ≡ true → AnswersCall (record { now = f; failed = failed }) form call status body t
     → (t.now ≡ f) × (t.failed ≡ true)
-closed_leaves false f call status body t is answered = absurd cc
-closed_leaves true f call status body t is (inl (none, answer, left)) =
+closed_leaves false f form call status body t is answered = absurd cc
+closed_leaves true f form call status body t is (inl (none, answer, left)) =
     (ap (λ (s : Standing). s.now) left, ap (λ (s : Standing). s.failed) left)
-closed_leaves true f call status body t is (inr (request, asks, (reply, (answers, told)))) = (
+closed_leaves true f form call status body t is (inr (request, asks, (reply, (answers, told)))) = (
   ap (λ (s : Standing). s.now) answers.left ∙ ap (λ (asked : Result Asked Refusal). after f asked reply) answers.asks,
   ap (λ (s : Standing). s.failed) answers.left,
 )
@@ -171,7 +185,7 @@ calls_leave : (s : Standing) (calls : List AnsweredCall) (end : Standing) → s.
     → end.now ≡ s.now
 calls_leave s [] end failed same = ap (λ (x : Standing). x.now) same
 calls_leave s (c ∷ cs) end failed (mid, answers, rest) =
-    let stays = closed_leaves s.failed s.now c.call c.status c.body mid failed answers in
+    let stays = closed_leaves s.failed s.now c.form c.call c.status c.body mid failed answers in
     calls_leave mid cs end stays.1 rest ∙ stays.0
 
 -- a reply of another status leaves the state
@@ -180,11 +194,11 @@ refuses : (status : ℕ) (reply : Result Answer Refusal) → status ≡ status_o
 refuses status (Ok answer) is other = absurd (other is)
 refuses status (Err refusal) is other = refl
 
-pub refused_leaves : (s : Standing) (call : Call) (status : ℕ) (body : List ℕ) (t : Standing)
-    → AnswersCall s call status body t → status ≢ 200 → t.now ≡ s.now
-refused_leaves s call status body t (inl (none, answer, left)) other = ap (λ (x : Standing). x.now) left
-refused_leaves s call status body t (inr (request, asks, (reply, (answers, told)))) other =
-    request_leaves s request body reply t answers (refuses status reply told other)
+pub refused_leaves : (s : Standing) (form : Form) (call : Call) (status : ℕ) (body : List ℕ) (t : Standing)
+    → AnswersCall s form call status body t → status ≢ 200 → t.now ≡ s.now
+refused_leaves s form call status body t (inl (none, answer, left)) other = ap (λ (x : Standing). x.now) left
+refused_leaves s form call status body t (inr (request, asks, (reply, (answers, told)))) other =
+    request_leaves s request (IsBodyIn form body s.now) reply t answers (refuses status reply told other)
 
 -- ---- a call that failed
 
@@ -198,7 +212,7 @@ one_fails_or Rows Leads s (c ∷ cs) end (mid, inl nothing, rest) fails = one_fa
 one_fails_or Rows Leads s (c ∷ cs) end (mid, inr (request, asks, (reply, (answers, told))), rest)
     (inl (failed, inl same)) =
     let here : mid.now ≡ s.now =
-    request_leaves s request c.body reply mid answers (ap is_refusal failed) in
+    request_leaves s request (IsBodyIn c.form c.body s.now) reply mid answers (ap is_refusal failed) in
     let since : mid.failed ≡ true =
     ap (λ (x : Standing). x.failed) answers.left ∙ (ap (λ (r : Result Answer Refusal). s.failed || is_failure r) failed
     ∙ or-true s.failed) in
@@ -245,13 +259,15 @@ ends_unread g r0 r1 contents w old new cause memory same =
 
 -- its reply is cut off
 pub ends_torn : {S W : Type 0} (g : Ghosts S) (r0 r1 : Option (List ℕ)) (contents : W → Option (List ℕ)) (w0 w1 : W)
-    (old new : Treasury S) (cause : Cause) (status : ℕ) (body : List ℕ) → AnswersRead g r0 r1 old status body new
-    → (cause ≡ WriteFault) × ((taken : ℕ) × (taken < length (whole_reply status body))
-    × Appends (contents w0) (contents w1) (take taken (whole_reply status body)))
+    (old new : Treasury S) (cause : Cause) (form : Form) (status : ℕ) (body : List ℕ)
+    → AnswersRead g r0 r1 old form status body new
+    → (cause ≡ WriteFault) × ((taken : ℕ) × (taken < length (whole_reply form status body))
+    × Appends (contents w0) (contents w1) (take taken (whole_reply form status body)))
     → FailsBy cause g r0 r1 contents w0 w1 old new
-ends_torn g r0 r1 contents w0 w1 old new cause status body answered (write, (taken, part, written)) =
+ends_torn g r0 r1 contents w0 w1 old new cause form status body answered (write, (taken, part, written)) =
     subst (λ (x : Cause). FailsBy x g r0 r1 contents w0 w1 old new) (sym write)
     (record {
+      form = form;
       status = status;
       body = body;
       taken = taken;
@@ -272,11 +288,11 @@ has_served_none g t = record {
 }
 
 -- one that is answered
-module _ {S : Type 0} (g : Ghosts S) (old new : Treasury S) (call : Call) (status : ℕ) (body : List ℕ)
-    (on : AnswersOn g old call status body new) where
+module _ {S : Type 0} (g : Ghosts S) (old new : Treasury S) (form : Form) (call : Call) (status : ℕ) (body : List ℕ)
+    (on : AnswersOn g old form call status body new) where
   call_leaves : (f e : Federation) → HasCleanDisk (state g new.store.conn) → IsTreasuryOf g old f
-      → (answered : AnswersCall (standing old f) call status body (standing new e))
-      → LeavesCalls g old new (standing old f) (record { call = call; status = status; body = body } ∷ [])
+      → (answered : AnswersCall (standing old f) form call status body (standing new e))
+      → LeavesCalls g old new (standing old f) (record { form = form; call = call; status = status; body = body } ∷ [])
       (standing new e) (standing new e, answered, refl)
   call_leaves f e clean of (inl (none, answer, left)) is_open unfailed =
       let same : new ≡ old = subst (λ (o : Option Spelled). MatchOption o (new ≡ old) (LeavesRequest g old new)) none
@@ -297,7 +313,7 @@ module _ {S : Type 0} (g : Ghosts S) (old new : Treasury S) (call : Call) (statu
           → IsTrue (state g new.store.conn).is_open ⊎ ((status ≡ 503) × IsTrue new.store.failed)
           → (IsTrue (state g new.store.conn).is_open × (new.store.failed ≡ false))
           ⊎ (IsTrue new.store.failed × OneFails (LeavesAsked g new.store.conn) (standing old f)
-          (record { call = call; status = status; body = body } ∷ []) (standing new e)
+          (record { form = form; call = call; status = status; body = body } ∷ []) (standing new e)
           (standing new e, inr (request, asks, (reply, (answers, told))), refl))
       by_open is (inl still) = inl (still, is)
       by_open is (inr failed) = absurd (let clash : true ≡ false = sym failed.1 ∙ is in cc)
@@ -305,7 +321,7 @@ module _ {S : Type 0} (g : Ghosts S) (old new : Treasury S) (call : Call) (statu
       by_failed : (failed : Bool) → new.store.failed ≡ failed
           → (IsTrue (state g new.store.conn).is_open × (new.store.failed ≡ false))
           ⊎ (IsTrue new.store.failed × OneFails (LeavesAsked g new.store.conn) (standing old f)
-          (record { call = call; status = status; body = body } ∷ []) (standing new e)
+          (record { form = form; call = call; status = status; body = body } ∷ []) (standing new e)
           (standing new e, inr (request, asks, (reply, (answers, told))), refl))
       by_failed true is =
           inr (is, inl (failing is, left clean is_open f of answers.asked answers.asks))
@@ -313,7 +329,7 @@ module _ {S : Type 0} (g : Ghosts S) (old new : Treasury S) (call : Call) (statu
 
   served_call : HasServed g old new
   served_call = record {
-    calls = record { call = call; status = status; body = body } ∷ [];
+    calls = record { form = form; call = call; status = status; body = body } ∷ [];
     clean = on.clean;
     served = λ k f of.
         let r = on.answers k f of in
@@ -321,9 +337,10 @@ module _ {S : Type 0} (g : Ghosts S) (old new : Treasury S) (call : Call) (statu
     closed = on.closed;
   }
 
-served_read : {S : Type 0} (g : Ghosts S) (r0 r1 : Option (List ℕ)) (old new : Treasury S) (status : ℕ) (body : List ℕ)
-    → AnswersRead g r0 r1 old status body new → HasServed g old new
-served_read g r0 r1 old new status body read = served_call g old new read.call status body read.answers
+served_read : {S : Type 0} (g : Ghosts S) (r0 r1 : Option (List ℕ)) (old new : Treasury S) (form : Form) (status : ℕ)
+    (body : List ℕ) → AnswersRead g r0 r1 old form status body new → HasServed g old new
+served_read g r0 r1 old new form status body read =
+    served_call g old new read.received.form read.received.call status body read.answers
 
 served_failed : {S W : Type 0} (g : Ghosts S) (cause : Cause) (r0 r1 : Option (List ℕ)) (contents : W → Option (List ℕ))
     (w0 w1 : W) (old new : Treasury S) → FailsBy cause g r0 r1 contents w0 w1 old new → HasServed g old new
@@ -332,7 +349,7 @@ served_failed g OutOfMemory r0 r1 contents w0 w1 old new fails =
 served_failed g ReadFault r0 r1 contents w0 w1 old new fails =
     subst (λ (t : Treasury _). HasServed g old t) (sym fails.2) (has_served_none g old)
 served_failed g WriteFault r0 r1 contents w0 w1 old new fails =
-    served_read g r0 r1 old new fails.status fails.body fails.answered
+    served_read g r0 r1 old new fails.form fails.status fails.body fails.answered
 served_failed g _ r0 r1 contents w0 w1 old new fails = absurd fails
 
 -- one, however it ends
@@ -340,7 +357,7 @@ pub has_served_one : {T S R W : Type 0} (result : Result T Cause) (g : Ghosts S)
     (r0 r1 : R) (contents : W → Option (List ℕ)) (w0 w1 : W) (old new : Treasury S)
     → ServesOne result g remaining r0 r1 contents w0 w1 old new → HasServed g old new
 has_served_one (Ok x) g remaining r0 r1 contents w0 w1 old new served =
-    served_read g (remaining r0) (remaining r1) old new served.status served.body served.answered
+    served_read g (remaining r0) (remaining r1) old new served.form served.status served.body served.answered
 has_served_one (Err cause) g remaining r0 r1 contents w0 w1 old new fails =
     served_failed g cause (remaining r0) (remaining r1) contents w0 w1 old new fails
 

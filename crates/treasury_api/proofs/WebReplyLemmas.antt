@@ -6,55 +6,66 @@ use Rattle.std.proofs.Math.Seq.{take-add}
 use Rattle.std.proofs.KnownBytes.{Appends-trans}
 use Rattle.std.specs.Io.KnownBytes.{Appends}
 use Rattle.http.specs.StatusCode.{code_digits}
+use Rattle.http_request.specs.declared.call.Form.{Form}
+use Rattle.http_request.specs.declared.call.Form.TheVariants as form
 use Rattle.treasury_api.specs.declared.web.status.Status.{Status}
 use Rattle.treasury_api.specs.declared.web.status.Status.TheVariants.{Done, BadRequest, Forbidden, NotFound, Conflict}
 use Rattle.treasury_api.specs.declared.web.status.Status.TheVariants.{Unprocessable, Internal, Unavailable}
-use Rattle.treasury_api.specs.WebReply.{reason_of, reply_head, whole_reply}
+use Rattle.treasury_api.specs.WebReply.{reason_of, type_of, reply_head, whole_reply}
 use Rattle.treasury_api.specs.WebServing.{code_of}
 
 -- ---- the head
 
 -- its pieces, as they are appended
-abbrev pub pieces : List ℕ → List ℕ → List ℕ → List ℕ
-pieces digits reason bytes =
+abbrev pub pieces : List ℕ → List ℕ → List ℕ → List ℕ → List ℕ
+pieces digits reason type bytes =
     codes "HTTP/1.1 " ++ (digits ++ (codes " "
-    ++ (reason ++ (codes "\r\nContent-Type: text/plain; charset=utf-8\r\nContent-Length: "
-    ++ (bytes ++ (codes "\r\nConnection: close\r\n\r\n" ++ []))))))
+    ++ (reason ++ (codes "\r\nContent-Type: "
+    ++ (type ++ (codes "\r\nContent-Length: "
+    ++ (bytes ++ (codes "\r\nConnection: close\r\n\r\n" ++ []))))))))
 
-regroup : (h a s b x1 x2 x3 c y1 y2 y3 : List ℕ)
-    → h ++ (a ++ (s ++ (b ++ ((x1 ++ (x2 ++ x3)) ++ (c ++ ((y1 ++ (y2 ++ y3)) ++ []))))))
-    ≡ h ++ a ++ s ++ b ++ x1 ++ x2 ++ x3 ++ c ++ y1 ++ y2 ++ y3
-regroup h a s b x1 x2 x3 c y1 y2 y3 = simp (append_assoc, append-nil)
+regroup : (h a s b x1 x2 k x3 x4 c y1 y2 y3 : List ℕ)
+    → h ++ (a ++ (s ++ (b ++ ((x1 ++ x2) ++ (k ++ ((x3 ++ x4) ++ (c ++ ((y1 ++ (y2 ++ y3)) ++ []))))))))
+    ≡ h ++ a ++ s ++ b ++ x1 ++ x2 ++ k ++ x3 ++ x4 ++ c ++ y1 ++ y2 ++ y3
+regroup h a s b x1 x2 k x3 x4 c y1 y2 y3 = simp (append_assoc, append-nil)
 
-pieces_are : (digits reason bytes : List ℕ) (status size : ℕ) → digits ≡ code_digits status → reason ≡ reason_of status
-    → bytes ≡ decimal size → pieces digits reason bytes ≡ reply_head status size
-pieces_are digits reason bytes status size d r b =
-    ap (λ (x : List ℕ). pieces x reason bytes) d ∙
-    (ap (λ (x : List ℕ). pieces (code_digits status) x bytes) r ∙
-    (ap (λ (x : List ℕ). pieces (code_digits status) (reason_of status) x) b
+pieces_are : (digits reason type bytes : List ℕ) (form : Form) (status size : ℕ) → digits ≡ code_digits status
+    → reason ≡ reason_of status → type ≡ type_of form → bytes ≡ decimal size
+    → pieces digits reason type bytes ≡ reply_head form status size
+pieces_are digits reason type bytes form status size d r k b =
+    ap (λ (x : List ℕ). pieces x reason type bytes) d ∙
+    (ap (λ (x : List ℕ). pieces (code_digits status) x type bytes) r ∙
+    (ap (λ (x : List ℕ). pieces (code_digits status) (reason_of status) x bytes) k ∙
+    (ap (λ (x : List ℕ). pieces (code_digits status) (reason_of status) (type_of form) x) b
     ∙ regroup (codes "HTTP/1.1 ") (code_digits status) (codes " ") (reason_of status) (codes "\r\n")
-    (codes "Content-Type: text/plain; charset=utf-8\r\n") (codes "Content-Length: ") (decimal size) (codes "\r\n")
-    (codes "Connection: close\r\n") (codes "\r\n")))
+    (codes "Content-Type: ") (type_of form) (codes "\r\n") (codes "Content-Length: ") (decimal size) (codes "\r\n")
+    (codes "Connection: close\r\n") (codes "\r\n"))))
 
-pub head_appended : {T E : Type 0} (result : Result T E) (old new digits reason bytes : List ℕ) (status size : ℕ)
-    → digits ≡ code_digits status → reason ≡ reason_of status → bytes ≡ decimal size
-    → OnOk result (new ≡ old ++ pieces digits reason bytes) → OnOk result (new ≡ old ++ reply_head status size)
-head_appended (Ok x) old new digits reason bytes status size d r b told =
-    told ∙ ap (λ (t : List ℕ). old ++ t) (pieces_are digits reason bytes status size d r b)
-head_appended (Err e) old new digits reason bytes status size d r b told = tt
+pub head_appended : {T E : Type 0} (result : Result T E) (old new digits reason type bytes : List ℕ) (form : Form)
+    (status size : ℕ)
+    → digits ≡ code_digits status → reason ≡ reason_of status → type ≡ type_of form → bytes ≡ decimal size
+    → OnOk result (new ≡ old ++ pieces digits reason type bytes)
+    → OnOk result (new ≡ old ++ reply_head form status size)
+head_appended (Ok x) old new digits reason type bytes form status size d r k b told =
+    told ∙ ap (λ (t : List ℕ). old ++ t) (pieces_are digits reason type bytes form status size d r k b)
+head_appended (Err e) old new digits reason type bytes form status size d r k b told = tt
 
-total : (h a s b m c l : List ℕ)
-    → length (h ++ (a ++ (s ++ (b ++ (m ++ (c ++ (l ++ [])))))))
-    ≡ length h + (length a + (length s + (length b + (length m + (length c + length l)))))
-total h a s b m c l = simp (length-append, append-nil)
+total : (h a s b m k n c l : List ℕ)
+    → length (h ++ (a ++ (s ++ (b ++ (m ++ (k ++ (n ++ (c ++ (l ++ [])))))))))
+    ≡ length h + (length a + (length s + (length b + (length m + (length k + (length n + (length c + length l)))))))
+total h a s b m k n c l = simp (length-append, append-nil)
 
-pub head_fits : (n cap : ℕ) (digits reason bytes : List ℕ) → length digits ≡ 3 → length reason ≤ 21 → length bytes ≤ 40
-    → n + 192 ≤ cap → n + length (pieces digits reason bytes) ≤ cap
-head_fits n cap digits reason bytes d r b fits =
-    let e = total (codes "HTTP/1.1 ") digits (codes " ") reason
-    (codes "\r\nContent-Type: text/plain; charset=utf-8\r\nContent-Length: ") bytes
-    (codes "\r\nConnection: close\r\n\r\n") in
+pub head_fits : (n cap : ℕ) (digits reason type bytes : List ℕ) → length digits ≡ 3 → length reason ≤ 21
+    → length type ≤ 25 → length bytes ≤ 40
+    → n + 192 ≤ cap → n + length (pieces digits reason type bytes) ≤ cap
+head_fits n cap digits reason type bytes d r k b fits =
+    let e = total (codes "HTTP/1.1 ") digits (codes " ") reason (codes "\r\nContent-Type: ") type
+    (codes "\r\nContent-Length: ") bytes (codes "\r\nConnection: close\r\n\r\n") in
     omega (arith, e)
+
+pub type_short : (f : Form) → length (type_of f) ≤ 25
+type_short form.Text = omega arith
+type_short form.Json = omega arith
 
 pub reason_short : (s : Status) → length (reason_of (code_of s)) ≤ 21
 reason_short Done = omega arith
@@ -94,25 +105,26 @@ torn_body a b c taken head body first less part = (
       (Appends-trans a b c head (take taken body) first part),
 )
 
-module _ (status : ℕ) (body : List ℕ) where
-  pub head_torn : (a b : Option (List ℕ)) (taken : ℕ) (slice : List ℕ) → slice ≡ reply_head status (length body)
+module _ (form : Form) (status : ℕ) (body : List ℕ) where
+  pub head_torn : (a b : Option (List ℕ)) (taken : ℕ) (slice : List ℕ) → slice ≡ reply_head form status (length body)
       → taken < length slice → Appends a b (take taken slice)
-      → (n : ℕ) × (n < length (whole_reply status body)) × Appends a b (take n (whole_reply status body))
+      → (n : ℕ) × (n < length (whole_reply form status body)) × Appends a b (take n (whole_reply form status body))
   head_torn a b taken slice is less part =
-      torn_head a b taken (reply_head status (length body)) body
+      torn_head a b taken (reply_head form status (length body)) body
       (subst (λ (t : List ℕ). taken < length t) is less)
       (subst (λ (t : List ℕ). Appends a b (take taken t)) is part)
 
-  pub body_torn : (a b c : Option (List ℕ)) (taken : ℕ) (slice text : List ℕ) → slice ≡ reply_head status (length body)
+  pub body_torn : (a b c : Option (List ℕ)) (taken : ℕ) (slice text : List ℕ) → slice
+      ≡ reply_head form status (length body)
       → text ≡ body → Appends a b slice → taken < length text → Appends b c (take taken text)
-      → (n : ℕ) × (n < length (whole_reply status body)) × Appends a c (take n (whole_reply status body))
+      → (n : ℕ) × (n < length (whole_reply form status body)) × Appends a c (take n (whole_reply form status body))
   body_torn a b c taken slice text is same first less part =
-      torn_body a b c taken (reply_head status (length body)) body (subst (λ (t : List ℕ). Appends a b t) is first)
+      torn_body a b c taken (reply_head form status (length body)) body (subst (λ (t : List ℕ). Appends a b t) is first)
       (subst (λ (t : List ℕ). taken < length t) same less)
       (subst (λ (t : List ℕ). Appends b c (take taken t)) same part)
 
-  pub both_written : (a b c : Option (List ℕ)) (slice text : List ℕ) → slice ≡ reply_head status (length body)
-      → text ≡ body → Appends a b slice → Appends b c text → Appends a c (whole_reply status body)
+  pub both_written : (a b c : Option (List ℕ)) (slice text : List ℕ) → slice ≡ reply_head form status (length body)
+      → text ≡ body → Appends a b slice → Appends b c text → Appends a c (whole_reply form status body)
   both_written a b c slice text is same first second =
-      Appends-trans a b c (reply_head status (length body)) body (subst (λ (t : List ℕ). Appends a b t) is first)
+      Appends-trans a b c (reply_head form status (length body)) body (subst (λ (t : List ℕ). Appends a b t) is first)
       (subst (λ (t : List ℕ). Appends b c t) same second)

@@ -1,5 +1,5 @@
 -- Statuses and replies, worked out by hand.
-use Rattle.std.specs.Prelude.{◌≡◌, ℕ, Ok, Err, None, Some, codes, refl, true, false}
+use Rattle.std.specs.Prelude.{◌≡◌, ℕ, List, [], Ok, Err, None, Some, codes, refl, true, false}
 use Rattle.money_core.specs.declared.day.Day.{Day}
 use Rattle.std.specs.Fmt.{digits}
 use Rattle.money_core.specs.declared.cause.Cause.TheVariants as cause
@@ -10,7 +10,11 @@ use Rattle.treasury_requests.specs.declared.request.Request.TheVariants as askin
 use Rattle.treasury_requests.specs.Request.{in_earnest}
 use Rattle.treasury_api.specs.BranchCommand.{is_command_of}
 use Rattle.treasury_api.specs.Web.{asked_by, only_of}
-use Rattle.treasury_api.specs.WebReply.{status_of, whole_reply}
+use Rattle.treasury_api.specs.WebReply.{status_of, form_of_reply, whole_reply}
+use Rattle.treasury_api.specs.JsonReply.{reply_json}
+use Rattle.json_text.specs.JsonText.{escaped, lines_of}
+use Rattle.treasury_told.specs.Sentence.{sentence_of}
+use Rattle.http_request.specs.declared.call.Form.TheVariants as form
 
 -- the table of statuses, at the ends of its rows
 pub done : (n m : ℕ) → (status_of (Ok Done) ≡ 200) × (status_of (Ok (Entered n m)) ≡ 200)
@@ -37,12 +41,12 @@ pub unavailable : (status_of (Err (Plain cause.OutOfMemory)) ≡ 503) × (status
 unavailable = (refl, refl, refl)
 
 -- a whole reply
-pub not_found : whole_reply 404 (codes "not found\n")
+pub not_found : whole_reply form.Text 404 (codes "not found\n")
     ≡ codes "HTTP/1.1 404 Not Found\r\nContent-Type: text/plain; charset=utf-8\r\nContent-Length: 10\r\nConnection: close\r\n\r\nnot found\n"
 unfolding digits
 not_found = refl
 
-pub forbidden : whole_reply 403 (codes "forbidden\n")
+pub forbidden : whole_reply form.Text 403 (codes "forbidden\n")
     ≡ codes "HTTP/1.1 403 Forbidden\r\nContent-Type: text/plain; charset=utf-8\r\nContent-Length: 10\r\nConnection: close\r\n\r\nforbidden\n"
 unfolding digits
 forbidden = refl
@@ -80,3 +84,24 @@ pub by_routes : (day : Day)
     × (only_of None (Some (in_earnest (asking.Lock (codes "north") day)))
     ≡ Some (in_earnest (asking.Lock (codes "north") day)))
 by_routes day = (refl, refl, refl)
+
+-- a whole reply in JSON; 403 and 404 are text, whatever is asked for
+pub in_json : whole_reply form.Json 200 (codes "{}\n")
+    ≡ codes "HTTP/1.1 200 OK\r\nContent-Type: application/json\r\nContent-Length: 3\r\nConnection: close\r\n\r\n{}\n"
+unfolding digits
+in_json = refl
+
+pub in_text : (form_of_reply form.Json 403 ≡ form.Text) × (form_of_reply form.Json 404 ≡ form.Text)
+    × (form_of_reply form.Json 400 ≡ form.Json) × (form_of_reply form.Text 200 ≡ form.Text)
+in_text = (refl, refl, refl, refl)
+
+-- an answer, with what is noted of it; and a refusal, with what is told
+pub noted : reply_json [] (Ok (Entered 1 0)) [] (codes "note: a\nnote: b\n")
+    ≡ codes "{\"answer\":\"ok 1 new, 0 repeated\",\"told\":[],\"notes\":[\"note: a\",\"note: b\"]}\n"
+unfolding digits escaped lines_of
+noted = refl
+
+pub told : reply_json [] (Err (Plain cause.UnknownBranch)) (codes "treasury: \"x\"\n") []
+    ≡ codes "{\"answer\":\"refused 20 UnknownBranch\",\"number\":\"20\",\"name\":\"UnknownBranch\",\"sentence\":\"there is no branch of that name\",\"told\":[\"treasury: \\\"x\\\"\"],\"notes\":[]}\n"
+unfolding digits escaped lines_of sentence_of
+told = refl

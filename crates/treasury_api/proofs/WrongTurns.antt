@@ -7,6 +7,7 @@ use Rattle.std.specs.Prelude.{IsTrue, codes}
 use Rattle.money_core.specs.declared.cause.Cause.TheVariants.{OutOfMemory}
 use Rattle.book_core.specs.declared.refusal.Refusal.{Refusal}
 use Rattle.book_core.specs.declared.refusal.Refusal.TheVariants.{Plain}
+use Rattle.http_request.specs.declared.call.Form.TheVariants as form
 use Rattle.http_request.specs.declared.call.Call.TheVariants.{Command as CalledCommand}
 use Rattle.treasury_core.specs.declared.command.Answer.{Answer}
 use Rattle.treasury_core.specs.declared.command.Command.{Command as AnyCommand}
@@ -194,7 +195,12 @@ others_in_place start calls end served good has =
 -- over nothing a branch is called for, and memory runs out
 abbrev pub refused_call : List ℕ → AnsweredCall
 refused_call body =
-    record { call = CalledCommand None body; status = 503; body = answer_text [] (Err (Plain OutOfMemory)) }
+    record {
+      form = form.Text;
+      call = CalledCommand None body;
+      status = 503;
+      body = answer_text [] (Err (Plain OutOfMemory));
+    }
 
 abbrev pub end_of_call : Standing
 end_of_call = next at_first (Ok (Command (cmd.Branch (codes "north")))) (Err (Plain OutOfMemory))

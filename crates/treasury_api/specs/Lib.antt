@@ -12,6 +12,7 @@ pub mod Replied
 pub mod OneRequest
 pub mod Kept
 pub mod WebReply
+pub mod JsonReply
 pub mod BranchCommand
 pub mod Web
 -- What mirrors code, for private clauses: nobody has to believe it

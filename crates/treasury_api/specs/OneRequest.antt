@@ -33,31 +33,48 @@ abbrev pub is_refusal : Result Answer Refusal → Bool
 is_refusal (Ok answer) = false
 is_refusal (Err refusal) = true
 
--- The request is answered with a text by this reply, and leads on: by what it asks, what may be replied to that, and
--- what the reply leaves. How else the reply is told, as by an exit status or by a status of HTTP, is for the reader of
--- it to say.
-pub record AnswersRequest (s : Standing) (request : Spelled) (said : List ℕ) (reply : Result Answer Refusal)
-    (t : Standing) : Type 0 where
+-- The request is answered by this reply, and leads on: by what it asks, what may be replied to that, and what the reply
+-- leaves. Of what is asked and replied holds what `Says` has it, as that a text is the reply's. How else the reply is
+-- told, as by an exit status or by a status of HTTP, is for the reader of it to say.
+pub record AnswersAs (s : Standing) (request : Spelled) (Says : Result Asked Refusal → Result Answer Refusal → Type 0)
+    (reply : Result Answer Refusal) (t : Standing) : Type 0 where
   pub asked : Result Asked Refusal
   pub days : HasDayNumbers request.request
   pub asks : AsksOf s.failed s.now.styles request asked
   pub replies : MayReply s asked reply
-  pub text : said ≡ request_text s.now asked reply
+  pub text : Says asked reply
   pub left : t ≡ next s asked reply
+
+-- the same with the text of the reply
+abbrev pub AnswersRequest : Standing → Spelled → List ℕ → Result Answer Refusal → Standing → Type 0
+AnswersRequest s request said reply t =
+    AnswersAs s request (λ (asked : Result Asked Refusal) (r : Result Answer Refusal). said
+    ≡ request_text s.now asked r)
+    reply t
 
 -- the command of a request that is answered so, with its reply; none where it is answered 41, or where a dry run or a
 -- report is asked for, or nothing
-abbrev pub command_of : {s : Standing} {request : Spelled} {said : List ℕ} {reply : Result Answer Refusal}
-    {t : Standing}
-    → AnswersRequest s request said reply t → List Turn
+abbrev pub command_of : {s : Standing} {request : Spelled} {Says : Result Asked Refusal → Result Answer Refusal
+    → Type 0}
+    {reply : Result Answer Refusal} {t : Standing} → AnswersAs s request Says reply t → List Turn
 command_of {reply = reply} answers = command_if answers.asked reply
 
 -- What a request makes of a treasury: of whichever state it is, while the disk returns what was written, the request is
--- answered by a reply, which is told as `Tells` has it, and the treasury is of the state where that leads.
-pub record RepliesOn {S : Type 0} (g : Ghosts S) (old : Treasury S) (request : Spelled) (said : List ℕ)
+-- answered by a reply, of which holds what `Says` has it in that state, and which is told as `Tells` has it; and the
+-- treasury is of the state where that leads.
+pub record RepliesAs {S : Type 0} (g : Ghosts S) (old : Treasury S) (request : Spelled)
+    (Says : Federation → Result Asked Refusal → Result Answer Refusal → Type 0)
     (Tells : Result Answer Refusal → Type 0) (new : Treasury S) : Type 0 where
   pub clean : HasCleanDisk (state g new.store.conn) → HasCleanDisk (state g old.store.conn)
   pub answers : HasCleanDisk (state g new.store.conn) → (f : Federation) → IsTreasuryOf g old f
       → (end : Federation) × (IsTreasuryOf g new end
       × ((reply : Result Answer Refusal)
-      × (AnswersRequest (standing old f) request said reply (standing new end) × Tells reply)))
+      × (AnswersAs (standing old f) request (Says f) reply (standing new end) × Tells reply)))
+
+-- the same with the text of the reply
+abbrev pub RepliesOn : {S : Type 0} → Ghosts S → Treasury S → Spelled → List ℕ → (Result Answer Refusal → Type 0)
+    → Treasury S → Type 0
+RepliesOn g old request said Tells new =
+    RepliesAs g old request
+    (λ (f : Federation) (asked : Result Asked Refusal) (r : Result Answer Refusal). said ≡ request_text f asked r)
+    Tells new

@@ -13,7 +13,9 @@ use Rattle.treasury_store.specs.Kept.{ShutsByFault}
 use Rattle.treasury_store.specs.Treasury.{Treasury, IsTreasuryOf}
 use Rattle.treasury_api.specs.declared.asking.Asked.{Asked}
 use Rattle.treasury_api.specs.declared.asking.Asked.TheVariants.{Command, DryRun, Report}
-use Rattle.treasury_api.specs.Report.{report_text}
+use Rattle.http_request.specs.declared.call.Form.{Form}
+use Rattle.http_request.specs.declared.call.Form.TheVariants as form
+use Rattle.treasury_api.specs.Report.{report_in}
 use Rattle.treasury_api.specs.Answer.{answer_text, IsPrintableRefusal}
 use Rattle.treasury_api.specs.Step.{Standing, MayReply, Answers, after, is_failure}
 use Rattle.treasury_api.specs.Left.{LeavesReply}
@@ -22,24 +24,29 @@ use Rattle.treasury_api.specs.Left.{LeavesReply}
 abbrev pub standing : {S : Type 0} → Treasury S → Federation → Standing
 standing t f = record { now = f; failed = t.store.failed }
 
--- what is answered to what is asked, but for the line that ends a report
-abbrev pub body_of : Federation → Result Asked Refusal → Answer → List ℕ
-body_of f (Ok (Command c)) answer = answer_text f.styles (Ok answer)
-body_of f (Ok (DryRun c)) answer = answer_text f.styles (Ok answer)
-body_of f (Ok (Report report)) answer = report_text f report
-body_of f (Err refusal) answer = []
+-- what is answered to what is asked, but for the line that ends a report; a report is answered in a form
+abbrev pub body_of : Form → Federation → Result Asked Refusal → Answer → List ℕ
+body_of form f (Ok (Command c)) answer = answer_text f.styles (Ok answer)
+body_of form f (Ok (DryRun c)) answer = answer_text f.styles (Ok answer)
+body_of form f (Ok (Report report)) answer = report_in form f report
+body_of form f (Err refusal) answer = []
 
 -- What is asked is replied to: the treasury is of the state after the reply, and the answer stands behind what was
 -- written before; nothing does where the reply is a refusal. `failed` is whether a call of the database had failed.
-pub record IsReplied {S T : Type 0} (g : Ghosts S) (failed : Bool) (new : Treasury S) (f : Federation)
+pub record IsRepliedIn {S T : Type 0} (form : Form) (g : Ghosts S) (failed : Bool) (new : Treasury S) (f : Federation)
     (asked : Result Asked Refusal) (result : Result T Refusal) (before written : List ℕ) : Type 0 where
   pub reply : Result Answer Refusal
   pub replies : MayReply (record { now = f; failed = failed }) asked reply
   pub of : IsTreasuryOf g new (after f asked reply)
   pub left : new.store.failed ≡ (failed || is_failure reply)
   pub text : MatchResult result
-      (λ _. (answer : Answer) × ((reply ≡ Ok answer) × (written ≡ before ++ body_of f asked answer)))
+      (λ _. (answer : Answer) × ((reply ≡ Ok answer) × (written ≡ before ++ body_of form f asked answer)))
       (λ refusal. (reply ≡ Err refusal) × (written ≡ before))
+
+-- the same as text
+abbrev pub IsReplied : {S T : Type 0} → Ghosts S → Bool → Treasury S → Federation → Result Asked Refusal
+    → Result T Refusal → List ℕ → List ℕ → Type 0
+IsReplied g failed new f asked result before written = IsRepliedIn form.Text g failed new f asked result before written
 
 -- a refusal can be printed: it is plain, or the state in memory has the commodities that it names
 abbrev pub IsPrintableIn : {S : Type 0} → Treasury S → Refusal → Type 0

@@ -2,7 +2,7 @@
 -- "HTTP"). What the bytes of a connection call for, `http_request` says.
 use mathlib.Core.Logic.{inl, inr}
 use Rattle.std.specs.Prelude.{◌≡◌, ◌<◌, ◌⊎◌, ℕ, false, List, [], ◌∷◌, ◌++◌, take, length, Option, Some, None}
-use Rattle.std.specs.Prelude.{option_map, Result, Err, MatchOption, MatchResult, IsTrue, codes, ⊤, if◌then◌else◌}
+use Rattle.std.specs.Prelude.{option_map, Result, Ok, Err, MatchOption, MatchResult, IsTrue, codes, ⊤, if◌then◌else◌}
 use Rattle.std.specs.List.{AllByRecursion}
 use Rattle.std.specs.Io.KnownBytes.{Appends}
 use Rattle.sqlite.specs.Store.{Ghosts}
@@ -12,6 +12,9 @@ use Rattle.http_request.specs.declared.call.Call.{Call}
 use Rattle.http_request.specs.declared.call.Call.TheVariants.{Unreadable, Foreign, Nowhere, Command, Balance, Journal}
 use Rattle.http_request.specs.declared.call.Call.TheVariants.{Transit, Branches, Commodities, Accounts, Transfers}
 use Rattle.http_request.specs.declared.call.Call.TheVariants.{Register}
+use Rattle.http_request.specs.declared.call.Form.{Form}
+use Rattle.http_request.specs.declared.call.Form.TheVariants as form
+use Rattle.http_request.specs.declared.call.Received.{Received}
 use Rattle.http_request.specs.Call.{Reads, IsStopped}
 use Rattle.money_core.specs.declared.cause.Cause.{Cause}
 use Rattle.money_core.specs.declared.cause.Cause.TheVariants.{OutOfMemory, ReadFault, WriteFault, Request as NoRequest}
@@ -28,12 +31,15 @@ use Rattle.treasury_requests.specs.declared.request.Spelled.{Spelled}
 use Rattle.treasury_requests.specs.declared.request.Request.TheVariants as asking
 use Rattle.treasury_requests.specs.Request.{spelled, in_earnest}
 use Rattle.treasury_api.specs.declared.asking.Asked.{Asked}
+use Rattle.treasury_api.specs.declared.asking.Asked.TheVariants as meant
+use Rattle.treasury_api.specs.Report.{report_json}
 use Rattle.treasury_api.specs.Answer.{answer_text}
 use Rattle.treasury_api.specs.Step.{Standing}
 use Rattle.treasury_api.specs.Left.{LeavesAsked, LeavesRequest}
 use Rattle.treasury_api.specs.Replied.{standing}
-use Rattle.treasury_api.specs.OneRequest.{AnswersRequest, command_of}
-use Rattle.treasury_api.specs.WebReply.{status_of, whole_reply}
+use Rattle.treasury_api.specs.OneRequest.{AnswersAs, request_text, command_of}
+use Rattle.treasury_api.specs.WebReply.{status_of, form_of_reply, whole_reply}
+use Rattle.treasury_api.specs.JsonReply.{IsJsonOf}
 use Rattle.treasury_api.specs.BranchCommand.{is_command_of, IsCommandOf}
 
 -- the request; but none where only commands of a branch are called for, and it is none of them
@@ -61,25 +67,40 @@ asked_by (Transfers date) = option_map (λ day. in_earnest (asking.Transfers day
 abbrev pub IsForbidden : ℕ → List ℕ → Type 0
 IsForbidden status body = (status ≡ 403) × (body ≡ codes "forbidden\n")
 
+-- the line of 44, or its object
+abbrev pub IsRefusal44 : Form → List ℕ → Type 0
+IsRefusal44 form.Text body = body ≡ answer_text [] (Err (Plain NoRequest))
+IsRefusal44 form.Json body = IsJsonOf [] (Err (Plain NoRequest)) body
+
 -- 44, as it is replied to what is no request
-abbrev pub IsNoRequest : ℕ → List ℕ → Type 0
-IsNoRequest status body = (status ≡ 400) × (body ≡ answer_text [] (Err (Plain NoRequest)))
+abbrev pub IsNoRequest : Form → ℕ → List ℕ → Type 0
+IsNoRequest form status body = (status ≡ 400) × IsRefusal44 form body
 
 -- the reply to a call that asks nothing: 403 where it is foreign, or a request that is no command of its branch; 404
 -- where it has no route; else 44
-abbrev pub IsNoAnswer : Call → ℕ → List ℕ → Type 0
-IsNoAnswer Foreign status body = IsForbidden status body
-IsNoAnswer Nowhere status body = (status ≡ 404) × (body ≡ codes "not found\n")
-IsNoAnswer (Command branch text) status body =
-    MatchOption (spelled text) (IsNoRequest status body) (λ request. IsForbidden status body)
-IsNoAnswer call status body = IsNoRequest status body
+abbrev pub IsNoAnswer : Form → Call → ℕ → List ℕ → Type 0
+IsNoAnswer form Foreign status body = IsForbidden status body
+IsNoAnswer form Nowhere status body = (status ≡ 404) × (body ≡ codes "not found\n")
+IsNoAnswer form (Command branch text) status body =
+    MatchOption (spelled text) (IsNoRequest form status body) (λ request. IsForbidden status body)
+IsNoAnswer form call status body = IsNoRequest form status body
 
--- A call is answered, and leads on: its request as any is, by a reply that gives the status.
-abbrev pub AnswersCall : Standing → Call → ℕ → List ℕ → Standing → Type 0
-AnswersCall s call status body t =
-    ((asked_by call ≡ None) × IsNoAnswer call status body × (t ≡ s))
+-- the body of a reply in a form: its text; or the object of a report, or that of the reply
+abbrev pub IsBodyIn : Form → List ℕ → Federation → Result Asked Refusal → Result Answer Refusal → Type 0
+IsBodyIn form.Text body f asked reply = body ≡ request_text f asked reply
+IsBodyIn form.Json body f (Ok (meant.Report report)) (Ok answer) = body ≡ report_json f report
+IsBodyIn form.Json body f (Ok (meant.Report report)) (Err refusal) = IsJsonOf f.styles (Err refusal) body
+IsBodyIn form.Json body f (Ok (meant.Command c)) reply = IsJsonOf f.styles reply body
+IsBodyIn form.Json body f (Ok (meant.DryRun c)) reply = IsJsonOf f.styles reply body
+IsBodyIn form.Json body f (Err refused) reply = IsJsonOf f.styles reply body
+
+-- A call is answered in a form, and leads on: its request as any is, by a reply that gives the status.
+abbrev pub AnswersCall : Standing → Form → Call → ℕ → List ℕ → Standing → Type 0
+AnswersCall s form call status body t =
+    ((asked_by call ≡ None) × IsNoAnswer form call status body × (t ≡ s))
     ⊎ ((request : Spelled) × (asked_by call ≡ Some request)
-    × ((reply : Result Answer Refusal) × (AnswersRequest s request body reply t × (status ≡ status_of reply))))
+    × ((reply : Result Answer Refusal)
+    × (AnswersAs s request (IsBodyIn form body s.now) reply t × (status ≡ status_of reply))))
 
 -- a database that was open is open behind each reply, or the reply is 503 and the store has failed
 abbrev pub IsOpenButFailed : {S : Type 0} → Ghosts S → Treasury S → ℕ → Treasury S → Type 0
@@ -91,38 +112,42 @@ IsOpenButFailed g old status new =
 -- answered, and the treasury is of the state where that leads. Whatever is left, also behind 41, are the rows of the
 -- state before its request, or of the one after it; a call that asks nothing changes nothing. Only a fault of the disk
 -- shuts the database, and behind a call of the database that failed nothing changes.
-pub record AnswersOn {S : Type 0} (g : Ghosts S) (old : Treasury S) (call : Call) (status : ℕ) (body : List ℕ)
-    (new : Treasury S) : Type 0 where
+pub record AnswersOn {S : Type 0} (g : Ghosts S) (old : Treasury S) (form : Form) (call : Call) (status : ℕ)
+    (body : List ℕ) (new : Treasury S) : Type 0 where
   pub clean : HasCleanDisk (state g new.store.conn) → HasCleanDisk (state g old.store.conn)
   pub answers : HasCleanDisk (state g new.store.conn) → (f : Federation) → IsTreasuryOf g old f
-      → (end : Federation) × (IsTreasuryOf g new end × AnswersCall (standing old f) call status body (standing new end))
+      → (end : Federation) × (IsTreasuryOf g new end × AnswersCall (standing old f) form call status body
+      (standing new end))
   pub left : MatchOption (asked_by call) (new ≡ old) (LeavesRequest g old new)
   pub open_but : IsOpenButFailed g old status new
   pub shuts : ShutsByFault g old.store.conn new.store.conn
   pub closed : IsTrue old.store.failed → new ≡ old
 
--- what a reader gave calls for something, and that is answered
-pub record AnswersRead {S : Type 0} (g : Ghosts S) (r0 r1 : Option (List ℕ)) (old : Treasury S) (status : ℕ)
-    (body : List ℕ) (new : Treasury S) : Type 0 where
-  pub call : Call
-  pub reads : Reads r0 r1 call
-  pub answers : AnswersOn g old call status body new
+-- what a reader gave calls for something, and that is answered, in the form that it asks for
+pub record AnswersRead {S : Type 0} (g : Ghosts S) (r0 r1 : Option (List ℕ)) (old : Treasury S) (form : Form)
+    (status : ℕ) (body : List ℕ) (new : Treasury S) : Type 0 where
+  pub received : Received
+  pub reads : Reads r0 r1 received
+  pub answers : AnswersOn g old received.form received.call status body new
+  pub form_is : form ≡ form_of_reply received.form status
 
 -- `Ok`: the whole reply is written
 pub record IsServed {S : Type 0} (g : Ghosts S) (r0 r1 w0 w1 : Option (List ℕ)) (old new : Treasury S) : Type 0 where
+  pub form : Form
   pub status : ℕ
   pub body : List ℕ
-  pub answered : AnswersRead g r0 r1 old status body new
-  pub written : Appends w0 w1 (whole_reply status body)
+  pub answered : AnswersRead g r0 r1 old form status body new
+  pub written : Appends w0 w1 (whole_reply form status body)
 
 -- 46: a first part of the reply is written, and not all of it; what was asked stands
 pub record IsTorn {S : Type 0} (g : Ghosts S) (r0 r1 w0 w1 : Option (List ℕ)) (old new : Treasury S) : Type 0 where
+  pub form : Form
   pub status : ℕ
   pub body : List ℕ
   pub taken : ℕ
-  pub part : taken < length (whole_reply status body)
-  pub answered : AnswersRead g r0 r1 old status body new
-  pub written : Appends w0 w1 (take taken (whole_reply status body))
+  pub part : taken < length (whole_reply form status body)
+  pub answered : AnswersRead g r0 r1 old form status body new
+  pub written : Appends w0 w1 (take taken (whole_reply form status body))
 
 -- how a connection ends that is refused by this cause: by 40 and 45 nothing is written, and nothing has changed
 abbrev pub FailsBy : {S W : Type 0} → Cause → Ghosts S → Option (List ℕ) → Option (List ℕ) → (W → Option (List ℕ)) → W
@@ -142,8 +167,9 @@ ServesOne result g remaining r0 r1 contents w0 w1 old new = MatchResult result
 
 -- ---- connections one after another
 
--- a connection that was answered: what it called for, and the reply
+-- a connection that was answered: what it called for, in which form, and the reply
 pub record AnsweredCall : Type 0 where
+  pub form : Form
   pub call : Call
   pub status : ℕ
   pub body : List ℕ
@@ -151,7 +177,7 @@ pub record AnsweredCall : Type 0 where
 -- each is answered by the state that the one before it left; those that are not answered, by 40 or 45, change nothing
 abbrev pub AreServed : Standing → List AnsweredCall → Standing → Type 0
 AreServed s [] end = end ≡ s
-AreServed s (c ∷ cs) end = (mid : Standing) × AnswersCall s c.call c.status c.body mid × AreServed mid cs end
+AreServed s (c ∷ cs) end = (mid : Standing) × AnswersCall s c.form c.call c.status c.body mid × AreServed mid cs end
 
 -- the commands among calls that are answered so, with their replies, in order
 abbrev pub turns_of_calls : (s : Standing) (calls : List AnsweredCall) (end : Standing) → AreServed s calls end

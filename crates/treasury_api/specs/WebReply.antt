@@ -2,6 +2,8 @@
 use Rattle.std.specs.Prelude.{ℕ, ◌==◌, ◌&&◌, ◌||◌, nat_le, if◌then◌else◌, List, [], ◌++◌, length, codes, decimal}
 use Rattle.std.specs.Prelude.{unwrap_or, Result, Ok, Err}
 use Rattle.http.specs.StatusCode.{code_digits, reason_phrase}
+use Rattle.http_request.specs.declared.call.Form.{Form}
+use Rattle.http_request.specs.declared.call.Form.TheVariants as form
 use Rattle.money_core.specs.declared.cause.Cause.{Cause}
 use Rattle.money_core.specs.declared.cause.Cause.TheVariants.{ClaimFailed as ClaimCause}
 use Rattle.money_core.specs.Cause.{number_of}
@@ -33,15 +35,24 @@ status_of (Err refusal) = status_of_number (number_of (cause_of refusal))
 abbrev pub reason_of : ℕ → List ℕ
 reason_of status = unwrap_or (reason_phrase status) []
 
+-- the type of a body
+abbrev pub type_of : Form → List ℕ
+type_of form.Text = codes "text/plain; charset=utf-8"
+type_of form.Json = codes "application/json"
+
+-- the form of a reply: the one that is asked for, but text where nothing is asked for that is answered, by 403 and 404
+abbrev pub form_of_reply : Form → ℕ → Form
+form_of_reply asked status = if (status == 403) || (status == 404) then form.Text else asked
+
 -- the head of a reply whose body has that many bytes, with the empty line that ends it
-abbrev pub reply_head : ℕ → ℕ → List ℕ
-reply_head status size =
+abbrev pub reply_head : Form → ℕ → ℕ → List ℕ
+reply_head form status size =
     codes "HTTP/1.1 " ++ code_digits status ++ codes " " ++ reason_of status ++ codes "\r\n"
-    ++ codes "Content-Type: text/plain; charset=utf-8\r\n"
+    ++ codes "Content-Type: " ++ type_of form ++ codes "\r\n"
     ++ codes "Content-Length: " ++ decimal size ++ codes "\r\n"
     ++ codes "Connection: close\r\n"
     ++ codes "\r\n"
 
 -- a whole reply
-abbrev pub whole_reply : ℕ → List ℕ → List ℕ
-whole_reply status body = reply_head status (length body) ++ body
+abbrev pub whole_reply : Form → ℕ → List ℕ → List ℕ
+whole_reply form status body = reply_head form status (length body) ++ body

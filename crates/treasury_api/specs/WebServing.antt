@@ -1,5 +1,10 @@
 -- Mirrors code: how a call is answered, part by part.
-use Rattle.std.specs.Prelude.{◌≡◌, ◌⊎◌, ⊤, ℕ, List, [], Option, Some, None, Err, codes, if◌then◌else◌}
+use Rattle.std.specs.Prelude.{◌≡◌, ◌<◌, ◌-◌, ◌⊎◌, ⊤, ℕ, true, List, [], ◌∷◌, ◌++◌, length, take, Option, Some, None}
+use Rattle.std.specs.Prelude.{Err, codes, decimal, if◌then◌else◌}
+use Rattle.std.specs.Str.{is_utf8}
+use Rattle.json_text.specs.JsonText.{string, strings, object_text, lines_of}
+use Rattle.money_core.specs.Cause.{number_of, name_of}
+use Rattle.treasury_told.specs.Sentence.{sentence_of}
 use Rattle.money_core.specs.declared.style.Style.{Style}
 use Rattle.money_core.specs.declared.cause.Cause.{Cause}
 use Rattle.money_core.specs.declared.cause.Cause.TheVariants.{OutOfMemory, Request as NoRequest}
@@ -14,9 +19,10 @@ use Rattle.treasury_api.specs.declared.web.status.Status.{Status}
 use Rattle.treasury_api.specs.declared.web.status.Status.TheVariants.{Done, BadRequest, Forbidden, NotFound, Conflict}
 use Rattle.treasury_api.specs.declared.web.status.Status.TheVariants.{Unprocessable, Internal, Unavailable}
 use Rattle.treasury_api.specs.WebReply.{cause_of}
-use Rattle.treasury_api.specs.Web.{asked_by, IsNoAnswer}
+use Rattle.treasury_api.specs.Web.{asked_by, IsRefusal44, IsNoAnswer}
 use Rattle.treasury_api.specs.BranchCommand.{is_command_of}
 use Rattle.http_request.specs.declared.call.Call.{Call}
+use Rattle.http_request.specs.declared.call.Form.{Form}
 use Rattle.treasury_api.specs.declared.web.answering.Sought.{Sought}
 use Rattle.treasury_api.specs.declared.web.answering.Sought.TheVariants as sought
 
@@ -31,13 +37,23 @@ code_of Unprocessable = 422
 code_of Internal = 500
 code_of Unavailable = 503
 
+-- nothing is asked for, and that is told by 44, in whatever form
+abbrev pub IsUnsought : Call → Type 0
+IsUnsought call =
+    (asked_by call ≡ None)
+    × ((form : Form) (body : List ℕ) → IsRefusal44 form body → IsNoAnswer form call 400 body)
+
+-- nothing is asked for, and that is told by this status and text, in whatever form
+abbrev pub IsToldByStatus : Call → ℕ → List ℕ → Type 0
+IsToldByStatus call status body = (asked_by call ≡ None) × ((form : Form) → IsNoAnswer form call status body)
+
 -- what a call asks: its request, or nothing, and then how that is told
 abbrev pub IsSought : Call → Sought → Type 0
 IsSought call (sought.Request request) = asked_by call ≡ Some request
-IsSought call sought.Forbidden = (asked_by call ≡ None) × IsNoAnswer call 403 (codes "forbidden\n")
-IsSought call sought.Nowhere = (asked_by call ≡ None) × IsNoAnswer call 404 (codes "not found\n")
-IsSought call sought.NoRequest =
-    (asked_by call ≡ None) × IsNoAnswer call 400 (answer_text [] (Err (Plain NoRequest)))
+IsSought call sought.Forbidden = IsToldByStatus call 403 (codes "forbidden\n")
+IsSought call sought.Nowhere = IsToldByStatus call 404 (codes "not found\n")
+IsSought call (sought.Misspelled body) = IsUnsought call
+IsSought call sought.NoRequest = IsUnsought call
 
 -- the request, where it may be asked for by the route of that branch
 abbrev pub sought_of : Option (List ℕ) → Spelled → Sought
@@ -61,3 +77,35 @@ IsLineBy styles refusal cause text =
 abbrev pub IsToldBy : {S : Type 0} → Treasury S → Refusal → Cause → List ℕ → Type 0
 IsToldBy t (Plain because) cause text = (text ≡ answer_text [] (Err (Plain because))) × (cause ≡ because)
 IsToldBy t refusal cause text = (s : Federation) × ((t.held ≡ Some s) × IsLineBy s.styles refusal cause text)
+
+-- the object of an answer that is no refusal, by its line and what is noted
+abbrev pub done_json : List ℕ → List ℕ → List ℕ
+done_json line noted =
+    object_text ((codes "answer", string line) ∷ (codes "told", strings (lines_of []))
+    ∷ (codes "notes", strings (lines_of noted)) ∷ []) ++ codes "\n"
+
+-- that of a refusal, by its line, its number, its name, its sentence and what is told
+abbrev pub refusal_json : List ℕ → List ℕ → List ℕ → List ℕ → List ℕ → List ℕ
+refusal_json line nr name sentence told =
+    object_text ((codes "answer", string line) ∷ (codes "number", string nr) ∷ (codes "name", string name)
+    ∷ (codes "sentence", string sentence) ∷ (codes "told", strings (lines_of told))
+    ∷ (codes "notes", strings (lines_of [])) ∷ []) ++ codes "\n"
+
+-- the same by its line, its cause and what is told
+abbrev pub refused_json : List ℕ → Cause → List ℕ → List ℕ
+refused_json line cause told =
+    refusal_json line (decimal (number_of cause)) (name_of cause) (sentence_of cause) told
+
+-- something in UTF-8 is noted, or told
+abbrev pub IsJsonDone : List ℕ → List ℕ → Type 0
+IsJsonDone line body = (noted : List ℕ) × (is_utf8 noted ≡ true) × (body ≡ done_json line noted)
+
+abbrev pub IsJsonRefused : List ℕ → Cause → List ℕ → Type 0
+IsJsonRefused line cause body = (told : List ℕ) × (is_utf8 told ≡ true) × (body ≡ refused_json line cause told)
+
+-- the object of a refusal of that text, or that of 40 in place of one whose text is longer than a plain one; and whose
+-- it is
+abbrev pub IsJsonRefusal : List ℕ → Cause → Cause → List ℕ → Type 0
+IsJsonRefusal text because cause body =
+    (IsJsonRefused (take (length text - 1) text) because body × (cause ≡ because))
+    ⊎ ((64 < length text) × IsJsonRefused (codes "refused 40 OutOfMemory") OutOfMemory body × (cause ≡ OutOfMemory))

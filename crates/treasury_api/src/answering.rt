@@ -1,6 +1,6 @@
 //! Answers to requests, on a treasury.
 
-ghost use Rattle.std.specs.Prelude.{◌≡◌, false, None, Ok, Err, IfErr, OnOk, OnErr, IsTrue, Result};
+ghost use Rattle.std.specs.Prelude.{◌≡◌, ◌≤◌, ◌+◌, length, false, None, Ok, Err, IfErr, OnOk, OnErr, IsTrue, Result};
 ghost use Rattle.sqlite.specs.State.{HasCleanDisk};
 ghost use Rattle.sqlite.specs.Held.{state};
 ghost use Rattle.book_core.specs.declared.refusal.Refusal.{Refusal as Refused};
@@ -11,16 +11,17 @@ ghost use Rattle.treasury_store.specs.Left.{LeavesStep};
 ghost use Rattle.treasury_store.specs.Treasury.{IsTreasuryOf, IsListed};
 ghost use Rattle.treasury_api.specs.declared.asking.Asked.{Asked as Meant};
 ghost use Rattle.treasury_api.specs.Asked.{AsksOf};
-ghost use Rattle.treasury_requests.specs.Request.{HasDayNumbers};
+ghost use Rattle.treasury_requests.specs.Request.{HasDayNumbers, is_report};
 ghost use Rattle.treasury_api.specs.Left.{FailsWith, IsUnread, IsOpenBut, LeavesRequest};
-ghost use Rattle.treasury_api.specs.Replied.{IsReplied, IsPrintableIn};
+ghost use Rattle.treasury_api.specs.Replied.{IsRepliedIn, IsPrintableIn};
 ghost use Rattle.treasury_api.specs.Serving.{IsHeldFor};
 
 use crate::answers::{MOST_PLAIN, answer_line};
 use crate::asking::{Asked, asked_by};
 use crate::foreseeing::answer_dry_run;
-use crate::report::push_report;
+use crate::report::push_report_in;
 use book_core::Refusal;
+use http_request::Form;
 use journal_format::reading_law;
 use money_core::{Cause, Styles};
 use sqlite::Alter;
@@ -40,7 +41,10 @@ fn answer_command<S: Alter>(
     requires unfailed { treasury.old.store.failed ≡ false }
     ensures replies { HasCleanDisk (state S.Store treasury.new.store.conn) → (f : Federation)
         → IsTreasuryOf S.Store treasury.old f
-        → IsReplied S.Store false treasury.new f (Ok (Asked.Command command)) result out.old.items out.new.items }
+        → (form : Form) → IsRepliedIn form S.Store false treasury.new f
+        (Ok (Asked.Command command)) result out.old.items
+        out.new.items }
+    ensures short { OnOk result (length out.new.items ≤ length out.old.items + MOST_PLAIN) }
     ensures err { OnErr result (out.new.items ≡ out.old.items) }
     ensures printable { IfErr result (IsPrintableIn treasury.new) }
     ensures clean { HasCleanDisk (state S.Store treasury.new.store.conn)
@@ -68,13 +72,15 @@ fn answer_command<S: Alter>(
 }
 
 /// Does what a request asks of the treasury, and appends its answer: the line of a command that is accepted or
-/// repeated, or would be in a dry run, which performs nothing; or the lines of a report, without the `ok` behind them.
+/// repeated, or would be in a dry run, which performs nothing, in whatever form; or in this form what a report is
+/// answered with, without the `ok` behind its lines.
 ///
 /// It refuses as the texts of the request, the command or the report are refused, and 40 to 43 as the treasury; the
 /// vector is then as it was. The room for the line of a command is made before it is performed. A call of the database
 /// fails just where it answers 41, and then every later call answers 42 and changes nothing.
 pub fn answer<S: Alter>(
     alloc: Global,
+    form: Form,
     request: &Spelled,
     treasury: &mut Treasury<S>,
     out: &mut Vec<u8>,
@@ -83,7 +89,11 @@ pub fn answer<S: Alter>(
     ensures replies { HasCleanDisk (state S.Store treasury.new.store.conn) → (f : Federation)
         → IsTreasuryOf S.Store treasury.old f
         → (asked : Result Meant Refused) × (AsksOf treasury.old.store.failed f.styles request.now asked
-        × IsReplied S.Store treasury.old.store.failed treasury.new f asked result out.old.items out.new.items) }
+        × IsRepliedIn form S.Store treasury.old.store.failed treasury.new f asked result out.old.items
+        out.new.items) }
+    // The line of a command, also where it is not known of which state.
+    ensures short { is_report request.now.request ≡ false
+        → OnOk result (length out.new.items ≤ length out.old.items + MOST_PLAIN) }
     ensures err { OnErr result (out.new.items ≡ out.old.items) }
     ensures printable { IfErr result (IsPrintableIn treasury.new) }
     ensures clean { HasCleanDisk (state S.Store treasury.new.store.conn)
@@ -120,7 +130,7 @@ pub fn answer<S: Alter>(
     match asked_by(alloc, state.styles(), request) {
         Ok(Asked::Command(command)) => answer_command(alloc, treasury, command, out),
         Ok(Asked::DryRun(command)) => answer_dry_run(alloc, state, &command, out),
-        Ok(Asked::Report(report)) => match push_report(alloc, state, &report, out) {
+        Ok(Asked::Report(report)) => match push_report_in(alloc, form, state, &report, out) {
             Ok(()) => Ok(()),
             Err(cause) => Err(Refusal::Plain(cause)),
         },

@@ -42,6 +42,7 @@ pub fn push_pieces(pieces: &[&[u8]], line: &mut Vec<u8>) -> Result<(), AllocErro
 fn push_entered(new: usize, repeated: usize, line: &mut Vec<u8>) -> Result<(), AllocError>
     ensures ok { OnOk result (line.new.items
         ≡ line.old.items ++ done_text (Answer.Entered new repeated) ++ codes "\n") }
+    ensures short { OnOk result (length line.new.items ≤ length line.old.items + MOST_PLAIN) }
     ensures err { OnErr result (line.new.items ≡ line.old.items) }
     ensures room { length line.old.items + MOST_PLAIN ≤ vec_capacity line.old → IsOk result }
     ensures capacity { vec_capacity line.old ≤ vec_capacity line.new }
@@ -56,6 +57,7 @@ fn push_entered(new: usize, repeated: usize, line: &mut Vec<u8>) -> Result<(), A
 /// Appends the line of an answer that is no refusal.
 fn push_done(answer: &Answer, line: &mut Vec<u8>) -> Result<(), AllocError>
     ensures ok { OnOk result (line.new.items ≡ line.old.items ++ done_text answer.now ++ codes "\n") }
+    ensures short { OnOk result (length line.new.items ≤ length line.old.items + MOST_PLAIN) }
     ensures err { OnErr result (line.new.items ≡ line.old.items) }
     ensures room { length line.old.items + MOST_PLAIN ≤ vec_capacity line.old → IsOk result }
     ensures capacity { vec_capacity line.old ≤ vec_capacity line.new }
@@ -192,6 +194,7 @@ pub fn answer_line(
     ensures ok { OnOk result (out.new.items ≡ out.old.items ++ answer_text styles.now answer.now) }
     ensures err { OnErr result (out.new.items ≡ out.old.items) }
     ensures memory { IsOkUnless result Cause.OutOfMemory }
+    ensures short { IsOk answer.now → OnOk result (length out.new.items ≤ length out.old.items + MOST_PLAIN) }
     ensures room { IsPlainAnswer answer.now → length out.old.items + MOST_PLAIN ≤ vec_capacity out.old → IsOk result }
     ensures capacity { vec_capacity out.old ≤ vec_capacity out.new }
 {

@@ -1,6 +1,6 @@
 //! Dry runs: what a command would be answered, and what it would add.
 
-ghost use Rattle.std.specs.Prelude.{◌≡◌, Ok, IfSome};
+ghost use Rattle.std.specs.Prelude.{◌≡◌, ◌≤◌, ◌+◌, length, Ok, IfSome, OnOk};
 ghost use Rattle.treasury_core.specs.Good.{Fits};
 ghost use Rattle.treasury_core.specs.Step.{delta, reply};
 ghost use Rattle.treasury_core.specs.declared.command.Command.{Command as AnyCommand};
@@ -9,7 +9,7 @@ ghost use Rattle.treasury_api.specs.declared.asking.Asked.TheVariants.{DryRun};
 ghost use Rattle.treasury_api.specs.Asked.{SpelledAsks};
 ghost use Rattle.treasury_api.specs.Serving.{IsForeseen};
 
-use crate::answers::answer_line;
+use crate::answers::{MOST_PLAIN, answer_line};
 use crate::asking::{Asked, asked_by};
 use book_core::{Ledger, Refusal};
 use money_core::Styles;
@@ -25,7 +25,8 @@ pub fn answer_dry_run<L: Ledger>(
     out: &mut Vec<u8>,
 ) -> Result<(), Refusal>
     requires { Fits state.now.styles command.now }
-    ensures { IsForeseen state.now command.now result out.old.items out.new.items }
+    ensures foreseen { IsForeseen state.now command.now result out.old.items out.new.items }
+    ensures short { OnOk result (length out.new.items ≤ length out.old.items + MOST_PLAIN) }
 {
     match foresee(alloc, state, command) {
         Ok(answer) => match answer_line(alloc, &Ok(answer), &Styles::empty(alloc), out) {

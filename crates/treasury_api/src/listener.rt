@@ -26,8 +26,8 @@ pub trait Listener {
     )
         requires { HasDayNumbers request.now.request };
 
-    /// The line was refused by this cause before it could ask for anything.
-    fn tell_unasked(&mut self, alloc: Global, cause: Cause);
+    /// The line of these bytes was refused by this cause before it could ask for anything.
+    fn tell_unasked(&mut self, alloc: Global, line: &[u8], cause: Cause);
 
     /// The answer to the request of the line is written.
     fn end_line(&mut self);
@@ -50,7 +50,7 @@ impl Listener for NoListener {
         _refusal: Option<&Refusal>,
     ) {}
 
-    fn tell_unasked(&mut self, _alloc: Global, _cause: Cause) {}
+    fn tell_unasked(&mut self, _alloc: Global, _line: &[u8], _cause: Cause) {}
 
     fn end_line(&mut self) {}
 }

@@ -1,16 +1,20 @@
 //! Reports that are asked for, and their lines.
 
 ghost use Rattle.std.specs.Prelude.{◌≡◌, ◌↔◌, ◌⊎◌, ◌++◌, false, Err, OnOk, OnErr, IfErr, option_copied};
-ghost use Rattle.treasury_api.specs.Report.{report_text, has_its_branch};
+ghost use Rattle.json_text.specs.JsonText.{rows_text};
+ghost use Rattle.treasury_api.specs.Report.{report_text, report_rows, report_json, report_in, has_its_branch};
 
+use crate::answers::push_pieces;
 use crate::laws::lists_law;
 use book_core::Ledger;
+use http_request::Form;
 use money_core::{Cause, Day, Text};
 use std::alloc::Global;
 use treasury_core::State;
 use treasury_reports::{
-    accounts_report, balance_report, branches_report, commodities_report, journal_report,
-    register_report, transfers_report, transit_report,
+    accounts_json, accounts_report, balance_json, balance_report, branches_json, branches_report,
+    commodities_json, commodities_report, journal_json, journal_report, register_json,
+    register_report, transfers_json, transfers_report, transit_json, transit_report,
 };
 
 /// A report that is asked for.
@@ -63,7 +67,7 @@ fn text_of(text: &Option<Text>) -> Option<&str>
 /// Appends the lines of a report.
 ///
 /// Refuses with 20 where the branch that it is on is not there, or with 40; the vector is then as it was.
-pub fn push_report<L: Ledger>(
+fn push_report<L: Ledger>(
     alloc: Global,
     state: &State<L>,
     report: &Report,
@@ -95,5 +99,89 @@ pub fn push_report<L: Ledger>(
         Report::Commodities => commodities_report(alloc, state, out),
         Report::Accounts { branch } => accounts_report(alloc, state, branch.as_str(), out),
         Report::Transfers { day } => transfers_report(alloc, state, *day, out),
+    }
+}
+
+/// Appends the rows of a report, in JSON.
+///
+/// Refuses with 20 where the branch that it is on is not there, or with 40; the vector is then as it was.
+fn push_rows<L: Ledger>(
+    alloc: Global,
+    state: &State<L>,
+    report: &Report,
+    out: &mut Vec<u8>,
+) -> Result<(), Cause>
+    ensures ok { OnOk result (out.new.items ≡ out.old.items ++ rows_text (report_rows state.now report.now)) }
+    ensures unknown { (result ≡ Err Cause.UnknownBranch) ↔ (has_its_branch state.now report.now ≡ false) }
+    ensures err { OnErr result (out.new.items ≡ out.old.items) }
+    ensures causes { IfErr result (λ cause. (cause ≡ Cause.UnknownBranch) ⊎ (cause ≡ Cause.OutOfMemory)) }
+{
+    match report {
+        Report::Balance { branch, day } => balance_json(alloc, state, branch.as_str(), *day, out),
+        Report::Register {
+            branch,
+            account,
+            tag: wanted,
+        } => register_json(
+            alloc,
+            state,
+            branch.as_str(),
+            account.as_str(),
+            text_of(wanted),
+            out,
+        ),
+        Report::Transit { day } => transit_json(alloc, state, *day, out),
+        Report::Journal { branch } => journal_json(alloc, state, branch.as_str(), out),
+        Report::Branches => branches_json(alloc, state, out),
+        Report::Commodities => commodities_json(alloc, state, out),
+        Report::Accounts { branch } => accounts_json(alloc, state, branch.as_str(), out),
+        Report::Transfers { day } => transfers_json(alloc, state, *day, out),
+    }
+}
+
+/// Appends the object of a report, a line.
+///
+/// Refuses as `push_rows` does; the vector is then as it was.
+fn push_report_json<L: Ledger>(
+    alloc: Global,
+    state: &State<L>,
+    report: &Report,
+    out: &mut Vec<u8>,
+) -> Result<(), Cause>
+    ensures ok { OnOk result (out.new.items ≡ out.old.items ++ report_json state.now report.now) }
+    ensures unknown { (result ≡ Err Cause.UnknownBranch) ↔ (has_its_branch state.now report.now ≡ false) }
+    ensures err { OnErr result (out.new.items ≡ out.old.items) }
+    ensures causes { IfErr result (λ cause. (cause ≡ Cause.UnknownBranch) ⊎ (cause ≡ Cause.OutOfMemory)) }
+{
+    // The rows come first, so that an unknown branch is refused whether or not there is memory.
+    let mut rows = Vec::new(alloc);
+    match push_rows(alloc, state, report, &mut rows) {
+        Ok(()) => {}
+        Err(cause) => return Err(cause),
+    }
+    match push_pieces(&[b"{\"lines\":", rows.as_slice(), b"}\n"], out) {
+        Ok(()) => Ok(()),
+        Err(_) => Err(Cause::OutOfMemory),
+    }
+}
+
+/// Appends what a report is answered with in this form: its lines, or the object that has its rows.
+///
+/// Refuses with 20 where the branch that it is on is not there, or with 40; the vector is then as it was.
+pub fn push_report_in<L: Ledger>(
+    alloc: Global,
+    form: Form,
+    state: &State<L>,
+    report: &Report,
+    out: &mut Vec<u8>,
+) -> Result<(), Cause>
+    ensures ok { OnOk result (out.new.items ≡ out.old.items ++ report_in form state.now report.now) }
+    ensures unknown { (result ≡ Err Cause.UnknownBranch) ↔ (has_its_branch state.now report.now ≡ false) }
+    ensures err { OnErr result (out.new.items ≡ out.old.items) }
+    ensures causes { IfErr result (λ cause. (cause ≡ Cause.UnknownBranch) ⊎ (cause ≡ Cause.OutOfMemory)) }
+{
+    match form {
+        Form::Text => push_report(alloc, state, report, out),
+        Form::Json => push_report_json(alloc, state, report, out),
     }
 }

@@ -20,6 +20,7 @@ use crate::answers::{MOST_PLAIN, answer_line};
 use crate::lines::{Machine, run_machine};
 use crate::listener::{Listener, NoListener};
 use book_core::Refusal;
+use http_request::Form;
 use journal_format::reading_law;
 use money_core::{Cause, Styles};
 use sqlite::Alter;
@@ -163,13 +164,13 @@ impl<S: Alter> Machine for Treasury<S> {
         let request = match read_within_memory(alloc, line) {
             Ok(request) => request,
             Err(cause) => {
-                listener.tell_unasked(alloc, cause);
+                listener.tell_unasked(alloc, line, cause);
                 return Ok(refuse(alloc, self, Refusal::Plain(cause), room));
             }
         };
         listener.ask(self.state(), &request);
         let mut text = Vec::new(alloc);
-        match answer(alloc, &request, self, &mut text) {
+        match answer(alloc, Form::Text, &request, self, &mut text) {
             Ok(()) => {
                 listener.tell(alloc, self.state(), &request, None);
                 match end_report(alloc, &request.request, &mut text) {

@@ -3,9 +3,10 @@
 mod answering;
 mod branch;
 mod laws;
+mod object;
 mod reply;
 mod serving;
 mod status;
 
-pub use laws::calls_law;
+pub use laws::{calls_law, replies_law};
 pub use serving::serve_one;

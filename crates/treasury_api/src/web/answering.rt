@@ -7,25 +7,30 @@ ghost use Rattle.treasury_store.specs.Kept.{ShutsByFault};
 ghost use Rattle.treasury_requests.specs.Request.{HasDayNumbers, in_earnest};
 ghost use Rattle.treasury_api.specs.Answer.{answer_text};
 ghost use Rattle.treasury_api.specs.Left.{LeavesRequest};
-ghost use Rattle.treasury_api.specs.OneRequest.{RepliesOn};
-ghost use Rattle.treasury_api.specs.WebReply.{status_of};
-ghost use Rattle.treasury_api.specs.Web.{IsOpenButFailed, AnswersOn};
+ghost use Rattle.treasury_api.specs.OneRequest.{RepliesAs, RepliesOn};
+ghost use Rattle.treasury_api.specs.WebReply.{status_of, form_of_reply};
+ghost use Rattle.treasury_api.specs.Web.{IsRefusal44, IsBodyIn, IsOpenButFailed, AnswersOn};
 ghost use Rattle.treasury_api.specs.WebServing.{code_of, IsSought, sought_of, SeeksDays};
 
 use crate::answering::answer;
 use crate::answers::{MOST_PLAIN, answer_line};
 use crate::running::refuse_by;
+use crate::telling::said_beside;
 use crate::web::branch::is_command_of;
+use crate::web::object::{
+    MOST_JSON, done_in_json, refuse_in_json, refuse_plain_in_json, told_unasked,
+};
 use crate::web::reply::Reply;
 use crate::web::status::{Status, status_of};
 use book_core::Refusal;
-use http_request::Call;
+use http_request::{Call, Form, Received};
 use journal_lines::read_date;
 use money_core::{Cause, Items, Styles, Text};
 use sqlite::Alter;
 use std::alloc::Global;
 use treasury_requests::{Request, Spelled, read_line};
 use treasury_store::Treasury;
+use treasury_told::notes::held_before;
 
 /// What a call asks for.
 enum Sought {
@@ -35,6 +40,8 @@ enum Sought {
     Forbidden,
     /// Nothing: it has no route.
     Nowhere,
+    /// Nothing: its body spells no request.
+    Misspelled(Items<u8>),
     /// Nothing: it is no request.
     NoRequest,
 }
@@ -57,7 +64,7 @@ fn sought_by_body(alloc: Global, branch: Option<Text>, body: Items<u8>) -> Resul
 {
     match read_line(alloc, body.items()) {
         Ok(request) => Ok(sought_of(branch, request)),
-        Err(Cause::Request) => Ok(Sought::NoRequest),
+        Err(Cause::Request) => Ok(Sought::Misspelled(body)),
         Err(_) => Err(Cause::OutOfMemory),
     }
 }
@@ -124,6 +131,7 @@ fn forbidden(room: Vec<u8>) -> Reply
     requires empty { room.items ≡ [] }
     requires room { MOST_PLAIN ≤ vec_capacity room }
     ensures status { code_of result.status ≡ 403 }
+    ensures form { result.form ≡ Form.Text }
     ensures body { result.body.items ≡ codes "forbidden\n" }
 {
     let mut body = room;
@@ -133,6 +141,7 @@ fn forbidden(room: Vec<u8>) -> Reply
     }
     Reply {
         status: Status::Forbidden,
+        form: Form::Text,
         body,
     }
 }
@@ -142,6 +151,7 @@ fn not_found(room: Vec<u8>) -> Reply
     requires empty { room.items ≡ [] }
     requires room { MOST_PLAIN ≤ vec_capacity room }
     ensures status { code_of result.status ≡ 404 }
+    ensures form { result.form ≡ Form.Text }
     ensures body { result.body.items ≡ codes "not found\n" }
 {
     let mut body = room;
@@ -151,6 +161,7 @@ fn not_found(room: Vec<u8>) -> Reply
     }
     Reply {
         status: Status::NotFound,
+        form: Form::Text,
         body,
     }
 }
@@ -160,7 +171,8 @@ fn no_request(alloc: Global, room: Vec<u8>) -> Reply
     requires empty { room.items ≡ [] }
     requires room { MOST_PLAIN ≤ vec_capacity room }
     ensures status { code_of result.status ≡ 400 }
-    ensures body { result.body.items ≡ answer_text [] (Err (Refused.Plain Cause.Request)) }
+    ensures form { result.form ≡ Form.Text }
+    ensures body { IsRefusal44 Form.Text result.body.items }
 {
     let mut body = room;
     let line = Err(Refusal::Plain(Cause::Request));
@@ -170,12 +182,29 @@ fn no_request(alloc: Global, room: Vec<u8>) -> Reply
     }
     Reply {
         status: Status::BadRequest,
+        form: Form::Text,
         body,
     }
 }
 
-/// The reply to a request. `room` is for the line of a refusal.
-fn answer_request<S: Alter>(
+/// The same in JSON, in room for a plain object. `body` is what spells no request, if there is a body.
+fn no_request_in_json(alloc: Global, body: Option<&[u8]>, room: Vec<u8>) -> Reply
+    requires empty { room.items ≡ [] }
+    requires room { MOST_JSON ≤ vec_capacity room }
+    ensures status { code_of result.status ≡ 400 }
+    ensures form { result.form ≡ Form.Json }
+    ensures body { IsRefusal44 Form.Json result.body.items }
+{
+    let told = told_unasked(alloc, body);
+    Reply {
+        status: Status::BadRequest,
+        form: Form::Json,
+        body: refuse_plain_in_json(b"refused 44 Request", Cause::Request, told.as_slice(), room),
+    }
+}
+
+/// The reply to a request as text. `room` is for the line of a refusal.
+fn answer_in_text<S: Alter>(
     alloc: Global,
     request: &Spelled,
     treasury: &mut Treasury<S>,
@@ -184,6 +213,7 @@ fn answer_request<S: Alter>(
     requires days { HasDayNumbers request.now.request }
     requires empty { room.items ≡ [] }
     requires room { MOST_PLAIN ≤ vec_capacity room }
+    ensures form { result.form ≡ Form.Text }
     ensures replies { RepliesOn S.Store treasury.old request.now result.body.items
         (λ reply. code_of result.status ≡ status_of reply) treasury.new }
     ensures left { LeavesRequest S.Store treasury.old treasury.new request.now }
@@ -192,24 +222,93 @@ fn answer_request<S: Alter>(
     ensures closed { IsTrue treasury.old.store.failed → treasury.new ≡ treasury.old }
 {
     let mut body = Vec::new(alloc);
-    match answer(alloc, request, treasury, &mut body) {
+    match answer(alloc, Form::Text, request, treasury, &mut body) {
         Ok(()) => Reply {
             status: Status::Done,
+            form: Form::Text,
             body,
         },
         Err(refusal) => {
             let line = refuse_by(alloc, treasury, refusal, room);
             Reply {
                 status: status_of(line.cause),
+                form: Form::Text,
                 body: line.text,
             }
         }
     }
 }
 
+/// The reply to a request in JSON. `line` is for the line of a refusal, and `room` for the object of a plain answer.
+fn answer_in_json<S: Alter>(
+    alloc: Global,
+    request: &Spelled,
+    treasury: &mut Treasury<S>,
+    line: Vec<u8>,
+    room: Vec<u8>,
+) -> Reply
+    requires days { HasDayNumbers request.now.request }
+    requires empty_line { line.items ≡ [] }
+    requires line { MOST_PLAIN ≤ vec_capacity line }
+    requires empty { room.items ≡ [] }
+    requires room { MOST_JSON ≤ vec_capacity room }
+    ensures form { result.form ≡ form_of_reply Form.Json (code_of result.status) }
+    ensures replies { RepliesAs S.Store treasury.old request.now (IsBodyIn Form.Json result.body.items)
+        (λ reply. code_of result.status ≡ status_of reply) treasury.new }
+    ensures left { LeavesRequest S.Store treasury.old treasury.new request.now }
+    ensures open_but { IsOpenButFailed S.Store treasury.old (code_of result.status) treasury.new }
+    ensures shuts { ShutsByFault S.Store treasury.old.store.conn treasury.new.store.conn }
+    ensures closed { IsTrue treasury.old.store.failed → treasury.new ≡ treasury.old }
+{
+    let held = held_before(treasury.state(), &request.request);
+    let mut text = Vec::new(alloc);
+    match answer(alloc, Form::Json, request, treasury, &mut text) {
+        Ok(()) => Reply {
+            status: Status::Done,
+            form: Form::Json,
+            body: done_in_json(alloc, request, treasury, held, text, room),
+        },
+        Err(refusal) => {
+            let state = treasury.state();
+            let told = said_beside(alloc, state, request, held, Some(&refusal));
+            let line = refuse_by(alloc, treasury, refusal, line);
+            let object = refuse_in_json(&line, told.as_slice(), room);
+            Reply {
+                status: status_of(object.cause),
+                form: Form::Json,
+                body: object.text,
+            }
+        }
+    }
+}
+
 /// The reply to a call, in room for a plain line that was made before. Answers 40 where there is no memory to read what
-/// is asked; nothing has changed then.
+/// is asked, or for the room of an object; nothing has changed then.
 pub fn answer_call<S: Alter>(
+    alloc: Global,
+    received: Received,
+    treasury: &mut Treasury<S>,
+    room: Vec<u8>,
+) -> Result<Reply, Cause>
+    requires empty { room.items ≡ [] }
+    requires room { MOST_PLAIN ≤ vec_capacity room }
+    ensures ok { IfOk result (λ reply. AnswersOn S.Store treasury.old received.form received.call
+        (code_of reply.status) reply.body.items treasury.new) }
+    ensures form { IfOk result (λ reply. reply.form ≡ form_of_reply received.form (code_of reply.status)) }
+    ensures err { OnErr result (treasury.new ≡ treasury.old) }
+    ensures memory { IsOkUnless result Cause.OutOfMemory }
+{
+    match received.form {
+        Form::Text => answer_call_in_text(alloc, received.call, treasury, room),
+        Form::Json => match Vec::with_capacity(alloc, MOST_JSON) {
+            Ok(object) => answer_call_in_json(alloc, received.call, treasury, room, object),
+            Err(_) => Err(Cause::OutOfMemory),
+        },
+    }
+}
+
+/// The reply to a call as text, in room for a plain line.
+fn answer_call_in_text<S: Alter>(
     alloc: Global,
     call: Call,
     treasury: &mut Treasury<S>,
@@ -218,15 +317,47 @@ pub fn answer_call<S: Alter>(
     requires empty { room.items ≡ [] }
     requires room { MOST_PLAIN ≤ vec_capacity room }
     ensures ok { IfOk result (λ reply.
-        AnswersOn S.Store treasury.old call (code_of reply.status) reply.body.items treasury.new) }
+        AnswersOn S.Store treasury.old Form.Text call (code_of reply.status) reply.body.items treasury.new) }
+    ensures form { IfOk result (λ reply. reply.form ≡ form_of_reply Form.Text (code_of reply.status)) }
     ensures err { OnErr result (treasury.new ≡ treasury.old) }
     ensures memory { IsOkUnless result Cause.OutOfMemory }
 {
     match sought_by(alloc, call) {
-        Ok(Sought::Request(request)) => Ok(answer_request(alloc, &request, treasury, room)),
+        Ok(Sought::Request(request)) => Ok(answer_in_text(alloc, &request, treasury, room)),
         Ok(Sought::Forbidden) => Ok(forbidden(room)),
         Ok(Sought::Nowhere) => Ok(not_found(room)),
+        Ok(Sought::Misspelled(_)) => Ok(no_request(alloc, room)),
         Ok(Sought::NoRequest) => Ok(no_request(alloc, room)),
+        Err(cause) => Err(cause),
+    }
+}
+
+/// The reply to a call in JSON, in room for a plain line and for the object of a plain answer.
+fn answer_call_in_json<S: Alter>(
+    alloc: Global,
+    call: Call,
+    treasury: &mut Treasury<S>,
+    line: Vec<u8>,
+    room: Vec<u8>,
+) -> Result<Reply, Cause>
+    requires empty_line { line.items ≡ [] }
+    requires line { MOST_PLAIN ≤ vec_capacity line }
+    requires empty { room.items ≡ [] }
+    requires room { MOST_JSON ≤ vec_capacity room }
+    ensures ok { IfOk result (λ reply.
+        AnswersOn S.Store treasury.old Form.Json call (code_of reply.status) reply.body.items treasury.new) }
+    ensures form { IfOk result (λ reply. reply.form ≡ form_of_reply Form.Json (code_of reply.status)) }
+    ensures err { OnErr result (treasury.new ≡ treasury.old) }
+    ensures memory { IsOkUnless result Cause.OutOfMemory }
+{
+    match sought_by(alloc, call) {
+        Ok(Sought::Request(request)) => {
+            Ok(answer_in_json(alloc, &request, treasury, line, room))
+        }
+        Ok(Sought::Forbidden) => Ok(forbidden(line)),
+        Ok(Sought::Nowhere) => Ok(not_found(line)),
+        Ok(Sought::Misspelled(body)) => Ok(no_request_in_json(alloc, Some(body.items()), room)),
+        Ok(Sought::NoRequest) => Ok(no_request_in_json(alloc, None, room)),
         Err(cause) => Err(cause),
     }
 }

@@ -12,7 +12,7 @@ use std::alloc::Global;
 use std::io::{Read, Write};
 use treasury_store::Treasury;
 
-/// Reads one request, answers it, and writes its reply.
+/// Reads one request, answers it, and writes its reply, as text or, where the request asks for that, in JSON.
 ///
 /// On `Ok` the whole reply is written, and the treasury is of the state after the request. 45 comes where a read fails,
 /// whatever its error, or the input ends before the request does, and 40 where there is no memory to read it or for the
@@ -36,11 +36,11 @@ pub fn serve_one<R: Read, W: Write, S: Alter>(
         Ok(line) => line,
         Err(_) => return Err(Cause::OutOfMemory),
     };
-    let call = match read_call(alloc, reader) {
-        Ok(call) => call,
+    let received = match read_call(alloc, reader) {
+        Ok(received) => received,
         Err(cause) => return Err(cause),
     };
-    let reply = match answer_call(alloc, call, treasury, line) {
+    let reply = match answer_call(alloc, received, treasury, line) {
         Ok(reply) => reply,
         Err(cause) => return Err(cause),
     };

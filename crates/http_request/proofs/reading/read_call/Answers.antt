@@ -1,68 +1,87 @@
-use Rattle.std.proofs.Common.{◌≡◌, ◌∙◌, ℕ, List, ap, sym, map, take, drop, false}
+use Rattle.std.proofs.Common.{◌≡◌, ◌∙◌, ℕ, List, Err, ap, sym, map, take, drop, false}
+use Rattle.money_core.specs.declared.cause.Cause.{Cause}
+use Rattle.money_core.specs.declared.cause.Cause.TheVariants.{ReadFault}
 use Rattle.httparse.specs.Spans.{span_bytes, header_bytes}
 use Rattle.http_request.specs.Length.{body_length}
 use Rattle.http_request.specs.Foreign.{is_foreign}
-use Rattle.http_request.proofs.ReadLemmas.{whole_rest, head_calls, is_command, wanted_told, command_told, stop_told}
+use Rattle.http_request.specs.Accept.{form_of}
+use Rattle.http_request.proofs.ReadLemmas.{whole_rest, head_calls, is_command, wanted_told}
+use Rattle.http_request.proofs.ReadLemmas.{command_told, stop_told}
 use Rattle.http_request.proofs.reading.read_call.Goals as goal
 
-pub returns-in-Ok-Command-clause-ok : goal.returns-in-Ok-Command-clause-ok
-returns-in-Ok-Command-clause-ok g c =
+pub returns-in-Ok-clause-ok : goal.returns-in-Ok-clause-ok
+returns-in-Ok-clause-ok g c =
     let h = rw c.in-Ok-Some.field-0-is at c.in-Ok-Some.ensures.found in
     let text = c.read_head.new.text.items in
     let m : c.of.result.now ≡ span_bytes text c.in-Ok-Some.spans.method =
-    c.of.ensures ∙ ap (λ (t : List ℕ). span_bytes t c.in-Ok-Some.spans.method) c.deref-2.ensures.value in
+    c.of.ensures ∙ ap (λ (t : List ℕ). span_bytes t c.in-Ok-Some.spans.method) c.deref-3.ensures.value in
     let p : c.of-2.result.now ≡ span_bytes text c.in-Ok-Some.spans.path =
-    c.of-2.ensures ∙ ap (λ (t : List ℕ). span_bytes t c.in-Ok-Some.spans.path) c.deref-3.ensures.value in
+    c.of-2.ensures ∙ ap (λ (t : List ℕ). span_bytes t c.in-Ok-Some.spans.path) c.deref-4.ensures.value in
     let own : is_foreign (map (header_bytes text) (take c.in-Ok-Some.spans.headers c.read_head.new.headers)) ≡ false =
     ap (λ (t : List ℕ). is_foreign (map (header_bytes t)
-    (take c.in-Ok-Some.spans.headers c.read_head.new.headers))) (sym c.deref.ensures.value)
+    (take c.in-Ok-Some.spans.headers c.read_head.new.headers))) (sym c.deref-2.ensures.value)
     ∙ sym c.is_foreign_head.ensures ∙ c.if-is_foreign_head.false in
+    let asked : c.form_of_head-form.result
+    ≡ form_of (map (header_bytes text) (take c.in-Ok-Some.spans.headers c.read_head.new.headers)) =
+    c.form_of_head-form.ensures ∙ ap (λ (t : List ℕ). form_of (map (header_bytes t)
+    (take c.in-Ok-Some.spans.headers c.read_head.new.headers))) c.deref.ensures.value in
     let told = rw c.in-Ok-Command.field-0-is at c.in-Ok-Command.ensures.wants in
     let leads =
     is_command _ (span_bytes text c.in-Ok-Some.spans.path) c.in-Ok-Command.branch
     (wanted_told _ c.of.result.now _ c.of-2.result.now _ m p told) in
-    command_told _ _ text c.read_head.new.headers c.in-Ok-Some.spans h _ _ own leads c.read_command.result _ _
+    command_told _ _ text c.read_head.new.headers c.in-Ok-Some.spans h _ asked _ _ own leads
+    c.in-Ok.call _ _
     (c.body_length-size.ensures ∙ ap
     (λ (t : List ℕ). body_length (map (header_bytes t) (take c.in-Ok-Some.spans.headers c.read_head.new.headers)))
     c.deref-in-Ok-Command.ensures.value)
     (whole_rest c.in-Ok-Some.spans.len c.deref-in-Ok-Command-2.result.now ∙ ap (drop c.in-Ok-Some.spans.len)
-    c.deref-in-Ok-Command-2.ensures.value) c.read_command.ensures.calls
+    c.deref-in-Ok-Command-2.ensures.value) c.in-Ok.ensures.calls
 
 pub returns-in-Ok-Command-clause-early : goal.returns-in-Ok-Command-clause-early
 returns-in-Ok-Command-clause-early g c e =
     let h = rw c.in-Ok-Some.field-0-is at c.in-Ok-Some.ensures.found in
     let text = c.read_head.new.text.items in
     let m : c.of.result.now ≡ span_bytes text c.in-Ok-Some.spans.method =
-    c.of.ensures ∙ ap (λ (t : List ℕ). span_bytes t c.in-Ok-Some.spans.method) c.deref-2.ensures.value in
+    c.of.ensures ∙ ap (λ (t : List ℕ). span_bytes t c.in-Ok-Some.spans.method) c.deref-3.ensures.value in
     let p : c.of-2.result.now ≡ span_bytes text c.in-Ok-Some.spans.path =
-    c.of-2.ensures ∙ ap (λ (t : List ℕ). span_bytes t c.in-Ok-Some.spans.path) c.deref-3.ensures.value in
+    c.of-2.ensures ∙ ap (λ (t : List ℕ). span_bytes t c.in-Ok-Some.spans.path) c.deref-4.ensures.value in
     let own : is_foreign (map (header_bytes text) (take c.in-Ok-Some.spans.headers c.read_head.new.headers)) ≡ false =
     ap (λ (t : List ℕ). is_foreign (map (header_bytes t)
-    (take c.in-Ok-Some.spans.headers c.read_head.new.headers))) (sym c.deref.ensures.value)
+    (take c.in-Ok-Some.spans.headers c.read_head.new.headers))) (sym c.deref-2.ensures.value)
     ∙ sym c.is_foreign_head.ensures ∙ c.if-is_foreign_head.false in
+    let asked : c.form_of_head-form.result
+    ≡ form_of (map (header_bytes text) (take c.in-Ok-Some.spans.headers c.read_head.new.headers)) =
+    c.form_of_head-form.ensures ∙ ap (λ (t : List ℕ). form_of (map (header_bytes t)
+    (take c.in-Ok-Some.spans.headers c.read_head.new.headers))) c.deref.ensures.value in
     let told = rw c.in-Ok-Command.field-0-is at c.in-Ok-Command.ensures.wants in
     let leads =
     is_command _ (span_bytes text c.in-Ok-Some.spans.path) c.in-Ok-Command.branch
     (wanted_told _ c.of.result.now _ c.of-2.result.now _ m p told) in
-    stop_told _ _ text c.read_head.new.headers c.in-Ok-Some.spans h _ _ own leads _ _
+    stop_told _ _ text c.read_head.new.headers c.in-Ok-Some.spans h _ asked _ _ own leads _ _
     (c.body_length-size.ensures ∙ ap
     (λ (t : List ℕ). body_length (map (header_bytes t) (take c.in-Ok-Some.spans.headers c.read_head.new.headers)))
     c.deref-in-Ok-Command.ensures.value)
     (whole_rest c.in-Ok-Some.spans.len c.deref-in-Ok-Command-2.result.now ∙ ap (drop c.in-Ok-Some.spans.len)
-    c.deref-in-Ok-Command-2.ensures.value) (c.read_command.ensures.early e)
+    c.deref-in-Ok-Command-2.ensures.value) (c.read_command.ensures.early
+    (let k : c.in-Err-read_command.cause ≡ ReadFault = cc in
+    c.in-Err-read_command.is ∙ ap (λ (x : Cause). Err x) k))
 
 pub returns-in-Ok-Whole-clause-ok : goal.returns-in-Ok-Whole-clause-ok
 returns-in-Ok-Whole-clause-ok g c =
     let h = rw c.in-Ok-Some.field-0-is at c.in-Ok-Some.ensures.found in
     let text = c.read_head.new.text.items in
     let m : c.of.result.now ≡ span_bytes text c.in-Ok-Some.spans.method =
-    c.of.ensures ∙ ap (λ (t : List ℕ). span_bytes t c.in-Ok-Some.spans.method) c.deref-2.ensures.value in
+    c.of.ensures ∙ ap (λ (t : List ℕ). span_bytes t c.in-Ok-Some.spans.method) c.deref-3.ensures.value in
     let p : c.of-2.result.now ≡ span_bytes text c.in-Ok-Some.spans.path =
-    c.of-2.ensures ∙ ap (λ (t : List ℕ). span_bytes t c.in-Ok-Some.spans.path) c.deref-3.ensures.value in
+    c.of-2.ensures ∙ ap (λ (t : List ℕ). span_bytes t c.in-Ok-Some.spans.path) c.deref-4.ensures.value in
     let own : is_foreign (map (header_bytes text) (take c.in-Ok-Some.spans.headers c.read_head.new.headers)) ≡ false =
     ap (λ (t : List ℕ). is_foreign (map (header_bytes t)
-    (take c.in-Ok-Some.spans.headers c.read_head.new.headers))) (sym c.deref.ensures.value)
+    (take c.in-Ok-Some.spans.headers c.read_head.new.headers))) (sym c.deref-2.ensures.value)
     ∙ sym c.is_foreign_head.ensures ∙ c.if-is_foreign_head.false in
+    let asked : c.form_of_head-form.result
+    ≡ form_of (map (header_bytes text) (take c.in-Ok-Some.spans.headers c.read_head.new.headers)) =
+    c.form_of_head-form.ensures ∙ ap (λ (t : List ℕ). form_of (map (header_bytes t)
+    (take c.in-Ok-Some.spans.headers c.read_head.new.headers))) c.deref.ensures.value in
     let told = rw c.in-Ok-Whole.field-0-is at c.in-Ok-Whole.ensures.wants in
-    head_calls _ _ text c.read_head.new.headers c.in-Ok-Some.spans h own c.in-Ok-Whole.call
+    head_calls _ _ text c.read_head.new.headers c.in-Ok-Some.spans h _ asked own c.in-Ok-Whole.call
     (wanted_told _ c.of.result.now _ c.of-2.result.now (span_bytes text c.in-Ok-Some.spans.path) m p told)

@@ -1,4 +1,4 @@
-use Rattle.std.proofs.Common.{◌≡◌, ◌∙◌, ◌++◌, List, Ok, Err, true, false, inl, refl, ap, subst}
+use Rattle.std.proofs.Common.{◌≡◌, ◌∙◌, ◌++◌, List, Ok, Err, true, false, inl, refl, ap, sym, subst}
 use Rattle.std.specs.Prelude.{◌↔◌}
 use Rattle.money_core.specs.declared.cause.Cause.TheVariants.{UnknownBranch}
 use Rattle.money_core.specs.declared.style.Style.{Style}
@@ -8,7 +8,7 @@ use Rattle.treasury_store.proofs.TreasuryLemmas.{ok_unfailed}
 use Rattle.treasury_store.proofs.LeftLemmas.{shuts_by, shuts_then}
 use Rattle.treasury_store.proofs.OwnRefusalLemmas.{listed_unheld}
 use Rattle.treasury_api.specs.Asked.{SpelledAsks}
-use Rattle.treasury_api.specs.Report.{report_text, has_its_branch}
+use Rattle.treasury_api.specs.Report.{report_in, has_its_branch}
 use Rattle.treasury_api.specs.Serving.{OrMemory, IsForeseen}
 use Rattle.treasury_api.specs.declared.asking.Asked.TheVariants.{Command, DryRun, Report}
 use Rattle.treasury_api.proofs.ReplyLemmas.{state_is}
@@ -17,6 +17,7 @@ use Rattle.treasury_api.proofs.AnswerLemmas.{dry_run_fits}
 use Rattle.treasury_api.proofs.ForeseenLemmas.{foreseen, foreseen_listed, foreseen_printable, foreseen_unfailed}
 use Rattle.treasury_api.proofs.ForeseenLemmas.{foreseen_same}
 use Rattle.treasury_api.proofs.AnswerLemmas.{reported, unreported, is_there}
+use Rattle.treasury_api.proofs.ServeLemmas.{asked_report}
 use Rattle.treasury_api.proofs.LeftLemmas.{left_same, left_command, open_unheld, open_done, fails_not}
 use Rattle.treasury_api.proofs.LeftLemmas.{fails_unheld, fails_ruled, unread_state, refused_closed, ruled_texts}
 use Rattle.treasury_api.proofs.LeftLemmas.{ruled_report}
@@ -51,16 +52,16 @@ returns-in-Ok-Command-clause-replies g c clean f of =
     (held_unfailed _ c.in-Ok.field-0 c.hold.result c.in-Ok.is c.hold.ensures.closed)
     (meant _ _ _ _ _ (c.styles.ensures ∙ ap (λ (x : Federation). x.styles) same) c.in-Ok-Command.field-0-is
     c.in-Ok-Command.ensures.asks)
-    (c.answer_command.ensures.replies clean f still_of)
+    (c.answer_command.ensures.replies clean f still_of c.args.form)
 
-pub returns-in-Ok-push_report-clause-replies : goal.returns-in-Ok-push_report-clause-replies
-returns-in-Ok-push_report-clause-replies g c clean f of =
+pub returns-in-Ok-push_report_in-clause-replies : goal.returns-in-Ok-push_report_in-clause-replies
+returns-in-Ok-push_report_in-clause-replies g c clean f of =
     let still_of = c.hold.ensures.of clean f of in
     let same : c.in-Some.state.now ≡ f =
     state_is g.S.Store c.hold.new.self c.in-Some.state.now f still_of c.in-Some.ensures in
     let was = held_unfailed _ c.in-Ok.field-0 c.hold.result c.in-Ok.is c.hold.ensures.closed in
-    let there = is_there _ c.in-Ok-push_report.field-0 c.push_report.result c.in-Ok-push_report.is
-    c.push_report.ensures.unknown in
+    let there = is_there _ c.in-Ok-push_report_in.field-0 c.push_report_in.result c.in-Ok-push_report_in.is
+    c.push_report_in.ensures.unknown in
     answered g.S.Store c.args.treasury.now.store.failed c.hold.new.self f c.args.request.now
     (Ok (Report c.in-Ok-Report.report)) _ _ _ was
     (meant _ _ _ _ _ (c.styles.ensures ∙ ap (λ (x : Federation). x.styles) same) c.in-Ok-Report.field-0-is
@@ -68,8 +69,8 @@ returns-in-Ok-push_report-clause-replies g c clean f of =
     (reported g.S.Store c.hold.new.self f c.in-Ok-Report.report _ _ _ still_of
     (ok_unfailed c.in-Ok.field-0 _ (c.in-Ok.ensures.answers was))
     (subst (λ (x : Federation). has_its_branch x c.in-Ok-Report.report ≡ true) same there)
-    (subst (λ (x : Federation). c.push_report.new.out.items
-    ≡ c.args.out.now.items ++ report_text x c.in-Ok-Report.report) same c.in-Ok-push_report.ensures.ok))
+    (subst (λ (x : Federation). c.push_report_in.new.out.items
+    ≡ c.args.out.now.items ++ report_in c.args.form x c.in-Ok-Report.report) same c.in-Ok-push_report_in.ensures.ok))
 
 pub returns-in-Ok-Report-clause-replies : goal.returns-in-Ok-Report-clause-replies
 returns-in-Ok-Report-clause-replies g c clean f of =
@@ -81,11 +82,12 @@ returns-in-Ok-Report-clause-replies g c clean f of =
     (Ok (Report c.in-Ok-Report.report)) _ _ _ was
     (meant _ _ _ _ _ (c.styles.ensures ∙ ap (λ (x : Federation). x.styles) same) c.in-Ok-Report.field-0-is
     c.in-Ok-Report.ensures.asks)
-    (unreported g.S.Store c.hold.new.self f c.in-Ok-Report.report c.in-Err-push_report.cause c.push_report.result _ _ _
-    c.in-Err-push_report.is refl still_of (ok_unfailed c.in-Ok.field-0 _ (c.in-Ok.ensures.answers was))
-    (subst (λ (x : Federation). (c.push_report.result ≡ Err UnknownBranch)
-    ↔ (has_its_branch x c.in-Ok-Report.report ≡ false)) same c.push_report.ensures.unknown)
-    c.in-Err-push_report.ensures.causes c.in-Err-push_report.ensures.err)
+    (unreported g.S.Store c.hold.new.self f c.in-Ok-Report.report c.in-Err-push_report_in.cause c.push_report_in.result
+    _ _ _
+    c.in-Err-push_report_in.is refl still_of (ok_unfailed c.in-Ok.field-0 _ (c.in-Ok.ensures.answers was))
+    (subst (λ (x : Federation). (c.push_report_in.result ≡ Err UnknownBranch)
+    ↔ (has_its_branch x c.in-Ok-Report.report ≡ false)) same c.push_report_in.ensures.unknown)
+    c.in-Err-push_report_in.ensures.causes c.in-Err-push_report_in.ensures.err)
 
 pub returns-clause-replies : goal.returns-clause-replies
 returns-clause-replies g c clean f of =
@@ -201,25 +203,25 @@ returns-in-Ok-DryRun-clause-replies g c clean f of =
     (foreseen g.S.Store c.hold.new.self f c.in-Ok-DryRun.command c.answer_dry_run.result c.args.out.now.items
     c.answer_dry_run.new.out.items still_of (ok_unfailed c.in-Ok.field-0 _ (c.in-Ok.ensures.answers was))
     (subst (λ (x : Federation). IsForeseen x c.in-Ok-DryRun.command c.answer_dry_run.result c.args.out.now.items
-    c.answer_dry_run.new.out.items) same c.answer_dry_run.ensures))
+    c.answer_dry_run.new.out.items) same c.answer_dry_run.ensures.foreseen))
 
 pub returns-in-Ok-DryRun-clause-err : goal.returns-in-Ok-DryRun-clause-err
-returns-in-Ok-DryRun-clause-err g c = foreseen_same _ _ _ _ _ c.answer_dry_run.ensures
+returns-in-Ok-DryRun-clause-err g c = foreseen_same _ _ _ _ _ c.answer_dry_run.ensures.foreseen
 
 pub returns-in-Ok-DryRun-clause-printable : goal.returns-in-Ok-DryRun-clause-printable
 returns-in-Ok-DryRun-clause-printable g c =
     foreseen_printable c.hold.new.self c.in-Some.state.now c.in-Ok-DryRun.command c.answer_dry_run.result
     c.args.out.now.items c.answer_dry_run.new.out.items c.in-Some.ensures c.is_good.ensures
     (dry_run_fits _ _ _ _ c.styles.ensures c.in-Ok-DryRun.field-0-is c.in-Ok-DryRun.ensures.ready)
-    c.answer_dry_run.ensures
+    c.answer_dry_run.ensures.foreseen
 
 pub returns-in-Ok-DryRun-clause-listed : goal.returns-in-Ok-DryRun-clause-listed
-returns-in-Ok-DryRun-clause-listed g c unfailed = foreseen_listed _ _ _ _ _ c.answer_dry_run.ensures
+returns-in-Ok-DryRun-clause-listed g c unfailed = foreseen_listed _ _ _ _ _ c.answer_dry_run.ensures.foreseen
 
 pub returns-in-Ok-DryRun-clause-fails : goal.returns-in-Ok-DryRun-clause-fails
 returns-in-Ok-DryRun-clause-fails g c unfailed =
     foreseen_unfailed _ _ _ _ _ _ (ok_unfailed c.in-Ok.field-0 _ (c.in-Ok.ensures.answers unfailed))
-    c.answer_dry_run.ensures
+    c.answer_dry_run.ensures.foreseen
 
 pub returns-in-Ok-DryRun-clause-closed : goal.returns-in-Ok-DryRun-clause-closed
 returns-in-Ok-DryRun-clause-closed g c failed = absurd (let k = (c.in-Ok.ensures.closed failed).0 in cc)
@@ -245,40 +247,45 @@ returns-in-Ok-DryRun-clause-left g c =
 
 -- ---- a report that is made
 
-pub returns-in-Ok-push_report-clause-fails : goal.returns-in-Ok-push_report-clause-fails
-returns-in-Ok-push_report-clause-fails g c unfailed =
+pub returns-in-Ok-push_report_in-clause-short : goal.returns-in-Ok-push_report_in-clause-short
+returns-in-Ok-push_report_in-clause-short g c other =
+    absurd (let clash = asked_report _ c.args.request.now _ c.in-Ok-Report.report c.in-Ok-Report.field-0-is
+    c.in-Ok-Report.ensures.asks in let k : true ≡ false = sym clash ∙ other in cc)
+
+pub returns-in-Ok-push_report_in-clause-fails : goal.returns-in-Ok-push_report_in-clause-fails
+returns-in-Ok-push_report_in-clause-fails g c unfailed =
     fails_not _ _ (ok_unfailed c.in-Ok.field-0 _ (c.in-Ok.ensures.answers unfailed)) (λ is. absurd cc)
 
-pub returns-in-Ok-push_report-clause-closed : goal.returns-in-Ok-push_report-clause-closed
-returns-in-Ok-push_report-clause-closed g c failed = absurd (let k = (c.in-Ok.ensures.closed failed).0 in cc)
+pub returns-in-Ok-push_report_in-clause-closed : goal.returns-in-Ok-push_report_in-clause-closed
+returns-in-Ok-push_report_in-clause-closed g c failed = absurd (let k = (c.in-Ok.ensures.closed failed).0 in cc)
 
-pub returns-in-Ok-push_report-clause-strange : goal.returns-in-Ok-push_report-clause-strange
-returns-in-Ok-push_report-clause-strange g c clean unfailed unheld none =
+pub returns-in-Ok-push_report_in-clause-strange : goal.returns-in-Ok-push_report_in-clause-strange
+returns-in-Ok-push_report_in-clause-strange g c clean unfailed unheld none =
     absurd (c.in-Ok.ensures.shown clean unheld none)
 
-pub returns-in-Ok-push_report-clause-still_open : goal.returns-in-Ok-push_report-clause-still_open
-returns-in-Ok-push_report-clause-still_open g c = c.in-Ok.ensures.still_open
+pub returns-in-Ok-push_report_in-clause-still_open : goal.returns-in-Ok-push_report_in-clause-still_open
+returns-in-Ok-push_report_in-clause-still_open g c = c.in-Ok.ensures.still_open
 
-pub returns-in-Ok-push_report-clause-open_but : goal.returns-in-Ok-push_report-clause-open_but
-returns-in-Ok-push_report-clause-open_but g c clean is_open = inl (c.in-Ok.ensures.still_open clean is_open)
+pub returns-in-Ok-push_report_in-clause-open_but : goal.returns-in-Ok-push_report_in-clause-open_but
+returns-in-Ok-push_report_in-clause-open_but g c clean is_open = inl (c.in-Ok.ensures.still_open clean is_open)
 
-pub returns-in-Ok-push_report-clause-shuts : goal.returns-in-Ok-push_report-clause-shuts
-returns-in-Ok-push_report-clause-shuts g c =
+pub returns-in-Ok-push_report_in-clause-shuts : goal.returns-in-Ok-push_report_in-clause-shuts
+returns-in-Ok-push_report_in-clause-shuts g c =
     shuts_by g.S.Store c.args.treasury.now.store.conn c.hold.new.self.store.conn _ c.hold.ensures.crash
 
-pub returns-in-Ok-push_report-clause-left : goal.returns-in-Ok-push_report-clause-left
-returns-in-Ok-push_report-clause-left g c =
+pub returns-in-Ok-push_report_in-clause-left : goal.returns-in-Ok-push_report_in-clause-left
+returns-in-Ok-push_report_in-clause-left g c =
     left_same g.S.Store c.args.treasury.now c.hold.new.self c.args.request.now c.hold.ensures.left
 
 -- ---- a report that is refused
 
 pub returns-in-Ok-Report-clause-listed : goal.returns-in-Ok-Report-clause-listed
 returns-in-Ok-Report-clause-listed g c unfailed =
-    inl (ruled_report c.in-Err-push_report.cause c.in-Err-push_report.ensures.causes)
+    inl (ruled_report c.in-Err-push_report_in.cause c.in-Err-push_report_in.ensures.causes)
 
 pub returns-in-Ok-Report-clause-fails : goal.returns-in-Ok-Report-clause-fails
 returns-in-Ok-Report-clause-fails g c unfailed =
-    fails_ruled _ _ (ruled_report c.in-Err-push_report.cause c.in-Err-push_report.ensures.causes)
+    fails_ruled _ _ (ruled_report c.in-Err-push_report_in.cause c.in-Err-push_report_in.ensures.causes)
     (ok_unfailed c.in-Ok.field-0 _ (c.in-Ok.ensures.answers unfailed))
 
 pub returns-in-Ok-Report-clause-closed : goal.returns-in-Ok-Report-clause-closed

@@ -6,7 +6,7 @@ use Rattle.treasury_api.proofs.LeftLemmas.{leaves_first, open_refused, fails_not
 use Rattle.treasury_api.proofs.answering.answer_command.Goals as goal
 
 pub returns-in-Err-perform-clause-replies : goal.returns-in-Err-perform-clause-replies
-returns-in-Err-perform-clause-replies g c clean f of =
+returns-in-Err-perform-clause-replies g c clean f of form =
     performed g.S.Store c.perform.new.self f c.args.command c.perform.result _ c.args.out.now.items _
     (c.perform.ensures.performs clean c.requires.unfailed f
     of (fits_of g.S.Store c.args.treasury.now f c.args.command of c.requires.held))
@@ -26,7 +26,7 @@ unreachable-requires g c =
     absurd (let fits = c.in-Err-answer_line.ensures.room (search rules) (search (rules, arith)) in cc)
 
 pub returns-clause-replies : goal.returns-clause-replies
-returns-clause-replies g c clean f of =
+returns-clause-replies g c clean f of form =
     performed g.S.Store c.perform.new.self f c.args.command c.perform.result _ c.args.out.now.items _
     (c.perform.ensures.performs clean c.requires.unfailed f
     of (fits_of g.S.Store c.args.treasury.now f c.args.command of c.requires.held))

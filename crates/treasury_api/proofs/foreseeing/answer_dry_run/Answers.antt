@@ -1,6 +1,6 @@
 use Rattle.treasury_api.proofs.ForeseenLemmas.{foreseen_done}
 use Rattle.treasury_api.proofs.foreseeing.answer_dry_run.Goals as goal
 
-pub returns-in-Ok-answer_line : goal.returns-in-Ok-answer_line
-returns-in-Ok-answer_line g c =
+pub returns-in-Ok-answer_line-clause-foreseen : goal.returns-in-Ok-answer_line-clause-foreseen
+returns-in-Ok-answer_line-clause-foreseen g c =
     foreseen_done _ _ c.in-Ok.answer _ _ _ c.in-Ok.ensures c.in-Ok-answer_line.ensures.ok

@@ -6,7 +6,7 @@ use Rattle.treasury_api.specs.WebServing.{code_of}
 use Rattle.treasury_api.proofs.AnswerLemmas.{IsAnswered}
 use Rattle.treasury_api.proofs.OneRequestLemmas.{said_done, said_as}
 use Rattle.treasury_api.proofs.WebLemmas.{told_as, open_but_failed}
-use Rattle.treasury_api.proofs.web.answering.answer_request.Goals as goal
+use Rattle.treasury_api.proofs.web.answering.answer_in_text.Goals as goal
 
 pub returns-in-Ok-clause-replies : goal.returns-in-Ok-clause-replies
 returns-in-Ok-clause-replies g c =

@@ -1,0 +1,276 @@
+-- How long the object of a plain answer is.
+use Rattle.std.proofs.Common.{◌≡◌, ◌≤◌, ◌<◌, ◌+◌, ◌*◌, ◌-◌, ◌++◌, ◌∷◌, [], ℕ, List, length, take, drop, codes, arith}
+use Rattle.std.proofs.Common.{refl, ap, ◌∙◌, sym, subst, append_assoc, append-nil, length-append, Bool, true, false}
+use Rattle.std.proofs.Common.{decimal, inl, inr, ◌⊎◌}
+use Rattle.std.specs.List.{flat_map}
+use Rattle.std.specs.Fmt.{digits}
+use Rattle.std.proofs.lemmas.Str.{IsUtf8-nil, is_utf8-from_IsUtf8}
+use Rattle.std.proofs.Common.{Result, Ok, Err, OnOk}
+use Rattle.money_core.specs.declared.cause.Cause.{Cause}
+use Rattle.money_core.specs.declared.cause.Cause.TheVariants as is
+use Rattle.money_core.specs.Cause.{number_of, name_of}
+use Rattle.json_text.specs.JsonText.{escaped, quoted, object_text, rows_text, lines_of}
+use Rattle.json_text.proofs.LengthLemmas.{length-quoted}
+use Rattle.json_text.specs.JsonText as held
+use Rattle.treasury_core.specs.Federation.{Federation}
+use Rattle.treasury_api.specs.declared.report.Report.{Report as AnyReport}
+use Rattle.treasury_api.specs.Report.{report_rows, report_json}
+use Rattle.treasury_told.specs.Sentence.{sentence_of}
+use Rattle.treasury_api.specs.WebServing.{done_json, refusal_json, refused_json, IsJsonRefused}
+
+-- ---- the parts of a refusal
+
+-- the name of a cause
+name_short : (c : Cause) → length (name_of c) ≤ 20
+name_short is.Utf8 = omega arith
+name_short is.TooLong = omega arith
+name_short is.Date = omega arith
+name_short is.Header = omega arith
+name_short is.Directive = omega arith
+name_short is.StrayLine = omega arith
+name_short is.Account = omega arith
+name_short is.Amount = omega arith
+name_short is.UnknownCommodity = omega arith
+name_short is.Decimals = omega arith
+name_short is.CommodityStyle = omega arith
+name_short is.Cost = omega arith
+name_short is.CostNotExact = omega arith
+name_short is.Assignment = omega arith
+name_short is.Virtual = omega arith
+name_short is.Marks = omega arith
+name_short is.TwoBlanks = omega arith
+name_short is.Unbalanced = omega arith
+name_short is.UnknownBranch = omega arith
+name_short is.BranchName = omega arith
+name_short is.CommodityExists = omega arith
+name_short is.Full = omega arith
+name_short is.MarkClash = omega arith
+name_short is.ReservedMark = omega arith
+name_short is.ReservedAccount = omega arith
+name_short is.Locked = omega arith
+name_short is.Limit = omega arith
+name_short is.ClaimFailed = omega arith
+name_short is.SameBranch = omega arith
+name_short is.UnknownTransfer = omega arith
+name_short is.WrongBranch = omega arith
+name_short is.AlreadyReceived = omega arith
+name_short is.TooEarly = omega arith
+name_short is.LockBack = omega arith
+name_short is.NothingToClose = omega arith
+name_short is.BadAccount = omega arith
+name_short is.BadAmount = omega arith
+name_short is.BadId = omega arith
+name_short is.OutOfMemory = omega arith
+name_short is.Store = omega arith
+name_short is.Closed = omega arith
+name_short is.Damaged = omega arith
+name_short is.Request = omega arith
+name_short is.ReadFault = omega arith
+name_short is.WriteFault = omega arith
+name_short is.TooMuch = omega arith
+
+-- its sentence
+sentence_short : (c : Cause) → length (sentence_of c) ≤ 150
+unfolding sentence_of
+sentence_short is.Utf8 = omega arith
+sentence_short is.TooLong = omega arith
+sentence_short is.Date = omega arith
+sentence_short is.Header = omega arith
+sentence_short is.Directive = omega arith
+sentence_short is.StrayLine = omega arith
+sentence_short is.Account = omega arith
+sentence_short is.Amount = omega arith
+sentence_short is.UnknownCommodity = omega arith
+sentence_short is.Decimals = omega arith
+sentence_short is.CommodityStyle = omega arith
+sentence_short is.Cost = omega arith
+sentence_short is.CostNotExact = omega arith
+sentence_short is.Assignment = omega arith
+sentence_short is.Virtual = omega arith
+sentence_short is.Marks = omega arith
+sentence_short is.TwoBlanks = omega arith
+sentence_short is.Unbalanced = omega arith
+sentence_short is.UnknownBranch = omega arith
+sentence_short is.BranchName = omega arith
+sentence_short is.CommodityExists = omega arith
+sentence_short is.Full = omega arith
+sentence_short is.MarkClash = omega arith
+sentence_short is.ReservedMark = omega arith
+sentence_short is.ReservedAccount = omega arith
+sentence_short is.Locked = omega arith
+sentence_short is.Limit = omega arith
+sentence_short is.ClaimFailed = omega arith
+sentence_short is.SameBranch = omega arith
+sentence_short is.UnknownTransfer = omega arith
+sentence_short is.WrongBranch = omega arith
+sentence_short is.AlreadyReceived = omega arith
+sentence_short is.TooEarly = omega arith
+sentence_short is.LockBack = omega arith
+sentence_short is.NothingToClose = omega arith
+sentence_short is.BadAccount = omega arith
+sentence_short is.BadAmount = omega arith
+sentence_short is.BadId = omega arith
+sentence_short is.OutOfMemory = omega arith
+sentence_short is.Store = omega arith
+sentence_short is.Closed = omega arith
+sentence_short is.Damaged = omega arith
+sentence_short is.Request = omega arith
+sentence_short is.ReadFault = omega arith
+sentence_short is.WriteFault = omega arith
+sentence_short is.TooMuch = omega arith
+
+-- ---- objects
+
+-- the parts of the object of an answer that is no refusal
+nest : (a s e f : List ℕ) → ((a ++ s) ++ e) ++ f ≡ a ++ (s ++ (e ++ f))
+nest a s e f = simp append_assoc
+
+done_parts : (line : List ℕ) → done_json line [] ≡ codes "{\"answer\":" ++ (quoted line
+    ++ codes ",\"told\":[],\"notes\":[]}\n")
+unfolding escaped lines_of
+done_parts line =
+    ap (λ (t : List ℕ). codes "{\"answer\":\"" ++ t)
+    (nest (flat_map escaped line ++ codes "\"") (codes ",\"told\":[],\"notes\":[]") (codes "}") (codes "\n"))
+
+-- those of a refusal
+nest_all : (a p b q c r d s e f : List ℕ)
+    → ((a ++ (p ++ (b ++ (q ++ (c ++ (r ++ (d ++ s))))))) ++ e) ++ f
+    ≡ a ++ (p ++ (b ++ (q ++ (c ++ (r ++ (d ++ (s ++ (e ++ f))))))))
+nest_all a p b q c r d s e f = simp append_assoc
+
+refused_parts : (line nr name sentence : List ℕ) → refusal_json line nr name sentence []
+    ≡ codes "{\"answer\":" ++ (quoted line ++ (codes ",\"number\":" ++ (quoted nr
+    ++ (codes ",\"name\":" ++ (quoted name ++ (codes ",\"sentence\":" ++ (quoted sentence
+    ++ codes ",\"told\":[],\"notes\":[]}\n")))))))
+unfolding escaped lines_of
+refused_parts line nr name sentence =
+    ap (λ (t : List ℕ). codes "{\"answer\":\"" ++ t)
+    (nest_all (flat_map escaped line ++ codes "\"") (codes ",\"number\":\"") (flat_map escaped nr ++ codes "\"")
+    (codes ",\"name\":\"") (flat_map escaped name ++ codes "\"") (codes ",\"sentence\":\"")
+    (flat_map escaped sentence ++ codes "\"") (codes ",\"told\":[],\"notes\":[]") (codes "}") (codes "\n"))
+
+number_short : (c : Cause) → length (decimal (number_of c)) ≤ 2
+unfolding digits
+number_short is.Utf8 = omega arith
+number_short is.TooLong = omega arith
+number_short is.Date = omega arith
+number_short is.Header = omega arith
+number_short is.Directive = omega arith
+number_short is.StrayLine = omega arith
+number_short is.Account = omega arith
+number_short is.Amount = omega arith
+number_short is.UnknownCommodity = omega arith
+number_short is.Decimals = omega arith
+number_short is.CommodityStyle = omega arith
+number_short is.Cost = omega arith
+number_short is.CostNotExact = omega arith
+number_short is.Assignment = omega arith
+number_short is.Virtual = omega arith
+number_short is.Marks = omega arith
+number_short is.TwoBlanks = omega arith
+number_short is.Unbalanced = omega arith
+number_short is.UnknownBranch = omega arith
+number_short is.BranchName = omega arith
+number_short is.CommodityExists = omega arith
+number_short is.Full = omega arith
+number_short is.MarkClash = omega arith
+number_short is.ReservedMark = omega arith
+number_short is.ReservedAccount = omega arith
+number_short is.Locked = omega arith
+number_short is.Limit = omega arith
+number_short is.ClaimFailed = omega arith
+number_short is.SameBranch = omega arith
+number_short is.UnknownTransfer = omega arith
+number_short is.WrongBranch = omega arith
+number_short is.AlreadyReceived = omega arith
+number_short is.TooEarly = omega arith
+number_short is.LockBack = omega arith
+number_short is.NothingToClose = omega arith
+number_short is.BadAccount = omega arith
+number_short is.BadAmount = omega arith
+number_short is.BadId = omega arith
+number_short is.OutOfMemory = omega arith
+number_short is.Store = omega arith
+number_short is.Closed = omega arith
+number_short is.Damaged = omega arith
+number_short is.Request = omega arith
+number_short is.ReadFault = omega arith
+number_short is.WriteFault = omega arith
+number_short is.TooMuch = omega arith
+
+-- the object of a plain answer fits in its room
+pub done_short : (line noted : List ℕ) → length line ≤ 63 → noted ≡ [] → length (done_json line noted) ≤ 2_048
+done_short line noted short none =
+    subst (λ (t : List ℕ). length (done_json line t) ≤ 2_048) (sym none)
+    (subst (λ (t : List ℕ). length t ≤ 2_048) (sym (done_parts line))
+    (let e = length-append (codes "{\"answer\":") (quoted line ++ codes ",\"told\":[],\"notes\":[]}\n") in
+    let k = length-append (quoted line) (codes ",\"told\":[],\"notes\":[]}\n") in
+    let q = length-quoted line in
+    omega (arith, e, k, q)))
+
+total : (a l b n c m d s e : List ℕ)
+    → length (a ++ (l ++ (b ++ (n ++ (c ++ (m ++ (d ++ (s ++ e))))))))
+    ≡ length a + (length l + (length b + (length n + (length c + (length m + (length d + (length s + length e)))))))
+total a l b n c m d s e = simp length-append
+
+pub refused_short : (line : List ℕ) (cause : Cause) (told : List ℕ) → length line ≤ 63 → told ≡ []
+    → length (refused_json line cause told) ≤ 2_048
+refused_short line cause told short none =
+    subst (λ (t : List ℕ). length (refused_json line cause t) ≤ 2_048) (sym none)
+    (subst (λ (t : List ℕ). length t ≤ 2_048)
+    (sym (refused_parts line (decimal (number_of cause)) (name_of cause) (sentence_of cause)))
+    (let e = total (codes "{\"answer\":") (quoted line) (codes ",\"number\":") (quoted (decimal (number_of cause)))
+    (codes ",\"name\":") (quoted (name_of cause)) (codes ",\"sentence\":") (quoted (sentence_of cause))
+    (codes ",\"told\":[],\"notes\":[]}\n") in
+    let l = length-quoted line in
+    let n = length-quoted (decimal (number_of cause)) in
+    let m = length-quoted (name_of cause) in
+    let s = length-quoted (sentence_of cause) in
+    let ns = number_short cause in
+    let ms = name_short cause in
+    let ss = sentence_short cause in
+    omega (arith, e, l, n, m, s, ns, ms, ss)))
+
+-- ---- the object of a report
+
+nest_rows : (t e f : List ℕ) → t ++ ((e ++ f) ++ []) ≡ ((t ++ []) ++ e) ++ f
+nest_rows t e f = simp (append_assoc, append-nil)
+
+report_parts : (rows : List (List (List ℕ))) → codes "{\"lines\":" ++ (rows_text rows ++ (codes "}\n" ++ []))
+    ≡ object_text ((codes "lines", held.rows rows) ∷ []) ++ codes "\n"
+unfolding escaped
+report_parts rows =
+    ap (λ (t : List ℕ). codes "{\"lines\":" ++ t) (nest_rows (rows_text rows) (codes "}") (codes "\n"))
+
+pub report_object : (f : Federation) (report : AnyReport) (old rows new : List ℕ)
+    → rows ≡ [] ++ rows_text (report_rows f report)
+    → new ≡ old ++ (codes "{\"lines\":" ++ (rows ++ (codes "}\n" ++ []))) → new ≡ old ++ report_json f report
+report_object f report old rows new is said =
+    said ∙ (ap (λ (t : List ℕ). old ++ (codes "{\"lines\":" ++ (t ++ (codes "}\n" ++ [])))) is
+    ∙ ap (λ (t : List ℕ). old ++ t) (report_parts (report_rows f report)))
+
+-- ---- the object of a refusal, by its cause
+
+pub refused_as : (line nr name said told : List ℕ) (cause : Cause) → nr ≡ decimal (number_of cause)
+    → name ≡ name_of cause → said ≡ sentence_of cause
+    → refusal_json line nr name said told ≡ refused_json line cause told
+refused_as line nr name said told cause number named sentence =
+    ap (λ (t : List ℕ). refusal_json line t name said told) number
+    ∙ (ap (λ (t : List ℕ). refusal_json line (decimal (number_of cause)) t said told) named
+    ∙ ap (λ (t : List ℕ). refusal_json line (decimal (number_of cause)) (name_of cause) t told) sentence)
+
+pub refused_fits : (line nr name said told : List ℕ) (cause : Cause) (old cap : ℕ) → nr ≡ decimal (number_of cause)
+    → name ≡ name_of cause → said ≡ sentence_of cause → length line ≤ 63 → told ≡ [] → old + 2_048 ≤ cap
+    → old + length (refusal_json line nr name said told) ≤ cap
+refused_fits line nr name said told cause old cap number named sentence short none fits =
+    let e = ap length (refused_as line nr name said told cause number named sentence) in
+    let s = refused_short line cause told short none in
+    omega (arith, e, s, fits)
+
+-- nothing is told
+pub refused_none : {T E : Type 0} (result : Result T E) (line : List ℕ) (cause : Cause) (old mid new : List ℕ)
+    → mid ≡ old → old ≡ [] → OnOk result (new ≡ mid ++ refused_json line cause [])
+    → OnOk result (IsJsonRefused line cause new)
+refused_none (Ok x) line cause old mid new same empty said =
+    ([], is_utf8-from_IsUtf8 [] IsUtf8-nil, said ∙ ap (λ (t : List ℕ). t ++ refused_json line cause []) (same ∙ empty))
+refused_none (Err e) line cause old mid new same empty said = tt

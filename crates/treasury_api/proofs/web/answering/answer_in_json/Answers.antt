@@ -1,0 +1,68 @@
+use Rattle.std.proofs.Common.{◌≡◌, ◌≤◌, ◌+◌, ℕ, List, Result, inl, refl, subst, length, arith, false, ap, sym, ◌∙◌}
+use Rattle.http_request.specs.declared.call.Form.TheVariants as form
+use Rattle.book_core.specs.declared.refusal.Refusal.{Refusal}
+use Rattle.treasury_core.specs.declared.command.Answer.{Answer}
+use Rattle.treasury_requests.specs.Request.{is_report}
+use Rattle.money_core.specs.Cause.{number_of}
+use Rattle.treasury_api.specs.WebReply.{status_of, form_of_reply}
+use Rattle.treasury_api.specs.WebServing.{code_of}
+use Rattle.treasury_api.specs.Web.{IsBodyIn}
+use Rattle.treasury_api.proofs.AnswerLemmas.{IsAnsweredIn}
+use Rattle.treasury_api.proofs.OneRequestLemmas.{replied_done, replied_as}
+use Rattle.treasury_api.proofs.JsonLemmas.{done_body, refused_in_json, open_but_json, json_status}
+use Rattle.treasury_api.proofs.web.answering.answer_in_json.Goals as goal
+
+pub returns-in-Ok-clause-replies : goal.returns-in-Ok-clause-replies
+returns-in-Ok-clause-replies g c =
+    let text = c.answer.new.out.items in
+    let body = c.done_in_json.result.items in
+    let short : is_report c.args.request.now.request ≡ false → length text ≤ 64 = λ other.
+    let s = c.in-Ok.ensures.short other in
+    let none = c.new-text.ensures.items in
+    subst (λ (xs : List ℕ). length text ≤ length xs + 64) none s in
+    replied_done form.Json g.S.Store c.args.treasury.now c.answer.new.treasury text c.args.request.now
+    (IsBodyIn form.Json body) (λ (reply : Result Answer Refusal). 200 ≡ status_of reply) c.answer.result
+    c.in-Ok.field-0 c.in-Ok.is c.requires.days c.answer.ensures.clean
+    (λ k f of. subst (λ (xs : List ℕ).
+    IsAnsweredIn form.Json g.S.Store c.args.treasury.now.store.failed c.answer.new.treasury f c.args.request.now
+    c.answer.result xs text) c.new-text.ensures.items (c.answer.ensures.replies k f of))
+    (λ f asked answer asks replies said.
+    done_body c.args.treasury.now.store.failed f c.args.request.now asked answer text body asks replies said
+    c.done_in_json.ensures.report (λ other. c.done_in_json.ensures.other other (short other)))
+    (λ answer. refl)
+
+pub returns-in-Ok-clause-open_but : goal.returns-in-Ok-clause-open_but
+returns-in-Ok-clause-open_but g c clean is_open = inl (c.in-Ok.ensures.still_open clean is_open)
+
+pub returns-in-Ok-clause-closed : goal.returns-in-Ok-clause-closed
+returns-in-Ok-clause-closed g c failed = (c.answer.ensures.closed failed).1
+
+pub returns-in-Err-clause-replies : goal.returns-in-Err-clause-replies
+returns-in-Err-clause-replies g c =
+    let text = c.answer.new.out.items in
+    let body = c.refuse_in_json-object.result.text.items in
+    replied_as form.Json g.S.Store c.args.treasury.now c.answer.new.treasury text c.args.request.now
+    (IsBodyIn form.Json body) (λ (reply : Result Answer Refusal). code_of c.status_of.result ≡ status_of reply)
+    c.answer.result c.in-Err.refusal c.in-Err.is c.requires.days c.answer.ensures.clean
+    (λ k f of. subst (λ (xs : List ℕ).
+    IsAnsweredIn form.Json g.S.Store c.args.treasury.now.store.failed c.answer.new.treasury f c.args.request.now
+    c.answer.result xs text) c.new-text.ensures.items (c.answer.ensures.replies k f of))
+    (λ f of. refused_in_json g.S.Store c.answer.new.treasury f (code_of c.status_of.result)
+    c.refuse_by-line.result.text.items body c.refuse_by-line.result.cause c.refuse_in_json-object.result.cause of
+    c.refuse_in_json-object.ensures c.status_of.ensures c.in-Err.refusal c.refuse_by-line.ensures)
+
+pub returns-in-Err-clause-open_but : goal.returns-in-Err-clause-open_but
+returns-in-Err-clause-open_but g c clean is_open =
+    open_but_json g.S.Store c.args.treasury.now c.answer.new.treasury c.answer.result c.in-Err.refusal
+    c.refuse_by-line.result.cause c.refuse_in_json-object.result.cause (code_of c.status_of.result)
+    c.refuse_by-line.result.text.items c.refuse_in_json-object.result.text.items c.in-Err.is
+    c.refuse_by-line.ensures c.refuse_in_json-object.ensures c.status_of.ensures is_open c.answer.ensures.fails
+    (λ failed. (c.answer.ensures.closed failed).1) (c.answer.ensures.open_but clean is_open)
+
+pub returns-in-Err-clause-closed : goal.returns-in-Err-clause-closed
+returns-in-Err-clause-closed g c failed = (c.answer.ensures.closed failed).1
+
+pub returns-in-Err-clause-form : goal.returns-in-Err-clause-form
+returns-in-Err-clause-form g c =
+    json_status (number_of c.refuse_in_json-object.result.cause)
+    ∙ ap (form_of_reply form.Json) (sym c.status_of.ensures)

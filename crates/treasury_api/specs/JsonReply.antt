@@ -1,0 +1,47 @@
+-- A reply in JSON, if it is none of a report (own rule; docs/FORMATS.md, "Replies in JSON"): the line that answers, why
+-- it is refused, and what is said beside it.
+use Rattle.std.specs.Prelude.{◌≡◌, ℕ, true, List, [], ◌∷◌, ◌++◌, Result, Ok, Err, codes, decimal}
+use Rattle.std.specs.Str.{is_utf8}
+use Rattle.money_core.specs.declared.style.Style.{Style}
+use Rattle.money_core.specs.declared.cause.Cause.{Cause}
+use Rattle.money_core.specs.Cause.{number_of, name_of}
+use Rattle.book_core.specs.declared.refusal.Refusal.{Refusal}
+use Rattle.treasury_core.specs.declared.command.Answer.{Answer}
+use Rattle.treasury_told.specs.Sentence.{sentence_of}
+use Rattle.json_text.specs.JsonText.{Held, string, strings, object_text, lines_of}
+use Rattle.treasury_api.specs.Answer.{done_text, refusal_text}
+use Rattle.treasury_api.specs.WebReply.{cause_of}
+
+-- the line of an answer, without the line feed that ends it
+abbrev pub line_text : List Style → Result Answer Refusal → List ℕ
+line_text styles (Ok answer) = done_text answer
+line_text styles (Err refusal) = refusal_text styles refusal
+
+-- the number and the name of a refusal, and its sentence
+abbrev pub cause_members : Cause → List (List ℕ × Held)
+cause_members cause =
+    (codes "number", string (decimal (number_of cause))) ∷ (codes "name", string (name_of cause))
+    ∷ (codes "sentence", string (sentence_of cause)) ∷ []
+
+-- those of a reply, where it is refused
+abbrev pub refused_members : Result Answer Refusal → List (List ℕ × Held)
+refused_members (Ok answer) = []
+refused_members (Err refusal) = cause_members (cause_of refusal)
+
+-- the members of the object of a reply: the line that answers, why it is refused, and the lines of what is told of a
+-- refusal and noted of another answer
+abbrev pub reply_members : List Style → Result Answer Refusal → List ℕ → List ℕ → List (List ℕ × Held)
+reply_members styles reply told noted =
+    (codes "answer", string (line_text styles reply)) ∷ refused_members reply
+    ++ (codes "told", strings (lines_of told)) ∷ (codes "notes", strings (lines_of noted)) ∷ []
+
+-- the object, with a line feed behind it
+abbrev pub reply_json : List Style → Result Answer Refusal → List ℕ → List ℕ → List ℕ
+reply_json styles reply told noted = object_text (reply_members styles reply told noted) ++ codes "\n"
+
+-- the body of a reply: of a refusal something is told, of another answer noted, some text or none, in UTF-8
+abbrev pub IsJsonOf : List Style → Result Answer Refusal → List ℕ → Type 0
+IsJsonOf styles (Ok answer) body =
+    (noted : List ℕ) × (is_utf8 noted ≡ true) × (body ≡ reply_json styles (Ok answer) [] noted)
+IsJsonOf styles (Err refusal) body =
+    (told : List ℕ) × (is_utf8 told ≡ true) × (body ≡ reply_json styles (Err refusal) told [])

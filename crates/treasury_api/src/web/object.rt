@@ -1,0 +1,273 @@
+//! Replies in JSON: the object of an answer, if it is none of a report.
+
+ghost use Rattle.std.specs.Prelude.{◌≡◌, ◌≤◌, ◌+◌, ◌-◌, ◌++◌, [], true, false, length, take, vec_capacity, OnOk, OnErr};
+ghost use Rattle.std.specs.Prelude.{IsOk, IsTrue, codes};
+ghost use Rattle.std.specs.Str.{is_utf8};
+ghost use Rattle.json_text.specs.JsonText.{object_text};
+ghost use Rattle.json_text.specs.Members.{members_of};
+ghost use Rattle.treasury_requests.specs.Request.{HasDayNumbers, is_report};
+ghost use Rattle.treasury_api.specs.WebServing.{done_json, refusal_json, refused_json, IsJsonDone, IsJsonRefused};
+ghost use Rattle.treasury_api.specs.WebServing.{IsJsonRefusal};
+
+use crate::running::Line;
+use crate::telling::said_beside;
+use itoa::Buffer;
+use json_text::{Member, MemberValue, push_object};
+use money_core::Cause;
+use sqlite::Alter;
+use std::alloc::{AllocError, Global};
+use treasury_requests::Spelled;
+use treasury_store::Treasury;
+use treasury_told::explain::{explain_request, sentence};
+use treasury_told::notes::HeldBefore;
+
+/// The object of a plain answer, of which nothing is told or noted, has at most that many bytes.
+pub const MOST_JSON: usize = 2048;
+
+/// The line of a plain answer has at most that many bytes, without the line feed that ends it.
+const MOST_LINE: usize = 63;
+
+/// The text, where it is UTF-8; none, where it is not.
+fn utf8_of(text: &[u8]) -> &[u8]
+    ensures { is_utf8 result.now ≡ true }
+{
+    match str::from_utf8(text) {
+        Ok(text) => text.as_bytes(),
+        Err(_) => b"",
+    }
+}
+
+/// A line without the line feed that ends it.
+fn line_of(text: &[u8]) -> &[u8]
+    ensures { result.now ≡ take (length text.now - 1) text.now }
+{
+    match text.split_last() {
+        Some((_, line)) => line,
+        None => text,
+    }
+}
+
+/// Appends an object, and a line feed. Where memory is refused, the vector is as it was; where there is room, it is
+/// not.
+fn push_object_line(members: &[Member], out: &mut Vec<u8>) -> Result<(), AllocError>
+    ensures ok { OnOk result (out.new.items ≡ out.old.items ++ (object_text (members_of members.now) ++ codes "\n")) }
+    ensures err { OnErr result (out.new.items ≡ out.old.items) }
+    ensures room { length out.old.items + length (object_text (members_of members.now) ++ codes "\n")
+        ≤ vec_capacity out.old → IsOk result }
+    ensures capacity { vec_capacity out.old ≤ vec_capacity out.new }
+{
+    let before = out.len();
+    push_object(members, out)?;
+    match out.extend_from_slice(b"\n") {
+        Ok(()) => Ok(()),
+        Err(error) => {
+            out.truncate(before);
+            Err(error)
+        }
+    }
+}
+
+/// Appends the object of an answer that is no refusal, by its line and what is noted.
+fn push_done<'a>(line: &'a [u8], noted: &'a [u8], out: &mut Vec<u8>) -> Result<(), AllocError>
+    ensures ok { OnOk result (out.new.items ≡ out.old.items ++ done_json line.now noted.now) }
+    ensures err { OnErr result (out.new.items ≡ out.old.items) }
+    ensures room { length line.now ≤ MOST_LINE → noted.now ≡ []
+        → length out.old.items + MOST_JSON ≤ vec_capacity out.old
+        → IsOk result }
+    ensures capacity { vec_capacity out.old ≤ vec_capacity out.new }
+{
+    push_object_line(
+        &[
+            Member {
+                key: b"answer",
+                value: MemberValue::Text(line),
+            },
+            Member {
+                key: b"told",
+                value: MemberValue::Lines(b""),
+            },
+            Member {
+                key: b"notes",
+                value: MemberValue::Lines(noted),
+            },
+        ],
+        out,
+    )
+}
+
+/// Appends the object of a refusal, by its line, its number, its name, its sentence and what is told.
+fn push_refusal<'a>(
+    line: &'a [u8],
+    nr: &'a [u8],
+    name: &'a [u8],
+    sentence: &'a [u8],
+    told: &'a [u8],
+    out: &mut Vec<u8>,
+) -> Result<(), AllocError>
+    ensures ok { OnOk result (out.new.items
+        ≡ out.old.items ++ refusal_json line.now nr.now name.now sentence.now told.now) }
+    ensures err { OnErr result (out.new.items ≡ out.old.items) }
+    ensures room { length out.old.items + length (refusal_json line.now nr.now name.now sentence.now told.now)
+        ≤ vec_capacity out.old → IsOk result }
+    ensures capacity { vec_capacity out.old ≤ vec_capacity out.new }
+{
+    push_object_line(
+        &[
+            Member {
+                key: b"answer",
+                value: MemberValue::Text(line),
+            },
+            Member {
+                key: b"number",
+                value: MemberValue::Text(nr),
+            },
+            Member {
+                key: b"name",
+                value: MemberValue::Text(name),
+            },
+            Member {
+                key: b"sentence",
+                value: MemberValue::Text(sentence),
+            },
+            Member {
+                key: b"told",
+                value: MemberValue::Lines(told),
+            },
+            Member {
+                key: b"notes",
+                value: MemberValue::Lines(b""),
+            },
+        ],
+        out,
+    )
+}
+
+/// Appends the object of a refusal, by its line, its cause and what is told.
+fn push_refused(line: &[u8], cause: Cause, told: &[u8], out: &mut Vec<u8>) -> Result<(), AllocError>
+    ensures ok { OnOk result (out.new.items ≡ out.old.items ++ refused_json line.now cause told.now) }
+    ensures err { OnErr result (out.new.items ≡ out.old.items) }
+    ensures room { length line.now ≤ MOST_LINE → told.now ≡ [] → length out.old.items + MOST_JSON
+        ≤ vec_capacity out.old → IsOk result }
+    ensures capacity { vec_capacity out.old ≤ vec_capacity out.new }
+{
+    let mut buffer = Buffer::new();
+    let nr = buffer.format(cause.nr()).as_bytes();
+    let name = cause.name().as_bytes();
+    let said = sentence(cause).as_bytes();
+    push_refusal(line, nr, name, said, told, out)
+}
+
+/// The object of an answer that is no refusal, in room for a plain one, by its line, of at most 63 bytes, and what is
+/// noted; nothing is noted where memory is refused for it.
+fn done_object(line: &[u8], noted: &[u8], room: Vec<u8>) -> Vec<u8>
+    requires line { length line.now ≤ MOST_LINE }
+    requires empty { room.items ≡ [] }
+    requires room { MOST_JSON ≤ vec_capacity room }
+    ensures { IsJsonDone line.now result.items }
+{
+    let mut body = room;
+    match push_done(line, utf8_of(noted), &mut body) {
+        Ok(()) => body,
+        Err(_) => match push_done(line, b"", &mut body) {
+            Ok(()) => body,
+            Err(_) => unreachable!(),
+        },
+    }
+}
+
+/// The body of a reply in JSON to a request that is not refused, and was answered by this text. `held` is what was
+/// held before it, and `room` is for the object of a plain answer. A report's object is its text.
+pub fn done_in_json<S: Alter>(
+    alloc: Global,
+    request: &Spelled,
+    treasury: &Treasury<S>,
+    held: Option<HeldBefore>,
+    text: Vec<u8>,
+    room: Vec<u8>,
+) -> Vec<u8>
+    requires days { HasDayNumbers request.now.request }
+    requires empty { room.items ≡ [] }
+    requires room { MOST_JSON ≤ vec_capacity room }
+    ensures report { IsTrue (is_report request.now.request) → result.items ≡ text.items }
+    ensures other { is_report request.now.request ≡ false → length text.items ≤ 64
+        → IsJsonDone (take (length text.items - 1) text.items) result.items }
+{
+    if request.request.is_report() {
+        return text;
+    }
+    let noted = said_beside(alloc, treasury.state(), request, held, None);
+    let line = line_of(text.as_slice());
+    done_object(&line[..line.len().min(MOST_LINE)], noted.as_slice(), room)
+}
+
+/// Appends the object of a refusal, by its line, its cause and what is told; nothing is told where memory is refused
+/// for it.
+fn push_refused_at_least(
+    line: &[u8],
+    cause: Cause,
+    told: &[u8],
+    out: &mut Vec<u8>,
+) -> Result<(), AllocError>
+    requires { out.old.items ≡ [] }
+    ensures ok { OnOk result (IsJsonRefused line.now cause out.new.items) }
+    ensures err { OnErr result (out.new.items ≡ []) }
+    ensures room { length line.now ≤ MOST_LINE → MOST_JSON ≤ vec_capacity out.old → IsOk result }
+    ensures capacity { vec_capacity out.old ≤ vec_capacity out.new }
+{
+    match push_refused(line, cause, utf8_of(told), out) {
+        Ok(()) => Ok(()),
+        Err(_) => push_refused(line, cause, b"", out),
+    }
+}
+
+/// The object of a plain refusal, in room for it, by its line, of at most 63 bytes, its cause, and what is told.
+pub fn refuse_plain_in_json(line: &[u8], cause: Cause, told: &[u8], room: Vec<u8>) -> Vec<u8>
+    requires line { length line.now ≤ MOST_LINE }
+    requires empty { room.items ≡ [] }
+    requires room { MOST_JSON ≤ vec_capacity room }
+    ensures { IsJsonRefused line.now cause result.items }
+{
+    let mut body = room;
+    match push_refused_at_least(line, cause, told, &mut body) {
+        Ok(()) => body,
+        Err(_) => unreachable!(),
+    }
+}
+
+/// The object of a refusal, in room for a plain one, by its line and its cause, and what is told. Where memory is
+/// refused for one that is not plain, it is the object of 40.
+pub fn refuse_in_json(line: &Line, told: &[u8], room: Vec<u8>) -> Line
+    requires empty { room.items ≡ [] }
+    requires room { MOST_JSON ≤ vec_capacity room }
+    ensures { IsJsonRefusal line.now.text.items line.now.cause result.cause result.text.items }
+{
+    let mut text = room;
+    match push_refused_at_least(line_of(line.text.as_slice()), line.cause, told, &mut text) {
+        Ok(()) => Line {
+            text,
+            cause: line.cause,
+        },
+        Err(_) => Line {
+            text: refuse_plain_in_json(b"refused 40 OutOfMemory", Cause::OutOfMemory, b"", text),
+            cause: Cause::OutOfMemory,
+        },
+    }
+}
+
+/// What is told of a call that is no request; of a body, why it spells none.
+pub fn told_unasked(alloc: Global, body: Option<&[u8]>) -> Vec<u8> {
+    let mut told = Vec::new(alloc);
+    let _ = match body {
+        Some(body) => explain_request(alloc, body, &mut told),
+        None => push_sentence(&mut told),
+    };
+    told
+}
+
+/// Appends the sentence of 44 alone.
+fn push_sentence(out: &mut Vec<u8>) -> Result<(), Cause> {
+    out.extend_from_slice(b"treasury: ")?;
+    out.extend_from_slice(sentence(Cause::Request).as_bytes())?;
+    out.extend_from_slice(b"\n")?;
+    Ok(())
+}
