@@ -44,12 +44,14 @@ use Rattle.treasury_api.specs.Web.{AnsweredCall, AreServed, LeavesCalls, HasServ
 use Rattle.treasury_api.proofs.WebLemmas.{one_fails_or, one_fails_map}
 use Rattle.treasury_files.specs.declared.left.Left.{Left}
 use Rattle.treasury_files.specs.declared.left.Left.TheVariants.{Untouched, Closed, Open, Shut}
+use Rattle.treasury_files.specs.declared.file.Unopened.{Unopened as Why}
+use Rattle.treasury_files.specs.declared.file.Unopened.TheVariants as why
 use Rattle.treasury.specs.OverFile.{Spoken, IsRefusedBy, Tells}
 use Rattle.treasury_files.specs.InFile.{ShowsState, LeavesState}
 use Rattle.treasury_files.specs.Left.{HoldsOf, IsImageOf, IsCleanStore, KeepsFile}
 use Rattle.treasury.specs.Serving.{IsNumber, LacksNumber, listening, after_listening, ServesOver, LeavesOpen}
-use Rattle.treasury.specs.Serving.{HaveRowsAfter, ComesBack, ServesOpen, ServesShut, IsNotClosed, IsServed}
-use Rattle.treasury_files.specs.Started.{IsStarted, IsClosedAs, IsUnclosed, IsLeftAs}
+use Rattle.treasury.specs.Serving.{HaveRowsAfter, ComesBack, ServesOpen, ServesShut, RefusesFile, IsNotClosed, IsServed}
+use Rattle.treasury_files.specs.Started.{refusal_of, IsUnserved, IsStarted, IsClosedAs, IsUnclosed, IsLeftAs}
 use Rattle.treasury.specs.ServingParts.{ends_unwritten, IsAnnounced, SaysAtEnd, SaysServing, ServesIfHeard}
 use Rattle.treasury.specs.ServingParts.{KeepsUnheard, EndsBy}
 use Rattle.treasury.specs.declared.words.serving.Ending.{Ending}
@@ -310,6 +312,18 @@ module _ {D : Type 0} (g : disk.Ghosts D) where
             × ComesBack g it (record { now = f; failed = failed }) served.calls (standing new r.0) answered)
             started.starts.unfailed (r.1.1.0, λ trees may. back trees (quiet.outcomes trees may)) in
             (standing new r.0, told.0, told.1)
+
+  -- a file that serves no word refuses `serve`, whatever the cause is, and 43 has its reason
+  pub refuses_file : (image : Image) (why : Why) (said : Spoken) (left : Left D g) → IsRefusedBy (refusal_of why) said
+      → IsUnserved g image why left → RefusesFile g image said left
+  refuses_file image why.NoMemory said left refused unserved = (inl refused, unserved.keeps)
+  refuses_file image (why.Unusable reason) said left refused unserved = (inr (inl refused), unserved.keeps)
+  refuses_file image (why.NoTreasury reason) said left refused unserved =
+      (inr (inr (refused, unserved.reason refl)), unserved.keeps)
+  refuses_file image (why.OtherVersion version) said left refused unserved =
+      (inr (inr (refused, unserved.reason refl)), unserved.keeps)
+  refuses_file image (why.Strange told) said left refused unserved =
+      (inr (inr (refused, unserved.reason refl)), unserved.keeps)
 
   -- a file that is left open was not closed, however serving ended
   pub ends_open : (image : Image) (ending : Ending) (said : Spoken) (left : Left D g) → IsRefusedBy Failed said

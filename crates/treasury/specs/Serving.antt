@@ -16,7 +16,8 @@ use Rattle.sqlite.specs.Held.{Held}
 use Rattle.sqlite.specs.Start.{FindsIn}
 use Rattle.sqlite.specs.Tree.{Trees}
 use Rattle.sqlite.specs.Files.{file_state, IsOpened, HoldsDatabase}
-use Rattle.money_core.specs.declared.cause.Cause.TheVariants.{OutOfMemory, Store, Request as NoRequest, ReadFault}
+use Rattle.money_core.specs.declared.cause.Cause.TheVariants.{OutOfMemory, Store, Damaged, Request as NoRequest}
+use Rattle.money_core.specs.declared.cause.Cause.TheVariants.{ReadFault}
 use Rattle.book_core.specs.declared.refusal.Refusal.{Refusal}
 use Rattle.treasury_core.specs.Federation.{Federation}
 use Rattle.treasury_core.specs.Rows.{rows}
@@ -27,8 +28,8 @@ use Rattle.treasury_api.specs.Left.{end_state}
 use Rattle.treasury_api.specs.Web.{AnsweredCall, AreServed, OneFails}
 use Rattle.treasury_files.specs.declared.left.Left.{Left}
 use Rattle.treasury_files.specs.declared.left.Left.TheVariants.{Closed, Open, Shut}
-use Rattle.treasury_files.specs.Left.{HoldsOf, IsImageOf, IsCleanStore, KeepsFile}
-use Rattle.treasury.specs.OverFile.{Spoken, IsRefusedBy, IsFileRefused, IsRefusedBefore}
+use Rattle.treasury_files.specs.Left.{HoldsOf, IsImageOf, IsCleanStore, KeepsFile, HasNoTreasury}
+use Rattle.treasury.specs.OverFile.{Spoken, IsRefusedBy, IsRefusedBefore}
 use Rattle.treasury_files.specs.InFile.{LeavesState, ShowsState, HasTreasury}
 use Rattle.treasury.specs.OverFile.{Tells}
 
@@ -131,6 +132,13 @@ module _ {D : Type 0} (g : disk.Ghosts D) where
         → (end : Standing) × (answered : AreServed (record { now = f; failed = false }) calls end)
         × ComesBack it (record { now = f; failed = false }) calls end answered
 
+  -- the file is refused, by 40, 41 or 43, and is left as it was; and 43 has its reason
+  abbrev pub RefusesFile : Image → Spoken → Left D g → Type 0
+  RefusesFile image said left =
+      (IsRefusedBy OutOfMemory said
+      ⊎ (IsRefusedBy Store said ⊎ (IsRefusedBy Damaged said × HasNoTreasury g image left)))
+      × KeepsFile g image left
+
   -- 41: the file was changed by another program, and is left open; or it could not be closed
   abbrev pub IsNotClosed : Image → Spoken → Left D g → Type 0
   IsNotClosed image said left = IsRefusedBy Store said × (ServesOpen image left ⊎ ServesShut image left)
@@ -146,7 +154,7 @@ module _ {D : Type 0} (g : disk.Ghosts D) where
   abbrev pub SaysToServe : Image → List Row → Spoken → Left D g → Type 0
   SaysToServe image values said left =
       (LacksValue values × IsRefusedBefore g NoRequest said left)
-      ⊎ ((IsFileRefused said × KeepsFile g image left)
+      ⊎ (RefusesFile image said left
       ⊎ ((ServesOver image left × IsRefusedBy ReadFault said × KeepsFile g image left)
       ⊎ ((rest : Spoken) × (said ≡ after_listening rest) × EndsServing image rest left)))
 

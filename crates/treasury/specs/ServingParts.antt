@@ -10,8 +10,8 @@ use Rattle.treasury.specs.declared.words.serving.Ending.{Ending}
 use Rattle.treasury.specs.declared.words.serving.Ending.TheVariants.{Unbound, Unwritten, Unaccepted, Changed, Finished}
 use Rattle.treasury_files.specs.declared.left.Left.{Left}
 use Rattle.treasury_files.specs.Left.{KeepsFile}
-use Rattle.treasury.specs.OverFile.{Spoken, IsRefusedBy, IsFileRefused, IsRefusedBefore}
-use Rattle.treasury.specs.Serving.{ServesOver, ServesOpen, IsNotClosed, LacksValue, listening, silent}
+use Rattle.treasury.specs.OverFile.{Spoken, IsRefusedBy, IsRefusedBefore}
+use Rattle.treasury.specs.Serving.{ServesOver, ServesOpen, RefusesFile, IsNotClosed, LacksValue, listening, silent}
 
 -- the output takes no more behind a first part of `listening`, or does not hand on what it took
 abbrev pub IsUnannounced : {W : Type 0} → (W → Option (List ℕ)) → W → W → Type 0
@@ -67,5 +67,5 @@ module _ {D : Type 0} (g : disk.Ghosts D) where
   -- and where it did not begin
   abbrev pub SaysServing : Image → List Row → Option Ending → Spoken → Left D g → Type 0
   SaysServing image values None said left =
-      (LacksValue values × IsRefusedBefore g NoRequest said left) ⊎ (IsFileRefused said × KeepsFile g image left)
+      (LacksValue values × IsRefusedBefore g NoRequest said left) ⊎ RefusesFile g image said left
   SaysServing image values (Some ending) said left = EndsBy image ending said left

@@ -7,7 +7,6 @@ mod patience;
 mod pipe;
 mod said;
 mod serving;
-mod telling;
 
 ghost use Rattle.std.specs.Prelude.{◌≡◌, ◌⊎◌, ◌≢◌, ℕ, List, map, codes, false, None, Some, IfOk, OnOk, OnErr};
 ghost use Rattle.std.specs.Prelude.{MatchResult};
@@ -35,7 +34,6 @@ use crate::words::over_file::{Answered, answer_over_file};
 use crate::words::pipe::is_unread;
 use crate::words::said::{Said, room_for_line};
 use crate::words::serving::{Serving, is_unwritten, serve_over_file};
-use crate::words::telling::NOTHING_ENTERED;
 use clap::error::ErrorKind;
 use clap::{ArgMatches, Error};
 use money_core::Cause;
@@ -46,7 +44,8 @@ use std::fs::File;
 use std::io::{Read, Write};
 use std::mem::ManuallyDrop;
 use treasury_api::{
-    Listener, NoListener, commands_law, refusal_law, run_heard_lines, run_law, write_whole,
+    Listener, NOTHING_ENTERED, NoListener, commands_law, refusal_law, run_heard_lines, run_law,
+    write_whole,
 };
 use treasury_core::{
     accepted_closing_law, good_law, growing_law, headline_law, late_entry_law, lock_law,

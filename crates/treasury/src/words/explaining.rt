@@ -1,17 +1,13 @@
 //! What a run says beside its answers, if it is asked to explain them.
 
-use crate::words::telling::{NOTHING_ENTERED, notes_on, reason_of};
 use book_core::{DayLedger, Refusal};
 use money_core::Cause;
 use std::alloc::Global;
-use treasury_api::Listener;
+use treasury_api::{Listener, said_beside};
 use treasury_core::State;
 use treasury_requests::Spelled;
-use treasury_told::explain::sentence;
+use treasury_told::explain::{explain_request, sentence};
 use treasury_told::notes::{HeldBefore, held_before};
-
-/// How the journal of an import is called, which has no file: by its key.
-const SOURCE: &str = "journal";
 
 /// Appends the sentence of a cause.
 fn push_sentence(cause: Cause, out: &mut Vec<u8>) -> Result<(), Cause> {
@@ -61,18 +57,15 @@ impl Listener for Explainer<'_> {
         request: &Spelled,
         refusal: Option<&Refusal>,
     ) {
-        self.said = match refusal {
-            Some(refusal) => reason_of(alloc, state, request, SOURCE, refusal),
-            None => notes_on(alloc, state, request, SOURCE, self.held),
-        };
-        if request.is_dry_run {
-            let _ = self.said.extend_from_slice(NOTHING_ENTERED.as_bytes());
-        }
+        self.said = said_beside(alloc, state, request, self.held, refusal);
     }
 
-    fn tell_unasked(&mut self, alloc: Global, cause: Cause) {
+    fn tell_unasked(&mut self, alloc: Global, line: &[u8], cause: Cause) {
         let mut said = Vec::new(alloc);
-        let _ = push_sentence(cause, &mut said);
+        let _ = match cause {
+            Cause::Request => explain_request(alloc, line, &mut said),
+            _ => push_sentence(cause, &mut said),
+        };
         self.said = said;
     }
 

@@ -18,7 +18,6 @@ ghost use Rattle.treasury.specs.OverFileParts.{spoken, IsRoom, IsClosedOrShut};
 ghost use Rattle.treasury_files.specs.Started.{IsStarted, refusal_of};
 
 use crate::words::said::{Said, done, refused, room_for_line};
-use crate::words::telling::{notes_on, reason_of};
 use clap::ArgMatches;
 use money_core::{Cause, Text};
 use sqlite::{Alter, FileFrom, FileStore, Start};
@@ -26,7 +25,7 @@ use sqlite_disk::Disk;
 use std::alloc::Global;
 use std::fs;
 use std::io::Read;
-use treasury_api::{answer, refuse};
+use treasury_api::{Form, answer, notes_on, reason_of, refuse};
 use treasury_files::{
     Left, UNCLOSED, Unopened, Unserved, close_treasury, make_tables, open_treasury, read_journal,
 };
@@ -125,7 +124,7 @@ pub fn answer_word<S: Alter>(
 {
     let mut text = Vec::new(alloc);
     let held = held_before(treasury.state(), &request.request);
-    match answer(alloc, request, treasury, &mut text) {
+    match answer(alloc, Form::Text, request, treasury, &mut text) {
         Ok(()) => Said {
             answer: text,
             reason: notes_on(alloc, treasury.state(), request, source, held),

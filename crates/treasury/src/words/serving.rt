@@ -9,10 +9,10 @@ ghost use Rattle.sqlite_wal.specs.Files.{image_at};
 ghost use Rattle.treasury_api.specs.Web.{HasServed, ServesOne};
 ghost use Rattle.treasury_files.specs.declared.left.Left.TheVariants.{Untouched};
 ghost use Rattle.treasury.specs.declared.words.serving.Ending.TheVariants.{Changed};
-ghost use Rattle.treasury.specs.OverFile.{IsRefusedBy, IsFileRefused};
+ghost use Rattle.treasury.specs.OverFile.{IsRefusedBy};
 ghost use Rattle.treasury.specs.Serving.{listening, silent, LacksValue};
 ghost use Rattle.treasury.specs.OverFileParts.{spoken, IsRoom, IsClosedOrLeft};
-ghost use Rattle.treasury_files.specs.Started.{IsStarted};
+ghost use Rattle.treasury_files.specs.Started.{IsStarted, refusal_of};
 ghost use Rattle.treasury.specs.ServingParts.{ends_unwritten, IsUnannounced, IsAnnounced, IsAnnouncedBy, ServesIfHeard};
 ghost use Rattle.treasury.specs.ServingParts.{SaysAtEnd, SaysServing};
 
@@ -378,7 +378,7 @@ fn unbegun<D: Disk>(said: Said) -> Serving<D>
 /// What it comes to where the file serves no word.
 fn refused_by<D: Disk>(alloc: Global, room: Vec<u8>, path: &str, refused: Unserved<D>) -> Serving<D>
     requires { IsRoom room }
-    ensures refused { IsFileRefused (spoken result.said) }
+    ensures refused { IsRefusedBy (refusal_of refused.why) (spoken result.said) }
     ensures left { result.left ≡ refused.left }
     ensures ending { result.ending ≡ None }
 {
