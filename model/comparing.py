@@ -19,12 +19,14 @@ import time
 from urllib.parse import quote, urlencode
 
 from model.http import BRANCH_COMMANDS, PATHS
-from model.random_texts import TOP
+from model.json_replies import without_said
+from model.random_texts import ODD, TOP
 from model.treasury import Treasury
 
 SECONDS, MANY, NO_LIMIT = 60, 2**32 - 1, resource.RLIM_INFINITY
 FILE, WAL = "t.db", "t.db-wal"
 REFUSED_41, REFUSED_42 = b"refused 41 Store\n", b"refused 42 Closed\n"
+BODY_41, BODY_42 = (re.compile(rb'\r\n\r\n(?:\{"answer":")?' + text[:-1]) for text in (REFUSED_41, REFUSED_42))
 KEYS = {"unit": "nr", "branch": "nr", "entry": "branch, nr", "leg": "branch, entry, nr", "claim": "branch, entry, leg",
         "transfer": "id", "receipt": "transfer, part"}
 with open(os.path.join(TOP, "docs", "FORMATS.md"), encoding="utf-8") as page:
@@ -79,20 +81,22 @@ def words_of(item):
     return words + last, files
 
 
-def call_of(item, line):
-    """The bytes of a connection that asks for the same: a report half of the time by its path, and a command now and
-    then by that of its branch, or of another."""
+def call_of(item, line, is_plain=False):
+    """The bytes of a connection that asks for the same, for a reply in whichever form or in text: a report half of the
+    time by its path, and a command now and then by that of its branch, or of another."""
     if isinstance(item, tuple):
         return item[0]
+    end = ("" if is_plain else ODD["accepts"][sum(line) % len(ODD["accepts"])]).encode("latin-1")
     if isinstance(item, dict) and item.get("do") in PATHS and len(line) % 2:
         parts = [item.get(key) or "?" for key in PATHS[item["do"]]]
         query = [(key, item[key]) for key in ("tag", "account") if item["do"] == "register" and key in item]
         if all(re.fullmatch("[a-z0-9-]+", part) for part in parts) and len(item) == len(parts) + len(query) + 1:
             target = "/".join([item["do"], *parts]) + "?" * bool(query)
             target += urlencode(query, quote_via=quote, safe="", errors="surrogateescape")
-            return b"GET /%s HTTP/1.1\r\nHost: localhost\r\n\r\n" % target.encode()
+            return b"GET /%s HTTP/1.1\r\nHost: localhost%s\r\n\r\n" % (target.encode(), end)
     target = "/commands" + branch_path(item, line)
-    return b"POST %s HTTP/1.1\r\nHost: localhost\r\nContent-Length: %d\r\n\r\n" % (target.encode(), len(line)) + line
+    head = b"POST %s HTTP/1.1\r\nHost: localhost\r\nContent-Length: %d%s\r\n\r\n" % (target.encode(), len(line), end)
+    return head + line
 
 
 def branch_path(item, line):
@@ -241,20 +245,22 @@ def by_http(folder, program, steps, rng):
     treasury, service = Treasury(), Service(folder, program, MANY if rng else len(steps))
     try:
         for at, (item, line) in enumerate(steps):
-            call, fault = call_of(item, line), rng.choice(("", "", "", "", "killed", "full")) if rng else ""
+            fault = rng.choice(("", "", "", "", "killed", "full")) if rng else ""
+            call = call_of(item, line, fault == "killed")
             before = treasury.copy() if fault else None
             wanted = treasury.http(call)
-            happened[f"a reply with {wanted[9:12].decode() or 'nothing'}"] += 1
+            form = " in JSON" if b"\r\nContent-Type: application/json\r\n" in wanted else ""
+            happened[f"a reply{form} with {wanted[9:12].decode() or 'nothing'}"] += 1
             if isinstance(item, dict):
                 happened[f"{call.split(b' ')[0].decode()} of {item.get('do')}"] += 1
                 if call.startswith(b"POST /commands/"):
                     happened[f"a branch's path is answered {wanted[9:12].decode()}"] += 1
             if fault == "full":
                 resource.prlimit(service.process.pid, resource.RLIMIT_FSIZE, (rng.randrange(120000), NO_LIMIT))
-            found = service.ask(call, rng.random() ** 3 * 0.01 if fault == "killed" else None)
+            found = without_said(service.ask(call, rng.random() ** 3 * 0.01 if fault == "killed" else None))
             is_answered = found == wanted and (found != b"" or fault != "killed")
-            is_41 = fault == "full" and found.endswith(b"\r\n\r\n" + REFUSED_41)
-            if is_41 and not service.ask(call).endswith(b"\r\n\r\n" + REFUSED_42):
+            is_41 = fault == "full" and BODY_41.search(found)
+            if is_41 and not BODY_42.search(service.ask(call)):
                 return at, REFUSED_42, "a call after 41"
             if not is_answered and not is_41 and not (fault == "killed" and wanted.startswith(found)):
                 return at, wanted, (found, fault)

@@ -3,9 +3,11 @@
 import re
 from collections import namedtuple
 
+from model.json_replies import asks_for_json, body_of
 from model.refusals import Refused, refuse_if
 from model.requests import read_day, read_request
 
+TEXT, FORBIDDEN = "text/plain; charset=utf-8", ("403 Forbidden", "forbidden\n")
 MAX_HEAD, MAX_HEADERS, MAX_BODY = 16_384, 32, 8_388_608
 # A head, with its headers as pairs of a name in small letters and a value, and where it ends
 Head = namedtuple("Head", "method target headers end")
@@ -34,8 +36,8 @@ BAD_ESCAPE = re.compile(r"%(?![0-9A-Fa-f]{2})")
 ESCAPE = re.compile(rb"%(..)")
 
 
-class Forbidden(Exception):
-    """A request is no command of the branch in its path."""
+class NoAnswer(Exception):
+    """What is replied that is no answer: its status, and its body."""
 
 
 class Cut(Exception):
@@ -156,17 +158,16 @@ def command_of(branch, text):
     """FORMATS, "HTTP": the request of a body, which has to be a command of the branch (44 comes before that)."""
     keys = read_request(text)
     if keys.get(BRANCH_COMMANDS.get(keys["do"])) != branch:
-        raise Forbidden
+        raise NoAnswer(*FORBIDDEN)
     return keys
 
 
 def report_asked(head):
-    """FORMATS, "HTTP": the request of a path (44 for a date or a query that is none), or None if there is no such
-    route."""
+    """FORMATS, "HTTP": the request of a path (44 for a date or a query that is none), if there is such a route."""
     path, _, query = head.target.partition("?")
     do, *parts = path[1:].split("/")
     if head.method != "GET" or path[:1] != "/" or do not in PATHS or len(parts) != len(PATHS[do]) or "" in parts:
-        return None
+        raise NoAnswer("404 Not Found", "not found\n")
     keys = read_query(query) if do == "register" else {}
     return read_day({"do": do, **dict(zip(PATHS[do], parts)), **keys})
 
@@ -180,39 +181,45 @@ def status_of(number):
     return {43: "500 Internal Server Error", 44: "400 Bad Request"}.get(number, "409 Conflict")
 
 
+def outcome(treasury, head, data):
+    """FORMATS, "HTTP": what comes of a request with that head, as `perform` of `Treasury` answers it."""
+    path = head.target.partition("?")[0]
+    branch = COMMANDS_OF.fullmatch(path)
+    try:
+        if (head.method, path) == ("POST", "/commands"):
+            return treasury.outcome(read_body(head, data))
+        if head.method == "POST" and branch:
+            return treasury.perform(command_of(branch[1], read_body(head, data)))
+        return treasury.perform(report_asked(head))
+    except Refused as refused:
+        return refused.number, refused.answer(), None
+
+
 def answer(treasury, data):
-    """FORMATS, "HTTP": status and body for the bytes of a connection."""
+    """FORMATS, "HTTP": status, media type and body for the bytes of a connection."""
     try:
         head = read_whole_head(data)
         if is_foreign(head):
-            return "403 Forbidden", "forbidden\n"
-        path = head.target.partition("?")[0]
-        branch = COMMANDS_OF.fullmatch(path)
-        if (head.method, path) == ("POST", "/commands"):
-            number, lines = treasury.outcome(read_body(head, data))
-        elif head.method == "POST" and branch:
-            number, lines = treasury.perform(command_of(branch[1], read_body(head, data)))
-        else:
-            keys = report_asked(head)
-            if keys is None:
-                return "404 Not Found", "not found\n"
-            number, lines = treasury.perform(keys)
-    except Forbidden:
-        return "403 Forbidden", "forbidden\n"
+            raise NoAnswer(*FORBIDDEN)
+        found = outcome(treasury, head, data)
+    except NoAnswer as reason:
+        return reason.args[0], TEXT, reason.args[1]
     except Refused as refused:
-        number, lines = refused.number, [refused.answer()]
-    return status_of(number), "".join(lines)
+        return status_of(refused.number), TEXT, refused.answer()
+    if asks_for_json(values(head, b"accept")):
+        return status_of(found[0]), "application/json", body_of(*found)
+    return status_of(found[0]), TEXT, found[1]
 
 
 def reply(treasury, data):
     """FORMATS, "HTTP": all bytes of the reply; none if the request is cut off and could have become one."""
     try:
-        status, body = answer(treasury, data)
+        status, kind, body = answer(treasury, data)
     except Cut:
         return b""
     body = body.encode()
     head = (
-        f"HTTP/1.1 {status}\r\nContent-Type: text/plain; charset=utf-8\r\n"
+        f"HTTP/1.1 {status}\r\nContent-Type: {kind}\r\n"
         f"Content-Length: {len(body)}\r\nConnection: close\r\n\r\n"
     )
     return head.encode() + body

@@ -43,30 +43,31 @@ class Treasury:
         """RULES, "Runs"; FORMATS, "Answer lines": the answer to one line; a line of blanks alone has none."""
         if not line.strip(b" \t"):
             return b""
-        number, lines = self.outcome(line)
-        return "".join(lines + (["ok\n"] if number is None else [])).encode()
+        number, text, _ = self.outcome(line)
+        return (text + ("ok\n" if number is None else "")).encode()
 
     def outcome(self, line):
         """The answer to a text of JSON, as that of `perform`."""
         try:
             keys = read_request(line)
         except Refused as refused:
-            return refused.number, [refused.answer()]
+            return refused.number, refused.answer(), None
         return self.perform(keys)
 
     def perform(self, keys):
-        """RULES, "Commands": performs a request that is read. Answers None and the lines of a report; 0 and the line of
-        what is done or repeated; or a refusal's number and line, which changes nothing."""
+        """RULES, "Commands": performs a request that is read. Answers None, the text and the columns of a report; 0,
+        the line of what is done or repeated, and None; a refusal's number and line, and None, and changes nothing."""
         if keys.get("dry-run") == "yes":
             return self.dry_run(keys)
         try:
             if keys["do"] in REPORTS:
-                return None, getattr(reports, keys["do"] + "_report")(self, keys)
-            return 0, [getattr(self, "do_" + keys["do"])(keys)]
+                rows = getattr(reports, keys["do"] + "_report")(self, keys)
+                return None, "".join(reports.report_lines(keys["do"], rows)), rows
+            return 0, getattr(self, "do_" + keys["do"])(keys), None
         except Repeated:
-            return 0, ["repeated\n"]
+            return 0, "repeated\n", None
         except Refused as refused:
-            return refused.number, [refused.answer()]
+            return refused.number, refused.answer(), None
 
     def dry_run(self, keys):
         """RULES, "Dry run": what the command would be answered now; it is performed on a copy, so nothing changes."""
@@ -134,4 +135,4 @@ class Treasury:
 
     def journal(self, branch):
         """FORMATS, "Journal report"."""
-        return "".join(reports.journal_report(self, {"branch": branch})).encode()
+        return self.perform({"do": "journal", "branch": branch})[1].encode()

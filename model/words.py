@@ -54,5 +54,5 @@ def command(treasury, words, files):
             keys["journal"] = files[keys["journal"]].decode("utf-8", "surrogateescape")
     except Refused as refused:
         return 1, refused.answer().encode()
-    number, lines = treasury.perform(keys)
-    return (1 if number else 0), "".join(lines).encode()
+    number, text, _ = treasury.perform(keys)
+    return (1 if number else 0), text.encode()
