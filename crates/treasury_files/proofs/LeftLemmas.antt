@@ -33,7 +33,8 @@ use Rattle.money_core.specs.declared.cause.Cause.{Cause}
 use Rattle.money_core.specs.declared.cause.Cause.TheVariants.{OutOfMemory, Store as Failed, Damaged}
 use Rattle.treasury_store.specs.Tables.{store_schema, first_schema}
 use Rattle.treasury_store.specs.Creating.{has_one, has_receipt}
-use Rattle.treasury_store.specs.Opening.{AreOurs, IsFirst, IsSecond}
+use Rattle.treasury_store.specs.Opening.{AreOurs, IsFirst, IsSecond, IsEither}
+use Rattle.treasury_store.specs.Judging.{ReadsFirst}
 use Rattle.treasury_store.specs.Upgrading.{KeepsOurs}
 use Rattle.treasury_store.specs.Kept.{KeepsTables, StaysAsIs}
 use Rattle.treasury_store.specs.Rows.{Tables, Holds, HoldsFirst, HoldsEither}
@@ -77,6 +78,16 @@ either_ours db t (inl second) =
     (ours_second db.schema second.shows.schema, inr (record { schema = second.shows.schema; version = second.format }))
 either_ours db t (inr first) =
     (ours_first db.schema first.schema, inl (record { schema = first.schema; version = first.format }))
+
+pub in_either : (db : Database) (t : Tables) → HoldsEither db t → IsEither db.schema
+in_either db t (inl second) = inr second.shows.schema
+in_either db t (inr first) = inl first.schema
+
+-- without the table that version 2 adds, they are those of version 1
+pub only_first : (db : Database) (t : Tables) → has_receipt db.schema ≡ false → HoldsEither db t → HoldsFirst db t
+only_first db t bare (inr first) = first
+only_first db t bare (inl second) =
+    absurd (true≢false (sym second_more ∙ (ap has_receipt (sym second.shows.schema) ∙ bare)))
 
 -- trees of a database, by its own list, that holds these rows
 abbrev pub AreStored : Trees → Tables → Type 0
@@ -229,6 +240,20 @@ module _ {D : Type 0} (g : disk.Ghosts D) where
     keeps_unasked image opened left on left_so =
         keeps_open image opened opened left on left_so (λ clean. clean) (λ clean t holds trees may.
         let (opens, live) = on.serves clean in stored_in opened t trees live opens.is_open (sym opens.clean) holds may)
+
+    -- and so is one whose tables of version 1 were judged
+    pub keeps_judged : (image : Image) (opened judged : Held (FileStore D g)) (left : Left D g)
+        → IsOpenedOn g image opened → IsLeftOpen judged left → ReadsFirst over_files opened judged
+        → has_receipt (file_state opened).now.schema ≡ false → KeepsFile g image left
+    keeps_judged image opened judged left on left_so reads bare =
+        keeps_open image opened judged left on left_so (λ clean. omega (arith, reads.survives.clean, clean))
+        (λ clean t holds trees may.
+        let before : HasCleanDisk (file_state opened) = omega (arith, reads.survives.clean, clean) in
+        let (opens, live) = on.serves before in
+        elim (reads.survives.crash clean trees may) [
+          | inl was ↦ stored_in opened t trees live opens.is_open (sym opens.clean) holds was
+          | inr other ↦ absurd (other (only_first (file_state opened).now t bare holds).schema)
+        ])
 
     -- one whose tables were not opened: 43 comes where they are in neither version, and what else refuses them leaves
     -- version 2 as it is

@@ -17,7 +17,7 @@ use Rattle.sqlite.specs.declared.file.Leftover.TheVariants as rest
 use Rattle.treasury_core.specs.Federation.{Federation}
 use Rattle.treasury_core.specs.Good.{IsGoodState}
 use Rattle.treasury_core.specs.Rows.{rows}
-use Rattle.treasury_store.specs.Rows.{Tables, HoldsFirst, HoldsEither, AreTreesOf, AreFirstTreesOf}
+use Rattle.treasury_store.specs.Rows.{Tables, HoldsEither, AreTreesOf, AreFirstTreesOf}
 use Rattle.treasury_files.specs.declared.left.Left.{Left}
 use Rattle.treasury_files.specs.declared.left.Left.TheVariants.{Untouched, Closed, Open, Shut, Unopened}
 
@@ -92,9 +92,6 @@ module _ {D : Type 0} (g : disk.Ghosts D) where
         → HaveRows trees t
     pub spared : IsCleanIn left → AreSpared image left
 
-  -- 43: no file was opened; or whichever rows of a good state it held, it held them in version 1, of which a trial on
-  -- a copy decides. So a file that was opened has no treasury of version 2.
+  -- 43: no file was opened; or it held the rows of no good state, in neither version
   abbrev pub HasNoTreasury : Image → Left D g → Type 0
-  HasNoTreasury image left =
-      (left ≡ Untouched)
-      ⊎ (IsCleanIn left → (f : Federation) → (holds : HoldsOf image f) → HoldsFirst holds.held.db (rows f))
+  HasNoTreasury image left = (left ≡ Untouched) ⊎ (IsCleanIn left → (f : Federation) → HoldsOf image f → ⊥)

@@ -1,6 +1,6 @@
 //! The files that a word names: a journal to be read, and the database of a treasury.
 
-ghost use Rattle.std.specs.Prelude.{◌≡◌, ◌≤◌, ◌⊎◌, false, take, IfOk, IfErr, IfSome, MatchResult};
+ghost use Rattle.std.specs.Prelude.{◌≡◌, ◌≤◌, ◌⊎◌, false, take, IfOk, IfErr, IfSome, OnOk, OnErr, MatchResult};
 ghost use Rattle.sqlite_wal.specs.Recovery.{Image};
 ghost use Rattle.sqlite_wal.specs.Files.{image_at};
 ghost use Rattle.sqlite.specs.State.{HasCleanDisk};
@@ -9,7 +9,12 @@ ghost use Rattle.sqlite.specs.Start.{FindsIn};
 ghost use Rattle.sqlite.specs.Files.{file_state, IsOpened};
 ghost use Rattle.sqlite_trees.specs.View.{doubt};
 ghost use Rattle.sqlite_store.specs.declared.store.FileStore.{FileStore};
-ghost use Rattle.treasury_store.specs.Tables.{store_schema};
+ghost use Rattle.treasury_core.specs.Federation.{Federation};
+ghost use Rattle.treasury_core.specs.Good.{IsGoodState};
+ghost use Rattle.treasury_core.specs.Rows.{rows};
+ghost use Rattle.treasury_store.specs.Creating.{has_receipt};
+ghost use Rattle.treasury_store.specs.Judging.{ReadsFirst};
+ghost use Rattle.treasury_store.specs.Rows.{HoldsFirst, HoldsEither};
 ghost use Rattle.treasury_files.specs.declared.left.Left.TheVariants.{Untouched, Closed};
 ghost use Rattle.treasury_files.specs.Left.{KeepsFile};
 ghost use Rattle.treasury_files.specs.InFile.{MakesOver, most_journal};
@@ -31,7 +36,7 @@ use std::alloc::Global;
 use std::fs::{self, OpenOptions};
 use std::io::{self, Read};
 use std::os::unix::fs::OpenOptionsExt;
-use treasury_store::{Refused, Store, Treasury, found_version};
+use treasury_store::{Refused, Store, Treasury, found_version, judge_first};
 
 /// The most bytes of a journal's file that are read: one more than a text may have, so that a longer one is seen to be.
 const MOST_JOURNAL: u64 = 1024 * 1024 + 1;
@@ -45,6 +50,9 @@ pub const IN_USE: &str = "the file is in use; try again when the other program h
 
 /// Said of a file that is read otherwise than a database.
 pub const DAMAGED: &str = "the file is not an SQLite database, or is damaged";
+
+/// Said where the tables cannot be read or made.
+const FAILED: &str = "the disk failed while the tables were read or made";
 
 /// Said of tables that name no version.
 const NO_VERSION: &str = "its table format has no row, more than one, or no number in it";
@@ -251,7 +259,7 @@ pub(crate) fn unstarted(cause: Cause, damage: &'static str) -> Unopened
     match cause {
         Cause::OutOfMemory => Unopened::NoMemory,
         Cause::Damaged => Unopened::NoTreasury(damage),
-        _ => Unopened::Unusable("the disk failed while the tables were read or made"),
+        _ => Unopened::Unusable(FAILED),
     }
 }
 
@@ -331,27 +339,73 @@ fn left_unstarted<D: Disk + Drop>(conn: Connection<FileStore<D>>, is_upgraded: b
     }
 }
 
-/// Looks at the tables of a database that was opened, before any of them is changed: 43 where they have not the names
-/// and the columns of a treasury's. An opening of tables of version 1, which changes them, is tried on a copy first;
-/// where a log stands beside the file, each was.
-fn check_opened(
+/// Whether a file is refused by 43.
+fn is_damage(why: &Unopened) -> bool
+    ensures { result ≡ false → refusal_of why.now ≡ Cause.Damaged → ⊥ }
+{
+    match why {
+        Unopened::NoMemory | Unopened::Unusable(_) => false,
+        Unopened::NoTreasury(_) | Unopened::OtherVersion(_) | Unopened::Strange(_) => true,
+    }
+}
+
+/// Tries the opening of tables of version 1, which changes them, on a copy of the file first. Where that is refused by
+/// 43, the tables are judged as they stand, too: a copy that differs from them was made while the file changed.
+fn try_first<S: Alter>(
     rt: &HostRuntime,
     path: &str,
-    schema: &Schema,
+    conn: &mut Connection<S>,
+) -> Result<(), Unopened>
+    requires { conn.old.in_transaction ≡ false }
+    ensures same { OnOk result (conn.new ≡ conn.old) }
+    ensures reads { ReadsFirst S.Store conn.old conn.new }
+    ensures damaged { IfErr result (λ why. refusal_of why ≡ Cause.Damaged → HasCleanDisk (state S.Store conn.new)
+        → (f : Federation) → IsGoodState f → HoldsFirst (state S.Store conn.old).now (rows f) → ⊥) }
+{
+    let why = match rehearse_alone(rt, path) {
+        Ok(()) => return Ok(()),
+        Err(why) => why,
+    };
+    if !is_damage(&why) {
+        return Err(why);
+    }
+    match judge_first(rt.alloc(), conn) {
+        Ok(()) => Err(Unopened::Unusable(IN_USE)),
+        Err(Cause::Damaged) => Err(why),
+        Err(Cause::OutOfMemory) => Err(Unopened::NoMemory),
+        Err(_) => Err(Unopened::Unusable(FAILED)),
+    }
+}
+
+/// Looks at the tables of a database that was opened, before any of them is changed: 43 where they have not the names
+/// and the columns of a treasury's. An opening of tables of version 1 is tried first; where a log stands beside the
+/// file, each was.
+fn check_opened<S: Alter>(
+    rt: &HostRuntime,
+    path: &str,
+    conn: &mut Connection<S>,
     is_alone: bool,
 ) -> Result<(), Unopened>
-    // Those of version 2 are not refused by 43.
-    ensures { IfErr result (λ why. refusal_of why ≡ Cause.Damaged → schema.now ≡ store_schema → ⊥) }
+    requires { conn.old.in_transaction ≡ false }
+    ensures same { OnOk result (conn.new ≡ conn.old) }
+    // Where it refuses, it has read tables of version 1 at most.
+    ensures reads { OnErr result ((conn.new ≡ conn.old) ⊎ ((has_receipt (state S.Store conn.old).now.schema ≡ false)
+        × ReadsFirst S.Store conn.old conn.new)) }
+    // Those that are the rows of a good state are not refused by 43.
+    ensures damaged { IfErr result (λ why. refusal_of why ≡ Cause.Damaged → HasCleanDisk (state S.Store conn.new)
+        → (f : Federation) → IsGoodState f → HoldsEither (state S.Store conn.old).now (rows f) → ⊥) }
 {
-    match check_tables(rt.alloc(), schema, is_alone) {
+    match check_tables(rt.alloc(), conn.schema(), is_alone) {
         Ok(()) => {}
-        Err(unopened) => return Err(unopened),
+        Err(why) => return Err(why),
     }
-    if is_alone && !has_receipts(schema) {
-        rehearse_alone(rt, path)
-    } else {
-        Ok(())
+    if !is_alone {
+        return Ok(());
     }
+    if has_receipts(conn.schema()) {
+        return Ok(());
+    }
+    try_first(rt, path, conn)
 }
 
 /// The treasury whose tables a database has. `is_alone` says that no log stands beside the file.
@@ -365,7 +419,8 @@ fn start_on<D: Disk + Drop>(
     ensures { MatchResult result (StartsOn D.Disk conn)
         (λ r. (image : Image) → IsOpenedOn D.Disk image conn → IsUnserved D.Disk image r.why r.left) }
 {
-    match check_opened(rt, path, conn.schema(), is_alone) {
+    let mut conn = conn;
+    match check_opened(rt, path, &mut conn, is_alone) {
         Ok(()) => {}
         Err(why) => {
             return Err(Unserved {

@@ -38,3 +38,4 @@ pub mod OwnRefusalLemmas
 pub mod TreasuryLemmas
 pub mod LeftLemmas
 pub mod PushLemmas
+pub mod JudgingLemmas

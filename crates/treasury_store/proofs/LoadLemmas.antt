@@ -15,14 +15,16 @@ use Rattle.sqlite.specs.Order.{Row, column}
 use Rattle.sqlite.specs.Query.{Output, output, output_cmp}
 use Rattle.sqlite.specs.Program.{overlay}
 use Rattle.sqlite.specs.Command.TheVariants.{Select}
+use Rattle.sqlite.specs.Schema.{Schema}
 use Rattle.sqlite.specs.Tree.{Trees, IsAscending}
 use Rattle.sqlite.specs.State.{State, Shown}
 use Rattle.sqlite.specs.Listing.{understood, reads_listing}
 use Rattle.sqlite.proofs.Callers.{IsPlain, command_of, reads_as}
-use Rattle.treasury_store.specs.Tables.{store_schema}
+use Rattle.treasury_store.specs.Tables.{store_schema, first_schema}
 use Rattle.treasury_store.specs.Rows.{Tables, unit_row, branch_row, entry_row, leg_row, claim_row, transfer_row}
 use Rattle.treasury_store.specs.Rows.{part_row}
-use Rattle.treasury_store.specs.Rows.{ShowsTables, shown_unit, shown_branch, shown_entry, shown_leg, shown_claim}
+use Rattle.treasury_store.specs.Rows.{ShowsTables, HoldsFirst, shown_unit, shown_branch}
+use Rattle.treasury_store.specs.Rows.{shown_entry, shown_leg, shown_claim}
 use Rattle.treasury_store.specs.Rows.{shown_transfer, shown_part}
 use Rattle.treasury_store.specs.Order.{unit_cmp, branch_cmp, entry_cmp, leg_cmp, claim_cmp, transfer_cmp, part_cmp}
 use Rattle.treasury_core.specs.declared.rows.UnitRow.{UnitRow}
@@ -32,6 +34,8 @@ use Rattle.treasury_core.specs.declared.rows.LegRow.{LegRow}
 use Rattle.treasury_core.specs.declared.rows.ClaimRow.{ClaimRow}
 use Rattle.treasury_core.specs.declared.rows.TransferRow.{TransferRow}
 use Rattle.treasury_core.specs.declared.rows.PartRow.{PartRow}
+use Rattle.treasury_store.proofs.Texts.{first_unit_rows_is, first_branch_rows_is, first_entry_rows_is}
+use Rattle.treasury_store.proofs.Texts.{first_leg_rows_is, first_claim_rows_is, first_transfer_rows_is}
 use Rattle.treasury_store.proofs.Texts.{table_query, unit_rows_text, unit_rows_is, unit_columns, unit_order, unit_query}
 use Rattle.treasury_store.proofs.Texts.{branch_rows_text, branch_rows_is, branch_columns, branch_order, branch_query}
 use Rattle.treasury_store.proofs.Texts.{entry_rows_text, entry_rows_is, entry_columns, entry_order, entry_query}
@@ -44,21 +48,22 @@ use Rattle.treasury_store.proofs.QueriedLemmas.{all_chosen}
 use Rattle.treasury_store.proofs.ShownLemmas.{whole}
 
 -- a query of a whole table, whose order is by the first columns that it shows
-module _ (tree : ℕ) (bare : (db : Trees) → overlay db [] tree ≡ db tree) (sql : List ℕ) (columns : List Term)
+module _ (schema : Schema) (tree : ℕ) (bare : (db : Trees) → overlay db [] tree ≡ db tree)
+    (sql : List ℕ) (columns : List Term)
     (order : List (Term × Key)) (names : List (List ℕ))
-    (is : command_of (understood store_schema sql)
+    (is : command_of (understood schema sql)
     ≡ Select (record { lets = []; body = table_query tree [] columns order }) names)
-    (unlisted : reads_listing store_schema sql ≡ false) (plain : IsPlain (understood store_schema sql))
+    (unlisted : reads_listing schema sql ≡ false) (plain : IsPlain (understood schema sql))
     (shown : Row → Row) (keyed : Row → Output)
     (shows : (r : Row) → output (table_query tree [] columns order) (at [] r) ≡ keyed (shown r))
     (keyed_is : (s : Row) → (keyed s).1 ≡ s) where
-  answered : (old new : State) (rows : List Row) → old.now.schema ≡ store_schema → Shown sql [] old new rows
+  answered : (old new : State) (rows : List Row) → old.now.schema ≡ schema → Shown sql [] old new rows
       → (ordered : List Output) × IsPermutation (map keyed (map shown (old.now.trees tree))) ordered
       × IsSorted (output_cmp (table_query tree [] columns order)) ordered × (rows ≡ map (λ o. o.1) ordered)
   answered old new rows has h =
       let db = old.now.trees in
       let q = table_query tree [] columns order in
-      let got = reads_as sql [] old new store_schema has (Select (record { lets = []; body = q }) names) is plain
+      let got = reads_as sql [] old new schema has (Select (record { lets = []; body = q }) names) is plain
       unlisted rows h in
       let answer = answer_is [] tree [] columns order (λ _. true) (λ _. refl) (overlay db []) rows (got.answer Null) in
       let all : map (λ r. output q (at [] r)) (filter (λ _. true) (overlay db [] tree))
@@ -68,7 +73,7 @@ module _ (tree : ℕ) (bare : (db : Trees) → overlay db [] tree ≡ db tree) (
       (answer.0, subst (λ l. IsPermutation l answer.0) all answer.1, answer.2, answer.3)
 
   -- it answers the columns of the rows that are stored
-  pub as_shown : (old new : State) (rows : List Row) → old.now.schema ≡ store_schema → Shown sql [] old new rows
+  pub as_shown : (old new : State) (rows : List Row) → old.now.schema ≡ schema → Shown sql [] old new rows
       → IsPermutation (map shown (old.now.trees tree)) rows
   as_shown old new rows has h =
       let answer = answered old new rows has h in
@@ -82,7 +87,7 @@ module _ (tree : ℕ) (bare : (db : Trees) → overlay db [] tree ≡ db tree) (
   module _ {X : Type 0} (row_of : X → Row) (cmp : X → X → Ordering)
       (cmp_is : (x y : X)
       → output_cmp (table_query tree [] columns order) (keyed (row_of x)) (keyed (row_of y)) ≡ cmp x y) where
-    pub in_order : (old new : State) (xs : List X) (rows : List Row) → old.now.schema ≡ store_schema
+    pub in_order : (old new : State) (xs : List X) (rows : List Row) → old.now.schema ≡ schema
         → IsPermutation (map row_of xs) (map shown (old.now.trees tree)) → IsAscending (λ x y. cmp x y ≡ Less) xs
         → Shown sql [] old new rows → rows ≡ map row_of xs
     in_order old new xs rows has same up h =
@@ -125,16 +130,27 @@ pub units_are : (old new : State) (t : Tables) (rows : List Row) → ShowsTables
     → IsAscending (λ x y. unit_cmp x y ≡ Less) t.units → Shown unit_rows_text [] old new rows
     → rows ≡ map unit_row t.units
 units_are old new t rows shows up h =
-    in_order 1 (λ _. refl) unit_rows_text unit_columns unit_order _ unit_rows_is.0 unit_rows_is.1 unit_rows_is.2
+    in_order store_schema 1 (λ _. refl) unit_rows_text unit_columns unit_order _ unit_rows_is.0 unit_rows_is.1
+    unit_rows_is.2
     shown_unit unit_keyed unit_shows (λ _. refl) unit_row unit_cmp unit_sorted old new t.units rows shows.schema
     shows.units up h
+
+pub first_units_are : (old new : State) (t : Tables) (rows : List Row) → HoldsFirst old.now t
+    → IsAscending (λ x y. unit_cmp x y ≡ Less) t.units → Shown unit_rows_text [] old new rows
+    → rows ≡ map unit_row t.units
+first_units_are old new t rows holds up h =
+    in_order first_schema 1 (λ _. refl) unit_rows_text unit_columns unit_order _ first_unit_rows_is.0
+    first_unit_rows_is.1 first_unit_rows_is.2 shown_unit unit_keyed unit_shows (λ _. refl) unit_row unit_cmp
+    unit_sorted old new
+    t.units rows holds.schema holds.units up h
 
 pub units_shown : (old new : State) (given rows : List Row) (xs : List UnitRow) → given ≡ rows
     → map unit_row xs ≡ map unit_front given → old.now.schema ≡ store_schema → Shown unit_rows_text [] old new rows
     → IsPermutation (map unit_row xs) (map shown_unit (old.now.trees 1))
 units_shown old new given rows xs is read has h =
     read_shown unit_row shown_unit unit_front (λ _. refl) (old.now.trees 1) given rows xs is read
-    (as_shown 1 (λ _. refl) unit_rows_text unit_columns unit_order _ unit_rows_is.0 unit_rows_is.1 unit_rows_is.2
+    (as_shown store_schema 1 (λ _. refl) unit_rows_text unit_columns unit_order _ unit_rows_is.0 unit_rows_is.1
+    unit_rows_is.2
     shown_unit unit_keyed unit_shows (λ _. refl) old new rows has h)
 
 -- ---- branch
@@ -155,9 +171,18 @@ pub branches_are : (old new : State) (t : Tables) (rows : List Row) → ShowsTab
     → IsAscending (λ x y. branch_cmp x y ≡ Less) t.branches → Shown branch_rows_text [] old new rows
     → rows ≡ map branch_row t.branches
 branches_are old new t rows shows up h =
-    in_order 3 (λ _. refl) branch_rows_text branch_columns branch_order _ branch_rows_is.0 branch_rows_is.1
+    in_order store_schema 3 (λ _. refl) branch_rows_text branch_columns branch_order _ branch_rows_is.0 branch_rows_is.1
     branch_rows_is.2 shown_branch branch_keyed branch_shows (λ _. refl) branch_row branch_cmp branch_sorted old new
     t.branches rows shows.schema shows.branches up h
+
+pub first_branches_are : (old new : State) (t : Tables) (rows : List Row) → HoldsFirst old.now t
+    → IsAscending (λ x y. branch_cmp x y ≡ Less) t.branches → Shown branch_rows_text [] old new rows
+    → rows ≡ map branch_row t.branches
+first_branches_are old new t rows holds up h =
+    in_order first_schema 3 (λ _. refl) branch_rows_text branch_columns branch_order _ first_branch_rows_is.0
+    first_branch_rows_is.1 first_branch_rows_is.2 shown_branch branch_keyed branch_shows (λ _. refl) branch_row
+    branch_cmp branch_sorted old new
+    t.branches rows holds.schema holds.branches up h
 
 pub branches_shown : (old new : State) (given rows : List Row) (xs : List BranchRow) → given ≡ rows
     → map branch_row xs ≡ map branch_front given → old.now.schema ≡ store_schema
@@ -165,7 +190,8 @@ pub branches_shown : (old new : State) (given rows : List Row) (xs : List Branch
     → IsPermutation (map branch_row xs) (map shown_branch (old.now.trees 3))
 branches_shown old new given rows xs is read has h =
     read_shown branch_row shown_branch branch_front (λ _. refl) (old.now.trees 3) given rows xs is read
-    (as_shown 3 (λ _. refl) branch_rows_text branch_columns branch_order _ branch_rows_is.0 branch_rows_is.1
+    (as_shown store_schema 3 (λ _. refl) branch_rows_text branch_columns branch_order _ branch_rows_is.0
+    branch_rows_is.1
     branch_rows_is.2 shown_branch branch_keyed branch_shows (λ _. refl) old new rows has h)
 
 -- ---- entry
@@ -186,16 +212,26 @@ pub entries_are : (old new : State) (t : Tables) (rows : List Row) → ShowsTabl
     → IsAscending (λ x y. entry_cmp x y ≡ Less) t.entries → Shown entry_rows_text [] old new rows
     → rows ≡ map entry_row t.entries
 entries_are old new t rows shows up h =
-    in_order 5 (λ _. refl) entry_rows_text entry_columns entry_order _ entry_rows_is.0 entry_rows_is.1 entry_rows_is.2
+    in_order store_schema 5 (λ _. refl) entry_rows_text entry_columns entry_order _ entry_rows_is.0 entry_rows_is.1
+    entry_rows_is.2
     shown_entry entry_keyed entry_shows (λ _. refl) entry_row entry_cmp entry_sorted old new t.entries rows
     shows.schema shows.entries up h
+
+pub first_entries_are : (old new : State) (t : Tables) (rows : List Row) → HoldsFirst old.now t
+    → IsAscending (λ x y. entry_cmp x y ≡ Less) t.entries → Shown entry_rows_text [] old new rows
+    → rows ≡ map entry_row t.entries
+first_entries_are old new t rows holds up h =
+    in_order first_schema 5 (λ _. refl) entry_rows_text entry_columns entry_order _ first_entry_rows_is.0
+    first_entry_rows_is.1 first_entry_rows_is.2 shown_entry entry_keyed entry_shows (λ _. refl) entry_row entry_cmp
+    entry_sorted old new
+    t.entries rows holds.schema holds.entries up h
 
 pub entries_shown : (old new : State) (given rows : List Row) (xs : List EntryRow) → given ≡ rows
     → map entry_row xs ≡ map entry_front given → old.now.schema ≡ store_schema → Shown entry_rows_text [] old new rows
     → IsPermutation (map entry_row xs) (map shown_entry (old.now.trees 5))
 entries_shown old new given rows xs is read has h =
     read_shown entry_row shown_entry entry_front (λ _. refl) (old.now.trees 5) given rows xs is read
-    (as_shown 5 (λ _. refl) entry_rows_text entry_columns entry_order _ entry_rows_is.0 entry_rows_is.1
+    (as_shown store_schema 5 (λ _. refl) entry_rows_text entry_columns entry_order _ entry_rows_is.0 entry_rows_is.1
     entry_rows_is.2 shown_entry entry_keyed entry_shows (λ _. refl) old new rows has h)
 
 -- ---- leg
@@ -214,15 +250,23 @@ leg_sorted x y = simp (value_cmp-Int, then-Equal)
 pub legs_are : (old new : State) (t : Tables) (rows : List Row) → ShowsTables old.now t
     → IsAscending (λ x y. leg_cmp x y ≡ Less) t.legs → Shown leg_rows_text [] old new rows → rows ≡ map leg_row t.legs
 legs_are old new t rows shows up h =
-    in_order 8 (λ _. refl) leg_rows_text leg_columns leg_order _ leg_rows_is.0 leg_rows_is.1 leg_rows_is.2 shown_leg
+    in_order store_schema 8 (λ _. refl) leg_rows_text leg_columns leg_order _ leg_rows_is.0 leg_rows_is.1
+    leg_rows_is.2 shown_leg
     leg_keyed leg_shows (λ _. refl) leg_row leg_cmp leg_sorted old new t.legs rows shows.schema shows.legs up h
+
+pub first_legs_are : (old new : State) (t : Tables) (rows : List Row) → HoldsFirst old.now t
+    → IsAscending (λ x y. leg_cmp x y ≡ Less) t.legs → Shown leg_rows_text [] old new rows → rows ≡ map leg_row t.legs
+first_legs_are old new t rows holds up h =
+    in_order first_schema 8 (λ _. refl) leg_rows_text leg_columns leg_order _ first_leg_rows_is.0
+    first_leg_rows_is.1 first_leg_rows_is.2 shown_leg leg_keyed leg_shows (λ _. refl) leg_row leg_cmp leg_sorted old new
+    t.legs rows holds.schema holds.legs up h
 
 pub legs_shown : (old new : State) (given rows : List Row) (xs : List LegRow) → given ≡ rows
     → map leg_row xs ≡ map leg_front given → old.now.schema ≡ store_schema → Shown leg_rows_text [] old new rows
     → IsPermutation (map leg_row xs) (map shown_leg (old.now.trees 8))
 legs_shown old new given rows xs is read has h =
     read_shown leg_row shown_leg leg_front (λ _. refl) (old.now.trees 8) given rows xs is read
-    (as_shown 8 (λ _. refl) leg_rows_text leg_columns leg_order _ leg_rows_is.0 leg_rows_is.1 leg_rows_is.2
+    (as_shown store_schema 8 (λ _. refl) leg_rows_text leg_columns leg_order _ leg_rows_is.0 leg_rows_is.1 leg_rows_is.2
     shown_leg leg_keyed leg_shows (λ _. refl) old new rows has h)
 
 -- ---- claim
@@ -243,16 +287,26 @@ pub claims_are : (old new : State) (t : Tables) (rows : List Row) → ShowsTable
     → IsAscending (λ x y. claim_cmp x y ≡ Less) t.claims → Shown claim_rows_text [] old new rows
     → rows ≡ map claim_row t.claims
 claims_are old new t rows shows up h =
-    in_order 10 (λ _. refl) claim_rows_text claim_columns claim_order _ claim_rows_is.0 claim_rows_is.1 claim_rows_is.2
+    in_order store_schema 10 (λ _. refl) claim_rows_text claim_columns claim_order _ claim_rows_is.0 claim_rows_is.1
+    claim_rows_is.2
     shown_claim claim_keyed claim_shows (λ _. refl) claim_row claim_cmp claim_sorted old new t.claims rows
     shows.schema shows.claims up h
+
+pub first_claims_are : (old new : State) (t : Tables) (rows : List Row) → HoldsFirst old.now t
+    → IsAscending (λ x y. claim_cmp x y ≡ Less) t.claims → Shown claim_rows_text [] old new rows
+    → rows ≡ map claim_row t.claims
+first_claims_are old new t rows holds up h =
+    in_order first_schema 10 (λ _. refl) claim_rows_text claim_columns claim_order _ first_claim_rows_is.0
+    first_claim_rows_is.1 first_claim_rows_is.2 shown_claim claim_keyed claim_shows (λ _. refl) claim_row claim_cmp
+    claim_sorted old new
+    t.claims rows holds.schema holds.claims up h
 
 pub claims_shown : (old new : State) (given rows : List Row) (xs : List ClaimRow) → given ≡ rows
     → map claim_row xs ≡ map claim_front given → old.now.schema ≡ store_schema → Shown claim_rows_text [] old new rows
     → IsPermutation (map claim_row xs) (map shown_claim (old.now.trees 10))
 claims_shown old new given rows xs is read has h =
     read_shown claim_row shown_claim claim_front (λ _. refl) (old.now.trees 10) given rows xs is read
-    (as_shown 10 (λ _. refl) claim_rows_text claim_columns claim_order _ claim_rows_is.0 claim_rows_is.1
+    (as_shown store_schema 10 (λ _. refl) claim_rows_text claim_columns claim_order _ claim_rows_is.0 claim_rows_is.1
     claim_rows_is.2 shown_claim claim_keyed claim_shows (λ _. refl) old new rows has h)
 
 -- ---- transfer
@@ -274,9 +328,19 @@ pub transfers_are : (old new : State) (t : Tables) (rows : List Row) → ShowsTa
     → IsAscending (λ x y. transfer_cmp x y ≡ Less) t.transfers → Shown transfer_rows_text [] old new rows
     → rows ≡ map transfer_row t.transfers
 transfers_are old new t rows shows up h =
-    in_order 12 (λ _. refl) transfer_rows_text transfer_columns transfer_order _ transfer_rows_is.0 transfer_rows_is.1
+    in_order store_schema 12 (λ _. refl) transfer_rows_text transfer_columns transfer_order _ transfer_rows_is.0
+    transfer_rows_is.1
     transfer_rows_is.2 shown_transfer transfer_keyed transfer_shows (λ _. refl) transfer_row transfer_cmp
     transfer_sorted old new t.transfers rows shows.schema shows.transfers up h
+
+pub first_transfers_are : (old new : State) (t : Tables) (rows : List Row) → HoldsFirst old.now t
+    → IsAscending (λ x y. transfer_cmp x y ≡ Less) t.transfers → Shown transfer_rows_text [] old new rows
+    → rows ≡ map transfer_row t.transfers
+first_transfers_are old new t rows holds up h =
+    in_order first_schema 12 (λ _. refl) transfer_rows_text transfer_columns transfer_order _ first_transfer_rows_is.0
+    first_transfer_rows_is.1 first_transfer_rows_is.2 shown_transfer transfer_keyed transfer_shows (λ _. refl)
+    transfer_row transfer_cmp transfer_sorted old new
+    t.transfers rows holds.schema holds.transfers up h
 
 pub transfers_shown : (old new : State) (given rows : List Row) (xs : List TransferRow) → given ≡ rows
     → map transfer_row xs ≡ map transfer_front given → old.now.schema ≡ store_schema
@@ -284,7 +348,7 @@ pub transfers_shown : (old new : State) (given rows : List Row) (xs : List Trans
     → IsPermutation (map transfer_row xs) (map shown_transfer (old.now.trees 12))
 transfers_shown old new given rows xs is read has h =
     read_shown transfer_row shown_transfer transfer_front (λ _. refl) (old.now.trees 12) given rows xs is read
-    (as_shown 12 (λ _. refl) transfer_rows_text transfer_columns transfer_order _ transfer_rows_is.0
+    (as_shown store_schema 12 (λ _. refl) transfer_rows_text transfer_columns transfer_order _ transfer_rows_is.0
     transfer_rows_is.1 transfer_rows_is.2 shown_transfer transfer_keyed transfer_shows (λ _. refl) old new rows has
     h)
 
@@ -305,7 +369,8 @@ pub parts_are : (old new : State) (t : Tables) (rows : List Row) → ShowsTables
     → IsAscending (λ x y. part_cmp x y ≡ Less) t.receipts → Shown part_rows_text [] old new rows
     → rows ≡ map part_row t.receipts
 parts_are old new t rows shows up h =
-    in_order 14 (λ _. refl) part_rows_text part_columns part_order _ part_rows_is.0 part_rows_is.1 part_rows_is.2
+    in_order store_schema 14 (λ _. refl) part_rows_text part_columns part_order _ part_rows_is.0 part_rows_is.1
+    part_rows_is.2
     shown_part part_keyed part_shows (λ _. refl) part_row part_cmp part_sorted old new t.receipts rows shows.schema
     shows.receipts up h
 
@@ -314,7 +379,8 @@ pub parts_shown : (old new : State) (given rows : List Row) (xs : List PartRow) 
     → IsPermutation (map part_row xs) (map shown_part (old.now.trees 14))
 parts_shown old new given rows xs is read has h =
     read_shown part_row shown_part part_front (λ _. refl) (old.now.trees 14) given rows xs is read
-    (as_shown 14 (λ _. refl) part_rows_text part_columns part_order _ part_rows_is.0 part_rows_is.1 part_rows_is.2
+    (as_shown store_schema 14 (λ _. refl) part_rows_text part_columns part_order _ part_rows_is.0 part_rows_is.1
+    part_rows_is.2
     shown_part part_keyed part_shows (λ _. refl) old new rows has h)
 
 -- ---- one more row is read

@@ -1,11 +1,12 @@
 -- What queries of our tables leave, whatever they answer.
 use Rattle.std.proofs.Common.{◌≡◌, ◌∙◌, ◌⊎◌, inl, inr, ℕ, List, Option, Some, None, Ok, Err, Result, IfOk, IfErr, OnErr}
-use Rattle.std.proofs.Common.{IsSome, IsTrue, true≢false, sym, ap, subst, arith}
+use Rattle.std.proofs.Common.{OnOk, IsSome, IsTrue, true≢false, sym, ap, subst, arith}
 use Rattle.std.specs.Prelude.{IsErrAnd}
 use Rattle.std.proofs.lemmas.Result.{err_from_is_err_and}
 use Rattle.sqlite.specs.Order.{Row}
 use Rattle.sqlite.specs.Store.{Ghosts}
 use Rattle.sqlite.specs.Effect.{Database}
+use Rattle.sqlite.specs.Schema.{Schema}
 use Rattle.sqlite.specs.Tree.{Trees}
 use Rattle.sqlite.specs.declared.error.Error.{Error}
 use Rattle.sqlite.specs.State.{State, HasCleanDisk, Survives, IsUnchanged, IsRolledBack, Shown, FailsToQuery}
@@ -16,8 +17,10 @@ use Rattle.sqlite.specs.Listing.{understood}
 use Rattle.sqlite_schema.specs.declared.command.Returning.{Returning}
 use Rattle.sqlite.specs.Given.{IsPlain}
 use Rattle.sqlite.proofs.StateLemmas.{survives_then, survives_weaker}
-use Rattle.treasury_store.specs.Tables.{store_schema}
+use Rattle.treasury_store.specs.Tables.{store_schema, first_schema}
 use Rattle.treasury_store.specs.Kept.{KeepsTables, Queries}
+use Rattle.treasury_store.specs.Judging.{ReadsFirst, HasReadFirst}
+use Rattle.treasury_store.proofs.QueriedLemmas.{shown_same}
 
 module _ (sql : List ℕ) (params : Row) (old new : State) where
   -- a query that answers is of a connection that is open
@@ -43,13 +46,18 @@ module _ (sql : List ℕ) (params : Row) (old new : State) where
       fails (Some what) (inl k) = inl k.1
       fails (Some what) (inr k) = inr k.3
 
--- of a schema that is ours a query commits nothing
-pub ours_shows_no_commit : (sql : List ℕ) (params : Row) (old : State) → IsPlain (understood store_schema sql)
-    → (trees : Trees) → CommitsShowing sql params old trees → old.now.schema ≡ store_schema → ⊥
+-- under a schema under which it is a query it commits nothing
+shows_no_commit : (schema : Schema) (sql : List ℕ) (params : Row) (old : State) → IsPlain (understood schema sql)
+    → (trees : Trees) → CommitsShowing sql params old trees → old.now.schema ≡ schema → ⊥
 unfolding CommitsShowing
-ours_shows_no_commit sql params old plain trees h has =
+shows_no_commit schema sql params old plain trees h has =
     let bare = (subst IsPlain (ap (λ s. understood s sql) (sym has) ∙ h.1.is) plain).0 in
     true≢false (sym (subst IsSome bare h.2))
+
+-- so of a schema that is ours
+pub ours_shows_no_commit : (sql : List ℕ) (params : Row) (old : State) → IsPlain (understood store_schema sql)
+    → (trees : Trees) → CommitsShowing sql params old trees → old.now.schema ≡ store_schema → ⊥
+ours_shows_no_commit = shows_no_commit store_schema
 
 was_back : (old new : State) → IsUnchanged old new ⊎ IsRolledBack old new → IsTrue new.is_open → IsTrue old.is_open
 was_back old new (inl h) is = h.0.was_open
@@ -115,6 +123,83 @@ module _ {S : Type 0} (g : Ghosts S) where
     undone = λ clean is has all. let kept = same clean has in (kept.0.now_is, kept.0.committed_is);
     survives = q.survives;
   }
+
+-- ---- of version 1
+module _ {S : Type 0} (g : Ghosts S) (old new : Held S) (sql : List ℕ) (params : Row)
+    (plain : IsPlain (understood first_schema sql))
+    (left : Survives (state g old) (state g new) (CommitsShowing sql params (state g old))) where
+  first_left : Survives (state g old) (state g new) (λ _. (state g old).now.schema ≡ first_schema → ⊥)
+  first_left = survives_weaker (state g old) (state g new) _ _
+      (λ clean trees h. shows_no_commit first_schema sql params (state g old) plain trees h) left
+
+  first_same : (rows : List Row) → Shown sql params (state g old) (state g new) rows
+      → (state g old).now.schema ≡ first_schema
+      → ((state g new).now ≡ (state g old).now) × ((state g new).committed ≡ (state g old).committed)
+  first_same rows h has =
+      let kept = (shown_same sql params (state g old) (state g new) rows
+      (subst (λ (s : Schema). IsPlain (understood s sql)) (sym has) plain) h).0 in (kept.now_is, kept.committed_is)
+
+  pub first_reads : {X : Type 0} (rows : X → List Row) (r : Result X Error)
+      → (HasCleanDisk (state g new) → IfOk r (λ x. Shown sql params (state g old) (state g new) (rows x)))
+      → (HasCleanDisk (state g new) → IfErr r (FailsToQuery sql params (state g old) (state g new)))
+      → ReadsFirst g old new
+  first_reads rows (Ok x) ok err = record {
+    same = λ clean is has all. first_same (rows x) (ok clean) has;
+    survives = first_left;
+  }
+  first_reads rows (Err e) ok err = record {
+    same = λ clean is has all. same_back (state g old) (state g new)
+        (failed_back sql params (state g old) (state g new) e (err clean)) is all;
+    survives = first_left;
+  }
+
+  pub first_has_read : {X : Type 0} (rows : X → List Row) (r : Result X Error)
+      → (HasCleanDisk (state g new) → IfOk r (λ x. Shown sql params (state g old) (state g new) (rows x)))
+      → OnOk r (HasReadFirst g old new)
+  first_has_read rows (Ok x) ok = record {
+    same = λ clean has. first_same (rows x) (ok clean) has;
+    survives = first_left;
+  }
+  first_has_read rows (Err e) ok = tt
+
+-- one after another
+module _ {S : Type 0} {g : Ghosts S} {a b : Held S} (one : HasReadFirst g a b) where
+  first_ours : (c : Held S) → Survives (state g b) (state g c) (λ _. (state g b).now.schema ≡ first_schema → ⊥)
+      → HasCleanDisk (state g c) → (state g a).now.schema ≡ first_schema → (state g b).now.schema ≡ first_schema
+  first_ours c two clean has =
+      let before : HasCleanDisk (state g b) = omega (arith, two.clean, clean) in
+      ap (λ (d : Database). d.schema) (one.same before has).0 ∙ has
+
+  first_left_then : (c : Held S) → Survives (state g b) (state g c) (λ _. (state g b).now.schema ≡ first_schema → ⊥)
+      → Survives (state g a) (state g c) (λ _. (state g a).now.schema ≡ first_schema → ⊥)
+  first_left_then c two = survives_then (state g a) (state g b) (state g c) _ _ _ (λ clean trees h. h)
+      (λ clean trees h has. h (first_ours c two clean has)) one.survives two
+
+  pub then_reads : {c : Held S} → ReadsFirst g b c → ReadsFirst g a c
+  then_reads {c} two = record {
+    same = λ clean is has all.
+        let before : HasCleanDisk (state g b) = omega (arith, two.survives.clean, clean) in
+        let first = one.same before has in
+        let back = two.same clean is (first_ours c two.survives clean has) (first.1 ∙ (all ∙ sym first.0)) in
+        (back.0 ∙ first.0, back.1 ∙ first.1);
+    survives = first_left_then c two.survives;
+  }
+
+  pub then_has_read : {c : Held S} → HasReadFirst g b c → HasReadFirst g a c
+  then_has_read {c} two = record {
+    same = λ clean has.
+        let before : HasCleanDisk (state g b) = omega (arith, two.survives.clean, clean) in
+        let first = one.same before has in
+        let second = two.same clean (first_ours c two.survives clean has) in
+        (second.0 ∙ first.0, second.1 ∙ first.1);
+    survives = first_left_then c two.survives;
+  }
+
+pub reads_if_read : {S : Type 0} {g : Ghosts S} {a b : Held S} → HasReadFirst g a b → ReadsFirst g a b
+reads_if_read one = record {
+  same = λ clean is has all. one.same clean has;
+  survives = one.survives;
+}
 
 -- queries that changed nothing, one after another
 pub record Quiet {S : Type 0} (g : Ghosts S) (a b : Held S) : Type 0 where

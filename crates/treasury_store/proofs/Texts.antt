@@ -113,6 +113,14 @@ pub unit_rows_is : (command_of (understood store_schema unit_rows_text)
 unfolding understood everything
 unit_rows_is = (refl, refl, (refl, refl))
 
+-- and under the schema of version 1
+pub first_unit_rows_is : (command_of (understood first_schema unit_rows_text)
+    ≡ Select (record { lets = []; body = unit_query })
+    (codes "nr" ∷ codes "symbol" ∷ codes "decimals" ∷ codes "mark" ∷ codes "grouped" ∷ codes "leftside" ∷ codes "spaced"
+    ∷ [])) × (reads_listing first_schema unit_rows_text ≡ false) × IsPlain (understood first_schema unit_rows_text)
+unfolding understood everything
+first_unit_rows_is = (refl, refl, (refl, refl))
+
 abbrev pub create_branch_text : List ℕ
 create_branch_text =
     codes "CREATE TABLE branch (nr INTEGER PRIMARY KEY, name TEXT NOT NULL UNIQUE, locked INTEGER) STRICT"
@@ -149,6 +157,13 @@ pub branch_rows_is : (command_of (understood store_schema branch_rows_text)
     × (reads_listing store_schema branch_rows_text ≡ false) × IsPlain (understood store_schema branch_rows_text)
 unfolding understood everything
 branch_rows_is = (refl, refl, (refl, refl))
+
+-- and under the schema of version 1
+pub first_branch_rows_is : (command_of (understood first_schema branch_rows_text)
+    ≡ Select (record { lets = []; body = branch_query }) (codes "nr" ∷ codes "name" ∷ codes "locked" ∷ []))
+    × (reads_listing first_schema branch_rows_text ≡ false) × IsPlain (understood first_schema branch_rows_text)
+unfolding understood everything
+first_branch_rows_is = (refl, refl, (refl, refl))
 
 abbrev pub create_entry_text : List ℕ
 create_entry_text = codes "CREATE TABLE entry (branch INTEGER NOT NULL, nr INTEGER NOT NULL, day INTEGER NOT NULL, mark TEXT NOT NULL, body TEXT NOT NULL, PRIMARY KEY (branch, nr), UNIQUE (branch, mark)) STRICT"
@@ -187,6 +202,14 @@ pub entry_rows_is : (command_of (understood store_schema entry_rows_text)
 unfolding understood everything
 entry_rows_is = (refl, refl, (refl, refl))
 
+-- and under the schema of version 1
+pub first_entry_rows_is : (command_of (understood first_schema entry_rows_text)
+    ≡ Select (record { lets = []; body = entry_query })
+    (codes "branch" ∷ codes "nr" ∷ codes "day" ∷ codes "mark" ∷ codes "body" ∷ []))
+    × (reads_listing first_schema entry_rows_text ≡ false) × IsPlain (understood first_schema entry_rows_text)
+unfolding understood everything
+first_entry_rows_is = (refl, refl, (refl, refl))
+
 abbrev pub create_leg_text : List ℕ
 create_leg_text = codes "CREATE TABLE leg (branch INTEGER NOT NULL, entry INTEGER NOT NULL, nr INTEGER NOT NULL, account TEXT NOT NULL, unit INTEGER NOT NULL, qty INTEGER NOT NULL, PRIMARY KEY (branch, entry, nr)) STRICT"
 
@@ -224,6 +247,14 @@ pub leg_rows_is : (command_of (understood store_schema leg_rows_text)
 unfolding understood everything
 leg_rows_is = (refl, refl, (refl, refl))
 
+-- and under the schema of version 1
+pub first_leg_rows_is : (command_of (understood first_schema leg_rows_text)
+    ≡ Select (record { lets = []; body = leg_query })
+    (codes "branch" ∷ codes "entry" ∷ codes "nr" ∷ codes "account" ∷ codes "unit" ∷ codes "qty" ∷ []))
+    × (reads_listing first_schema leg_rows_text ≡ false) × IsPlain (understood first_schema leg_rows_text)
+unfolding understood everything
+first_leg_rows_is = (refl, refl, (refl, refl))
+
 abbrev pub create_claim_text : List ℕ
 create_claim_text = codes "CREATE TABLE claim (branch INTEGER NOT NULL, entry INTEGER NOT NULL, leg INTEGER NOT NULL, kind INTEGER NOT NULL, unit INTEGER NOT NULL, qty INTEGER NOT NULL, PRIMARY KEY (branch, entry, leg)) STRICT"
 
@@ -260,6 +291,14 @@ pub claim_rows_is : (command_of (understood store_schema claim_rows_text)
     × (reads_listing store_schema claim_rows_text ≡ false) × IsPlain (understood store_schema claim_rows_text)
 unfolding understood everything
 claim_rows_is = (refl, refl, (refl, refl))
+
+-- and under the schema of version 1
+pub first_claim_rows_is : (command_of (understood first_schema claim_rows_text)
+    ≡ Select (record { lets = []; body = claim_query })
+    (codes "branch" ∷ codes "entry" ∷ codes "leg" ∷ codes "kind" ∷ codes "unit" ∷ codes "qty" ∷ []))
+    × (reads_listing first_schema claim_rows_text ≡ false) × IsPlain (understood first_schema claim_rows_text)
+unfolding understood everything
+first_claim_rows_is = (refl, refl, (refl, refl))
 
 abbrev pub create_transfer_text : List ℕ
 create_transfer_text = codes "CREATE TABLE transfer (id TEXT NOT NULL PRIMARY KEY, source INTEGER NOT NULL, target INTEGER NOT NULL, unit INTEGER NOT NULL, qty INTEGER NOT NULL, dispatched INTEGER NOT NULL, payer TEXT NOT NULL, received INTEGER, payee TEXT) STRICT"
@@ -299,6 +338,15 @@ pub transfer_rows_is : (command_of (understood store_schema transfer_rows_text)
     × IsPlain (understood store_schema transfer_rows_text)
 unfolding understood everything
 transfer_rows_is = (refl, refl, (refl, refl))
+
+-- and under the schema of version 1
+pub first_transfer_rows_is : (command_of (understood first_schema transfer_rows_text)
+    ≡ Select (record { lets = []; body = transfer_query })
+    (codes "id" ∷ codes "source" ∷ codes "target" ∷ codes "unit" ∷ codes "qty" ∷ codes "dispatched" ∷ codes "payer"
+    ∷ codes "received" ∷ codes "payee" ∷ [])) × (reads_listing first_schema transfer_rows_text ≡ false)
+    × IsPlain (understood first_schema transfer_rows_text)
+unfolding understood everything
+first_transfer_rows_is = (refl, refl, (refl, refl))
 
 abbrev pub create_receipt_text : List ℕ
 create_receipt_text = codes "CREATE TABLE receipt (transfer TEXT NOT NULL, part TEXT NOT NULL, qty INTEGER NOT NULL, received INTEGER NOT NULL, payee TEXT NOT NULL, PRIMARY KEY (transfer, part)) STRICT"

@@ -5,6 +5,7 @@ pub mod Kept
 pub mod Creating
 pub mod Opening
 pub mod Upgrading
+pub mod Judging
 pub mod Order
 pub mod Numbers
 pub mod Store

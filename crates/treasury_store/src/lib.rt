@@ -5,6 +5,7 @@ mod change;
 mod changes;
 mod create;
 mod failing;
+mod judging;
 mod laws;
 mod load;
 mod numbers;
@@ -16,6 +17,7 @@ mod write;
 
 pub use change::Change;
 pub use create::create_tables;
+pub use judging::judge_first;
 pub use laws::left_law;
 pub use load::load_parts;
 pub use open::{found_version, open_tables};

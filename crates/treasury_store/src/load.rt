@@ -23,7 +23,7 @@ use std::alloc::Global;
 use treasury_core::{BranchRow, ClaimRow, EntryRow, LegRow, PartRow, Parts, TransferRow, UnitRow};
 
 /// A row of one of the tables, read from its columns.
-trait FromRow: Drop {
+pub(crate) trait FromRow: Drop {
     /// The columns.
     ghost columns: { Self → List Value };
 
@@ -213,7 +213,7 @@ impl FromRow for PartRow {
 }
 
 /// The rows, in order.
-fn read_all<T: FromRow>(alloc: Global, rows: &[Row]) -> Result<Items<T>, Error>
+pub(crate) fn read_all<T: FromRow>(alloc: Global, rows: &[Row]) -> Result<Items<T>, Error>
     ensures same { IfOk result (λ xs. (ys : List T) → rows.now ≡ map T.columns ys → xs ≡ ys) }
     ensures shown { IfOk result (λ xs. map T.columns xs ≡ map T.front rows.now) }
 {

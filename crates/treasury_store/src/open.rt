@@ -58,7 +58,7 @@ fn has_all<S: Alter>(conn: &Connection<S>) -> bool
 }
 
 /// The rows of `format`. A query of it changes nothing, whatever table or view has that name.
-fn format_rows<S: Alter>(conn: &mut Connection<S>) -> Result<Vec<Row>, Error>
+pub(crate) fn format_rows<S: Alter>(conn: &mut Connection<S>) -> Result<Vec<Row>, Error>
     ensures rows { HasCleanDisk (state S.Store conn.new)
         → IfOk result
         (λ rows. IsEither (state S.Store conn.old).now.schema
@@ -101,7 +101,7 @@ fn is_number(row: &Row, number: i64) -> bool
 }
 
 /// Whether the only row is that number.
-fn is_version(rows: &[Row], number: i64) -> bool
+pub(crate) fn is_version(rows: &[Row], number: i64) -> bool
     ensures { IsTrue result ↔ (map (λ r. column r 0) rows.now ≡ Int number ∷ []) }
 {
     rows.len() == 1 && is_number(&rows[0], number)
