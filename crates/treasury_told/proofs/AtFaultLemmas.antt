@@ -1,6 +1,8 @@
 -- the first transaction that is refused, and what holds a mark
-use Rattle.std.proofs.Common.{◌≡◌, ◌<◌, ◌+◌, ℕ, zero, suc, Bool, true, false, cond, List, [], ◌∷◌, length, drop, get_or}
+use Rattle.std.proofs.Common.{◌≡◌, ◌<◌, ◌≤◌, ◌+◌, ℕ, zero, suc, Bool, true, false, cond, List, [], ◌∷◌, length, drop}
+use Rattle.std.proofs.Common.{get_or}
 use Rattle.std.proofs.Common.{ap, ◌∙◌, sym, subst, arith, Option, Some, None, drop-cons}
+use Rattle.std.proofs.lemmas.List.{at_drop_all}
 use Rattle.std.specs.Prelude.{slice_get, IfSome}
 use Rattle.std.specs.List.{position_from, AllByRecursion}
 use Rattle.std.specs.Option.{option_map}
@@ -61,3 +63,8 @@ printable_holder styles records found (at.Record i) all =
 printable_holder styles records found (at.Earlier i) all =
     if_some_map (λ (s : Standing). s.txn) (IsPrintable styles) (slice_get found i)
     (all_at (λ (s : Standing). IsPrintable styles s.txn) found i all.1)
+
+-- there is none where none is left
+pub position_end : {X : Type 0} (p : X → Bool) (xs : List X) (i : ℕ) (all : Option ℕ) → length xs ≤ i
+    → position_from p i (drop i xs) ≡ all → None ≡ all
+position_end p xs i all h before = sym (at_drop_all (position_from p i) xs i h) ∙ before

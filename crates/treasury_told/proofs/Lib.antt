@@ -2,5 +2,9 @@ pub mod StandingLemmas
 pub mod AccountLemmas
 pub mod NumberedLemmas
 pub mod AtFaultLemmas
+pub mod LineLemmas
+pub mod PieceLemmas
 pub mod TransferLemmas
 pub mod LeftOverLemmas
+pub mod RefusedLemmas
+pub mod ExplainLemmas

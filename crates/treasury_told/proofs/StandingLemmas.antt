@@ -5,7 +5,7 @@ use Rattle.std.proofs.Common.{take, get_or, refl, ap, ◌∙◌, sym, subst, ari
 use Rattle.std.specs.Prelude.{is_some, not, ◌⊎◌, Result, Ok, Err, IfOk, IfErr, OnOk}
 use Rattle.std.specs.Result.{IsOkUnless}
 use Rattle.std.specs.Global.{Vec}
-use Rattle.std.specs.List.{list_any, position_from}
+use Rattle.std.specs.List.{list_any, position_from, AllByRecursion}
 use Rattle.std.specs.Str.{bytes_eq}
 use Rattle.std.proofs.lemmas.List.{append-nil, map-append, length-map, take_more, length-take-le}
 use Rattle.std.specs.HashMap.{get_by_text}
@@ -158,3 +158,10 @@ earlier_next old new found more s text n added same count before put = λ k.
     ∙ ap (λ (bs : List ℕ). option_or (get_by_text old m) (cond (bytes_eq bs m) (Some n) None)) same
     ∙ ap (λ (i : ℕ). option_or (get_by_text old m) (cond (bytes_eq s.mark m) (Some i) None)) count) k
     ∙ ap (position_from (goes_by k) 0) (sym added)
+
+-- what transactions are where they stand, they are
+pub all_located : (P : Txn → Type 0) (found : List Standing)
+    → AllByRecursion (λ (x : Located). P x.txn) (located_of found)
+    → AllByRecursion (λ (s : Standing). P s.txn) found
+all_located P [] h = h
+all_located P (s ∷ rest) h = (h.0, all_located P rest h.1)

@@ -1,21 +1,24 @@
 -- The transaction of a journal that is refused by 24 to 27 (own rule; docs/RULES.md, "Orders" and "Explanations").
-use Rattle.std.specs.Prelude.{ℕ, Bool, false, ◌&&◌, not, List, find, Option, Some, None, is_some, slice_get}
-use Rattle.std.specs.Prelude.{Result, Ok, Err}
+use Rattle.std.specs.Prelude.{◌≡◌, ℕ, suc, take, Bool, false, ◌&&◌, not, List, find, Option, Some, None, is_some}
+use Rattle.std.specs.Prelude.{slice_get, Result, Ok, Err}
 use Rattle.std.specs.List.{AllByRecursion}
 use Rattle.std.specs.Option.{option_map}
 use Rattle.std.specs.Str.{bytes_eq}
 use Rattle.money_core.specs.declared.cause.Cause.{Cause}
+use Rattle.money_core.specs.declared.cause.Cause.TheVariants.{MarkClash, ReservedMark, ReservedAccount, Locked}
 use Rattle.money_core.specs.declared.day.Day.{Day}
 use Rattle.money_core.specs.declared.style.Style.{Style}
 use Rattle.book_core.specs.declared.entry.Entry.{Entry}
 use Rattle.book_core.specs.declared.leg.Leg.{Leg}
+use Rattle.book_core.specs.declared.refusal.Refusal.TheVariants.{Plain}
 use Rattle.journal_format.specs.declared.txn.Txn.{Txn}
+use Rattle.journal_format.specs.declared.txn.Located.{Located}
 use Rattle.journal_format.specs.CanonicalText.{body_text}
 use Rattle.journal_format.specs.Printable.{IsPrintable}
 use Rattle.journal_balance.specs.Legs.{legs_of}
 use Rattle.treasury_core.specs.declared.record.Record.{Record}
 use Rattle.treasury_core.specs.Mark.{is_product_mark}
-use Rattle.treasury_core.specs.Step.{is_locked}
+use Rattle.treasury_core.specs.Step.{is_locked, refused_in, records_in_file}
 use Rattle.treasury_core.specs.Transfer.{is_transit}
 use Rattle.treasury_told.specs.declared.explain.at_fault.Bar.{Bar}
 use Rattle.treasury_told.specs.declared.explain.at_fault.Bar.TheVariants as by
@@ -53,3 +56,16 @@ is_barred styles lock records found by.Clash s = is_other styles s.txn (holder_o
 is_barred styles lock records found by.Mark s = is_nobody s.holder && is_product_mark s.mark
 is_barred styles lock records found by.Account s = is_nobody s.holder && is_some (transit_in (legs_of styles s.txn))
 is_barred styles lock records found by.Locked s = is_nobody s.holder && is_locked lock s.txn.day
+
+-- the refusal by which it is
+abbrev pub cause_of : Bar → Cause
+cause_of by.Clash = MarkClash
+cause_of by.Mark = ReservedMark
+cause_of by.Account = ReservedAccount
+cause_of by.Locked = Locked
+
+-- a command takes the transactions of a file before a place, and refuses the one at that place with a cause
+pub record IsRefusedAt (styles : List Style) (lock : Option Day) (records : List Record) (file : List Located)
+    (place : ℕ) (cause : Cause) : Type 0 where
+  pub before : refused_in styles lock records (records_in_file styles (take place file)) ≡ None
+  pub here : refused_in styles lock records (records_in_file styles (take (suc place) file)) ≡ Some (Plain cause)

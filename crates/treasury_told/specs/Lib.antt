@@ -2,11 +2,13 @@
 pub mod Shown
 pub mod Sentence
 pub mod Standing
-pub mod Pieces
 pub mod Numbered
+pub mod Pieces
 pub mod Failure
 pub mod HeldTransfer
+pub mod Lock
 pub mod LeftOver
 pub mod AtFault
+pub mod Refused
 pub mod NewAccount
 pub mod RequestFaults

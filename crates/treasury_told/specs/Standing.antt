@@ -1,8 +1,11 @@
 -- The transactions of a text, as a branch takes them (own rules; docs/RULES.md, "Marks and repeats").
 use Rattle.std.specs.Prelude.{◌≡◌, ℕ, Bool, true, false, ◌||◌, not, List, [], ◌∷◌, ◌++◌, map, Option, Some, None, ⊤}
+use Rattle.std.specs.Prelude.{Result, Ok, Err}
 use Rattle.std.specs.List.{list_any, position_from}
 use Rattle.std.specs.Str.{bytes_eq}
+use Rattle.money_core.specs.declared.cause.Cause.{Cause}
 use Rattle.money_core.specs.declared.style.Style.{Style}
+use Rattle.book_core.specs.declared.entry.Entry.{Entry}
 use Rattle.journal_format.specs.declared.txn.Txn.{Txn}
 use Rattle.journal_format.specs.declared.txn.Located.{Located}
 use Rattle.treasury_core.specs.declared.record.Record.{Record}
@@ -49,3 +52,8 @@ abbrev pub AreStanding : List Style → List Record → List Standing → List S
 AreStanding styles records before [] = ⊤
 AreStanding styles records before (s ∷ rest) =
     IsStanding styles records before s × AreStanding styles records (before ++ s ∷ []) rest
+
+-- the entry of a transaction, if it has one
+abbrev pub entry_in : Result Entry Cause → Option Entry
+entry_in (Ok e) = Some e
+entry_in (Err cause) = None

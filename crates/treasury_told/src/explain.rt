@@ -19,24 +19,38 @@ pub(crate) mod standing;
 mod touching;
 pub(crate) mod transfers;
 
-use crate::explain::at_fault::{AtFault, find_at_fault, push_at_fault};
+ghost use Rattle.std.specs.Prelude.{◌≡◌, ℕ, List, ◌++◌, OnOk};
+ghost use Rattle.std.specs.Result.{IsOkUnless};
+ghost use Rattle.book_core.specs.declared.refusal.Refusal.TheVariants.{Plain};
+ghost use Rattle.treasury_told.specs.declared.explain.at_fault.Bar.{Bar as Hindrance};
+ghost use Rattle.treasury_told.specs.AtFault.{cause_of};
+ghost use Rattle.treasury_told.specs.Pieces.{origin_text, sentence_line};
+ghost use Rattle.treasury_told.specs.Refused.{IsBarred, IsBarredText, TellsRefused};
+
+use crate::explain::at_fault::{
+    Bar, bar_of, cause_of, find_barred, find_passing, push_barred, push_turnover,
+};
 use crate::explain::closing::push_closing;
 use crate::explain::failure::explain_failure;
-use crate::explain::held::{push_held, push_lock};
+use crate::explain::held::push_held;
 use crate::explain::hints::push_fault_hint;
 use crate::explain::lines::push_source;
 pub use crate::explain::request_fault::{explain_request, push_fault_of, push_request_fault};
 pub use crate::explain::sentences::sentence;
 pub use crate::explain::shown::{push_line, push_named, push_number, push_shown};
-use crate::explain::standing::branch_named;
+use crate::explain::standing::records_of;
 use book_core::{Ledger, Refusal};
 use money_core::{Cause, Fault};
 use std::alloc::Global;
-use treasury_core::{Branch, State};
+use treasury_core::State;
 use treasury_requests::Request;
 
 /// Appends the first line of an explanation: where it comes from, if that is known, and the refusal's sentence.
-fn push_sentence(origin: &[u8], cause: Cause, out: &mut Vec<u8>) -> Result<(), Cause> {
+#[tactic(auto, unfolding(crate::specs::Pieces::sentence_line))]
+fn push_sentence(origin: &[u8], cause: Cause, out: &mut Vec<u8>) -> Result<(), Cause>
+    ensures value { OnOk result (out.new.items ≡ out.old.items ++ sentence_line origin.now cause) }
+    ensures memory { IsOkUnless result Cause.OutOfMemory }
+{
     out.extend_from_slice(b"treasury: ")?;
     out.extend_from_slice(origin)?;
     out.extend_from_slice(sentence(cause).as_bytes())?;
@@ -45,7 +59,11 @@ fn push_sentence(origin: &[u8], cause: Cause, out: &mut Vec<u8>) -> Result<(), C
 }
 
 /// Appends the file and the line that an explanation comes from.
-pub(crate) fn push_origin(source: &str, line: usize, out: &mut Vec<u8>) -> Result<(), Cause> {
+#[tactic(auto, unfolding(crate::specs::Pieces::origin_text))]
+pub(crate) fn push_origin(source: &str, line: usize, out: &mut Vec<u8>) -> Result<(), Cause>
+    ensures value { OnOk result (out.new.items ≡ out.old.items ++ origin_text source.now line) }
+    ensures memory { IsOkUnless result Cause.OutOfMemory }
+{
     push_shown(source.as_bytes(), out)?;
     out.extend_from_slice(b":")?;
     push_number(line, out)?;
@@ -97,42 +115,59 @@ fn explain_plain<L: Ledger>(
     push_closing(alloc, state, request, cause, out)
 }
 
-/// Appends the sentence of a refusal of an import, the transaction that it comes from, and for what that is refused.
-fn explain_transaction<L: Ledger>(
+/// Appends what is said of a refusal of an import by one of its transactions; where that is not found, what is said of
+/// any refusal.
+fn explain_barred<L: Ledger>(
     alloc: Global,
     state: &State<L>,
-    branch: &Branch<L>,
     request: &Request,
+    name: &str,
     source: &str,
-    fault: &AtFault,
-    cause: Cause,
+    journal: &[u8],
+    bar: Bar,
+    out: &mut Vec<u8>,
+) -> Result<(), Cause>
+    ensures told { IsBarredText state.now name.now journal.now bar → OnOk result
+        (TellsRefused state.now request.now name.now source.now journal.now bar out.old.items out.new.items) }
+{
+    match find_barred(alloc, state, name, journal, bar) {
+        Ok(Some(barred)) => {
+            let records = records_of(state, name);
+            push_barred(
+                alloc, state, request, source, journal, records, &barred, bar, out,
+            )
+        }
+        Ok(None) => explain_plain(alloc, state, request, cause_of(bar), out),
+        Err(cause) => {
+            explain_plain(alloc, state, request, cause_of(bar), out)?;
+            Err(cause)
+        }
+    }
+}
+
+/// Appends what is said of an import with which the turnover of a commodity exceeds its limit; where that is not found,
+/// what is said of any refusal.
+fn explain_limit<L: Ledger>(
+    alloc: Global,
+    state: &State<L>,
+    request: &Request,
+    name: &str,
+    source: &str,
+    journal: &[u8],
     out: &mut Vec<u8>,
 ) -> Result<(), Cause> {
-    let Some(standing) = fault.list.as_slice().get(fault.place) else {
-        return explain_plain(alloc, state, request, cause, out);
+    let styles = state.styles();
+    let Ok(Some(passing)) = find_passing(alloc, styles, records_of(state, name), journal) else {
+        return explain_plain(alloc, state, request, Cause::Limit, out);
+    };
+    let Some(standing) = passing.list.as_slice().get(passing.place) else {
+        return explain_plain(alloc, state, request, Cause::Limit, out);
     };
     let mut origin = Vec::new(alloc);
     push_origin(source, standing.line, &mut origin)?;
-    push_sentence(origin.as_slice(), cause, out)?;
-    if let Request::Import { journal, .. } = request {
-        push_source(journal.as_bytes(), standing.line, out)?;
-    }
-    if cause == Cause::Locked {
-        return push_lock(alloc, state, request, out);
-    }
-    push_at_fault(alloc, state.styles(), branch, fault, standing, cause, out)
-}
-
-/// Whether an import is refused by that cause for one of its transactions.
-fn is_of_transaction(cause: Cause) -> bool {
-    matches!(
-        cause,
-        Cause::MarkClash
-            | Cause::ReservedMark
-            | Cause::ReservedAccount
-            | Cause::Locked
-            | Cause::Limit
-    )
+    push_sentence(origin.as_slice(), Cause::Limit, out)?;
+    push_source(journal, standing.line, out)?;
+    push_turnover(alloc, styles, name, passing.unit, out)
 }
 
 /// Appends what is said of a refusal by a cause alone; of an import, with the transaction that it comes from.
@@ -143,21 +178,22 @@ fn explain_cause<L: Ledger>(
     source: &str,
     cause: Cause,
     out: &mut Vec<u8>,
-) -> Result<(), Cause> {
+) -> Result<(), Cause>
+    ensures barred { (bar : Hindrance) (name journal : List ℕ) → IsBarred state.now request.now name journal bar
+        → cause ≡ cause_of bar → OnOk result
+        (TellsRefused state.now request.now name source.now journal bar out.old.items out.new.items) }
+{
     let Request::Import { branch, journal } = request else {
         return explain_plain(alloc, state, request, cause, out);
     };
-    let Some(branch) = branch_named(state, branch.as_str()) else {
-        return explain_plain(alloc, state, request, cause, out);
-    };
-    if !is_of_transaction(cause) {
-        return explain_plain(alloc, state, request, cause, out);
-    }
-    match find_at_fault(alloc, state.styles(), branch, journal.as_bytes(), cause) {
-        Ok(Some(fault)) => {
-            explain_transaction(alloc, state, branch, request, source, &fault, cause, out)
+    let name = branch.as_str();
+    let journal = journal.as_bytes();
+    match bar_of(cause) {
+        Some(bar) => explain_barred(alloc, state, request, name, source, journal, bar, out),
+        None if cause == Cause::Limit => {
+            explain_limit(alloc, state, request, name, source, journal, out)
         }
-        _ => explain_plain(alloc, state, request, cause, out),
+        None => explain_plain(alloc, state, request, cause, out),
     }
 }
 
@@ -171,7 +207,12 @@ pub fn explain<L: Ledger>(
     source: &str,
     refusal: &Refusal,
     out: &mut Vec<u8>,
-) -> Result<(), Cause> {
+) -> Result<(), Cause>
+    // Of an import that is refused by one of its transactions, it is that transaction of which all is said.
+    ensures barred { (bar : Hindrance) (name journal : List ℕ) → IsBarred state.now request.now name journal bar
+        → refusal.now ≡ Plain (cause_of bar) → OnOk result
+        (TellsRefused state.now request.now name source.now journal bar out.old.items out.new.items) }
+{
     match refusal {
         Refusal::Plain(cause) => explain_cause(alloc, state, request, source, *cause, out),
         Refusal::Text(fault) => explain_fault(alloc, state, request, source, fault, out),

@@ -1,34 +1,57 @@
 //! Which transaction of a journal is refused by 24 to 28, and for what.
 
-ghost use Rattle.std.specs.Prelude.{◌≡◌, find, IfOk, IfSome};
-ghost use Rattle.std.specs.List.{position_from};
+ghost use Rattle.std.specs.Prelude.{◌≡◌, ℕ, List, [], ◌++◌, Some, None, find, slice_get, codes};
+ghost use Rattle.std.specs.Prelude.{IfOk, IfSome, IsSomeAnd, OnOk};
+ghost use Rattle.std.specs.List.{position_from, AllByRecursion};
 ghost use Rattle.std.specs.Option.{option_map};
+ghost use Rattle.std.specs.Result.{IsOkUnless};
+ghost use Rattle.book_core.specs.declared.refusal.Refusal.TheVariants.{Plain};
 ghost use Rattle.journal_format.specs.Printable.{IsPrintable};
 ghost use Rattle.journal_balance.specs.Legs.{legs_of};
-ghost use Rattle.treasury_core.specs.Mark.{is_product_mark};
-ghost use Rattle.treasury_core.specs.Step.{is_locked};
+ghost use Rattle.treasury_core.specs.Mark.{is_product_mark, HaveOwnMarks};
+ghost use Rattle.treasury_core.specs.Step.{is_locked, records_in_file, refused_in, unbalanced};
 ghost use Rattle.treasury_core.specs.Transfer.{is_transit};
+ghost use Rattle.treasury_told.specs.declared.explain.at_fault.Bar.{Bar as Hindrance};
+ghost use Rattle.treasury_told.specs.Shown.{named_text};
+ghost use Rattle.treasury_told.specs.Standing.{located_of, AreStanding};
 ghost use Rattle.treasury_told.specs.AtFault.{holder_of, is_other, transit_in, is_barred, ArePrintable};
+ghost use Rattle.treasury_told.specs.AtFault.{cause_of, IsRefusedAt};
+ghost use Rattle.treasury_told.specs.Refused.{held_line, record_line, earlier_line, holder_line, maker_line};
+ghost use Rattle.treasury_told.specs.Refused.{transit_text, bar_text, place_text, at_place, IsBarredText, IsFoundAt};
 
+use crate::explain::held::push_lock;
+use crate::explain::lines::push_source;
+use crate::explain::numbered::record_at;
 use crate::explain::pieces::{push_amount, push_header};
 use crate::explain::shown::{push_named, push_number, push_shown};
-use crate::explain::standing::{Holder, Standing, is_same_text, standings};
+use crate::explain::standing::{
+    Holder, Standing, entry_of, is_same_text, lock_of, records_of, standings,
+};
+use crate::explain::{push_origin, push_sentence};
 use book_core::{Ledger, Leg, MAX_TURNOVER};
 use journal_balance::legs;
 use journal_format::{Txn, is_printable};
 use journal_lines::is_reserved;
 use money_core::{Cause, Copied, Day, Styles, Text, Unit};
 use std::alloc::Global;
-use treasury_core::{Branch, Record};
+use treasury_core::{Record, State};
+use treasury_requests::Request;
 
-/// The transactions of a text, and which of them is refused.
+/// The transactions of a text, and the new one with which the turnover of a commodity exceeds its limit.
 #[derive(Drop)]
-pub struct AtFault {
+pub struct Passing {
     pub list: Vec<Standing>,
     /// The place in the list, from 0.
     pub place: usize,
-    /// The commodity whose turnover passes its limit.
-    pub unit: Option<Unit>,
+    pub unit: Unit,
+}
+
+/// The transactions of a text, and which of them is refused.
+#[derive(Drop)]
+pub struct Barred {
+    pub list: Vec<Standing>,
+    /// The place in the list, from 0.
+    pub place: usize,
 }
 
 /// By what a transaction of a text is refused.
@@ -45,13 +68,27 @@ pub enum Bar {
 }
 
 /// The one of a cause.
-fn bar_of(cause: Cause) -> Option<Bar> {
+pub fn bar_of(cause: Cause) -> Option<Bar>
+    ensures { (bar : Hindrance) → cause ≡ cause_of bar → result ≡ Some bar }
+{
     match cause {
         Cause::MarkClash => Some(Bar::Clash),
         Cause::ReservedMark => Some(Bar::Mark),
         Cause::ReservedAccount => Some(Bar::Account),
         Cause::Locked => Some(Bar::Locked),
         _ => None,
+    }
+}
+
+/// The cause of one.
+pub fn cause_of(bar: Bar) -> Cause
+    ensures { result ≡ cause_of bar }
+{
+    match bar {
+        Bar::Clash => Cause::MarkClash,
+        Bar::Mark => Cause::ReservedMark,
+        Bar::Account => Cause::ReservedAccount,
+        Bar::Locked => Cause::Locked,
     }
 }
 
@@ -76,13 +113,13 @@ fn find_transit(legs: &[Leg]) -> Option<&Leg>
 
 /// The account of the first leg on which only transfers post.
 fn reserved_account(alloc: Global, styles: &Styles, txn: &Txn) -> Result<Option<Text>, Cause>
-    ensures { IsPrintable styles.now txn.now
-        → IfOk result (λ account. account ≡ transit_in (legs_of styles.now txn.now)) }
+    requires { IsPrintable styles.now txn.now }
+    ensures value { IfOk result (λ account. account ≡ transit_in (legs_of styles.now txn.now)) }
+    ensures memory { IsOkUnless result Cause.OutOfMemory }
 {
-    if !is_printable(txn, styles) {
+    let Some(entry) = entry_of(alloc, styles, txn)? else {
         return Ok(None);
-    }
-    let entry = legs(alloc, txn, styles)?;
+    };
     match find_transit(entry.legs.items()) {
         Some(leg) => Ok(Some(leg.account.copy()?)),
         None => Ok(None),
@@ -108,8 +145,10 @@ fn holder_of<'a>(records: &'a [Record], list: &'a [Standing], holder: Holder) ->
 
 /// Whether a transaction that holds a mark has another text.
 fn is_other(alloc: Global, styles: &Styles, txn: &Txn, held: Option<&Txn>) -> Result<bool, Cause>
-    ensures { IsPrintable styles.now txn.now → IfSome held.entry (λ t. IsPrintable styles.now t.now)
-        → IfOk result (λ is. is ≡ is_other styles.now txn.now (option_map (λ t. t.now) held.entry)) }
+    requires own { IsPrintable styles.now txn.now }
+    requires held { IfSome held (λ t. IsPrintable styles.now t.now) }
+    ensures value { IfOk result (λ is. is ≡ is_other styles.now txn.now (option_map (λ t. t.now) held.entry)) }
+    ensures memory { IsOkUnless result Cause.OutOfMemory }
 {
     match held {
         Some(held) => match is_same_text(alloc, styles, held, txn) {
@@ -147,8 +186,11 @@ fn is_barred(
     bar: Bar,
     standing: &Standing,
 ) -> Result<bool, Cause>
-    ensures { ArePrintable styles.now records.now list.now → IsPrintable styles.now standing.now.txn
-        → IfOk result (λ is. is ≡ is_barred styles.now lock records.now list.now bar standing.now) }
+    requires others { ArePrintable styles.now records.now list.now }
+    requires own { IsPrintable styles.now standing.now.txn }
+    ensures value { IfOk result
+        (λ is. is ≡ is_barred styles.now lock records.now list.now bar standing.now) }
+    ensures memory { IsOkUnless result Cause.OutOfMemory }
 {
     match bar {
         Bar::Clash => {
@@ -178,8 +220,17 @@ pub fn barred_place(
     list: &[Standing],
     bar: Bar,
 ) -> Result<Option<usize>, Cause>
-    ensures { ArePrintable styles.now records.now list.now → IfOk result (λ place. place
-        ≡ position_from (is_barred styles.now lock records.now list.now bar) 0 list.now) }
+    requires { ArePrintable styles.now records.now list.now }
+    ensures value { IfOk result
+        (λ place. place ≡ position_from (is_barred styles.now lock records.now list.now bar) 0 list.now) }
+    // Where a command refuses the text so, it takes the transactions before that place, and refuses the one there.
+    ensures decides { AreStanding styles.now records.now [] list.now → HaveOwnMarks records.now
+        → unbalanced styles.now (located_of list.now) ≡ None
+        → refused_in styles.now lock records.now (records_in_file styles.now (located_of list.now))
+        ≡ Some (Plain (cause_of bar))
+        → IfOk result (λ place. (i : ℕ) × (place ≡ Some i)
+        × IsRefusedAt styles.now lock records.now (located_of list.now) i (cause_of bar)) }
+    ensures memory { IsOkUnless result Cause.OutOfMemory }
 {
     for (place, standing) in list.iter().enumerate() {
         let is_first = is_barred(alloc, styles, lock, records, list, bar, standing)?;
@@ -244,38 +295,69 @@ fn passing_place(
     Ok(None)
 }
 
-/// The transaction of a text that is refused by 24 to 28, where the branch refuses the text by that.
-pub fn find_at_fault<L: Ledger>(
+/// The new transaction of a text with which the turnover of a commodity exceeds its limit.
+pub fn find_passing(
     alloc: Global,
     styles: &Styles,
-    branch: &Branch<L>,
+    records: &[Record],
     text: &[u8],
-    cause: Cause,
-) -> Result<Option<AtFault>, Cause> {
-    let records = branch.records.items();
+) -> Result<Option<Passing>, Cause> {
     let list = standings(alloc, styles, records, text)?;
-    if cause == Cause::Limit {
-        return match passing_place(alloc, styles, records, list.as_slice()) {
-            Ok(Some((place, unit))) => Ok(Some(AtFault {
-                list,
-                place,
-                unit: Some(unit),
-            })),
-            Ok(None) => Ok(None),
-            Err(cause) => Err(cause),
-        };
-    }
-    let Some(bar) = bar_of(cause) else {
-        return Ok(None);
-    };
-    match barred_place(alloc, styles, branch.locked, records, list.as_slice(), bar) {
-        Ok(Some(place)) => Ok(Some(AtFault {
-            list,
-            place,
-            unit: None,
-        })),
+    match passing_place(alloc, styles, records, list.as_slice()) {
+        Ok(Some((place, unit))) => Ok(Some(Passing { list, place, unit })),
         Ok(None) => Ok(None),
         Err(cause) => Err(cause),
+    }
+}
+
+/// Appends the record of that number, which holds a mark.
+fn push_record(alloc: Global, row: &Record, number: usize, out: &mut Vec<u8>) -> Result<(), Cause>
+    ensures value { OnOk result (out.new.items ≡ out.old.items ++ held_line number row.now) }
+    ensures memory { IsOkUnless result Cause.OutOfMemory }
+{
+    out.extend_from_slice(b"  held: ")?;
+    push_header(alloc, &row.txn, out)?;
+    out.extend_from_slice(b", entry ")?;
+    push_number(number, out)?;
+    out.extend_from_slice(b"\n")?;
+    Ok(())
+}
+
+/// Appends the record at that place, if there is one, which holds a mark.
+fn push_held_at(
+    alloc: Global,
+    records: &[Record],
+    place: usize,
+    out: &mut Vec<u8>,
+) -> Result<(), Cause>
+    ensures value { OnOk result (out.new.items ≡ out.old.items ++ record_line place (slice_get records.now place)) }
+    ensures memory { IsOkUnless result Cause.OutOfMemory }
+{
+    if place >= records.len() {
+        return Ok(());
+    }
+    match record_at(records, place) {
+        Some(record) => push_record(alloc, record, place + 1, out),
+        None => Ok(()),
+    }
+}
+
+/// Appends an earlier transaction of a text, which holds a mark.
+fn push_earlier(alloc: Global, earlier: Option<&Standing>, out: &mut Vec<u8>) -> Result<(), Cause>
+    ensures value { OnOk result (out.new.items
+        ≡ out.old.items ++ earlier_line (option_map (λ s. s.now) earlier.entry)) }
+    ensures memory { IsOkUnless result Cause.OutOfMemory }
+{
+    match earlier {
+        Some(earlier) => {
+            out.extend_from_slice(b"  held: ")?;
+            push_header(alloc, &earlier.txn, out)?;
+            out.extend_from_slice(b", on line ")?;
+            push_number(earlier.line, out)?;
+            out.extend_from_slice(b"\n")?;
+            Ok(())
+        }
+        None => Ok(()),
     }
 }
 
@@ -286,36 +368,21 @@ fn push_holder(
     list: &[Standing],
     holder: Holder,
     out: &mut Vec<u8>,
-) -> Result<(), Cause> {
+) -> Result<(), Cause>
+    ensures value { OnOk result (out.new.items ≡ out.old.items ++ holder_line records.now list.now holder) }
+    ensures memory { IsOkUnless result Cause.OutOfMemory }
+{
     match holder {
         Holder::Nobody => Ok(()),
-        Holder::Record(place) => match records.get(place) {
-            Some(record) => {
-                out.extend_from_slice(b"  held: ")?;
-                push_header(alloc, &record.txn, out)?;
-                out.extend_from_slice(b", entry ")?;
-                push_number(place.saturating_add(1), out)?;
-                out.extend_from_slice(b"\n")?;
-                Ok(())
-            }
-            None => Ok(()),
-        },
-        Holder::Earlier(place) => match list.get(place) {
-            Some(earlier) => {
-                out.extend_from_slice(b"  held: ")?;
-                push_header(alloc, &earlier.txn, out)?;
-                out.extend_from_slice(b", on line ")?;
-                push_number(earlier.line, out)?;
-                out.extend_from_slice(b"\n")?;
-                Ok(())
-            }
-            None => Ok(()),
-        },
+        Holder::Record(place) => push_held_at(alloc, records, place, out),
+        Holder::Earlier(place) => push_earlier(alloc, list.get(place), out),
     }
 }
 
-/// The word that makes entries with that mark.
-fn maker_of(mark: &str) -> &'static [u8] {
+/// The command that makes entries with that mark.
+fn maker_of(mark: &str) -> &'static [u8]
+    ensures { result.now ≡ maker_line mark.now }
+{
     if mark.starts_with("out:") {
         b"  only treasury dispatch makes such an entry; a journal cannot\n"
     } else if mark.starts_with("in:") {
@@ -325,26 +392,160 @@ fn maker_of(mark: &str) -> &'static [u8] {
     }
 }
 
-/// Appends the account of a transaction on which only transfers post.
-fn push_reserved(
+/// Appends an account on which only transfers post.
+fn push_transit(account: &Text, out: &mut Vec<u8>) -> Result<(), Cause>
+    ensures value { OnOk result (out.new.items ≡ out.old.items ++ transit_text (Some account.now)) }
+    ensures memory { IsOkUnless result Cause.OutOfMemory }
+{
+    push_named(b"account", account.as_str().as_bytes(), out)?;
+    out.extend_from_slice(b"  only treasury dispatch and treasury receive post there\n")?;
+    Ok(())
+}
+
+/// Appends the mark of a transaction, and what holds it.
+fn push_clash(
     alloc: Global,
-    styles: &Styles,
-    txn: &Txn,
+    records: &[Record],
+    list: &[Standing],
+    standing: &Standing,
     out: &mut Vec<u8>,
-) -> Result<(), Cause> {
+) -> Result<(), Cause>
+    ensures value { OnOk result (out.new.items ≡ out.old.items
+        ++ (named_text (codes "mark") standing.now.mark ++ holder_line records.now list.now standing.now.holder)) }
+    ensures memory { IsOkUnless result Cause.OutOfMemory }
+{
+    push_named(b"mark", standing.mark.as_str().as_bytes(), out)?;
+    push_holder(alloc, records, list, standing.holder, out)
+}
+
+/// Appends the mark of a transaction, and which command makes such an entry.
+fn push_own_mark(mark: &str, out: &mut Vec<u8>) -> Result<(), Cause>
+    ensures value { OnOk result (out.new.items
+        ≡ out.old.items ++ (named_text (codes "mark") mark.now ++ maker_line mark.now)) }
+    ensures memory { IsOkUnless result Cause.OutOfMemory }
+{
+    push_named(b"mark", mark.as_bytes(), out)?;
+    out.extend_from_slice(maker_of(mark))?;
+    Ok(())
+}
+
+/// Appends the account of a transaction on which only transfers post.
+fn push_reserved(alloc: Global, styles: &Styles, txn: &Txn, out: &mut Vec<u8>) -> Result<(), Cause>
+    requires { IsPrintable styles.now txn.now }
+    ensures value { OnOk result (out.new.items
+        ≡ out.old.items ++ transit_text (transit_in (legs_of styles.now txn.now))) }
+    ensures memory { IsOkUnless result Cause.OutOfMemory }
+{
     match reserved_account(alloc, styles, txn) {
-        Ok(Some(account)) => {
-            push_named(b"account", account.as_str().as_bytes(), out)?;
-            out.extend_from_slice(b"  only treasury dispatch and treasury receive post there\n")?;
-            Ok(())
-        }
+        Ok(Some(account)) => push_transit(&account, out),
         Ok(None) => Ok(()),
         Err(cause) => Err(cause),
     }
 }
 
+/// Appends for what a transaction of a text is refused.
+fn push_bar<L: Ledger>(
+    alloc: Global,
+    state: &State<L>,
+    request: &Request,
+    records: &[Record],
+    list: &[Standing],
+    bar: Bar,
+    standing: &Standing,
+    out: &mut Vec<u8>,
+) -> Result<(), Cause>
+    requires { IsPrintable state.now.styles standing.now.txn }
+    ensures value { OnOk result (out.new.items
+        ≡ out.old.items ++ bar_text state.now request.now records.now list.now bar standing.now) }
+    ensures memory { IsOkUnless result Cause.OutOfMemory }
+{
+    match bar {
+        Bar::Clash => push_clash(alloc, records, list, standing, out),
+        Bar::Mark => push_own_mark(standing.mark.as_str(), out),
+        Bar::Account => push_reserved(alloc, state.styles(), &standing.txn, out),
+        Bar::Locked => push_lock(alloc, state, request, out),
+    }
+}
+
+/// Appends the line of a transaction before the sentence of its refusal, that line, and for what it is refused.
+fn push_place<L: Ledger>(
+    alloc: Global,
+    state: &State<L>,
+    request: &Request,
+    source: &str,
+    text: &[u8],
+    records: &[Record],
+    list: &[Standing],
+    bar: Bar,
+    standing: &Standing,
+    out: &mut Vec<u8>,
+) -> Result<(), Cause>
+    requires { IsPrintable state.now.styles standing.now.txn }
+    ensures value { OnOk result (out.new.items ≡ out.old.items
+        ++ place_text state.now request.now source.now text.now records.now list.now bar standing.now) }
+    ensures memory { IsOkUnless result Cause.OutOfMemory }
+{
+    let mut origin = Vec::new(alloc);
+    push_origin(source, standing.line, &mut origin)?;
+    push_sentence(origin.as_slice(), cause_of(bar), out)?;
+    push_source(text, standing.line, out)?;
+    push_bar(alloc, state, request, records, list, bar, standing, out)
+}
+
+/// Appends what is said of the transaction at that place, if there is one.
+pub fn push_barred<L: Ledger>(
+    alloc: Global,
+    state: &State<L>,
+    request: &Request,
+    source: &str,
+    text: &[u8],
+    records: &[Record],
+    barred: &Barred,
+    bar: Bar,
+    out: &mut Vec<u8>,
+) -> Result<(), Cause>
+    requires { AllByRecursion (λ s. IsPrintable state.now.styles s.txn) barred.now.list.items }
+    ensures value { OnOk result (out.new.items ≡ out.old.items
+        ++ at_place state.now request.now source.now text.now records.now barred.now.list.items bar
+        (slice_get barred.now.list.items barred.now.place)) }
+    ensures memory { IsOkUnless result Cause.OutOfMemory }
+{
+    let list = barred.list.as_slice();
+    match list.get(barred.place) {
+        Some(standing) => push_place(
+            alloc, state, request, source, text, records, list, bar, standing, out,
+        ),
+        None => Ok(()),
+    }
+}
+
+/// The transaction of a text with which a branch refuses it so.
+pub fn find_barred<L: Ledger>(
+    alloc: Global,
+    state: &State<L>,
+    name: &str,
+    text: &[u8],
+    bar: Bar,
+) -> Result<Option<Barred>, Cause>
+    ensures found { IsBarredText state.now name.now text.now bar → IfOk result (λ barred. IsSomeAnd barred (λ b.
+        IsFoundAt state.now name.now text.now bar b.list.items b.place)) }
+    ensures printable { IfOk result (λ barred. IfSome barred (λ b.
+        AllByRecursion (λ s. IsPrintable state.now.styles s.txn) b.list.items)) }
+{
+    state.is_good();
+    let styles = state.styles();
+    let records = records_of(state, name);
+    let lock = lock_of(state, name);
+    let list = standings(alloc, styles, records, text)?;
+    match barred_place(alloc, styles, lock, records, list.as_slice(), bar) {
+        Ok(Some(place)) => Ok(Some(Barred { list, place })),
+        Ok(None) => Ok(None),
+        Err(cause) => Err(cause),
+    }
+}
+
 /// Appends the commodity whose turnover passes its limit.
-fn push_turnover(
+pub fn push_turnover(
     alloc: Global,
     styles: &Styles,
     name: &str,
@@ -360,34 +561,4 @@ fn push_turnover(
     push_amount(alloc, styles, unit, MAX_TURNOVER as i64, out)?;
     out.extend_from_slice(b"\n")?;
     Ok(())
-}
-
-/// Appends what a transaction is refused for, after its header.
-pub fn push_at_fault<L: Ledger>(
-    alloc: Global,
-    styles: &Styles,
-    branch: &Branch<L>,
-    fault: &AtFault,
-    standing: &Standing,
-    cause: Cause,
-    out: &mut Vec<u8>,
-) -> Result<(), Cause> {
-    let mark = standing.mark.as_str();
-    if cause == Cause::MarkClash {
-        push_named(b"mark", mark.as_bytes(), out)?;
-        let records = branch.records.items();
-        return push_holder(alloc, records, fault.list.as_slice(), standing.holder, out);
-    }
-    if cause == Cause::ReservedMark {
-        push_named(b"mark", mark.as_bytes(), out)?;
-        out.extend_from_slice(maker_of(mark))?;
-        return Ok(());
-    }
-    if cause == Cause::ReservedAccount {
-        return push_reserved(alloc, styles, &standing.txn, out);
-    }
-    match fault.unit {
-        Some(unit) => push_turnover(alloc, styles, branch.name.as_str(), unit, out),
-        None => Ok(()),
-    }
 }

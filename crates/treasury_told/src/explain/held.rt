@@ -1,12 +1,17 @@
 //! What stands against a request: what is held, and the forms and limits that its texts have to meet.
 
+ghost use Rattle.std.specs.Prelude.{◌≡◌, ◌++◌, OnOk};
+ghost use Rattle.std.specs.Option.{option_map};
+ghost use Rattle.std.specs.Result.{IsOkUnless};
+ghost use Rattle.treasury_told.specs.Lock.{branch_of, close_hint, locked_line, lock_text};
+
 use crate::explain::hints::{push_amount_form, push_sample, push_sample_form, push_samples};
 use crate::explain::pieces::push_day;
 use crate::explain::shown::{push_line, push_named, push_number, push_shown};
 use crate::explain::standing::{branch_named, lock_of};
 use crate::explain::transfers::{part_of, push_id, push_transfer_of};
 use book_core::{Ledger, MAX_ENTRIES};
-use money_core::{Cause, Text, read_style};
+use money_core::{Cause, Day, Text, read_style};
 use std::alloc::Global;
 use treasury_core::State;
 use treasury_requests::Request;
@@ -30,7 +35,9 @@ const CLOSE_FIRST: &[u8] =
     b"a branch cannot be closed at a day that is locked: close first, which also locks it";
 
 /// The branch that a request takes entries into, or locks.
-fn branch_of(request: &Request) -> Option<&Text> {
+fn branch_of(request: &Request) -> Option<&Text>
+    ensures { option_map (λ name. name.now) result ≡ branch_of request.now }
+{
     match request {
         Request::Import { branch, .. } => Some(branch),
         Request::Dispatch { from, .. } => Some(from),
@@ -65,28 +72,51 @@ fn push_branches<L: Ledger>(state: &State<L>, out: &mut Vec<u8>) -> Result<(), C
     Ok(())
 }
 
-/// Appends through which day the branch of a request is locked.
+/// Appends what is said behind a lock, where a branch is to be closed at a day that is locked.
+fn push_close_hint(request: &Request, out: &mut Vec<u8>) -> Result<(), Cause>
+    ensures value { OnOk result (out.new.items ≡ out.old.items ++ close_hint request.now) }
+    ensures memory { IsOkUnless result Cause.OutOfMemory }
+{
+    match request {
+        Request::Close { .. } => push_line(CLOSE_FIRST, out),
+        _ => Ok(()),
+    }
+}
+
+/// Appends through which day a branch is locked.
+#[tactic(auto, unfolding(crate::specs::Lock::locked_line))]
+fn push_locked(alloc: Global, name: &str, day: Day, out: &mut Vec<u8>) -> Result<(), Cause>
+    ensures value { OnOk result (out.new.items ≡ out.old.items ++ locked_line name.now day) }
+    ensures memory { IsOkUnless result Cause.OutOfMemory }
+{
+    out.extend_from_slice(b"  ")?;
+    push_shown(name.as_bytes(), out)?;
+    out.extend_from_slice(b" is locked through ")?;
+    push_day(alloc, day, out)?;
+    out.extend_from_slice(b"\n")?;
+    Ok(())
+}
+
+/// Appends through which day the branch of a request is locked, if it is.
+#[tactic(auto, unfolding(crate::specs::Lock::lock_text))]
 pub fn push_lock<L: Ledger>(
     alloc: Global,
     state: &State<L>,
     request: &Request,
     out: &mut Vec<u8>,
-) -> Result<(), Cause> {
-    let Some(name) = branch_of(request) else {
+) -> Result<(), Cause>
+    ensures value { OnOk result (out.new.items ≡ out.old.items ++ lock_text state.now request.now) }
+    ensures memory { IsOkUnless result Cause.OutOfMemory }
+{
+    let Some(branch) = branch_of(request) else {
         return Ok(());
     };
-    let Some(day) = lock_of(state, name.as_str()) else {
+    let name = branch.as_str();
+    let Some(day) = lock_of(state, name) else {
         return Ok(());
     };
-    out.extend_from_slice(b"  ")?;
-    push_shown(name.as_str().as_bytes(), out)?;
-    out.extend_from_slice(b" is locked through ")?;
-    push_day(alloc, day, out)?;
-    out.extend_from_slice(b"\n")?;
-    match request {
-        Request::Close { .. } => push_line(CLOSE_FIRST, out),
-        _ => Ok(()),
-    }
+    push_locked(alloc, name, day, out)?;
+    push_close_hint(request, out)
 }
 
 /// Appends how the commodity of a sample is written already.

@@ -1,6 +1,14 @@
 //! The lines of a journal's text, as an explanation shows them.
 
-use crate::explain::shown::{push_number, push_shown};
+ghost use Rattle.std.specs.Prelude.{◌≡◌, ◌++◌, OnOk};
+ghost use Rattle.std.specs.Option.{option_map};
+ghost use Rattle.std.specs.Result.{IsOkUnless};
+ghost use Rattle.journal_lines.specs.Lines.{lines};
+ghost use Rattle.treasury_told.specs.Numbered.{numbered};
+ghost use Rattle.treasury_told.specs.Pieces.{numbered_line, source_line};
+
+use crate::explain::pieces::push_behind;
+use crate::explain::shown::push_number;
 use journal_lines::{
     LineKind, Lines, behind_status, front_of, is_block_end, is_remark, kind, name_end, trim,
     trim_start,
@@ -15,7 +23,9 @@ pub struct PostingParts<'a> {
 }
 
 /// The line of that number.
-pub fn line_at(text: &[u8], line: usize) -> Option<&[u8]> {
+pub fn line_at(text: &[u8], line: usize) -> Option<&[u8]>
+    ensures { option_map (λ l. l.now) result ≡ numbered (lines text.now) line }
+{
     for (number, bytes) in Lines::new(text) {
         if number == line {
             return Some(bytes);
@@ -25,20 +35,24 @@ pub fn line_at(text: &[u8], line: usize) -> Option<&[u8]> {
 }
 
 /// Appends a line with its number before it.
-fn push_numbered(number: usize, bytes: &[u8], out: &mut Vec<u8>) -> Result<(), Cause> {
+fn push_numbered(number: usize, bytes: &[u8], out: &mut Vec<u8>) -> Result<(), Cause>
+    ensures value { OnOk result (out.new.items ≡ out.old.items ++ numbered_line number bytes.now) }
+    ensures memory { IsOkUnless result Cause.OutOfMemory }
+{
     out.extend_from_slice(b"  ")?;
     push_number(number, out)?;
     out.extend_from_slice(b" |")?;
-    if !bytes.is_empty() {
-        out.extend_from_slice(b" ")?;
-        push_shown(bytes, out)?;
-    }
+    push_behind(bytes, out)?;
     out.extend_from_slice(b"\n")?;
     Ok(())
 }
 
-/// Appends the line of that number, with its number before it.
-pub fn push_source(text: &[u8], line: usize, out: &mut Vec<u8>) -> Result<(), Cause> {
+/// Appends the line of that number, with its number before it, if the text has one.
+#[tactic(auto, unfolding(crate::specs::Pieces::source_line))]
+pub fn push_source(text: &[u8], line: usize, out: &mut Vec<u8>) -> Result<(), Cause>
+    ensures value { OnOk result (out.new.items ≡ out.old.items ++ source_line text.now line) }
+    ensures memory { IsOkUnless result Cause.OutOfMemory }
+{
     match line_at(text, line) {
         Some(bytes) => push_numbered(line, bytes, out),
         None => Ok(()),

@@ -1,6 +1,6 @@
 //! Entries and legs by their numbers, which are counted from 1.
 
-ghost use Rattle.std.specs.Prelude.{◌≡◌};
+ghost use Rattle.std.specs.Prelude.{◌≡◌, slice_get};
 ghost use Rattle.std.specs.Option.{option_map};
 ghost use Rattle.treasury_told.specs.Numbered.{numbered, new_of, view_of, entries_with};
 
@@ -13,6 +13,13 @@ use treasury_core::Record;
 pub enum Numbered<'a> {
     Held(&'a Record),
     New(&'a Standing),
+}
+
+/// The record at that place, from 0.
+pub fn record_at(records: &[Record], place: usize) -> Option<&Record>
+    ensures { option_map (λ r. r.now) result ≡ slice_get records.now place }
+{
+    records.get(place)
 }
 
 /// The record of that number.

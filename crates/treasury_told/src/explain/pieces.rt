@@ -1,13 +1,17 @@
 //! Pieces of an explanation: amounts, days and headers.
 
-ghost use Rattle.std.specs.Prelude.{◌≡◌, ◌++◌, OnOk};
+ghost use Rattle.std.specs.Prelude.{◌≡◌, ◌++◌, codes, OnOk};
 ghost use Rattle.std.specs.Result.{IsOkUnless};
-ghost use Rattle.treasury_told.specs.Pieces.{is_written, shown_amount, named_amount};
+ghost use Rattle.std.specs.Option.{option_map};
+ghost use Rattle.journal_lines.specs.Printed.{header_status, header_code};
+ghost use Rattle.treasury_told.specs.Shown.{shown_text};
+ghost use Rattle.treasury_told.specs.Pieces.{is_written, shown_amount, named_amount, shown_day, shown_behind};
+ghost use Rattle.treasury_told.specs.Pieces.{header_text};
 
 use crate::explain::shown::push_shown;
 use journal_format::Txn;
 use journal_lines::{Status, is_day_number, print_date};
-use money_core::{Cause, Day, Styles, Unit, is_declared, print_amount};
+use money_core::{Cause, Day, Styles, Text, Unit, is_declared, print_amount};
 use std::alloc::Global;
 
 /// Whether a text writes the amount.
@@ -37,7 +41,10 @@ pub fn push_amount(
 }
 
 /// Appends a day. One that no text writes is shown as `?`.
-pub fn push_day(alloc: Global, day: Day, out: &mut Vec<u8>) -> Result<(), Cause> {
+pub fn push_day(alloc: Global, day: Day, out: &mut Vec<u8>) -> Result<(), Cause>
+    ensures value { OnOk result (out.new.items ≡ out.old.items ++ shown_day day) }
+    ensures memory { IsOkUnless result Cause.OutOfMemory }
+{
     if is_day_number(day) {
         print_date(alloc, day, out)
     } else {
@@ -46,24 +53,65 @@ pub fn push_day(alloc: Global, day: Day, out: &mut Vec<u8>) -> Result<(), Cause>
     }
 }
 
+/// What stands for a status in a header.
+fn status_mark(status: Option<Status>) -> &'static [u8]
+    ensures { result.now ≡ header_status status }
+{
+    match status {
+        Some(Status::Cleared) => b" *",
+        Some(Status::Pending) => b" !",
+        None => b"",
+    }
+}
+
+/// Appends a code in parentheses behind a blank, if there is one.
+fn push_code(code: &Option<Text>, out: &mut Vec<u8>) -> Result<(), Cause>
+    ensures value { OnOk result (out.new.items ≡ out.old.items ++ header_code (option_map shown_text code.now)) }
+    ensures memory { IsOkUnless result Cause.OutOfMemory }
+{
+    match code {
+        Some(code) => {
+            out.extend_from_slice(b" (")?;
+            push_shown(code.as_str().as_bytes(), out)?;
+            out.extend_from_slice(b")")?;
+            Ok(())
+        }
+        None => Ok(()),
+    }
+}
+
+/// Appends a text behind a blank; nothing of an empty one.
+pub fn push_behind(text: &[u8], out: &mut Vec<u8>) -> Result<(), Cause>
+    ensures value { OnOk result (out.new.items ≡ out.old.items ++ shown_behind text.now) }
+    ensures memory { IsOkUnless result Cause.OutOfMemory }
+{
+    if text.is_empty() {
+        return Ok(());
+    }
+    out.extend_from_slice(b" ")?;
+    push_shown(text, out)
+}
+
 /// Appends the day, the status, the code and the description of a transaction.
-pub fn push_header(alloc: Global, txn: &Txn, out: &mut Vec<u8>) -> Result<(), Cause> {
+#[tactic(auto, unfolding(crate::specs::Pieces::header_text))]
+pub fn push_header(alloc: Global, txn: &Txn, out: &mut Vec<u8>) -> Result<(), Cause>
+    ensures value { OnOk result (out.new.items ≡ out.old.items ++ header_text txn.now) }
+    ensures memory { IsOkUnless result Cause.OutOfMemory }
+{
     push_day(alloc, txn.day, out)?;
-    match txn.status {
-        Some(Status::Cleared) => out.extend_from_slice(b" *")?,
-        Some(Status::Pending) => out.extend_from_slice(b" !")?,
-        None => {}
-    }
-    if let Some(code) = &txn.code {
-        out.extend_from_slice(b" (")?;
-        push_shown(code.as_str().as_bytes(), out)?;
-        out.extend_from_slice(b")")?;
-    }
-    let description = txn.description.as_str();
-    if !description.is_empty() {
-        out.extend_from_slice(b" ")?;
-        push_shown(description.as_bytes(), out)?;
-    }
+    out.extend_from_slice(status_mark(txn.status))?;
+    push_code(&txn.code, out)?;
+    push_behind(txn.description.as_str().as_bytes(), out)
+}
+
+/// Appends what stands before what a line names.
+fn push_name(name: &[u8], out: &mut Vec<u8>) -> Result<(), Cause>
+    ensures value { OnOk result (out.new.items ≡ out.old.items ++ (codes "  " ++ name.now ++ codes ": ")) }
+    ensures memory { IsOkUnless result Cause.OutOfMemory }
+{
+    out.extend_from_slice(b"  ")?;
+    out.extend_from_slice(name)?;
+    out.extend_from_slice(b": ")?;
     Ok(())
 }
 
@@ -79,9 +127,7 @@ pub fn push_named_amount(
     ensures value { OnOk result (out.new.items ≡ out.old.items ++ named_amount styles.now name.now unit qty) }
     ensures memory { IsOkUnless result Cause.OutOfMemory }
 {
-    out.extend_from_slice(b"  ")?;
-    out.extend_from_slice(name)?;
-    out.extend_from_slice(b": ")?;
+    push_name(name, out)?;
     push_amount(alloc, styles, unit, qty, out)?;
     out.extend_from_slice(b"\n")?;
     Ok(())

@@ -15,15 +15,17 @@ ghost use Rattle.journal_format.specs.CanonicalText.{body_text};
 ghost use Rattle.journal_format.specs.Fault.{IsFirstFault};
 ghost use Rattle.journal_format.specs.Pieces.{Reads};
 ghost use Rattle.journal_format.specs.Printable.{IsPrintable};
+ghost use Rattle.journal_balance.specs.Legs.{legs_of};
 ghost use Rattle.treasury_core.specs.Counted.{count_of, counted_more, AreCounted};
-ghost use Rattle.treasury_core.specs.Federation.{has_name, lock_of};
+ghost use Rattle.treasury_core.specs.Federation.{has_name, lock_of, records_of};
 ghost use Rattle.treasury_core.specs.Kept.{IsIndexOf};
 ghost use Rattle.treasury_core.specs.Mark.{mark_of};
 ghost use Rattle.treasury_core.specs.Seen.{branch_of, branches_of};
 ghost use Rattle.treasury_core.specs.Step.{number_in};
-ghost use Rattle.treasury_told.specs.Standing.{is_nobody, holder_at, located_of, AreStanding};
+ghost use Rattle.treasury_told.specs.Standing.{entry_in, is_nobody, holder_at, located_of, AreStanding};
 
-use book_core::Ledger;
+use book_core::{Entry, Ledger};
+use journal_balance::legs;
 use journal_format::{Located, Txn, body, is_printable, read_journal};
 use money_core::{Cause, Copied, Day, Styles, Text};
 use std::alloc::Global;
@@ -87,6 +89,16 @@ pub fn lock_of<L: Ledger>(state: &State<L>, name: &str) -> Option<Day>
     match branch_named(state, name) {
         Some(branch) => branch.locked,
         None => None,
+    }
+}
+
+/// The records of the branch of that name; none where there is none.
+pub fn records_of<'a, L: Ledger>(state: &'a State<L>, name: &str) -> &'a [Record]
+    ensures { result.now ≡ records_of state.now name.now }
+{
+    match branch_named(state, name) {
+        Some(branch) => branch.records.items(),
+        None => &[],
     }
 }
 
@@ -234,7 +246,10 @@ pub fn standings(
     text: &[u8],
 ) -> Result<Vec<Standing>, Cause>
     ensures list { IfOk result (λ found. Reads styles.now text.now (located_of found.items)) }
+    ensures only { (list : List Placed) → Reads styles.now text.now list
+        → IfOk result (λ found. located_of found.items ≡ list) }
     ensures each { IfOk result (λ found. AreStanding styles.now records.now [] found.items) }
+    ensures printable { IfOk result (λ found. AllByRecursion (λ s. IsPrintable styles.now s.txn) found.items) }
     ensures err { IfErr result (λ cause. (cause ≡ Cause.OutOfMemory)
         ⊎ ((first : FirstFault) × IsFirstFault styles.now text.now first × (cause ≡ first.cause))) }
 {
@@ -244,10 +259,24 @@ pub fn standings(
     }
 }
 
+/// The entry of a transaction, if it has one.
+pub fn entry_of(alloc: Global, styles: &Styles, txn: &Txn) -> Result<Option<Entry>, Cause>
+    requires { IsPrintable styles.now txn.now }
+    ensures value { IfOk result (λ entry. entry ≡ entry_in (legs_of styles.now txn.now)) }
+    ensures memory { IsOkUnless result Cause.OutOfMemory }
+{
+    match legs(alloc, txn, styles) {
+        Ok(entry) => Ok(Some(entry)),
+        Err(Cause::OutOfMemory) => Err(Cause::OutOfMemory),
+        Err(_) => Ok(None),
+    }
+}
+
 /// Whether two transactions have the same canonical text, their marks aside.
 pub fn is_same_text(alloc: Global, styles: &Styles, txn: &Txn, other: &Txn) -> Result<bool, Cause>
-    ensures { IsPrintable styles.now txn.now → IsPrintable styles.now other.now
+    ensures value { IsPrintable styles.now txn.now → IsPrintable styles.now other.now
         → IfOk result (λ is. is ≡ bytes_eq (body_text styles.now txn.now) (body_text styles.now other.now)) }
+    ensures memory { IsOkUnless result Cause.OutOfMemory }
 {
     if !is_printable(txn, styles) || !is_printable(other, styles) {
         return Ok(false);
