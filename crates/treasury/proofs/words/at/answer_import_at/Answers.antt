@@ -7,9 +7,9 @@ pub returns-in-Ok-read_journal : goal.returns-in-Ok-read_journal
 returns-in-Ok-read_journal c =
     inr (inr (
       c.in-Some.branch.now,
-      c.as_slice.result.now,
+      c.as_slice-bytes.result.now,
       sym c.in-Some.ensures,
       subst (λ (dry : Bool).
-          SaysToBytesAt c.in-Some.branch.now dry c.as_slice.result.now (spoken c.answer_bytes_at.result))
+          SaysToBytesAt c.in-Some.branch.now dry c.as_slice-bytes.result.now (spoken c.answer_bytes_at.result))
           c.is_dry_run-is_dry_run.ensures c.answer_bytes_at.ensures,
     ))
