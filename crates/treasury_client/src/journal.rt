@@ -25,18 +25,23 @@ fn push_line(line: &[u8], out: &mut Vec<u8>) -> Result<(), AllocError> {
     Ok(())
 }
 
+/// A journal that is not UTF-8, with a control character for each byte over 127 of a line that is not.
+fn replaced(alloc: Global, journal: &[u8]) -> Result<Vec<u8>, AllocError> {
+    let mut text = Vec::new(alloc);
+    for line in journal.split_inclusive(|byte| *byte == b'\n') {
+        push_line(line, &mut text)?;
+    }
+    Ok(text)
+}
+
 /// The journal as a text can have it: as it stands where it is UTF-8. In a line that is not, a control character stands
 /// for each byte over 127: the treasury refuses both by 1, unless it refuses something before that, and then by the
 /// same, as it counts bytes.
 pub fn as_text(alloc: Global, journal: &[u8]) -> Result<Vec<u8>, AllocError>
     ensures { is_utf8 journal.now ≡ true → IfOk result (λ text. text.items ≡ journal.now) }
 {
-    if str::from_utf8(journal).is_ok() {
-        return Vec::from_slice(alloc, journal);
+    match str::from_utf8(journal) {
+        Ok(_) => Vec::from_slice(alloc, journal),
+        Err(_) => replaced(alloc, journal),
     }
-    let mut text = Vec::new(alloc);
-    for line in journal.split_inclusive(|byte| *byte == b'\n') {
-        push_line(line, &mut text)?;
-    }
-    Ok(text)
 }
