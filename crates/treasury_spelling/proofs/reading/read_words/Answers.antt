@@ -8,18 +8,18 @@ returns-in-Err-try_get_matches_from_mut-clause-fails c =
 pub returns-in-None-clause-named : goal.returns-in-None-clause-named
 returns-in-None-clause-named c =
     named_rows _ _ c.in-Ok-try_get_matches_from_mut.matches c.in-Ok.ensures
-    c.in-Ok-try_get_matches_from_mut.ensures.ok.1.1
+    c.in-Ok-try_get_matches_from_mut.ensures.ok.2
 
 pub returns-in-None-clause-taken : goal.returns-in-None-clause-taken
 returns-in-None-clause-taken c =
     taken _ _ c.in-Ok-try_get_matches_from_mut.matches c.in-Ok.ensures c.in-Ok-try_get_matches_from_mut.ensures.kinds
     (named_rows _ _ c.in-Ok-try_get_matches_from_mut.matches c.in-Ok.ensures
-    c.in-Ok-try_get_matches_from_mut.ensures.ok.1.1) c.in-None.ensures
+    c.in-Ok-try_get_matches_from_mut.ensures.ok.2) c.in-None.ensures
 
-pub returns-in-Some-clause-fails : goal.returns-in-Some-clause-fails
-returns-in-Some-clause-fails c =
+pub returns-clause-fails : goal.returns-clause-fails
+returns-clause-fails c =
     misplaced_fails _ c.in-Some.kind _
     (misplaced _ _ c.in-Ok-try_get_matches_from_mut.matches c.in-Some.kind c.in-Ok.ensures
     c.in-Ok-try_get_matches_from_mut.ensures.kinds
     (named_rows _ _ c.in-Ok-try_get_matches_from_mut.matches c.in-Ok.ensures
-    c.in-Ok-try_get_matches_from_mut.ensures.ok.1.1) c.in-Some.ensures) c.place_error.ensures
+    c.in-Ok-try_get_matches_from_mut.ensures.ok.2) c.in-Some.ensures) c.place_error.ensures
