@@ -4,21 +4,21 @@
 _treasury_options() {
     case $1 in
     init) echo --db --help ;;
-    branch) echo --db --dry-run --help ;;
-    branches) echo --db --help ;;
-    commodity) echo --db --dry-run --help ;;
-    commodities) echo --db --help ;;
-    import) echo --db --branch --dry-run --help ;;
-    accounts) echo --db --branch --help ;;
-    balance) echo --db --branch --day --help ;;
-    register) echo --db --branch --account --tag --help ;;
-    dispatch) echo --db --id --from --to --day --amount --account --dry-run --help ;;
-    receive) echo --db --id --branch --day --account --part --amount --dry-run --help ;;
-    transfers) echo --db --day --help ;;
-    transit) echo --db --day --help ;;
-    lock) echo --db --branch --day --dry-run --help ;;
-    close) echo --db --branch --day --accounts --into --dry-run --help ;;
-    journal) echo --db --branch --help ;;
+    branch) echo --db --at --dry-run --help ;;
+    branches) echo --db --at --help ;;
+    commodity) echo --db --at --dry-run --help ;;
+    commodities) echo --db --at --help ;;
+    import) echo --db --at --branch --dry-run --help ;;
+    accounts) echo --db --at --branch --help ;;
+    balance) echo --db --at --branch --day --help ;;
+    register) echo --db --at --branch --account --tag --help ;;
+    dispatch) echo --db --at --id --from --to --day --amount --account --dry-run --help ;;
+    receive) echo --db --at --id --branch --day --account --part --amount --dry-run --help ;;
+    transfers) echo --db --at --day --help ;;
+    transit) echo --db --at --day --help ;;
+    lock) echo --db --at --branch --day --dry-run --help ;;
+    close) echo --db --at --branch --day --accounts --into --dry-run --help ;;
+    journal) echo --db --at --branch --help ;;
     serve) echo --db --port --requests --help ;;
     run) echo --explain --help ;;
     esac
@@ -38,7 +38,7 @@ _treasury() {
     else
         case $before in
         --branch | --id | --from | --to | --day | --amount | --account | --tag | --accounts | --into) ;;
-        --part | --port | --requests) ;;
+        --part | --at | --port | --requests) ;;
         *) mapfile -t COMPREPLY < <(compgen -f -- "$at") ;;
         esac
     fi

@@ -48,6 +48,11 @@ __treasury serve "Answers requests over HTTP on 127.0.0.1, one connection after 
 __treasury run "Answers the requests on standard input, in memory alone" explain
 __treasury help "Print this message or the help of the given subcommand(s)"
 
+# The commands that may be sent to a service
+for name in branch branches commodity commodities import accounts balance register dispatch receive transfers transit lock close journal
+    complete -c treasury -n "__treasury_has $name" -l at -x
+end
+
 # The commands that have a dry run
 for name in branch commodity import dispatch receive lock close
     complete -c treasury -n "__treasury_has $name" -l dry-run

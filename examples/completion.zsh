@@ -23,7 +23,8 @@ local -a rows=(
     "run explain: Answers the requests on standard input, in memory alone"
     "help: Print this message or the help of the given subcommand(s)"
 )
-# The commands that have a dry run
+# The commands that are over a file alone, and run; those that have a dry run
+local -a alone=(init serve run help)
 local -a dry_runs=(branch commodity import dispatch receive lock close)
 local -a commands
 local -A options
@@ -32,6 +33,7 @@ for row in $rows; do
     name=${row%%[ :]*}
     commands+=("$name:${row#*: }")
     options[$name]="${${row%%: *}#$name} help"
+    if (( ! $alone[(Ie)$name] )); then options[$name]+=" at"; fi
     if (( $dry_runs[(Ie)$name] )); then options[$name]+=" dry-run"; fi
 done
 
@@ -43,6 +45,6 @@ elif [[ $PREFIX == -* ]]; then
     compadd -- --${^${=options[$words[2]]}}
 elif [[ $words[CURRENT-1] == --db ]]; then
     _files
-elif [[ $words[2] == import && $words[CURRENT-1] != --branch ]]; then
+elif [[ $words[2] == import && $words[CURRENT-1] != --(at|branch) ]]; then
     _files
 fi

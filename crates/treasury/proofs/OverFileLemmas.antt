@@ -1,11 +1,11 @@
 -- A word over a database file: its treasury is started, answers and is closed.
-use Rattle.std.proofs.Common.{◌≡◌, ◌<◌, ◌⊎◌, ℕ, Bool, true, false, List, [], length, Option, Err}
+use Rattle.std.proofs.Common.{◌≡◌, ◌<◌, ◌⊎◌, ℕ, Bool, true, false, List, [], length, Option, None, Err}
 use Rattle.std.proofs.Common.{codes, refl, sym, subst}
 use Rattle.std.proofs.Common.{inl, inr, arith}
 use Rattle.std.proofs.KnownBytes.{Appends-nil}
 use Rattle.std.specs.Fmt.{digits}
 use Rattle.std.specs.Io.KnownBytes.{Appends}
-use Rattle.clap.specs.Walk.{Row}
+use Rattle.clap.specs.Walk.{Row, first_of}
 use Rattle.sqlite_disk.specs.declared.Disk as disk
 use Rattle.sqlite_disk.specs.declared.Files.{Files}
 use Rattle.sqlite_wal.specs.Recovery.{Image}
@@ -34,6 +34,7 @@ use Rattle.treasury_files.specs.declared.left.Left.{Left}
 use Rattle.treasury_files.specs.declared.left.Left.TheVariants.{Untouched, Closed, Shut}
 use Rattle.treasury.specs.Word.{AnswersWord, SaysTo}
 use Rattle.treasury_files.specs.Left.{HoldsOf, HaveRows, KeepsFile}
+use Rattle.treasury.specs.At.{SaysAt}
 use Rattle.treasury.specs.OverFile.{Spoken, IsRefusedBy, IsFileRefused, AnswersOver}
 use Rattle.treasury_files.specs.InFile.{ShowsState, LeavesState}
 use Rattle.treasury.specs.OverFile.{HaveRowsBehind, MayHaveDone, Tells, SaysOver, SaysToJournal, SaysToWord, IsTold}
@@ -197,6 +198,14 @@ module _ {D : Type 0} (g : disk.Ghosts D) where
         inl (subst (λ (c : Cause). IsRefusedBy c (spoken said)) memory refused),
         keeps_untouched g image Untouched refl,
       ))
+
+  -- a word names no file, and none was opened
+  pub no_file_is_named : (image : Image) (word : List ℕ) (values : List Row) (said : Said) (a : Answered D g)
+      → a ≡ record { said = said; left = Untouched } → first_of (codes "db") values ≡ None
+      → SaysAt word values (spoken said) → SaysToWord g image word values (spoken a.said) a.left
+  no_file_is_named image word values said a is none says =
+      subst (λ (b : Answered D g). SaysToWord g image word values (spoken b.said) b.left) (sym is)
+      (inl (none, says, refl))
 
   -- a journal cannot be read, and no file was opened
   pub journal_before : (image : Image) (branch : List ℕ) (dry : Bool) (has : Option (List ℕ)) (said : Said)

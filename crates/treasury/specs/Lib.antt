@@ -1,5 +1,7 @@
 -- What a reader has to believe, in reading order
 pub mod Word
+pub mod Spoken
+pub mod At
 pub mod OverFile
 pub mod Serving
 pub mod CutOff

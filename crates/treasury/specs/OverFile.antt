@@ -32,43 +32,17 @@ use Rattle.treasury_api.specs.Step.{Standing}
 use Rattle.treasury_api.specs.OneRequest.{command_of}
 use Rattle.treasury_spelling.specs.Spelling.{request_in, is_dry_run, given}
 use Rattle.treasury.specs.Word.{AnswersWord, Told}
+pub use Rattle.treasury.specs.Spoken.{Spoken, IsRefusedBy, IsFileRefused, IsJournalRefused, Tells}
+use Rattle.treasury.specs.At.{SaysAt}
 use Rattle.treasury_files.specs.declared.left.Left.{Left}
 use Rattle.treasury_files.specs.declared.left.Left.TheVariants.{Untouched, Closed}
 use Rattle.treasury_files.specs.Left.{HoldsRows, HoldsOf, HaveRows, IsCleanIn, MayBe, MayComeBack, AreSpared, KeepsFile}
 use Rattle.treasury_files.specs.Left.{HasNoTreasury}
 use Rattle.treasury_files.specs.InFile.{most_journal, HasTreasury, ShowsState, LeavesState, MakesOver}
 
--- what is said to a word: a text for standard output, and whether that is a refusal
-pub record Spoken : Type 0 where
-  pub text : List ℕ
-  pub refused : Bool
-
--- ---- what is said by a cause alone
-
-abbrev pub IsRefusedBy : Cause → Spoken → Type 0
-IsRefusedBy cause said = (said.text ≡ answer_text [] (Err (Plain cause))) × (said.refused ≡ true)
-
--- 40, 41 or 43: there is no memory, the file cannot be used, or it has no treasury
-abbrev pub IsFileRefused : Spoken → Type 0
-IsFileRefused said = IsRefusedBy OutOfMemory said ⊎ (IsRefusedBy Store said ⊎ IsRefusedBy Damaged said)
-
--- 45 or 40: the journal's file cannot be read
-abbrev pub IsJournalRefused : Spoken → Type 0
-IsJournalRefused said = IsRefusedBy ReadFault said ⊎ IsRefusedBy OutOfMemory said
-
 -- what was said to a word
 abbrev pub said_to : Told → Spoken
 said_to w = record { text = w.text; refused = w.refused }
-
--- ---- what is told: a text on standard output, and an exit status
-
--- All of the text is written, and the status is 1 where it is a refusal, else 0; or the output takes a part of it and
--- no more, and it is 1.
-abbrev pub Tells : {W : Type 0} → (W → Option (List ℕ)) → W → W → ℕ → Spoken → Type 0
-Tells contents w0 w1 status said =
-    (Appends (contents w0) (contents w1) said.text × (status ≡ (if said.refused then 1 else 0)))
-    ⊎ ((taken : ℕ) × (taken < length said.text) × Appends (contents w0) (contents w1) (take taken said.text)
-    × (status ≡ 1))
 
 -- ---- what is said over a file
 
@@ -142,10 +116,10 @@ module _ {D : Type 0} (g : disk.Ghosts D) where
       ⊎ ((request : Request) × (request_in word values ≡ Some request)
       × SaysOver image (given (is_dry_run values) request) said left)
 
-  -- any word but `run`, by its values
+  -- any word but `run`, by its values; without a file it is answered by a service, and no file was opened
   abbrev pub SaysToWord : Image → List ℕ → List Row → Spoken → Left D g → Type 0
   SaysToWord image word values said left =
-      ((first_of (codes "db") values ≡ None) × IsRefusedBefore NoRequest said left)
+      ((first_of (codes "db") values ≡ None) × SaysAt word values said × (left ≡ Untouched))
       ⊎ (((word ≡ codes "init") × SaysToInit image said left)
       ⊎ (((word ≡ codes "import") × SaysToImport image values said left)
       ⊎ ((word ≢ codes "init") × (word ≢ codes "import") × SaysToForm image word values said left)))

@@ -1,5 +1,6 @@
 //! The words of the command line, and what they do.
 
+mod at;
 mod explaining;
 mod looks;
 mod over_file;
@@ -53,7 +54,7 @@ use treasury_core::{
 };
 use treasury_files::{Left, wait_for};
 use treasury_memory::{MemoryStore, open_memory};
-use treasury_spelling::{is_dry_run, is_explained, known_words, value_of};
+use treasury_spelling::{is_dry_run, is_explained, read_words, value_of};
 use treasury_store::{Store, Treasury};
 
 /// How the program ends: its exit status, and what it leaves of the files of a word.
@@ -382,17 +383,7 @@ where
     ensures unused { result.status ≡ 2 → AreTaken (map string_bytes words.now)
         → named (map string_bytes words.now) ≡ None }
 {
-    let alloc = rt.alloc();
-    let known = match known_words(alloc) {
-        Ok(known) => known,
-        Err(_) => {
-            return Ended {
-                status: status(rt, Err(Cause::OutOfMemory)),
-                left: Left::Untouched,
-            };
-        }
-    };
-    match known.try_get_matches_from(words) {
+    match read_words(rt.alloc(), words) {
         Ok(matches) => do_word(rt, &matches, input, output, start),
         Err(error) => Ended {
             status: answer_untaken(rt, &error, output),

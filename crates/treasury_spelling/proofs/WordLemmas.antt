@@ -8,36 +8,71 @@ use Rattle.clap.specs.declared.parser.matches.ArgMatches.{ArgMatches}
 use Rattle.clap.specs.declared.parser.matches.ArgMatches.TheViews.{out-ArgMatches, out-SubCommand}
 use Rattle.clap.specs.declared.parser.matches.SubCommand.{SubCommand}
 use Rattle.treasury_spelling.specs.Known.{known}
-use Rattle.std.proofs.Common.{◌≡◌, ℕ, true, List, [], ap, refl, sym}
+use Rattle.std.proofs.Common.{◌≡◌, ℕ, true, List, [], ◌∷◌, ap, refl, sym}
 use Rattle.std.proofs.Common.{◌∙◌, subst, inl, inr, ◌⊎◌}
 use Rattle.clap.specs.Simple.{App}
-use Rattle.clap.specs.Kinds.{IsAmong}
+use Rattle.clap.specs.Kinds.{Kinds, IsAmong, or_else}
 use Rattle.clap.specs.Faults.{fault_of, is_simple_and_free}
+use Rattle.clap.specs.Values.{kind_of}
+use Rattle.clap.specs.declared.error.Error.{Error}
 use Rattle.clap.specs.declared.error.kind.ErrorKind.{ErrorKind}
 use Rattle.clap.specs.declared.error.kind.ErrorKind.TheVariants.{OutOfMemory, DisplayHelp, DisplayVersion}
 use Rattle.clap.proofs.OnLiterals.{clap_on_literals}
-use Rattle.treasury_spelling.specs.Words.{objections, named, AreTaken, AskForRun, MayAskForHelp}
+use Rattle.treasury_spelling.specs.Words.{objections, place_objections, named, AreTaken, AskForRun, MayAskForHelp}
 
 known_is_simple : is_simple_and_free known ≡ true
 unfolding clap_on_literals
 known_is_simple = refl
 
-fault_of_known : (app : App) (words : List (List ℕ)) → app ≡ known → fault_of app words ≡ objections words
+none_before : (kinds rest : Kinds) → kinds ≡ [] → or_else kinds rest ≡ rest
+none_before kinds rest none = ap (λ k. or_else k rest) none
+
+-- words that clap takes are objected to for the place alone
+only_place : (app : App) (words : List (List ℕ)) → app ≡ known
+    → (is_simple_and_free app ≡ true → fault_of app words ≡ []) → objections words ≡ place_objections (named words)
 unfolding objections
-fault_of_known app words is = ap (λ a. fault_of a words) is
+only_place app words is none =
+    none_before (fault_of known words) (place_objections (named words))
+    (ap (λ a. fault_of a words) (sym is) ∙ none (ap is_simple_and_free is ∙ known_is_simple))
 
--- words that clap takes are taken
-pub taken : (app : App) (words : List (List ℕ)) → app ≡ known
-    → (is_simple_and_free app ≡ true → fault_of app words ≡ []) → AreTaken words
-taken app words is none = sym (fault_of_known app words is) ∙ none (ap is_simple_and_free is ∙ known_is_simple)
+-- what clap takes, and names one place, is taken
+pub taken : (app : App) (words : List (List ℕ)) (m : ArgMatches) → app ≡ known
+    → (is_simple_and_free app ≡ true → fault_of app words ≡ []) → named words ≡ subcommand_rows_of m
+    → [] ≡ place_objections (subcommand_rows_of m) → AreTaken words
+taken app words m is none met placed =
+    only_place app words is none ∙ (ap place_objections met ∙ sym placed)
 
--- words that are not taken fail for want of memory, or by one of the objections to them
+-- what clap takes, and names no place or two, is objected to by that
+pub misplaced : (app : App) (words : List (List ℕ)) (m : ArgMatches) (kind : ErrorKind) → app ≡ known
+    → (is_simple_and_free app ≡ true → fault_of app words ≡ []) → named words ≡ subcommand_rows_of m
+    → kind ∷ [] ≡ place_objections (subcommand_rows_of m) → objections words ≡ kind ∷ []
+misplaced app words m kind is none met placed =
+    only_place app words is none ∙ (ap place_objections met ∙ sym placed)
+
+pub misplaced_fails : (words : List (List ℕ)) (kind : ErrorKind) (error : Error) → objections words ≡ kind ∷ []
+    → (kind_of error ≡ OutOfMemory) ⊎ (kind_of error ≡ kind)
+    → (kind_of error ≡ OutOfMemory) ⊎ IsAmong (kind_of error) (objections words)
+misplaced_fails words kind error is (inl memory) = inl memory
+misplaced_fails words kind error is (inr same) = inr (subst (IsAmong (kind_of error)) (sym is) (inl same))
+
+among_first : (kind : ErrorKind) (kinds rest : Kinds) → IsAmong kind kinds → IsAmong kind (or_else kinds rest)
+among_first kind [] rest among = absurd among
+among_first kind (x ∷ xs) rest among = among
+
+objected : (kind : ErrorKind) (words : List (List ℕ)) → IsAmong kind (fault_of known words)
+    → IsAmong kind (objections words)
+unfolding objections
+objected kind words among = among_first kind (fault_of known words) (place_objections (named words)) among
+
+-- words that clap does not take fail for want of memory, or by one of the objections to them
 pub fails_by : (app : App) (words : List (List ℕ)) (kind : ErrorKind) → app ≡ known
     → (is_simple_and_free app ≡ true → (kind ≡ OutOfMemory) ⊎ IsAmong kind (fault_of app words))
     → (kind ≡ OutOfMemory) ⊎ IsAmong kind (objections words)
-fails_by app words kind is fails =
-    subst (λ kinds. (kind ≡ OutOfMemory) ⊎ IsAmong kind kinds) (fault_of_known app words is)
-    (fails (ap is_simple_and_free is ∙ known_is_simple))
+fails_by app words kind is fails = widened (fails (ap is_simple_and_free is ∙ known_is_simple)) where
+  widened : (kind ≡ OutOfMemory) ⊎ IsAmong kind (fault_of app words)
+      → (kind ≡ OutOfMemory) ⊎ IsAmong kind (objections words)
+  widened (inl memory) = inl memory
+  widened (inr among) = inr (objected kind words (subst (λ a. IsAmong kind (fault_of a words)) is among))
 
 -- words that are taken fail only for want of memory
 pub taken_fails : (words : List (List ℕ)) (kind : ErrorKind) → (kind ≡ OutOfMemory) ⊎ IsAmong kind (objections words)
@@ -60,14 +95,11 @@ known_is_plain : is_simple known ≡ true
 unfolding clap_on_literals
 known_is_plain = refl
 
-pub named_word : (app : App) (words : List (List ℕ)) (m : ArgMatches) → app ≡ known → HasMatchesOf app words m
+pub named_by : (words : List (List ℕ)) (m : ArgMatches) → named words ≡ subcommand_rows_of m
     → option_map (λ (p : List ℕ × List Row). p.0) (named words) ≡ subcommand_name_of m
-unfolding named
-named_word app words m is matches =
-    let found = (matches (ap is_simple is ∙ known_is_plain)).1 in
-    ap (λ (a : App). option_map (λ (p : List ℕ × List Row). p.0) (subcommand_of a words)) (sym is)
-    ∙ (ap (λ (o : Option (List ℕ × List Row)). option_map (λ (p : List ℕ × List Row). p.0) o) (sym found) ∙ name_of
-    (out-ArgMatches m).subcommand)
+named_by words m met =
+    ap (λ (o : Option (List ℕ × List Row)). option_map (λ (p : List ℕ × List Row). p.0) o) met ∙ name_of
+    (out-ArgMatches m).subcommand
 
 -- and so are its values
 pub named_rows : (app : App) (words : List (List ℕ)) (m : ArgMatches) → app ≡ known → HasMatchesOf app words m

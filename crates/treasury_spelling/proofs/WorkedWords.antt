@@ -10,23 +10,23 @@ use Rattle.treasury_spelling.specs.Words.{objections, named}
 use Rattle.treasury_spelling.specs.Spelling.{request_in, is_dry_run, is_explained}
 
 pub run_is_asked_for : (name : List ℕ) → objections (name ∷ codes "run" ∷ []) ≡ []
-unfolding clap_on_literals objections
+unfolding clap_on_literals objections named
 run_is_asked_for name = refl
 
 pub no_word : (name : List ℕ) → objections (name ∷ []) ≡ DisplayHelpOnMissingArgumentOrSubcommand ∷ []
-unfolding clap_on_literals objections
+unfolding clap_on_literals objections named
 no_word name = refl
 
 pub not_even_a_name : objections [] ≡ DisplayHelpOnMissingArgumentOrSubcommand ∷ []
-unfolding clap_on_literals objections
+unfolding clap_on_literals objections named
 not_even_a_name = refl
 
 pub unknown_word : (name : List ℕ) → objections (name ∷ codes "fly" ∷ []) ≡ UnknownArgument ∷ InvalidSubcommand ∷ []
-unfolding clap_on_literals objections
+unfolding clap_on_literals objections named
 unknown_word name = refl
 
 pub further_word : (name : List ℕ) → objections (name ∷ codes "run" ∷ codes "fast" ∷ []) ≡ UnknownArgument ∷ []
-unfolding clap_on_literals objections
+unfolding clap_on_literals objections named
 further_word name = refl
 
 -- a run may be explained, and has no other flag; the flag has no value
@@ -42,15 +42,15 @@ unfolding clap_on_literals named
 run_alone_is_not_explained name = refl
 
 pub no_run_is_dry : (name : List ℕ) → objections (name ∷ codes "run" ∷ codes "--dry-run" ∷ []) ≡ UnknownArgument ∷ []
-unfolding clap_on_literals objections
+unfolding clap_on_literals objections named
 no_run_is_dry name = refl
 
 pub help_is_asked_for : (name : List ℕ) → objections (name ∷ codes "--help" ∷ []) ≡ DisplayHelp ∷ []
-unfolding clap_on_literals objections
+unfolding clap_on_literals objections named
 help_is_asked_for name = refl
 
 pub version_is_asked_for : (name : List ℕ) → objections (name ∷ codes "--version" ∷ []) ≡ DisplayVersion ∷ []
-unfolding clap_on_literals objections
+unfolding clap_on_literals objections named
 version_is_asked_for name = refl
 
 -- words over a database file
@@ -58,36 +58,67 @@ version_is_asked_for name = refl
 pub balance_is_taken : (name : List ℕ)
     → objections (name ∷ codes "balance" ∷ codes "--db" ∷ codes "t.db" ∷ codes "--branch" ∷ codes "north"
     ∷ codes "--day" ∷ codes "2024-01-31" ∷ []) ≡ []
-unfolding clap_on_literals objections
+unfolding clap_on_literals objections named
 balance_is_taken name = refl
 
 pub no_file_is_given : (name : List ℕ)
     → objections (name ∷ codes "transit" ∷ codes "--day" ∷ codes "2024-01-31" ∷ []) ≡ MissingRequiredArgument ∷ []
-unfolding clap_on_literals objections
+unfolding clap_on_literals objections named
 no_file_is_given name = refl
+
+pub at_is_taken : (name : List ℕ)
+    → objections (name ∷ codes "balance" ∷ codes "--at" ∷ codes "8040" ∷ codes "--branch" ∷ codes "north"
+    ∷ codes "--day" ∷ codes "2024-01-31" ∷ []) ≡ []
+unfolding clap_on_literals objections named
+at_is_taken name = refl
+
+pub file_and_port_are_given : (name : List ℕ)
+    → objections (name ∷ codes "transit" ∷ codes "--day" ∷ codes "2024-01-31" ∷ codes "--db" ∷ codes "t.db"
+    ∷ codes "--at" ∷ codes "8040" ∷ []) ≡ ArgumentConflict ∷ []
+unfolding clap_on_literals objections named
+file_and_port_are_given name = refl
+
+pub no_port_is_zero : (name : List ℕ)
+    → objections (name ∷ codes "branches" ∷ codes "--at" ∷ codes "0" ∷ []) ≡ ValueValidation ∷ []
+unfolding clap_on_literals objections named
+no_port_is_zero name = refl
+
+pub largest_port : (name : List ℕ) → objections (name ∷ codes "branches" ∷ codes "--at=65535" ∷ []) ≡ []
+unfolding clap_on_literals objections named
+largest_port name = refl
+
+pub port_is_out_of_range : (name : List ℕ)
+    → objections (name ∷ codes "branches" ∷ codes "--at=65536" ∷ []) ≡ ValueValidation ∷ []
+unfolding clap_on_literals objections named
+port_is_out_of_range name = refl
+
+pub treasuries_are_made_in_files : (name : List ℕ)
+    → objections (name ∷ codes "init" ∷ codes "--at=8040" ∷ []) ≡ UnknownArgument ∷ []
+unfolding clap_on_literals objections named
+treasuries_are_made_in_files name = refl
 
 pub option_is_given_twice : (name : List ℕ)
     → objections (name ∷ codes "journal" ∷ codes "--db" ∷ codes "t.db" ∷ codes "--db" ∷ codes "t.db" ∷ codes "--branch"
     ∷ codes "north" ∷ []) ≡ ArgumentConflict ∷ []
-unfolding clap_on_literals objections
+unfolding clap_on_literals objections named
 option_is_given_twice name = refl
 
 pub serve_is_taken : (name : List ℕ)
     → objections (name ∷ codes "serve" ∷ codes "--db" ∷ codes "t.db" ∷ codes "--port" ∷ codes "65535"
     ∷ codes "--requests" ∷ codes "4294967295" ∷ []) ≡ []
-unfolding clap_on_literals objections
+unfolding clap_on_literals objections named
 serve_is_taken name = refl
 
 pub port_is_too_large : (name : List ℕ)
     → objections (name ∷ codes "serve" ∷ codes "--db" ∷ codes "t.db" ∷ codes "--port" ∷ codes "65536"
     ∷ codes "--requests" ∷ codes "1" ∷ []) ≡ ValueValidation ∷ []
-unfolding clap_on_literals objections
+unfolding clap_on_literals objections named
 port_is_too_large name = refl
 
 pub number_of_connections_is_too_large : (name : List ℕ)
     → objections (name ∷ codes "serve" ∷ codes "--db" ∷ codes "t.db" ∷ codes "--port" ∷ codes "0" ∷ codes "--requests"
     ∷ codes "4294967296" ∷ []) ≡ ValueValidation ∷ []
-unfolding clap_on_literals objections
+unfolding clap_on_literals objections named
 number_of_connections_is_too_large name = refl
 
 pub journal_is_asked_for : (name : List ℕ)
@@ -133,11 +164,11 @@ branch_of_a_dry_run name = refl
 pub dry_run_has_no_value : (name : List ℕ)
     → objections (name ∷ codes "branch" ∷ codes "--db=t.db" ∷ codes "north" ∷ codes "--dry-run" ∷ codes "yes" ∷ [])
     ≡ UnknownArgument ∷ []
-unfolding clap_on_literals objections
+unfolding clap_on_literals objections named
 dry_run_has_no_value name = refl
 
 pub report_has_no_dry_run : (name : List ℕ)
     → objections (name ∷ codes "journal" ∷ codes "--db=t.db" ∷ codes "--branch=north" ∷ codes "--dry-run" ∷ [])
     ≡ UnknownArgument ∷ []
-unfolding clap_on_literals objections
+unfolding clap_on_literals objections named
 report_has_no_dry_run name = refl

@@ -24,9 +24,17 @@ operand name = record (new_rule name) { value_names = 1; required = true }
 abbrev pub flag : List ℕ → Rule
 flag name = record (new_rule name) { long = Some name; action = Some SetTrue }
 
--- a word over a database file: `--db FILE`, and what else it takes
+-- a word over a database file alone: `--db FILE`, and what else it takes
 abbrev pub word : List ℕ → List Rule → Shape
 word name rules = record (new_shape name) { rules = option (codes "db") ∷ rules }
+
+-- the port of a running service, `--at PORT`
+abbrev pub at : Rule
+at = record (optional (codes "at")) { parser = Some (Signed (pos 1) (pos 65535)) }
+
+-- a word over a database file, or through the service that has it: `--db FILE` or `--at PORT`, and what else it takes
+abbrev pub placed : List ℕ → List Rule → Shape
+placed name rules = record (new_shape name) { rules = optional (codes "db") ∷ at ∷ rules }
 
 -- `--branch NAME`, `--day DAY`, `--account ACCOUNT`, `--id ID`
 abbrev pub branch : Rule
@@ -53,38 +61,38 @@ run = record (new_shape (codes "run")) { rules = flag (codes "explain") ∷ [] }
 abbrev pub begins : List Shape
 begins =
     word (codes "init") []
-    ∷ word (codes "branch") (operand (codes "name") ∷ dry_run ∷ [])
-    ∷ word (codes "branches") []
-    ∷ word (codes "commodity") (operand (codes "sample") ∷ dry_run ∷ [])
-    ∷ word (codes "commodities") []
+    ∷ placed (codes "branch") (operand (codes "name") ∷ dry_run ∷ [])
+    ∷ placed (codes "branches") []
+    ∷ placed (codes "commodity") (operand (codes "sample") ∷ dry_run ∷ [])
+    ∷ placed (codes "commodities") []
     ∷ []
 
 -- those of every month
 abbrev pub months : List Shape
 months =
-    word (codes "import") (branch ∷ operand (codes "journal") ∷ dry_run ∷ [])
-    ∷ word (codes "accounts") (branch ∷ [])
-    ∷ word (codes "balance") (branch ∷ day ∷ [])
-    ∷ word (codes "register") (branch ∷ account ∷ optional (codes "tag") ∷ [])
+    placed (codes "import") (branch ∷ operand (codes "journal") ∷ dry_run ∷ [])
+    ∷ placed (codes "accounts") (branch ∷ [])
+    ∷ placed (codes "balance") (branch ∷ day ∷ [])
+    ∷ placed (codes "register") (branch ∷ account ∷ optional (codes "tag") ∷ [])
     ∷ []
 
 -- those of transfers
 abbrev pub transfers : List Shape
 transfers =
-    word (codes "dispatch") (id ∷ option (codes "from") ∷ option (codes "to") ∷ day ∷ option (codes "amount") ∷ account
+    placed (codes "dispatch") (id ∷ option (codes "from") ∷ option (codes "to") ∷ day ∷ option (codes "amount")
+    ∷ account ∷ dry_run ∷ [])
+    ∷ placed (codes "receive") (id ∷ branch ∷ day ∷ account ∷ optional (codes "part") ∷ optional (codes "amount")
     ∷ dry_run ∷ [])
-    ∷ word (codes "receive") (id ∷ branch ∷ day ∷ account ∷ optional (codes "part") ∷ optional (codes "amount")
-    ∷ dry_run ∷ [])
-    ∷ word (codes "transfers") (day ∷ [])
-    ∷ word (codes "transit") (day ∷ [])
+    ∷ placed (codes "transfers") (day ∷ [])
+    ∷ placed (codes "transit") (day ∷ [])
     ∷ []
 
 -- those of a month's or a year's end, the one that stays, and the one that is over no file
 abbrev pub ends : List Shape
 ends =
-    word (codes "lock") (branch ∷ day ∷ dry_run ∷ [])
-    ∷ word (codes "close") (branch ∷ day ∷ optional (codes "accounts") ∷ optional (codes "into") ∷ dry_run ∷ [])
-    ∷ word (codes "journal") (branch ∷ [])
+    placed (codes "lock") (branch ∷ day ∷ dry_run ∷ [])
+    ∷ placed (codes "close") (branch ∷ day ∷ optional (codes "accounts") ∷ optional (codes "into") ∷ dry_run ∷ [])
+    ∷ placed (codes "journal") (branch ∷ [])
     ∷ word (codes "serve") (number (codes "port") 65535 ∷ number (codes "requests") 4294967295 ∷ [])
     ∷ run
     ∷ []

@@ -1,6 +1,8 @@
 -- The request that a word over a database file spells (own rule; docs/RULES.md, "The program"): the one that a line of
 -- `run` spells whose keys have the word's values.
-use Rattle.std.specs.Prelude.{ℕ, Bool, false, List, codes, Option, Some, None, option_map, option_and_then}
+use Rattle.std.specs.Prelude.{◌≡◌, ◌<◌, ◌^◌, ◌⊎◌, ℕ, Bool, false, List, codes, Option, Some, None, option_map}
+use Rattle.std.specs.Prelude.{option_and_then}
+use Rattle.std.specs.Str.Parse.{IsNumeral, without_leading_plus, digits_value}
 use Rattle.std.specs.Prelude.{if◌then◌else◌}
 use Rattle.std.specs.Str.{bytes_eq}
 use Rattle.clap.specs.Walk.{Row, first_of}
@@ -80,6 +82,16 @@ request_in word rows =
     option_map (λ day. Close branch day (first_of (codes "accounts") rows) (first_of (codes "into") rows))
     (day_in rows)) (first_of (codes "branch") rows)
     else report_in word rows
+
+-- a number of a port, in decimal digits
+abbrev pub IsPort : List ℕ → Type 0
+IsPort text = IsNumeral 10 (without_leading_plus text) × (digits_value 10 (without_leading_plus text) < 2 ^ 16)
+
+-- no port is given
+abbrev pub LacksPort : List Row → Type 0
+LacksPort rows =
+    (first_of (codes "at") rows ≡ None)
+    ⊎ ((text : List ℕ) × (first_of (codes "at") rows ≡ Some text) × (IsPort text → ⊥))
 
 -- the value of a flag says that it is given
 abbrev pub is_set : Option (List ℕ) → Bool

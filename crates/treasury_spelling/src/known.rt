@@ -4,11 +4,13 @@ ghost use Rattle.std.specs.Prelude.{◌≡◌, ◌∷◌, [], Some, false, codes
 ghost use Rattle.clap.specs.Walk.{rule_of};
 ghost use Rattle.clap.specs.Simple.{app_of};
 ghost use Rattle.clap.specs.declared.builder.command.Command.TheViews.{out-Command};
-ghost use Rattle.treasury_spelling.specs.Known.{known, word, option, optional, operand, number, branch, day, account};
+ghost use Rattle.treasury_spelling.specs.Known.{known, word, placed, at, option, optional, operand, number, branch};
+ghost use Rattle.treasury_spelling.specs.Known.{day, account};
 ghost use Rattle.treasury_spelling.specs.Known.{id, flag, run};
 ghost use Rattle.treasury_spelling.specs.Known.{dry_run, begins, months, transfers, ends};
-ghost use Rattle.treasury_spelling.specs.Knowing.{IsWord, HasMore};
+ghost use Rattle.treasury_spelling.specs.Knowing.{IsWord, IsPlaced, HasMore};
 
+use clap::builder::ValueParser;
 use clap::{Arg, ArgAction, Command, value_parser};
 use std::alloc::{AllocError, Global};
 
@@ -204,6 +206,10 @@ const ACCOUNTS_HELP: &str =
 
 const INTO_HELP: &str = "The account that gets their balances (otherwise equity:retained earnings)";
 
+const DB_HELP: &str = "The database file; or --at";
+
+const AT_HELP: &str = "The port of the service that has the file, in place of --db: 1 to 65535";
+
 const PORT_HELP: &str = "The port, 0 to 65535; 0 has the system choose one";
 
 const REQUESTS_HELP: &str = "How many connections to answer, at most 4294967295";
@@ -294,7 +300,7 @@ fn dry_run_flag<'a>(alloc: Global) -> Arg<'a>
     flag(alloc, "dry-run", DRY_RUN_HELP)
 }
 
-/// A word over a database file.
+/// A word over a database file alone.
 fn word<'a>(
     alloc: Global,
     name: &'a str,
@@ -309,6 +315,30 @@ fn word<'a>(
         .arg(option(alloc, "db", "FILE", "The database file"))
 }
 
+/// The option of the port of a running service that a word is sent to.
+fn at_option<'a>(alloc: Global) -> Arg<'a>
+    ensures rule { rule_of result ≡ at }
+    ensures local { result.global ≡ false }
+{
+    optional(alloc, "at", "PORT", AT_HELP).value_parser(ValueParser::signed(1, 65535))
+}
+
+/// A word over a database file, or through the service that has it. `place_fault` sees that one of the two is given.
+fn placed<'a>(
+    alloc: Global,
+    name: &'a str,
+    about: &'a str,
+    example: &'a str,
+) -> Result<Command<'a>, AllocError>
+    ensures { IfOk result (IsPlaced name.entry.now []) }
+{
+    Command::new(alloc, name)
+        .about(about)
+        .after_help(example)
+        .arg(optional(alloc, "db", "FILE", DB_HELP))?
+        .arg(at_option(alloc))
+}
+
 /// The word `init`.
 fn init<'a>(alloc: Global) -> Result<Command<'a>, AllocError>
     ensures { IfOk result (IsWord (codes "init") ([])) }
@@ -318,41 +348,41 @@ fn init<'a>(alloc: Global) -> Result<Command<'a>, AllocError>
 
 /// The word `branch`.
 fn branch<'a>(alloc: Global) -> Result<Command<'a>, AllocError>
-    ensures { IfOk result (IsWord (codes "branch") (operand (codes "name") ∷ dry_run ∷ [])) }
+    ensures { IfOk result (IsPlaced (codes "branch") (operand (codes "name") ∷ dry_run ∷ [])) }
 {
-    word(alloc, "branch", ABOUT_BRANCH, EXAMPLE_BRANCH)?
+    placed(alloc, "branch", ABOUT_BRANCH, EXAMPLE_BRANCH)?
         .arg(operand(alloc, "name", "NAME", NAME_HELP))?
         .arg(dry_run_flag(alloc))
 }
 
 /// The word `branches`.
 fn branches<'a>(alloc: Global) -> Result<Command<'a>, AllocError>
-    ensures { IfOk result (IsWord (codes "branches") ([])) }
+    ensures { IfOk result (IsPlaced (codes "branches") ([])) }
 {
-    word(alloc, "branches", ABOUT_BRANCHES, EXAMPLE_BRANCHES)
+    placed(alloc, "branches", ABOUT_BRANCHES, EXAMPLE_BRANCHES)
 }
 
 /// The word `commodity`.
 fn commodity<'a>(alloc: Global) -> Result<Command<'a>, AllocError>
-    ensures { IfOk result (IsWord (codes "commodity") (operand (codes "sample") ∷ dry_run ∷ [])) }
+    ensures { IfOk result (IsPlaced (codes "commodity") (operand (codes "sample") ∷ dry_run ∷ [])) }
 {
-    word(alloc, "commodity", ABOUT_COMMODITY, EXAMPLE_COMMODITY)?
+    placed(alloc, "commodity", ABOUT_COMMODITY, EXAMPLE_COMMODITY)?
         .arg(operand(alloc, "sample", "SAMPLE", SAMPLE_HELP))?
         .arg(dry_run_flag(alloc))
 }
 
 /// The word `commodities`.
 fn commodities<'a>(alloc: Global) -> Result<Command<'a>, AllocError>
-    ensures { IfOk result (IsWord (codes "commodities") ([])) }
+    ensures { IfOk result (IsPlaced (codes "commodities") ([])) }
 {
-    word(alloc, "commodities", ABOUT_COMMODITIES, EXAMPLE_COMMODITIES)
+    placed(alloc, "commodities", ABOUT_COMMODITIES, EXAMPLE_COMMODITIES)
 }
 
 /// The word `import`.
 fn import<'a>(alloc: Global) -> Result<Command<'a>, AllocError>
-    ensures { IfOk result (IsWord (codes "import") (branch ∷ operand (codes "journal") ∷ dry_run ∷ [])) }
+    ensures { IfOk result (IsPlaced (codes "import") (branch ∷ operand (codes "journal") ∷ dry_run ∷ [])) }
 {
-    word(alloc, "import", ABOUT_IMPORT, EXAMPLE_IMPORT)?
+    placed(alloc, "import", ABOUT_IMPORT, EXAMPLE_IMPORT)?
         .arg(branch_option(alloc))?
         .arg(operand(alloc, "journal", "JOURNAL", JOURNAL_HELP))?
         .arg(dry_run_flag(alloc))
@@ -360,25 +390,25 @@ fn import<'a>(alloc: Global) -> Result<Command<'a>, AllocError>
 
 /// The word `accounts`.
 fn accounts<'a>(alloc: Global) -> Result<Command<'a>, AllocError>
-    ensures { IfOk result (IsWord (codes "accounts") (branch ∷ [])) }
+    ensures { IfOk result (IsPlaced (codes "accounts") (branch ∷ [])) }
 {
-    word(alloc, "accounts", ABOUT_ACCOUNTS, EXAMPLE_ACCOUNTS)?.arg(branch_option(alloc))
+    placed(alloc, "accounts", ABOUT_ACCOUNTS, EXAMPLE_ACCOUNTS)?.arg(branch_option(alloc))
 }
 
 /// The word `balance`.
 fn balance<'a>(alloc: Global) -> Result<Command<'a>, AllocError>
-    ensures { IfOk result (IsWord (codes "balance") (branch ∷ day ∷ [])) }
+    ensures { IfOk result (IsPlaced (codes "balance") (branch ∷ day ∷ [])) }
 {
-    word(alloc, "balance", ABOUT_BALANCE, EXAMPLE_BALANCE)?
+    placed(alloc, "balance", ABOUT_BALANCE, EXAMPLE_BALANCE)?
         .arg(branch_option(alloc))?
         .arg(day_option(alloc))
 }
 
 /// The word `register`.
 fn register<'a>(alloc: Global) -> Result<Command<'a>, AllocError>
-    ensures { IfOk result (IsWord (codes "register") (branch ∷ account ∷ optional (codes "tag") ∷ [])) }
+    ensures { IfOk result (IsPlaced (codes "register") (branch ∷ account ∷ optional (codes "tag") ∷ [])) }
 {
-    word(alloc, "register", ABOUT_REGISTER, EXAMPLE_REGISTER)?
+    placed(alloc, "register", ABOUT_REGISTER, EXAMPLE_REGISTER)?
         .arg(branch_option(alloc))?
         .arg(account_option(alloc, "The account, including its subaccounts"))?
         .arg(optional(alloc, "tag", "TAG", TAG_HELP))
@@ -386,9 +416,9 @@ fn register<'a>(alloc: Global) -> Result<Command<'a>, AllocError>
 
 /// The word `dispatch`, with what is sent from where to where.
 fn sending<'a>(alloc: Global) -> Result<Command<'a>, AllocError>
-    ensures { IfOk result (IsWord (codes "dispatch") (id ∷ option (codes "from") ∷ option (codes "to") ∷ [])) }
+    ensures { IfOk result (IsPlaced (codes "dispatch") (id ∷ option (codes "from") ∷ option (codes "to") ∷ [])) }
 {
-    word(alloc, "dispatch", ABOUT_DISPATCH, EXAMPLE_DISPATCH)?
+    placed(alloc, "dispatch", ABOUT_DISPATCH, EXAMPLE_DISPATCH)?
         .arg(option(alloc, "id", "ID", ID_HELP))?
         .arg(option(alloc, "from", "NAME", "The branch that pays"))?
         .arg(option(alloc, "to", "NAME", "The branch that is paid"))
@@ -396,7 +426,7 @@ fn sending<'a>(alloc: Global) -> Result<Command<'a>, AllocError>
 
 /// The word `dispatch`.
 fn dispatch<'a>(alloc: Global) -> Result<Command<'a>, AllocError>
-    ensures { IfOk result (IsWord (codes "dispatch")
+    ensures { IfOk result (IsPlaced (codes "dispatch")
         (id ∷ option (codes "from") ∷ option (codes "to") ∷ day ∷ option (codes "amount") ∷ account ∷ dry_run ∷ [])) }
 {
     sending(alloc)?
@@ -408,9 +438,9 @@ fn dispatch<'a>(alloc: Global) -> Result<Command<'a>, AllocError>
 
 /// The word `receive`, with what comes where.
 fn coming<'a>(alloc: Global) -> Result<Command<'a>, AllocError>
-    ensures { IfOk result (IsWord (codes "receive") (id ∷ branch ∷ day ∷ [])) }
+    ensures { IfOk result (IsPlaced (codes "receive") (id ∷ branch ∷ day ∷ [])) }
 {
-    word(alloc, "receive", ABOUT_RECEIVE, EXAMPLE_RECEIVE)?
+    placed(alloc, "receive", ABOUT_RECEIVE, EXAMPLE_RECEIVE)?
         .arg(option(alloc, "id", "ID", ID_HELP))?
         .arg(branch_option(alloc))?
         .arg(day_option(alloc))
@@ -418,7 +448,7 @@ fn coming<'a>(alloc: Global) -> Result<Command<'a>, AllocError>
 
 /// The word `receive`.
 fn receive<'a>(alloc: Global) -> Result<Command<'a>, AllocError>
-    ensures { IfOk result (IsWord (codes "receive")
+    ensures { IfOk result (IsPlaced (codes "receive")
         (id ∷ branch ∷ day ∷ account ∷ optional (codes "part") ∷ optional (codes "amount") ∷ dry_run ∷ [])) }
 {
     coming(alloc)?
@@ -430,23 +460,23 @@ fn receive<'a>(alloc: Global) -> Result<Command<'a>, AllocError>
 
 /// The word `transfers`.
 fn transfers<'a>(alloc: Global) -> Result<Command<'a>, AllocError>
-    ensures { IfOk result (IsWord (codes "transfers") (day ∷ [])) }
+    ensures { IfOk result (IsPlaced (codes "transfers") (day ∷ [])) }
 {
-    word(alloc, "transfers", ABOUT_TRANSFERS, EXAMPLE_TRANSFERS)?.arg(day_option(alloc))
+    placed(alloc, "transfers", ABOUT_TRANSFERS, EXAMPLE_TRANSFERS)?.arg(day_option(alloc))
 }
 
 /// The word `transit`.
 fn transit<'a>(alloc: Global) -> Result<Command<'a>, AllocError>
-    ensures { IfOk result (IsWord (codes "transit") (day ∷ [])) }
+    ensures { IfOk result (IsPlaced (codes "transit") (day ∷ [])) }
 {
-    word(alloc, "transit", ABOUT_TRANSIT, EXAMPLE_TRANSIT)?.arg(day_option(alloc))
+    placed(alloc, "transit", ABOUT_TRANSIT, EXAMPLE_TRANSIT)?.arg(day_option(alloc))
 }
 
 /// The word `lock`.
 fn lock<'a>(alloc: Global) -> Result<Command<'a>, AllocError>
-    ensures { IfOk result (IsWord (codes "lock") (branch ∷ day ∷ dry_run ∷ [])) }
+    ensures { IfOk result (IsPlaced (codes "lock") (branch ∷ day ∷ dry_run ∷ [])) }
 {
-    word(alloc, "lock", ABOUT_LOCK, EXAMPLE_LOCK)?
+    placed(alloc, "lock", ABOUT_LOCK, EXAMPLE_LOCK)?
         .arg(branch_option(alloc))?
         .arg(day_option(alloc))?
         .arg(dry_run_flag(alloc))
@@ -454,16 +484,16 @@ fn lock<'a>(alloc: Global) -> Result<Command<'a>, AllocError>
 
 /// The word `close`, with what is closed when.
 fn closing<'a>(alloc: Global) -> Result<Command<'a>, AllocError>
-    ensures { IfOk result (IsWord (codes "close") (branch ∷ day ∷ [])) }
+    ensures { IfOk result (IsPlaced (codes "close") (branch ∷ day ∷ [])) }
 {
-    word(alloc, "close", ABOUT_CLOSE, EXAMPLE_CLOSE)?
+    placed(alloc, "close", ABOUT_CLOSE, EXAMPLE_CLOSE)?
         .arg(branch_option(alloc))?
         .arg(day_option(alloc))
 }
 
 /// The word `close`.
 fn close<'a>(alloc: Global) -> Result<Command<'a>, AllocError>
-    ensures { IfOk result (IsWord (codes "close")
+    ensures { IfOk result (IsPlaced (codes "close")
         (branch ∷ day ∷ optional (codes "accounts") ∷ optional (codes "into") ∷ dry_run ∷ [])) }
 {
     closing(alloc)?
@@ -474,16 +504,16 @@ fn close<'a>(alloc: Global) -> Result<Command<'a>, AllocError>
 
 /// The word `journal`.
 fn journal<'a>(alloc: Global) -> Result<Command<'a>, AllocError>
-    ensures { IfOk result (IsWord (codes "journal") (branch ∷ [])) }
+    ensures { IfOk result (IsPlaced (codes "journal") (branch ∷ [])) }
 {
-    word(alloc, "journal", ABOUT_JOURNAL, EXAMPLE_JOURNAL)?.arg(branch_option(alloc))
+    placed(alloc, "journal", ABOUT_JOURNAL, EXAMPLE_JOURNAL)?.arg(branch_option(alloc))
 }
 
 /// With the words for a treasury, a branch and the branches.
 fn with_branches<'a>(alloc: Global, command: Command<'a>) -> Result<Command<'a>, AllocError>
     ensures { IfOk result (HasMore (word (codes "init") []
-        ∷ word (codes "branch") (operand (codes "name") ∷ dry_run ∷ [])
-        ∷ word (codes "branches") [] ∷ []) command.entry) }
+        ∷ placed (codes "branch") (operand (codes "name") ∷ dry_run ∷ [])
+        ∷ placed (codes "branches") [] ∷ []) command.entry) }
 {
     command
         .subcommand(init(alloc)?)?
@@ -502,8 +532,8 @@ fn with_begins<'a>(alloc: Global, command: Command<'a>) -> Result<Command<'a>, A
 
 /// With the words for what comes into a book, and for its accounts.
 fn with_imports<'a>(alloc: Global, command: Command<'a>) -> Result<Command<'a>, AllocError>
-    ensures { IfOk result (HasMore (word (codes "import") (branch ∷ operand (codes "journal") ∷ dry_run ∷ [])
-        ∷ word (codes "accounts") (branch ∷ []) ∷ []) command.entry) }
+    ensures { IfOk result (HasMore (placed (codes "import") (branch ∷ operand (codes "journal") ∷ dry_run ∷ [])
+        ∷ placed (codes "accounts") (branch ∷ []) ∷ []) command.entry) }
 {
     command
         .subcommand(import(alloc)?)?
@@ -521,9 +551,9 @@ fn with_months<'a>(alloc: Global, command: Command<'a>) -> Result<Command<'a>, A
 
 /// With the words by which money goes and comes.
 fn with_moves<'a>(alloc: Global, command: Command<'a>) -> Result<Command<'a>, AllocError>
-    ensures { IfOk result (HasMore (word (codes "dispatch")
+    ensures { IfOk result (HasMore (placed (codes "dispatch")
         (id ∷ option (codes "from") ∷ option (codes "to") ∷ day ∷ option (codes "amount") ∷ account ∷ dry_run ∷ [])
-        ∷ word (codes "receive")
+        ∷ placed (codes "receive")
         (id ∷ branch ∷ day ∷ account ∷ optional (codes "part") ∷ optional (codes "amount") ∷ dry_run ∷ [])
         ∷ []) command.entry) }
 {
@@ -580,8 +610,8 @@ fn run<'a>(alloc: Global) -> Result<Command<'a>, AllocError>
 
 /// With the words that lock a branch.
 fn with_locks<'a>(alloc: Global, command: Command<'a>) -> Result<Command<'a>, AllocError>
-    ensures { IfOk result (HasMore (word (codes "lock") (branch ∷ day ∷ dry_run ∷ [])
-        ∷ word (codes "close") (branch ∷ day ∷ optional (codes "accounts") ∷ optional (codes "into") ∷ dry_run ∷ [])
+    ensures { IfOk result (HasMore (placed (codes "lock") (branch ∷ day ∷ dry_run ∷ [])
+        ∷ placed (codes "close") (branch ∷ day ∷ optional (codes "accounts") ∷ optional (codes "into") ∷ dry_run ∷ [])
         ∷ []) command.entry) }
 {
     command.subcommand(lock(alloc)?)?.subcommand(close(alloc)?)
@@ -589,9 +619,9 @@ fn with_locks<'a>(alloc: Global, command: Command<'a>) -> Result<Command<'a>, Al
 
 /// With the words of a month's or a year's end.
 fn with_closings<'a>(alloc: Global, command: Command<'a>) -> Result<Command<'a>, AllocError>
-    ensures { IfOk result (HasMore (word (codes "lock") (branch ∷ day ∷ dry_run ∷ [])
-        ∷ word (codes "close") (branch ∷ day ∷ optional (codes "accounts") ∷ optional (codes "into") ∷ dry_run ∷ [])
-        ∷ word (codes "journal") (branch ∷ []) ∷ []) command.entry) }
+    ensures { IfOk result (HasMore (placed (codes "lock") (branch ∷ day ∷ dry_run ∷ [])
+        ∷ placed (codes "close") (branch ∷ day ∷ optional (codes "accounts") ∷ optional (codes "into") ∷ dry_run ∷ [])
+        ∷ placed (codes "journal") (branch ∷ []) ∷ []) command.entry) }
 {
     with_locks(alloc, command)?.subcommand(journal(alloc)?)
 }

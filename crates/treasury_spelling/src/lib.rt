@@ -2,7 +2,9 @@
 #![tactic(auto)]
 
 mod known;
+mod reading;
 mod spelling;
 
 pub use known::known_words;
-pub use spelling::{fault_of, form_of_word, is_dry_run, is_explained, value_of};
+pub use reading::read_words;
+pub use spelling::{fault_of, form_of_word, is_dry_run, is_explained, port_of, value_of};

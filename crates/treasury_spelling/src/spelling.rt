@@ -1,6 +1,6 @@
 //! What a word over a file asks for, by its values.
 
-ghost use Rattle.std.specs.Prelude.{◌≡◌, codes, option_map, option_copied, IfSome};
+ghost use Rattle.std.specs.Prelude.{◌≡◌, codes, None, option_map, option_copied, IfSome};
 ghost use Rattle.clap.specs.Matches.{found_of};
 ghost use Rattle.clap.specs.Walk.{first_of, rows_of};
 ghost use Rattle.journal_lines.specs.Date.{IsDayNumber};
@@ -8,7 +8,7 @@ ghost use Rattle.treasury_requests.specs.Form.{shown, shown_part};
 ghost use Rattle.treasury_requests.specs.Request.{HasDayNumbers};
 ghost use Rattle.treasury_spelling.specs.Spelling.{day_in, dispatch_in, part_in, receive_in, list_in, report_in};
 ghost use Rattle.treasury_spelling.specs.Spelling.{request_in};
-ghost use Rattle.treasury_spelling.specs.Spelling.{is_set, is_dry_run, is_explained};
+ghost use Rattle.treasury_spelling.specs.Spelling.{is_set, is_dry_run, is_explained, LacksPort};
 
 use clap::ArgMatches;
 use journal_lines::read_date;
@@ -20,6 +20,20 @@ pub fn value_of<'a>(values: &ArgMatches<'a>, name: &str) -> Option<&'a str>
     ensures { option_map (λ s. s.now) result ≡ first_of name.now (rows_of (found_of values.now)) }
 {
     values.get_str(name)
+}
+
+/// The port that is given.
+pub fn port_of(values: &ArgMatches<'_>) -> Option<u16>
+    ensures { result ≡ None → LacksPort (rows_of (found_of values.now)) }
+{
+    let text = match value_of(values, "at") {
+        Some(text) => text,
+        None => return None,
+    };
+    match text.parse::<u16>() {
+        Ok(port) => Some(port),
+        Err(_) => None,
+    }
 }
 
 /// Whether the flag of that name is given.

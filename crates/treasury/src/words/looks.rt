@@ -14,6 +14,12 @@ fn is_of_opening(reason: &[u8]) -> bool {
         || reason.windows(damaged.len()).any(|part| part == damaged)
 }
 
+/// Whether the sentence that was said speaks of a journal's file, and not of a reply.
+fn is_of_journal(reason: &[u8]) -> bool {
+    let unread: &[u8] = b"the journal's file cannot be read";
+    reason.windows(unread.len()).any(|part| part == unread)
+}
+
 /// What a look at the files of a refused word says.
 fn found_of(
     rt: &HostRuntime,
@@ -21,7 +27,7 @@ fn found_of(
     answer: &[u8],
     reason: &[u8],
 ) -> Option<&'static [u8]> {
-    if answer.starts_with(b"refused 45") {
+    if answer.starts_with(b"refused 45") && is_of_journal(reason) {
         let journal = value_of(values, "journal")?;
         return why_unread(rt, journal);
     }

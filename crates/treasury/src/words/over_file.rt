@@ -17,6 +17,7 @@ ghost use Rattle.treasury.specs.OverFile.{SaysToImport, SaysToForm, SaysToWord};
 ghost use Rattle.treasury.specs.OverFileParts.{spoken, IsRoom, IsClosedOrShut};
 ghost use Rattle.treasury_files.specs.Started.{IsStarted, refusal_of};
 
+use crate::words::at::answer_at;
 use crate::words::said::{Said, done, refused, room_for_line};
 use clap::ArgMatches;
 use money_core::{Cause, Text};
@@ -229,7 +230,7 @@ fn answer_request<S: Start>(
 }
 
 /// The request to enter a journal's bytes into a branch.
-fn import_of(alloc: Global, branch: &str, journal: Vec<u8>) -> Result<Request, Cause>
+pub(crate) fn import_of(alloc: Global, branch: &str, journal: Vec<u8>) -> Result<Request, Cause>
     ensures request { IfOk result (λ request. request ≡ Import branch.now journal.items) }
     ensures memory { IsOkUnless result Cause.OutOfMemory }
 {
@@ -371,7 +372,7 @@ pub fn answer_over_file<S: Start>(
         (spoken result.said) result.left }
 {
     let Some(path) = value_of(values, "db") else {
-        return before(lacking(rt.alloc(), room, word));
+        return before(answer_at(rt, room, word, values));
     };
     if word == "init" {
         return answer_init(rt, room, path, start);

@@ -1,5 +1,6 @@
 //! How long a client of `serve` is waited for: for its first byte, for its whole request, until it has taken the reply,
-//! and behind that.
+//! and behind that. And how long a client waits for a service: as long for a part of the call that is taken, and longer
+//! for the reply, as other clients come first.
 
 use std::io::{self, ErrorKind, Read, Write};
 use std::net::{Shutdown, TcpStream};
@@ -10,6 +11,11 @@ const SILENT_SECONDS: u64 = 3;
 
 /// How long the rest of a request is waited for in all.
 const REQUEST_SECONDS: u64 = 20;
+
+/// How long a client waits for the first byte of a reply, and then for the rest of it in all.
+const WAITING_SECONDS: u64 = 300;
+
+const HEARING_SECONDS: u64 = 60;
 
 /// How long a reply is waited for that is to be taken, and each part of it.
 const REPLY_SECONDS: u64 = 30;
@@ -68,21 +74,39 @@ impl Span {
     }
 }
 
-/// Reads the request of a connection that was accepted just now.
+/// Reads the request of a connection that was accepted just now; or the reply of one that was made.
 #[derive(Drop)]
 pub struct Asking<'a> {
     rt: &'a HostRuntime,
     stream: &'a TcpStream,
-    /// The time of the request, from its first byte on.
+    /// For how many seconds its first byte is waited for, and the rest of it.
+    silent_seconds: u64,
+    whole_seconds: u64,
+    /// The time of the request or the reply, from its first byte on.
     time: Option<Span>,
     is_silent: bool,
 }
 
 impl<'a> Asking<'a> {
+    /// Reads the request of a client.
     pub fn new(rt: &'a HostRuntime, stream: &'a TcpStream) -> Asking<'a> {
         Asking {
             rt,
             stream,
+            silent_seconds: SILENT_SECONDS,
+            whole_seconds: REQUEST_SECONDS,
+            time: None,
+            is_silent: false,
+        }
+    }
+
+    /// Reads the reply of a service, which answers others first.
+    pub fn waiting(rt: &'a HostRuntime, stream: &'a TcpStream) -> Asking<'a> {
+        Asking {
+            rt,
+            stream,
+            silent_seconds: WAITING_SECONDS,
+            whole_seconds: HEARING_SECONDS,
             time: None,
             is_silent: false,
         }
@@ -97,7 +121,7 @@ impl<'a> Asking<'a> {
     fn left(&self) -> io::Result<Duration> {
         match &self.time {
             Some(time) => time.left(self.rt),
-            None => Ok(Duration::from_secs(SILENT_SECONDS)),
+            None => Ok(Duration::from_secs(self.silent_seconds)),
         }
     }
 
@@ -105,7 +129,7 @@ impl<'a> Asking<'a> {
     fn note(&mut self, count: usize) -> io::Result<()> {
         let time = match self.time {
             Some(time) => time,
-            None => Span::begin(self.rt, REQUEST_SECONDS)?,
+            None => Span::begin(self.rt, self.whole_seconds)?,
         };
         self.time = Some(time.with(count));
         Ok(())

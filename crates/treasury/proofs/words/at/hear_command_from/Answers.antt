@@ -1,0 +1,12 @@
+use Rattle.std.proofs.Common.{ℕ, List, subst}
+use Rattle.treasury_client.specs.Reply.{SaysToCommand}
+use Rattle.treasury.proofs.words.at.hear_command_from.Goals as goal
+
+pub returns-in-Ok-hear_command-clause-heard : goal.returns-in-Ok-hear_command-clause-heard
+returns-in-Ok-hear_command-clause-heard g c =
+    let heard = c.in-Ok-hear_command.heard in (
+      c.in-Ok.came.items,
+      c.in-Ok.ensures.came,
+      subst (λ (came : List ℕ). SaysToCommand came heard.answer.items heard.is_refused) c.as_slice.ensures.value
+          c.in-Ok-hear_command.ensures.said,
+    )

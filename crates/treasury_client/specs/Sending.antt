@@ -1,0 +1,38 @@
+-- What is sent to a running service (own rules; docs/RULES.md, "The program"; docs/FORMATS.md, "HTTP").
+use Rattle.std.specs.Prelude.{◌≡◌, ℕ, true, false, List, [], ◌++◌, length, codes, decimal, ⊤}
+use Rattle.std.specs.Str.{is_utf8}
+use Rattle.treasury_requests.specs.declared.request.Spelled.{Spelled}
+use Rattle.treasury_requests.specs.declared.request.Request.{Request}
+use Rattle.treasury_requests.specs.declared.request.Request.TheVariants.{Branch, Commodity, Import, Dispatch}
+use Rattle.treasury_requests.specs.declared.request.Request.TheVariants.{Receive, Lock}
+use Rattle.treasury_requests.specs.declared.request.Request.TheVariants.{Close, Balance, Register, Transit, Journal}
+use Rattle.treasury_requests.specs.declared.request.Request.TheVariants.{Branches, Commodities, Accounts, Transfers}
+use Rattle.treasury_requests.specs.Request.{is_report}
+use Rattle.treasury_client.specs.declared.call.Form.{Form}
+use Rattle.treasury_client.specs.declared.call.Form.TheVariants.{Text, Json}
+
+-- its journal, if it has one, is a text
+abbrev pub HasText : Request → Type 0
+HasText (Import branch journal) = is_utf8 journal ≡ true
+HasText _ = ⊤
+
+-- there is a text that spells it: no report is a dry run
+abbrev pub IsSendable : Spelled → Type 0
+IsSendable request = is_report request.request ≡ true → request.is_dry_run ≡ false
+
+-- the header that asks for a reply in that form
+abbrev pub accept : Form → List ℕ
+accept Text = []
+accept Json = codes "Accept: application/json\r\n"
+
+-- the call to a port, with a header, the length of a body, and that
+abbrev pub call_with : List ℕ → List ℕ → List ℕ → List ℕ → List ℕ
+call_with port header size body =
+    codes "POST /commands HTTP/1.1\r\nHost: 127.0.0.1:" ++ port
+    ++ codes "\r\n" ++ header
+    ++ codes "Content-Length: " ++ size
+    ++ codes "\r\n\r\n" ++ body
+
+-- the call to the service at a port of this machine that asks for a reply in that form
+abbrev pub call_text : ℕ → Form → List ℕ → List ℕ
+call_text port form body = call_with (decimal port) (accept form) (decimal (length body)) body
