@@ -1,4 +1,5 @@
-"""The program beside the model: the same history by lines, by commands over a file and over HTTP, also with faults.
+"""The program beside the model: the same history by lines, by commands over a file, by commands through a service and
+over HTTP; over a file and over HTTP also with faults.
 
 A step is an item of a history and its line. Each way of asking answers the first difference, as the number of its step,
 what the model says and what was found, or None.
@@ -64,11 +65,11 @@ def by_lines(program, steps, _rng=None, answers=None):
     return None
 
 
-def words_of(item):
+def words_of(item, place=("--db", FILE)):
     """The words of a request, and its journal's bytes; None if no command line can have them."""
     if not isinstance(item, dict) or "do" not in item or "\0" in "".join(item.values()):
         return None
-    words, last, files = [item["do"], "--db", FILE], [], {}
+    words, last, files = [item["do"], *place], [], {}
     for key, value in item.items():
         if key == "journal":
             files, last = {"a.journal": value.encode("utf-8", "surrogateescape")}, ["a.journal"]
@@ -278,4 +279,27 @@ def by_http(folder, program, steps, rng):
     return tables and (len(steps) - 1, *tables)
 
 
-WAYS = {"lines": by_lines, "commands": by_commands, "http": by_http}
+@in_folder
+def by_service(folder, program, steps, _rng):
+    """Commands through a service that has the file."""
+    treasury, service = Treasury(), Service(folder, program, MANY)
+    try:
+        for at, (item, _) in enumerate(steps):
+            words, files = words_of(item, ("--at", str(service.port))) or (None, {})
+            if not words:
+                continue
+            for name, text in files.items():
+                pathlib.Path(folder, name).write_bytes(text)
+            wanted = treasury.command(words, files)
+            happened[f"through a service: {words[0]}{' --dry-run' * ('--dry-run' in words)}"] += 1
+            ran = subprocess.run([program, *words], cwd=folder, stdin=subprocess.DEVNULL, stdout=subprocess.PIPE,
+                                 stderr=subprocess.DEVNULL, timeout=SECONDS)
+            if (ran.returncode, ran.stdout) != wanted:
+                return at, wanted, (ran.returncode, ran.stdout)
+    finally:
+        service.kill()
+    tables = difference_of(treasury, folder)
+    return tables and (len(steps) - 1, *tables)
+
+
+WAYS = {"lines": by_lines, "commands": by_commands, "http": by_http, "service": by_service}

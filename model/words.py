@@ -13,7 +13,7 @@ def read_words(words):
         return None
     do, *left = words
     needed, further = KEYS[do]
-    options = {"db", *needed, *further} - {POSITIONAL.get(do)}
+    options = {"db", "at", *needed, *further} - {POSITIONAL.get(do)}
     keys, only_names = {}, True
     while left:
         word = left.pop(0)
@@ -35,8 +35,8 @@ def read_words(words):
             if key is None or key in keys or (only_names and word.startswith("-") and word != "-"):
                 return None
         keys[key] = value
-    keys.pop("db", None)
-    return {**keys, "do": do} if set(needed) <= set(keys) else None
+    places = [keys.pop(it) for it in ("db", "at") if it in keys]
+    return {**keys, "do": do} if len(places) == 1 and set(needed) <= set(keys) else None
 
 
 def command(treasury, words, files):
