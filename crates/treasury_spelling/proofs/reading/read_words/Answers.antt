@@ -18,7 +18,7 @@ returns-in-None-clause-taken c =
 
 pub returns-clause-fails : goal.returns-clause-fails
 returns-clause-fails c =
-    misplaced_fails _ c.in-Some.kind _
+    misplaced_fails _ c.in-Some.kind c.place_error.result
     (misplaced _ _ c.in-Ok-try_get_matches_from_mut.matches c.in-Some.kind c.in-Ok.ensures
     c.in-Ok-try_get_matches_from_mut.ensures.kinds
     (named_rows _ _ c.in-Ok-try_get_matches_from_mut.matches c.in-Ok.ensures
