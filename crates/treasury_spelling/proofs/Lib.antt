@@ -1,2 +1,3 @@
+mod KnownLemmas
 pub mod WordLemmas
 pub mod WorkedWords

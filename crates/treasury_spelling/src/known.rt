@@ -549,6 +549,15 @@ fn with_months<'a>(alloc: Global, command: Command<'a>) -> Result<Command<'a>, A
         .subcommand(register(alloc)?)
 }
 
+/// With the word by which money goes.
+fn with_dispatches<'a>(alloc: Global, command: Command<'a>) -> Result<Command<'a>, AllocError>
+    ensures { IfOk result (HasMore (placed (codes "dispatch")
+        (id ∷ option (codes "from") ∷ option (codes "to") ∷ day ∷ option (codes "amount") ∷ account ∷ dry_run ∷ [])
+        ∷ []) command.entry) }
+{
+    command.subcommand(dispatch(alloc)?)
+}
+
 /// With the words by which money goes and comes.
 fn with_moves<'a>(alloc: Global, command: Command<'a>) -> Result<Command<'a>, AllocError>
     ensures { IfOk result (HasMore (placed (codes "dispatch")
@@ -557,9 +566,7 @@ fn with_moves<'a>(alloc: Global, command: Command<'a>) -> Result<Command<'a>, Al
         (id ∷ branch ∷ day ∷ account ∷ optional (codes "part") ∷ optional (codes "amount") ∷ dry_run ∷ [])
         ∷ []) command.entry) }
 {
-    command
-        .subcommand(dispatch(alloc)?)?
-        .subcommand(receive(alloc)?)
+    with_dispatches(alloc, command)?.subcommand(receive(alloc)?)
 }
 
 /// With the words of transfers.
