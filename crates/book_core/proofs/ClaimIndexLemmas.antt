@@ -5,49 +5,68 @@ use Rattle.std.specs.Prelude.{Contains, IfSome}
 use Rattle.std.specs.Option.{option_map_or}
 use Rattle.std.proofs.Math.Seq.{get_or-append_seam}
 use Rattle.std.proofs.lemmas.Bool.{cases_lt}
+use Rattle.std.proofs.lemmas.Slice.Eq.{bytes_eq-Decides}
 use Rattle.std.proofs.lemmas.List.{take_more, take_all, take-append-le}
 use Rattle.std.proofs.lemmas.List.Elements.{Contains-append_cases, Contains-push_cases}
 use Rattle.money_core.specs.declared.day.Day.{Day}
 use Rattle.day_sums.specs.declared.named_spots.NamedSpots.{NamedSpots}
 use Rattle.day_sums.specs.declared.spots.Spot.{Spot}
 use Rattle.day_sums.specs.Spots.{row_of, spots_in, spots_of, KeepsSpots}
+use Rattle.book_core.specs.declared.account.Reach.{Reach}
+use Rattle.book_core.specs.declared.account.Reach.TheVariants.{Own, Inside}
+use Rattle.book_core.specs.declared.claim_index.ClaimIndex.{ClaimIndex}
 use Rattle.book_core.specs.declared.leg.Leg.{Leg}
 use Rattle.book_core.specs.declared.claim.Placed.{Placed}
 use Rattle.book_core.specs.declared.entry.Entry.{Entry}
-use Rattle.book_core.specs.Account.{colon, IsInside, is_inside}
+use Rattle.book_core.specs.Account.{colon, IsInside, is_inside, reaches}
 use Rattle.book_core.specs.Book.{legs_of}
-use Rattle.book_core.specs.Claim.{Asserted, account_at, asserted_on, asserted_claims, asserted_from}
+use Rattle.book_core.specs.Claim.{Asserted, account_at, asserted_on, asserted_claims, asserted_from, reach_of}
 use Rattle.book_core.specs.DayLedger.{IsDayKept}
-use Rattle.book_core.specs.ClaimIndex.{spot_at, AreFound, IsListed, AreListed}
+use Rattle.book_core.specs.ClaimIndex.{spot_at, part_of, KeepsFound, AreFound, IsListed, AreListed}
 use Rattle.book_core.proofs.AccountLemmas.{is_inside_decides}
 use Rattle.book_core.proofs.BookLemmas.{legs_of-append}
 use Rattle.book_core.proofs.ClaimLemmas.{asserted_from-append, asserted_claims-append}
 
 -- ---- what is found
-pub found_kept : (old new : NamedSpots) (xs : List Asserted) → KeepsSpots old new → AreFound old xs → AreFound new xs
-found_kept old new xs kept h x k = kept x.account (spot_at x.place) (h x k)
+-- an assertion is found
+abbrev pub IsFound : ClaimIndex → Asserted → Type 0
+IsFound index x = Contains (spots_of (part_of (reach_of x.claim.kind) index) x.account) (spot_at x.place)
 
-found_append : (index : NamedSpots) (xs ys : List Asserted) → AreFound index xs → AreFound index ys
+pub found_kept : (old new : ClaimIndex) (xs : List Asserted) → KeepsFound old new → AreFound old xs → AreFound new xs
+found_kept old new xs kept h x k = kept (reach_of x.claim.kind) x.account (spot_at x.place) (h x k)
+
+found_append : (index : ClaimIndex) (xs ys : List Asserted) → AreFound index xs → AreFound index ys
     → AreFound index (xs ++ ys)
 found_append index xs ys h k x m = by_case (Contains-append_cases xs ys x m)
   where
-    by_case : Contains xs x ⊎ Contains ys x → Contains (spots_of index x.account) (spot_at x.place)
+    by_case : Contains xs x ⊎ Contains ys x → IsFound index x
     by_case (inl a) = h x a
     by_case (inr b) = k x b
 
-found_one : (index : NamedSpots) (x : Asserted) → Contains (spots_of index x.account) (spot_at x.place)
-    → AreFound index (x ∷ [])
+found_one : (index : ClaimIndex) (x : Asserted) → IsFound index x → AreFound index (x ∷ [])
 found_one index x h y k = by_case (Contains-push_cases [] x y k)
   where
-    by_case : Contains [] y ⊎ (x ≡ y) → Contains (spots_of index y.account) (spot_at y.place)
+    by_case : Contains [] y ⊎ (x ≡ y) → IsFound index y
     by_case (inl m) = absurd (omega (arith, m.1))
-    by_case (inr e) = subst (λ (z : Asserted). Contains (spots_of index z.account) (spot_at z.place)) e h
+    by_case (inr e) = subst (IsFound index) e h
+
+-- one more spot in one of the parts
+pub kept_own : (index : ClaimIndex) (now : NamedSpots) → KeepsSpots index.own now
+    → KeepsFound index (record { own = now; inside = index.inside })
+kept_own index now h Own = h
+kept_own index now h Inside = λ a s k. k
+
+pub kept_inside : (index : ClaimIndex) (now : NamedSpots) → KeepsSpots index.inside now
+    → KeepsFound index (record { own = index.own; inside = now })
+kept_inside index now h Own = λ a s k. k
+kept_inside index now h Inside = h
 
 -- one more assertion of an entry
-pub found_more : (old new : NamedSpots) (day : Day) (n : ℕ) (legs : List Leg) (claims : List Placed) (i : ℕ)
-    (d : Placed) (account : List ℕ) → i < length claims → KeepsSpots old new
+pub found_more : (old new : ClaimIndex) (day : Day) (n : ℕ) (legs : List Leg) (claims : List Placed) (i : ℕ)
+    (d : Placed) (account : List ℕ) → i < length claims → KeepsFound old new
     → AreFound old (asserted_claims day n legs (take i claims)) → account ≡ account_at legs (get_or claims i d).leg →
-    Contains (spots_of new account) (record { day = day; number = n; part = (get_or claims i d).leg })
+    Contains (spots_of (part_of (reach_of (get_or claims i d).claim.kind) new) account)
+    (record { day = day; number = n; part = (get_or claims i d).leg })
     → AreFound new (asserted_claims day n legs (take (i + 1) claims))
 found_more old new day n legs claims i d account l kept h named put =
     let x = asserted_on day n legs (get_or claims i d) in
@@ -55,16 +74,17 @@ found_more old new day n legs claims i d account l kept h named put =
     legs (take i claims) (get_or claims i d ∷ [])))
     (found_append new (asserted_claims day n legs (take i claims)) (asserted_claims day n legs (get_or claims i d ∷ []))
     (found_kept old new (asserted_claims day n legs (take i claims)) kept h)
-    (found_one new x (subst (λ (a : List ℕ). Contains (spots_of new a) (spot_at x.place)) named put)))
+    (found_one new x (subst (λ (a : List ℕ).
+    Contains (spots_of (part_of (reach_of x.claim.kind) new) a) (spot_at x.place)) named put)))
 
-pub found_all : (index : NamedSpots) (day : Day) (n : ℕ) (legs : List Leg) (items claims : List Placed) (i : ℕ)
+pub found_all : (index : ClaimIndex) (day : Day) (n : ℕ) (legs : List Leg) (items claims : List Placed) (i : ℕ)
     → items ≡ claims → length items ≤ i → AreFound index (asserted_claims day n legs (take i items))
     → AreFound index (asserted_claims day n legs claims)
 found_all index day n legs items claims i e l h =
     subst (λ (xs : List Placed). AreFound index (asserted_claims day n legs xs)) (take_all i items l ∙ e) h
 
 -- one more entry
-pub found_add : (index : NamedSpots) (es more : List Entry) (e : Entry) (n : ℕ) → more ≡ es ++ e ∷ []
+pub found_add : (index : ClaimIndex) (es more : List Entry) (e : Entry) (n : ℕ) → more ≡ es ++ e ∷ []
     → n ≡ length es + 1 → AreFound index (asserted_from 1 es) → AreFound index (asserted_claims e.day n e.legs e.claims)
     → AreFound index (asserted_from 1 more)
 found_add index es more e n d f h k =
@@ -76,8 +96,8 @@ found_add index es more e n d f h k =
     (λ x m. absurd (omega (arith, m.1))))))
 
 -- more may be found of the same entries and accounts
-pub kept_found : (es same : List Entry) (names as_before : List (List ℕ)) (old new : NamedSpots) → same ≡ es
-    → as_before ≡ names → KeepsSpots old new → IsDayKept es names old → IsDayKept same as_before new
+pub kept_found : (es same : List Entry) (names as_before : List (List ℕ)) (old new : ClaimIndex) → same ≡ es
+    → as_before ≡ names → KeepsFound old new → IsDayKept es names old → IsDayKept same as_before new
 kept_found es same names as_before old new e f kept h =
     subst (λ (xs : List Entry). IsDayKept xs as_before new) (sym e)
     (subst (λ (ns : List (List ℕ)). IsDayKept es ns new) (sym f)
@@ -92,9 +112,9 @@ listed_kept old new index a kept h = by_row (row_of index a) h
     by_row None k = k
     by_row (Some n) k = kept n k
 
-pub legs_kept : (old new : List ℕ) (index : NamedSpots) (legs : List Leg) → ((n : ℕ) → Contains old n → Contains new n)
-    → AreListed old index legs → AreListed new index legs
-legs_kept old new index legs kept h x m a k = listed_kept old new index a kept (h x m a k)
+pub legs_kept : (reach : Reach) (old new : List ℕ) (index : NamedSpots) (legs : List Leg)
+    → ((n : ℕ) → Contains old n → Contains new n) → AreListed reach old index legs → AreListed reach new index legs
+legs_kept reach old new index legs kept h x m a k = listed_kept old new index a kept (h x m a k)
 
 -- the rows of the accounts above a name that end before its i-th byte
 abbrev pub FrontsListed : List ℕ → NamedSpots → List ℕ → ℕ → Type 0
@@ -135,22 +155,30 @@ inside_listed old new index name i l kept fronts own a h = by_case ((is_inside_d
         subst (IsListed new index) front
         (listed_kept old new index (take (length a) name) kept (fronts (length a) short at))
 
+-- an account alone
+pub own_listed : (rows : List ℕ) (index : NamedSpots) (name : List ℕ) → IsListed rows index name
+    → (a : List ℕ) → reaches Own a name ≡ true → IsListed rows index a
+own_listed rows index name h a k = subst (IsListed rows index) ((bytes_eq-Decides name a).0 k) h
+
 -- one more leg, one more entry
-pub legs_more : (old new : List ℕ) (index : NamedSpots) (legs : List Leg) (i : ℕ) (x : Leg) → i < length legs
-    → x ≡ get_or legs i x → ((n : ℕ) → Contains old n → Contains new n) → AreListed old index (take i legs)
-    → ((a : List ℕ) → is_inside a x.account ≡ true → IsListed new index a) → AreListed new index (take (i + 1) legs)
-legs_more old new index legs i x l e kept h one y m a k =
+pub legs_more : (reach : Reach) (old new : List ℕ) (index : NamedSpots) (legs : List Leg) (i : ℕ) (x : Leg)
+    → i < length legs
+    → x ≡ get_or legs i x → ((n : ℕ) → Contains old n → Contains new n) → AreListed reach old index (take i legs)
+    → ((a : List ℕ) → reaches reach a x.account ≡ true → IsListed new index a)
+    → AreListed reach new index (take (i + 1) legs)
+legs_more reach old new index legs i x l e kept h one y m a k =
     by_case (Contains-push_cases (take i legs) (get_or legs i x) y
     (subst (λ (xs : List Leg). Contains xs y) (take_more legs i x l) m))
   where
     by_case : Contains (take i legs) y ⊎ (get_or legs i x ≡ y) → IsListed new index a
     by_case (inl n) = listed_kept old new index a kept (h y n a k)
-    by_case (inr f) = one a (subst (λ (z : Leg). is_inside a z.account ≡ true) (sym (e ∙ f)) k)
+    by_case (inr f) = one a (subst (λ (z : Leg). reaches reach a z.account ≡ true) (sym (e ∙ f)) k)
 
-pub entries_more : (old new : List ℕ) (index : NamedSpots) (es : List Entry) (i : ℕ) (e : Entry) → i < length es
-    → e ≡ get_or es i e → ((n : ℕ) → Contains old n → Contains new n) → AreListed old index (legs_of (take i es))
-    → AreListed new index e.legs → AreListed new index (legs_of (take (i + 1) es))
-entries_more old new index es i e l f kept h one y m a k =
+pub entries_more : (reach : Reach) (old new : List ℕ) (index : NamedSpots) (es : List Entry) (i : ℕ) (e : Entry)
+    → i < length es
+    → e ≡ get_or es i e → ((n : ℕ) → Contains old n → Contains new n) → AreListed reach old index (legs_of (take i es))
+    → AreListed reach new index e.legs → AreListed reach new index (legs_of (take (i + 1) es))
+entries_more reach old new index es i e l f kept h one y m a k =
     by_case (Contains-append_cases (legs_of (take i es)) (legs_of (e ∷ [])) y
     (subst (λ (xs : List Leg). Contains xs y) step m))
   where

@@ -10,6 +10,8 @@ pub mod VerdictLemmas
 pub mod GoodBookLemmas
 pub mod NamedLemmas
 pub mod BalanceLemmas
+pub mod LaterLemmas
+pub mod OwnLegLemmas
 pub mod StrayLemmas
 pub mod ExamineLemmas
 pub mod ReachLemmas

@@ -3,7 +3,7 @@ use Rattle.std.proofs.Common.{◌≡◌, ℕ, ◌+◌, ◌-◌, ◌<◌, ◌≤�
 use Rattle.std.proofs.Common.{take, get_or, zero, suc, refl, ap, ◌∙◌, sym, subst, arith, ◌⊎◌, inl, inr, ℤ, ◌≤ℤ◌, ◌<ℤ◌}
 use Rattle.std.proofs.Common.{nat_eq, Ordering}
 use Rattle.std.specs.Prelude.{Contains, not, int_lt, cond}
-use Rattle.std.specs.List.{AllByRecursion, list_any, filter, starts_with}
+use Rattle.std.specs.List.{AllByRecursion, list_any, filter}
 use Rattle.std.specs.Ordering.{int_cmp, nat_cmp, ordering_then, is_le, is_lt}
 use Rattle.std.specs.declared.cmp.Ordering.TheVariants.{Less, Equal, Greater}
 use Rattle.std.proofs.lemmas.Int.{ints}
@@ -14,16 +14,17 @@ use Rattle.std.proofs.lemmas.List.Elements.{Contains-push_cases}
 use Rattle.money_core.specs.declared.day.Day.{Day}
 use Rattle.day_sums.specs.declared.named_spots.NamedSpots.{NamedSpots}
 use Rattle.day_sums.specs.declared.spots.Spot.{Spot}
-use Rattle.day_sums.specs.Spots.{is_behind, spots_in}
+use Rattle.day_sums.specs.Spots.{is_behind, spots_in, spots_of}
 use Rattle.book_core.specs.declared.leg.Leg.{Leg}
 use Rattle.book_core.specs.declared.place.Place.{Place}
 use Rattle.book_core.specs.declared.entry.Entry.{Entry}
 use Rattle.book_core.specs.declared.account.Reach.{Reach}
 use Rattle.book_core.specs.declared.account.Reach.TheVariants.{Own, Inside}
-use Rattle.book_core.specs.Account.{colon, reaches, is_inside}
+use Rattle.book_core.specs.declared.claim_index.ClaimIndex.{ClaimIndex}
+use Rattle.book_core.specs.Account.{reaches}
 use Rattle.book_core.specs.Book.{Posted, legs_of, posted_legs, posted_from}
 use Rattle.book_core.specs.Claim.{Asserted, asserted_claims, asserted_from, reach_of, is_sole}
-use Rattle.book_core.specs.ClaimIndex.{spot_at, AreFound, AreListed}
+use Rattle.book_core.specs.ClaimIndex.{spot_at, part_of, AreFound, AreListed}
 use Rattle.book_core.specs.Gathered.{IsReachedAt, AreReachedAt, HasReached}
 use Rattle.book_core.specs.Reached.{place_lt, touches, is_touched, is_reached}
 use Rattle.book_core.proofs.ClaimIndexLemmas.{row_there}
@@ -162,10 +163,6 @@ lt_day p q h l = by_tests (int_lt q.day.0 p.day.0) (int_lt p.day.0 q.day.0) refl
         (let m : not (is_le (ordering_then Less (nat_cmp q.leg p.leg))) ≡ true =
         subst (λ (o : Ordering). not (is_le (ordering_then o (nat_cmp q.leg p.leg))) ≡ true) number k in cc)
 
-reaches_inside : (reach : Reach) (a name : List ℕ) → reaches reach a name ≡ true → is_inside a name ≡ true
-reaches_inside Own a name h = ap (λ (t : Bool). t || starts_with nat_eq name (a ++ colon ∷ [])) h
-reaches_inside Inside a name h = h
-
 posted_leg : (day : Day) (n k : ℕ) (legs : List Leg) (y : Posted) → Contains (posted_legs day n k legs) y
     → (y.place.day ≡ day) × (y.place.entry ≡ n) × Contains legs y.leg
 posted_leg day n k [] y h = absurd (none_in y h)
@@ -207,13 +204,16 @@ posted_entry least n (e ∷ es) y all h =
     by_case more (inr m) =
         let p = more m in (p.0, omega (arith, p.1), Contains-append_right e.legs (legs_of es) y.leg p.2)
 
--- every assertion that is touched is at a spot behind the first day, in the row of an account of the legs or above one
-pub touched_place : (b e : List Entry) (index : NamedSpots) (rows : List ℕ) (least : Day) (places : List Place)
+-- every assertion of a reach that is touched is at a spot behind the first day, in the row of an account of which the
+-- reach takes in one of the legs
+pub touched_place : (reach : Reach) (b e : List Entry) (index : ClaimIndex) (part : NamedSpots) (rows : List ℕ)
+    (least : Day) (places : List Place) → part ≡ part_of reach index
     → AreFound index (asserted_from 1 b) → AllByRecursion (λ (d : Entry). least.0 ≤ℤ d.day.0) e
-    → AreListed rows index (legs_of e) →
-    ((n : ℕ) → Contains rows n → HasReached b e (filter (is_behind least) (spots_in index n)) places) → (x : Asserted)
-    → Contains (asserted_from 1 b) x → is_reached b e x ≡ true → Contains places x.place
-touched_place b e index rows least places found first listed all x h t =
+    → AreListed reach rows part (legs_of e) →
+    ((n : ℕ) → Contains rows n → HasReached b e (filter (is_behind least) (spots_in part n)) places) → (x : Asserted)
+    → Contains (asserted_from 1 b) x → reach_of x.claim.kind ≡ reach → is_reached b e x ≡ true
+    → Contains places x.place
+touched_place reach b e index part rows least places same found first listed all x h looks t =
     let f = any_from (touches x) (posted_from (length b + 1) e) t in
     let y : Posted = f.0 in
     let p = posted_entry least (length b + 1) e y first f.1 in
@@ -222,15 +222,23 @@ touched_place b e index rows least places found first listed all x h t =
     && reaches (reach_of x.claim.kind) x.account y.leg.account) f.2 in
     let asked = and_parts (is_sole x.claim.kind || nat_eq y.leg.unit.0 x.claim.unit.0)
     (reaches (reach_of x.claim.kind) x.account y.leg.account) parts.1 in
-    let r = row_there rows index x.account (spot_at x.place)
-    (listed y.leg p.2 x.account (reaches_inside (reach_of x.claim.kind) x.account y.leg.account asked.1))
-    (found x h) in
+    let there : Contains (spots_of part x.account) (spot_at x.place) =
+    subst (λ (i : NamedSpots). Contains (spots_of i x.account) (spot_at x.place)) (sym same)
+    (subst (λ (r : Reach). Contains (spots_of (part_of r index) x.account) (spot_at x.place)) looks (found x h)) in
+    let r = row_there rows part x.account (spot_at x.place)
+    (listed y.leg p.2 x.account
+    (subst (λ (r : Reach). reaches r x.account y.leg.account ≡ true) looks asked.1)) there in
     let late : y.place.day.0 <ℤ x.place.day.0 =
     lt_day y.place x.place parts.0 (omega (arith, p.1, (number_entries 1 b x h).1)) in
     let low = p.0 in
     let behind : is_behind least (spot_at x.place) ≡ true = let k : least.0 <ℤ x.place.day.0 =
     omega (arith, ints) in grind (arith, ints, k) in
-    all r.0 r.1 x h t (in_filter (is_behind least) (spots_in index r.0) (spot_at x.place) r.2 behind)
+    all r.0 r.1 x h t (in_filter (is_behind least) (spots_in part r.0) (spot_at x.place) r.2 behind)
+
+-- what follows for each reach follows
+pub either_reach : {P : Type 0} (r : Reach) → (r ≡ Own → P) → (r ≡ Inside → P) → P
+either_reach Own own inside = own refl
+either_reach Inside own inside = inside refl
 
 -- ---- the first day
 pub below_day : (a b : ℤ) (r : Bool) → r ≡ is_lt (int_cmp a b) → r ≡ true → a ≤ℤ b

@@ -1,7 +1,7 @@
 -- Mirrors code: what the ledger with sums by day keeps of its assertions.
 use Rattle.std.specs.Prelude.{ℕ, List}
 use Rattle.std.specs.List.{AllByRecursion}
-use Rattle.day_sums.specs.declared.named_spots.NamedSpots.{NamedSpots}
+use Rattle.book_core.specs.declared.claim_index.ClaimIndex.{ClaimIndex}
 use Rattle.book_core.specs.declared.entry.Entry.{Entry}
 use Rattle.book_core.specs.Claim.{asserted_from}
 use Rattle.book_core.specs.ClaimIndex.{AreFound}
@@ -9,7 +9,7 @@ use Rattle.book_core.specs.GoodBook.{IsFit}
 use Rattle.book_core.specs.PlainLedger.{IsKept}
 
 -- as the plain ledger; the entries are fit, and their assertions are found by account
-pub record IsDayKept (entries : List Entry) (names : List (List ℕ)) (claims : NamedSpots) : Type 0 where
+pub record IsDayKept (entries : List Entry) (names : List (List ℕ)) (claims : ClaimIndex) : Type 0 where
   pub kept : IsKept entries names
   pub fit : AllByRecursion IsFit entries
   pub found : AreFound claims (asserted_from 1 entries)

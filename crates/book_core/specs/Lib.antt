@@ -15,5 +15,6 @@ pub mod DayRows
 pub mod DayPlace
 pub mod Sums
 pub mod ClaimIndex
+pub mod OwnLegs
 pub mod Gathered
 pub mod DayLedger

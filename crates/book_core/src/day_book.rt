@@ -1,6 +1,6 @@
 //! A ledger's book with new entries behind it, whose balances are found by sums.
 
-ghost use Rattle.std.specs.Prelude.{◌≡◌};
+ghost use Rattle.std.specs.Prelude.{◌≡◌, ◌≤◌, ◌<◌, ◌-◌, ◌⊎◌, length, slice_index_or, IfSome, None};
 ghost use Rattle.book_core.specs.Balance.{turnover};
 ghost use Rattle.book_core.specs.Query.{is_stray_for, stray_for};
 ghost use Rattle.book_core.specs.DayRows.{IsNextMoved};
@@ -35,6 +35,29 @@ impl<'a> Model for DayBook<'a> {
     ghost view = { λ b. b.old.now ++ b.new };
 
     ghost invariant = { λ b. IsWithin (b.old.now ++ b.new) × AreSumsOf b.sums.now b.old.now };
+}
+
+impl<'a> DayBook<'a> {
+    /// The entry with that number, if there is one.
+    pub fn entry(&self, number: usize) -> Option<&'a Entry>
+        ensures some { IfSome result (λ e. (1 ≤ number) × (number ≤ length self.now)
+            × (e.now ≡ slice_index_or self.now (number - 1) e.now)) }
+        ensures none { result ≡ None → (number ≡ 0) ⊎ (length self.now < number) }
+    {
+        if number == 0 {
+            return None;
+        }
+        let at = number - 1;
+        if at < self.old.len() {
+            return Some(&self.old[at]);
+        }
+        let new = self.new.entries();
+        let behind = at - self.old.len();
+        if behind < new.len() {
+            return Some(&new[behind]);
+        }
+        None
+    }
 }
 
 /// Whether a commodity is another than the one that is asked, and not zero in the account.

@@ -10,10 +10,10 @@ ghost use Rattle.book_core.specs.Reached.{reached};
 use crate::account::Reach;
 use crate::account_list::{new_accounts, put_accounts};
 use crate::balance::through;
-use crate::claim_index::put_claims;
+use crate::claim_index::{ClaimIndex, put_claims};
 use crate::day_book::DayBook;
 use crate::entry::Entry;
-use crate::examine::first_at;
+use crate::examine::{first_at, first_by_sums};
 use crate::ledger::Ledger;
 use crate::new_entries::NewEntries;
 use crate::place::Place;
@@ -22,7 +22,6 @@ use crate::reached::reached_places;
 use crate::refusal::{Count, Failure, Refusal};
 use crate::sums::Sums;
 use crate::turnover_table::passes_by;
-use day_sums::NamedSpots;
 use money_core::{Cause, Day, Text, Unit};
 use std::alloc::Global;
 use std::marker::Model;
@@ -31,15 +30,16 @@ use std::marker::Model;
 ///
 /// `balance` and `balance_in` are one search; `len`, `accounts` and `empty` cost nothing. `check` is one pass over the
 /// new legs for each of their commodities, a search for each account that takes in one of them, and a look at the
-/// assertions of these accounts behind the first new day; then, for each assertion that is reached, a few searches, the
-/// legs of its own entry and a pass over the new ones, and for `==` and `==*` as much for each commodity. Where there
-/// are many of both, it takes sums of the new entries, and passes over none of them. `add` is, for each leg and each
-/// account that takes it in, a search and the days of one row behind the entry's own.
+/// assertions behind the first new day that look at the account of one of them, or take it in; then, for each assertion
+/// that is reached, a few searches, the legs of its own entry up to its own and a pass over the new ones, and for `==`
+/// and `==*` as much for each commodity. Where there are many of both, it takes sums of the new entries, and passes
+/// over none of them; and where an entry has many assertions, it takes sums of its legs for those on one account alone.
+/// `add` is, for each leg and each account that takes it in, a search and the days of one row behind the entry's own.
 #[derive(Drop)]
 pub struct DayLedger {
     entries: Vec<Entry>,
     accounts: Vec<Text>,
-    claims: NamedSpots,
+    claims: ClaimIndex,
     sums: Sums,
 }
 
@@ -95,7 +95,7 @@ impl Ledger for DayLedger {
         DayLedger {
             entries: Vec::new(alloc),
             accounts: Vec::new(alloc),
-            claims: NamedSpots::empty(alloc),
+            claims: ClaimIndex::empty(alloc),
             sums: Sums::empty(alloc),
         }
     }
@@ -145,7 +145,11 @@ impl Ledger for DayLedger {
             Err(cause) => return Err(Refusal::Plain(cause)),
         };
         let book = self.book_with(new);
-        match first_at(&book, &places, count) {
+        let first = match first_by_sums(alloc, &book, &places, count) {
+            Ok(first) => first,
+            Err(cause) => return Err(Refusal::Plain(cause)),
+        };
+        match first {
             Some(failure) => Err(Refusal::ClaimFailed(failure)),
             None => Ok(()),
         }

@@ -23,6 +23,21 @@ use std::marker::Model;
 /// assertion.
 const MANY: usize = 64;
 
+/// From so many legs on, they do so for fewer entries, too.
+const MANY_LEGS: usize = 1_000;
+
+/// Whether the entries are many, or have many legs. One entry's legs are passed over for no assertion of its own.
+fn are_many(entries: &[Entry]) -> bool {
+    if entries.len() < 2 || entries.len() >= MANY {
+        return entries.len() >= MANY;
+    }
+    let mut legs: usize = 0;
+    for entry in entries {
+        legs = legs.saturating_add(entry.legs.items().len());
+    }
+    legs >= MANY_LEGS
+}
+
 /// New entries, with their sums where these are taken. Clauses see the entries.
 #[derive(Drop)]
 pub struct NewEntries<'a> {
@@ -76,7 +91,7 @@ impl<'a> NewEntries<'a> {
         ensures value { IfOk result (λ new. new ≡ entries.now) }
         ensures memory { IsOkUnless result Cause.OutOfMemory }
     {
-        if entries.len() < MANY || assertions < MANY {
+        if assertions < MANY || !are_many(entries) {
             return Ok(NewEntries::plain(entries));
         }
         let sums = Some(Sums::of(alloc, entries)?);

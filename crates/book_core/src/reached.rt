@@ -8,21 +8,21 @@ ghost use Rattle.book_core.specs.declared.claim.Asserted.{Asserted as Assertion}
 ghost use Rattle.book_core.specs.declared.entry.Entry.{Entry as Line};
 ghost use Rattle.book_core.specs.declared.place.Place.{Place as Spotted};
 ghost use Rattle.book_core.specs.Book.{posted_legs, posted_from};
-ghost use Rattle.book_core.specs.Claim.{asserted_claims, asserted_from};
+ghost use Rattle.book_core.specs.Claim.{asserted_claims, asserted_from, reach_of};
 ghost use Rattle.book_core.specs.ClaimIndex.{spot_at, AreFound};
 ghost use Rattle.book_core.specs.Reached.{touches, is_touched};
 ghost use Rattle.book_core.specs.Gathered.{places_of, IsReachedAt, AreReachedAt, HasReached, Gathered};
 ghost use Rattle.book_core.specs.GoodBook.{IsFit};
 
-use crate::account::is_reached;
+use crate::account::{Reach, is_reached};
 use crate::assertion::account_of;
 use crate::claim::Claim;
-use crate::claim_index::rows_for;
+use crate::claim_index::{ClaimIndex, rows_for};
 use crate::entry::Entry;
 use crate::judging::{is_sole_kind, reach_of_kind};
 use crate::leg::Leg;
 use crate::place::{Place, is_at_most};
-use day_sums::{NamedSpots, Spot};
+use day_sums::Spot;
 use money_core::{Cause, Day};
 use std::alloc::Global;
 
@@ -162,13 +162,42 @@ fn first_day(entries: &[Entry]) -> Day
     first
 }
 
-/// The places of the assertions of the book that the new entries touch; one may come twice.
+/// Puts the places of the book's assertions of that reach last that the new entries touch; one may come twice.
 ///
-/// It looks at the assertions behind the first new day, on the accounts of new legs and on those above them.
+/// It looks at the assertions of that reach behind the first new day, on the accounts of new legs, and for `Inside` on
+/// those above them.
+fn push_reached(
+    places: &mut Vec<Place>,
+    alloc: Global,
+    old: &[Entry],
+    index: &ClaimIndex,
+    reach: Reach,
+    new: &[Entry],
+) -> Result<(), Cause>
+    requires index { AreFound index.now (asserted_from 1 old.now) }
+    requires numbers { length old.now + length new.now < 2 ^ 63 }
+    requires only { AreReachedAt old.now new.now places.old.items }
+    ensures only { OnOk result (AreReachedAt old.now new.now places.new.items) }
+    ensures kept { (p : Spotted) → Contains places.old.items p → Contains places.new.items p }
+    ensures all { OnOk result ((x : Assertion) → Contains (asserted_from 1 old.now) x
+        → reach_of x.claim.kind ≡ reach
+        → is_touched (posted_from (length old.now + 1) new.now) x ≡ true → Contains places.new.items x.place) }
+    ensures memory { IsOkUnless result Cause.OutOfMemory }
+{
+    let day = first_day(new);
+    let part = index.part(reach);
+    let rows = rows_for(alloc, part, reach, new)?;
+    for row in &rows {
+        push_touched(places, part.spots_behind(*row, day), old, new)?;
+    }
+    Ok(())
+}
+
+/// The places of the book's assertions that the new entries touch; one may come twice.
 fn touched_places(
     alloc: Global,
     old: &[Entry],
-    index: &NamedSpots,
+    index: &ClaimIndex,
     new: &[Entry],
 ) -> Result<Vec<Place>, Cause>
     requires index { AreFound index.now (asserted_from 1 old.now) }
@@ -178,12 +207,9 @@ fn touched_places(
         → is_touched (posted_from (length old.now + 1) new.now) x ≡ true → Contains v.items x.place) }
     ensures memory { IsOkUnless result Cause.OutOfMemory }
 {
-    let day = first_day(new);
-    let rows = rows_for(alloc, index, new)?;
     let mut places = Vec::new(alloc);
-    for row in &rows {
-        push_touched(&mut places, index.spots_behind(*row, day), old, new)?;
-    }
+    push_reached(&mut places, alloc, old, index, Reach::Own, new)?;
+    push_reached(&mut places, alloc, old, index, Reach::Inside, new)?;
     Ok(places)
 }
 
@@ -221,7 +247,7 @@ fn push_own_places(places: &mut Vec<Place>, new: &[Entry], first: usize) -> Resu
 pub fn reached_places(
     alloc: Global,
     old: &[Entry],
-    index: &NamedSpots,
+    index: &ClaimIndex,
     new: &[Entry],
 ) -> Result<Vec<Place>, Cause>
     requires fit { AllByRecursion IsFit (old.now ++ new.now) }

@@ -6,5 +6,5 @@ use Rattle.book_core.proofs.claim_index.list_legs.Given as goal
 abbrev pub invariant-loop-leg : goal.invariant-loop-leg
 invariant-loop-leg l = record {
   kept : (n : ℕ) → Contains l.fn.rows.items n → Contains l.rows.items n;
-  listed : AreListed l.rows.items l.index (take l.leg-index l.legs);
+  listed : AreListed l.reach l.rows.items l.index (take l.leg-index l.legs);
 }
