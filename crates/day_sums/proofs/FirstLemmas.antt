@@ -1,10 +1,8 @@
 -- A row whose first quantity stands in the row itself.
 use Rattle.std.proofs.Common.{◌≡◌, ℕ, Bool, true, false, ◌&&◌, ◌||◌, List, [], ◌∷◌, refl, ap, ◌∙◌, sym, subst, arith, ℤ}
-use Rattle.std.proofs.Common.{pos, ◌+ℤ◌}
-use Rattle.std.specs.Prelude.{if◌then◌else◌, int_le, int_lt, nat_le, cond}
-use Rattle.std.specs.BTreeMap.{is_at}
-use Rattle.std.specs.Ordering.{int_cmp, int_eq, is_eq}
-use Rattle.std.specs.declared.cmp.Ordering.TheVariants.{Less, Equal, Greater}
+use Rattle.std.proofs.Common.{pos, negsuc, ◌+ℤ◌}
+use Rattle.std.specs.Prelude.{if◌then◌else◌, int_le, int_lt, nat_le}
+use Rattle.std.specs.Ordering.{int_eq}
 use Rattle.std.proofs.lemmas.Int.{ints}
 use Rattle.std.proofs.lemmas.Bool.Decides.{Decides-int_eq}
 use Rattle.money_core.specs.declared.day.Day.{Day}
@@ -13,67 +11,44 @@ use Rattle.day_sums.specs.declared.period.Period.{Period}
 use Rattle.day_sums.specs.declared.period.Period.TheVariants.{Before, Through, Within}
 use Rattle.day_sums.specs.Points.{is_none, sum_at, has, IsUpTo}
 use Rattle.day_sums.specs.Period.{is_in}
-use Rattle.day_sums.specs.Row.{Kept, points_at, row_sum, one, whole, has_number, SameRow, RaisedRow}
+use Rattle.day_sums.specs.Blocks.{points_at}
+use Rattle.day_sums.specs.Row.{Kept, row_sum, one, whole, has_number, SameRow, RaisedRow}
 use Rattle.day_sums.proofs.SearchLemmas.{lt_le}
+use Rattle.day_sums.proofs.BlockLemmas.{points_one, one_day_sum, one_has_day}
 
 -- ---- which of the two it is
-pub whole_full : (day : Day) (n : ℕ) (q : ℤ) (r : Kept) → is_none r.0 ≡ false → whole day n q r ≡ r
+pub whole_full : (day : Day) (n : ℕ) (q : ℤ) (r : Kept) → is_none r.0.0 ≡ false → whole day n q r ≡ r
 whole_full day n q r h = rw h refl
 
-pub whole_first : (day : Day) (n : ℕ) (q : ℤ) (r : Kept) → is_none r.0 ≡ true → whole day n q r ≡ one day n q
+pub whole_first : (day : Day) (n : ℕ) (q : ℤ) (r : Kept) → is_none r.0.0 ≡ true → whole day n q r ≡ one day n q
 whole_first day n q r h = rw h refl
-
-has_some : (d : ℤ) (ps : List Point) → has d ps ≡ true → is_none ps ≡ false
-has_some d [] h = absurd (cc)
-has_some d (p ∷ ps) h = refl
-
-still_some : (ps qs : List Point) → ((d : ℤ) → has d ps ≡ true → has d qs ≡ true) → is_none ps ≡ false
-    → is_none qs ≡ false
-still_some [] qs h e = absurd (cc)
-still_some (p ∷ ps) qs h e =
-    has_some p.at qs (h p.at (ap (λ (t : Bool). t || has p.at ps) ((Decides-int_eq p.at p.at).1 refl)))
 
 same_trans : (r s t : Kept) → SameRow r s → SameRow s t → SameRow r t
 same_trans r s t h k = record { sums = λ p. k.sums p ∙ h.sums p; opened = λ d n e. k.opened d n (h.opened d n e) }
 
 -- another number is opened in a row that has days
-pub opened_full : (v : Kept) (day : Day) (n : ℕ) (q : ℤ) (r s : Kept) → whole day n q r ≡ v → is_none r.0 ≡ false
-    → ((d : ℤ) → has d r.0 ≡ true → has d s.0 ≡ true) → SameRow r s → SameRow v (whole day n q s)
+pub opened_full : (v : Kept) (day : Day) (n : ℕ) (q : ℤ) (r s : Kept) → whole day n q r ≡ v → is_none r.0.0 ≡ false
+    → (is_none r.0.0 ≡ false → is_none s.0.0 ≡ false) → SameRow r s → SameRow v (whole day n q s)
 opened_full v day n q r s e h days same =
     subst (λ (x : Kept). SameRow x (whole day n q s)) (sym (whole_full day n q r h) ∙ e)
-    (subst (SameRow r) (sym (whole_full day n q s (still_some r.0 s.0 days h))) same)
+    (subst (SameRow r) (sym (whole_full day n q s (days h))) same)
 
 -- and in one that has none
-pub opened_first : (v : Kept) (day : Day) (n : ℕ) (q : ℤ) (r s t : Kept) (k : ℤ) → whole day n q r ≡ v
-    → is_none r.0 ≡ true → SameRow (one day n q) s → has k s.0 ≡ true → ((d : ℤ) → has d s.0 ≡ true → has d t.0 ≡ true)
+pub opened_first : (v : Kept) (day : Day) (n : ℕ) (q : ℤ) (r s t : Kept) → whole day n q r ≡ v
+    → is_none r.0.0 ≡ true → SameRow (one day n q) s → is_none s.0.0 ≡ false
+    → (is_none s.0.0 ≡ false → is_none t.0.0 ≡ false)
     → SameRow s t → SameRow v (whole day n q t)
-opened_first v day n q r s t k e h first there days same =
+opened_first v day n q r s t e h first there days same =
     subst (λ (x : Kept). SameRow x (whole day n q t)) (sym (whole_first day n q r h) ∙ e)
-    (subst (SameRow (one day n q)) (sym (whole_full day n q t (has_some k t.0 (days k there))))
+    (subst (SameRow (one day n q)) (sym (whole_full day n q t (days there)))
     (same_trans (one day n q) s t first same))
 
 -- ---- the first quantity is raised
-either_way : (t u : Bool) → is_eq (cond t Less (cond u Greater Equal)) ≡ is_eq (cond u Less (cond t Greater Equal))
-either_way true true = refl
-either_way true false = refl
-either_way false true = refl
-either_way false false = refl
-
-at_day : (d s : ℤ) → is_at (int_cmp d) s ≡ int_eq s d
-at_day d s = either_way (int_lt d s) (int_lt s d)
-
--- the points of a day, where there is but one day
-points_one : (s : ℤ) (ps : List Point) (d : ℤ) → points_at ((s, ps) ∷ []) d ≡ (if int_eq s d then ps else [])
-points_one s ps d = by_test (is_at (int_cmp d) s) refl ∙ ap (λ (t : Bool). if t then ps else []) (at_day d s)
-  where
-    by_test : (t : Bool) → is_at (int_cmp d) s ≡ t → points_at ((s, ps) ∷ []) d ≡ (if t then ps else [])
-    by_test true e = rw e refl
-    by_test false e = rw e refl
-
 -- the sum over a period
 pub one_sum : (day : Day) (n : ℕ) (q : ℤ) (p : Period) → row_sum (one day n q) p ≡ (if is_in p day n then q else pos 0)
-one_sum day n q (Before d) = ap (λ (t : Bool). if t then q else pos 0) (sym (lt_le day.0 d.0))
-one_sum day n q (Through d) = refl
+one_sum day n q (Before d) =
+    one_day_sum day.0 q (d.0 +ℤ negsuc 0) ∙ ap (λ (t : Bool). if t then q else pos 0) (sym (lt_le day.0 d.0))
+one_sum day n q (Through d) = one_day_sum day.0 q d.0
 one_sum day n q (Within d k) = ap (λ (ps : List Point). sum_at (pos 0) ps (pos k))
     (points_one day.0 (record { at = pos n; sum = q } ∷ []) d.0) ∙ by_day (int_eq day.0 d.0)
   where
@@ -86,7 +61,9 @@ one_has : (day : Day) (n : ℕ) (q : ℤ) (d : Day) (k : ℕ)
     → has_number (one day n q) d k
     ≡ ((int_eq day.0 d.0 || false)
     && has (pos k) (if int_eq day.0 d.0 then record { at = pos n; sum = q } ∷ [] else []))
-one_has day n q d k = ap (λ (ps : List Point). (int_eq day.0 d.0 || false) && has (pos k) ps)
+one_has day n q d k = ap (λ (t : Bool).
+    t && has (pos k) (points_at ((day.0, record { at = pos n; sum = q } ∷ []) ∷ []) d.0)) (one_has_day day.0 q d.0)
+    ∙ ap (λ (ps : List Point). (int_eq day.0 d.0 || false) && has (pos k) ps)
     (points_one day.0 (record { at = pos n; sum = q } ∷ []) d.0)
 
 -- what is open is the quantity's own day and number
@@ -101,6 +78,10 @@ its_own day n q d k h = by_tests (int_eq day.0 d.0) (int_eq (pos n) (pos k)) ref
     by_tests true false e f g =
         absurd (let w : has (pos k) (record { at = pos n; sum = q } ∷ []) ≡ false = rw f refl in cc)
     by_tests false u e f g = absurd (cc)
+
+pub one_open : (day : Day) (n : ℕ) (q : ℤ) → has_number (one day n q) day n ≡ true
+one_open day n q =
+    one_has day n q day n ∙ rw ((Decides-int_eq day.0 day.0).1 refl, (Decides-int_eq (pos n) (pos n)).1 refl) refl
 
 more : (t : Bool) (a q : ℤ) → (if t then a +ℤ q else pos 0) ≡ (if t then a else pos 0) +ℤ (if t then q else pos 0)
 more true a q = refl
@@ -135,7 +116,7 @@ raised_one day n a q d k h = record {
         ap (λ (z : ℤ). int_eq z e.0 && nat_le n j) own.0 ∙ ap (λ (m : ℕ). int_eq d.0 e.0 && nat_le m j) number
 
 pub raised_first : (v : Kept) (day : Day) (n : ℕ) (a q z : ℤ) (r : Kept) (d : Day) (k : ℕ) → whole day n a r ≡ v
-    → is_none r.0 ≡ true → has_number v d k ≡ true → z ≡ a +ℤ q → RaisedRow d k q v (whole day n z r)
+    → is_none r.0.0 ≡ true → has_number v d k ≡ true → z ≡ a +ℤ q → RaisedRow d k q v (whole day n z r)
 raised_first v day n a q z r d k e h there sum =
     let f : one day n a ≡ v = sym (whole_first day n a r h) ∙ e in
     subst (λ (x : Kept). RaisedRow d k q x (whole day n z r)) f
@@ -143,12 +124,12 @@ raised_first v day n a q z r d k e h there sum =
     (raised_one day n a q d k (ap (λ (x : Kept). has_number x d k) f ∙ there)))
 
 -- the first quantity is small where the sums are
-pub first_small : (v : Kept) (day : Day) (n : ℕ) (a : ℤ) (r : Kept) → whole day n a r ≡ v → is_none r.0 ≡ true
+pub first_small : (v : Kept) (day : Day) (n : ℕ) (a : ℤ) (r : Kept) → whole day n a r ≡ v → is_none r.0.0 ≡ true
     → ((p : Period) → IsUpTo 10000000000000000 (row_sum v p)) → IsUpTo 10000000000000000 a
 first_small v day n a r e h small =
     subst (IsUpTo 10000000000000000)
-    (ap (λ (x : Kept). row_sum x (Through day)) (sym e ∙ whole_first day n a r h) ∙ here (int_le day.0 day.0)
-    (refl_le day.0)) (small (Through day))
+    (ap (λ (x : Kept). row_sum x (Through day)) (sym e ∙ whole_first day n a r h) ∙ one_day_sum day.0 a day.0 ∙ here
+    (int_le day.0 day.0) (refl_le day.0)) (small (Through day))
   where
     refl_le : (z : ℤ) → int_le z z ≡ true
     refl_le z = grind (arith, ints)

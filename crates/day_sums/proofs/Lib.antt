@@ -1,6 +1,7 @@
 pub mod SearchLemmas
 pub mod OpenLemmas
 pub mod RaiseLemmas
+pub mod BlockLemmas
 pub mod RowLemmas
 pub mod FirstLemmas
 pub mod NameLemmas

@@ -1,5 +1,5 @@
 -- Rows by the bytes of a name, once one of them is another.
-use Rattle.std.proofs.Common.{◌≡◌, ℕ, Bool, true, false, List, [], refl, ap, ◌∙◌, sym, subst, Vec, Global}
+use Rattle.std.proofs.Common.{◌≡◌, ℕ, Bool, true, false, List, refl, ap, ◌∙◌, sym, subst, Vec, Global}
 use Rattle.std.specs.Prelude.{Option, Some}
 use Rattle.std.specs.Option.{unwrap_or}
 use Rattle.std.specs.declared.cmp.Ordering.{Ordering}
@@ -12,7 +12,7 @@ use Rattle.std.specs.HashMap as hash
 use Rattle.std.specs.Map.{lookup, IsKeyTest, AreApart, KeepsOthers}
 use Rattle.std.proofs.lemmas.Map.Text.{is_eq-slice_cmp}
 use Rattle.std.proofs.lemmas.Slice.Eq.{bytes_eq-Decides}
-use Rattle.day_sums.specs.Row.{Kept, SameRow}
+use Rattle.day_sums.specs.Row.{Kept, no_row, SameRow}
 use Rattle.day_sums.specs.Sums.{Names, row_at}
 use Rattle.day_sums.proofs.RowLemmas.{same_none}
 
@@ -54,7 +54,7 @@ abbrev pub Writes : List ℕ → Names → Names → Kept → Type 0
 Writes name m n r = hash.UpdatesBy vec_eq (λ (k : Vec ℕ Global). bytes_eq name k.items) m n (Some r)
 
 abbrev pub in_row : Option Kept → Kept
-in_row o = unwrap_or o ([], [])
+in_row o = unwrap_or o no_row
 
 -- the name has its row
 pub row_own : (name : List ℕ) (m n : Names) (r : Kept) → Writes name m n r → row_at n name ≡ r

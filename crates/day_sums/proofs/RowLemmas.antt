@@ -1,7 +1,7 @@
 -- A row: what opening and raising its parts does to its sums.
 use Rattle.std.proofs.Common.{◌≡◌, ℕ, Bool, true, false, ◌&&◌, List, [], refl, ap, ◌∙◌, sym, subst, arith, ℤ, pos}
 use Rattle.std.proofs.Common.{negsuc, ◌+ℤ◌}
-use Rattle.std.specs.Prelude.{None, Option, if◌then◌else◌, int_le}
+use Rattle.std.specs.Prelude.{None, Option, int_le}
 use Rattle.std.specs.Option.{unwrap_or}
 use Rattle.std.specs.Map.{lookup}
 use Rattle.std.specs.BTreeMap.{is_at}
@@ -14,13 +14,10 @@ use Rattle.day_sums.specs.Points.{sum_at, has, IsUpTo, SamePoints, RaisedPoints}
 use Rattle.day_sums.specs.declared.period.Period.{Period}
 use Rattle.day_sums.specs.declared.period.Period.TheVariants.{Before, Through, Within}
 use Rattle.day_sums.specs.Period.{is_in}
-use Rattle.day_sums.specs.Row.{Kept, points_at, row_sum, has_number, IsRow, SameRow, RaisedRow}
+use Rattle.day_sums.specs.Blocks.{points_at, day_sum, has_day, SameDays, RaisedDays}
+use Rattle.day_sums.specs.Row.{Kept, row_sum, has_number, IsRow, SameRow, RaisedRow}
 use Rattle.day_sums.proofs.SearchLemmas.{lt_le}
-
-both_true : (s t u v : Bool) → (s ≡ true → u ≡ true) → (t ≡ true → v ≡ true) → (s && t) ≡ true → (u && v) ≡ true
-both_true true true u v f g h = rw (f refl, g refl) refl
-both_true true false u v f g h = absurd (cc)
-both_true false t u v f g h = absurd (cc)
+use Rattle.day_sums.proofs.BlockLemmas.{both_true, share, none_more}
 
 pub same_points : (ps : List Point) → SamePoints ps ps
 same_points ps = record { sums = λ d. refl; points = λ d h. h }
@@ -29,26 +26,20 @@ pub same_none : (r : Kept) → SameRow r r
 same_none r = record { sums = λ p. refl; opened = λ d n h. h }
 
 -- ---- a number that is opened
-module _ (r s : Kept) (days : SamePoints r.0 s.0) (own : (k : ℤ) → SamePoints (points_at r.1 k) (points_at s.1 k)) where
+module _ (r s : Kept) (days : SameDays r.0 s.0) (own : (k : ℤ) → SamePoints (points_at r.1 k) (points_at s.1 k)) where
   sums_same : (p : Period) → row_sum s p ≡ row_sum r p
   sums_same (Before d) = days.sums (d.0 +ℤ negsuc 0)
   sums_same (Through d) = days.sums d.0
   sums_same (Within d n) = (own d.0).sums (pos n)
 
   pub same_row : SameRow r s
-  same_row = record { sums = sums_same; opened = λ d n. both_true _ _ _ _ (days.points d.0) ((own d.0).points (pos n)) }
+  same_row = record { sums = sums_same; opened = λ d n. both_true _ _ _ _ (days.days d.0) ((own d.0).points (pos n)) }
 
   pub kept_row : IsRow r → IsRow s
   kept_row row k j = (own k).sums (negsuc j) ∙ row k j
 
 -- ---- a number that is raised
-abbrev share : ℤ → Bool → ℤ
-share q t = if t then q else pos 0
-
-none_more : (z : ℤ) → z ≡ z +ℤ pos 0
-none_more z = omega (arith, ints)
-
-module _ (r s : Kept) (day : Day) (n : ℕ) (q : ℤ) (days : RaisedPoints day.0 q r.0 s.0)
+module _ (r s : Kept) (day : Day) (n : ℕ) (q : ℤ) (days : RaisedDays day.0 q r.0 s.0)
     (own : RaisedPoints (pos n) q (points_at r.1 day.0) (points_at s.1 day.0))
     (others : (k : ℤ) → int_eq day.0 k ≡ false → points_at s.1 k ≡ points_at r.1 k) where
   -- the sums of a day's own
@@ -66,7 +57,7 @@ module _ (r s : Kept) (day : Day) (n : ℕ) (q : ℤ) (days : RaisedPoints day.0
 
   sums_raised : (p : Period) → row_sum s p ≡ row_sum r p +ℤ share q (is_in p day n)
   sums_raised (Before d) = days.sums (d.0 +ℤ negsuc 0) ∙ ap
-      (λ (t : Bool). sum_at (pos 0) r.0 (d.0 +ℤ negsuc 0) +ℤ share q t) (sym (lt_le day.0 d.0))
+      (λ (t : Bool). day_sum r.0 (d.0 +ℤ negsuc 0) +ℤ share q t) (sym (lt_le day.0 d.0))
   sums_raised (Through d) = days.sums d.0
   sums_raised (Within d k) = within_raised d.0 (pos k)
 
@@ -80,7 +71,7 @@ module _ (r s : Kept) (day : Day) (n : ℕ) (q : ℤ) (days : RaisedPoints day.0
 
   pub raised_row : RaisedRow day n q r s
   raised_row =
-      record { sums = sums_raised; opened = λ d k. both_true _ _ _ _ (days.points d.0) (points_kept d.0 (pos k)) }
+      record { sums = sums_raised; opened = λ d k. both_true _ _ _ _ (days.days d.0) (points_kept d.0 (pos k)) }
 
   pub kept_raised : IsRow r → IsRow s
   kept_raised row k j = within_raised k (negsuc j) ∙ by_day (int_eq day.0 k) (row k j)
@@ -92,14 +83,14 @@ module _ (r s : Kept) (day : Day) (n : ℕ) (q : ℤ) (days : RaisedPoints day.0
 
 -- the same, as the parts' calls say it
 pub raised_parts : (r s : Kept) (day : Day) (n : ℕ) (q k j p : ℤ) → k ≡ day.0 → j ≡ pos n → p ≡ q
-    → RaisedPoints k p r.0 s.0 → RaisedPoints j p (points_at r.1 k) (points_at s.1 k)
+    → RaisedDays k p r.0 s.0 → RaisedPoints j p (points_at r.1 k) (points_at s.1 k)
     → ((i : ℤ) → int_eq k i ≡ false → points_at s.1 i ≡ points_at r.1 i) →
     IsRow r → IsRow s × RaisedRow day n q r s
 raised_parts r s day n q k j p at_day at_number by days own others row =
     (kept_raised r s day n q days' own' others' row, raised_row r s day n q days' own' others')
   where
-    days' : RaisedPoints day.0 q r.0 s.0
-    days' = subst (λ (z : ℤ). RaisedPoints day.0 z r.0 s.0) by (subst (λ (i : ℤ). RaisedPoints i p r.0 s.0) at_day days)
+    days' : RaisedDays day.0 q r.0 s.0
+    days' = subst (λ (z : ℤ). RaisedDays day.0 z r.0 s.0) by (subst (λ (i : ℤ). RaisedDays i p r.0 s.0) at_day days)
 
     own' : RaisedPoints (pos n) q (points_at r.1 day.0) (points_at s.1 day.0)
     own' = subst (λ (z : ℤ). RaisedPoints (pos n) z (points_at r.1 day.0) (points_at s.1 day.0)) by
@@ -111,8 +102,8 @@ raised_parts r s day n q k j p at_day at_number by days own others row =
 
 -- ---- an open number has its points, and small sums
 pub is_open_within : (r : Kept) (d : Day) (n : ℕ) → has_number r d n ≡ true
-    → (has d.0 r.0 ≡ true) × (has (pos n) (points_at r.1 d.0) ≡ true)
-is_open_within r d n h = parts (has d.0 r.0) (has (pos n) (points_at r.1 d.0)) h
+    → (has_day d.0 r.0 ≡ true) × (has (pos n) (points_at r.1 d.0) ≡ true)
+is_open_within r d n h = parts (has_day d.0 r.0) (has (pos n) (points_at r.1 d.0)) h
   where
     parts : (s t : Bool) → (s && t) ≡ true → (s ≡ true) × (t ≡ true)
     parts true t e = (refl, e)
@@ -122,8 +113,8 @@ four : (z : ℤ) → IsUpTo 10000000000000000 z → IsUpTo 40000000000000000 z
 four z h = let l = h.low in let m = h.high in record { low = omega (arith, ints); high = omega (arith, ints) }
 
 pub small_days : (r : Kept) → ((p : Period) → IsUpTo 10000000000000000 (row_sum r p)) → (k : ℤ)
-    → IsUpTo 40000000000000000 (sum_at (pos 0) r.0 k)
-small_days r small k = four _ (small (Through (record { 0 = k })))
+    → IsUpTo 10000000000000000 (day_sum r.0 k)
+small_days r small k = small (Through (record { 0 = k }))
 
 pub small_numbers : (r : Kept) → IsRow r → ((p : Period) → IsUpTo 10000000000000000 (row_sum r p)) → (k z : ℤ)
     → IsUpTo 40000000000000000 (sum_at (pos 0) (points_at r.1 k) z)

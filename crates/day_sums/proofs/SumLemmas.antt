@@ -1,5 +1,5 @@
 -- The rows of all commodities, once those of one of them are others.
-use Rattle.std.proofs.Common.{◌≡◌, ℕ, Bool, true, false, ◌&&◌, nat_eq, List, [], refl, ap, ◌∙◌, sym, subst, rules}
+use Rattle.std.proofs.Common.{◌≡◌, ℕ, Bool, true, false, ◌&&◌, nat_eq, List, refl, ap, ◌∙◌, sym, subst, rules}
 use Rattle.std.proofs.Common.{arith, ℤ, pos, ◌+ℤ◌}
 use Rattle.std.specs.Prelude.{Option, Some, if◌then◌else◌}
 use Rattle.std.specs.Option.{option_map_or}
@@ -14,7 +14,7 @@ use Rattle.money_core.specs.declared.day.Day.{Day}
 use Rattle.day_sums.specs.declared.period.Period.{Period}
 use Rattle.day_sums.specs.Period.{is_in}
 use Rattle.day_sums.specs.declared.sums.DaySums.{DaySums}
-use Rattle.day_sums.specs.Row.{Kept, row_sum, has_number, SameRow, RaisedRow}
+use Rattle.day_sums.specs.Row.{Kept, no_row, row_sum, has_number, SameRow, RaisedRow}
 use Rattle.day_sums.specs.Sums.{Names, row_at, SameSums, RaisedSums}
 use Rattle.day_sums.proofs.RowLemmas.{same_none}
 
@@ -22,7 +22,7 @@ abbrev pub Puts : ℕ → DaySums → DaySums → Names → Type 0
 Puts u old new names = UpdatesBy nat_cmp (nat_cmp u) old.units new.units (Some names)
 
 abbrev pub in_names : List ℕ → Option Names → Kept
-in_names a o = option_map_or (λ names. row_at names a) o ([], [])
+in_names a o = option_map_or (λ names. row_at names a) o no_row
 
 -- the rows of a commodity, none where it has none
 abbrev pub rows_of : DaySums → ℕ → List ℕ → Kept

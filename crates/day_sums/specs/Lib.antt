@@ -3,4 +3,5 @@ pub mod Period
 pub mod Sums
 pub mod Spots
 pub mod Points
+pub mod Blocks
 pub mod Row

@@ -1,41 +1,38 @@
 -- The running sums of one row: through each day, and on each day through each of its numbers.
 use Rattle.std.specs.Prelude.{◌≡◌, true, Bool, ◌&&◌, List, [], ◌∷◌, ℕ, ℤ, pos, negsuc, ◌+ℤ◌, if◌then◌else◌}
-use Rattle.std.specs.Option.{unwrap_or}
-use Rattle.std.specs.Ordering.{int_cmp}
-use Rattle.std.specs.BTreeMap.{is_at}
-use Rattle.std.specs.Map.{lookup}
 use Rattle.money_core.specs.declared.day.Day.{Day}
 use Rattle.day_sums.specs.declared.points.Point.{Point}
 use Rattle.day_sums.specs.Points.{is_none, sum_at, has}
+use Rattle.day_sums.specs.Blocks.{Spread, points_at, day_sum, has_day, one_day}
 use Rattle.day_sums.specs.declared.period.Period.{Period}
 use Rattle.day_sums.specs.declared.period.Period.TheVariants.{Before, Through, Within}
 use Rattle.day_sums.specs.Period.{is_in}
 
 -- a row as it is kept: the sums through its days, and for a day those of its own through its numbers
 abbrev pub Kept : Type 0
-Kept = List Point × List (ℤ × List Point)
+Kept = Spread × List (ℤ × List Point)
 
--- the points that stand at a day; none where there are none
-abbrev pub points_at : List (ℤ × List Point) → ℤ → List Point
-points_at es k = unwrap_or (lookup (is_at (int_cmp k)) es) []
+-- the row of no quantity
+abbrev pub no_row : Kept
+no_row = (([], []), [])
 
 -- the sum over a period
 abbrev pub row_sum : Kept → Period → ℤ
-row_sum r (Before d) = sum_at (pos 0) r.0 (d.0 +ℤ negsuc 0)
-row_sum r (Through d) = sum_at (pos 0) r.0 d.0
+row_sum r (Before d) = day_sum r.0 (d.0 +ℤ negsuc 0)
+row_sum r (Through d) = day_sum r.0 d.0
 row_sum r (Within d n) = sum_at (pos 0) (points_at r.1 d.0) (pos n)
 
 -- the row of one quantity
 abbrev pub one : Day → ℕ → ℤ → Kept
-one day n q = (record { at = day.0; sum = q } ∷ [], (day.0, record { at = pos n; sum = q } ∷ []) ∷ [])
+one day n q = (one_day day.0 q, (day.0, record { at = pos n; sum = q } ∷ []) ∷ [])
 
 -- a row that has no day yet has its first quantity alone
 abbrev pub whole : Day → ℕ → ℤ → Kept → Kept
-whole day n q r = if is_none r.0 then one day n q else r
+whole day n q r = if is_none r.0.0 then one day n q else r
 
 -- whether a day's number is open
 abbrev pub has_number : Kept → Day → ℕ → Bool
-has_number r d n = has d.0 r.0 && has (pos n) (points_at r.1 d.0)
+has_number r d n = has_day d.0 r.0 && has (pos n) (points_at r.1 d.0)
 
 -- no number is below 0
 abbrev pub IsRow : Kept → Type 0

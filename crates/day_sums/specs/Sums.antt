@@ -1,5 +1,5 @@
 -- Running sums by day, of accounts in commodities (own rule).
-use Rattle.std.specs.Prelude.{◌≡◌, true, Bool, ◌&&◌, nat_eq, ℕ, List, [], ℤ, pos, ◌+ℤ◌, if◌then◌else◌, Vec}
+use Rattle.std.specs.Prelude.{◌≡◌, true, Bool, ◌&&◌, nat_eq, ℕ, List, ℤ, pos, ◌+ℤ◌, if◌then◌else◌, Vec}
 use Rattle.std.specs.Global.{Global}
 use Rattle.std.specs.Option.{unwrap_or, option_map_or}
 use Rattle.std.specs.Ordering.{nat_cmp}
@@ -14,7 +14,7 @@ use Rattle.day_sums.specs.declared.sums.DaySums.{DaySums}
 use Rattle.day_sums.specs.Points.{IsUpTo}
 use Rattle.day_sums.specs.declared.period.Period.{Period}
 use Rattle.day_sums.specs.Period.{is_in}
-use Rattle.day_sums.specs.Row.{Kept, row_sum, has_number}
+use Rattle.day_sums.specs.Row.{Kept, no_row, row_sum, has_number}
 
 -- the rows of the accounts in one commodity
 abbrev pub Names : Type 0
@@ -22,10 +22,10 @@ Names = HashMap (Vec ℕ Global) Kept (BuildHasherDefault FoldHasher)
 
 -- the row of an account, and of an account in a commodity; empty where there is none
 abbrev pub row_at : Names → List ℕ → Kept
-row_at names a = unwrap_or (get_by (λ k. bytes_eq a k.items) names) ([], [])
+row_at names a = unwrap_or (get_by (λ k. bytes_eq a k.items) names) no_row
 
 abbrev pub look : DaySums → List ℕ → Commodity → Kept
-look rows a u = option_map_or (λ names. row_at names a) (get nat_cmp rows.units u.0) ([], [])
+look rows a u = option_map_or (λ names. row_at names a) (get nat_cmp rows.units u.0) no_row
 
 -- the sum of an account in a commodity over a period, in smallest units
 abbrev pub sum_of : DaySums → List ℕ → Commodity → Period → ℤ

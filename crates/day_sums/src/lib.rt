@@ -1,9 +1,11 @@
 //! Running sums by day, of accounts in commodities, and spots by account and day.
 #![tactic(auto)]
 
+mod blocks;
 mod days;
 mod named_spots;
 mod names;
+mod parts;
 mod period;
 mod points;
 mod row;

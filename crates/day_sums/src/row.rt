@@ -4,7 +4,7 @@ ghost use Rattle.std.specs.Prelude.{◌≡◌, [], true, OnOk};
 ghost use Rattle.std.specs.Result.{IsOkUnless};
 ghost use Rattle.day_sums.specs.declared.period.Period.{Period as Span};
 ghost use Rattle.day_sums.specs.Points.{IsUpTo};
-ghost use Rattle.day_sums.specs.Row.{row_sum, has_number, SameRow, RaisedRow};
+ghost use Rattle.day_sums.specs.Row.{no_row, row_sum, has_number, SameRow, RaisedRow};
 
 use crate::days::Days;
 use crate::period::{Period, is_in};
@@ -36,7 +36,7 @@ impl Model for Row {
 impl Row {
     /// A row in which a day's number is open.
     pub fn of(alloc: Global, day: Day, number: u32) -> Self
-        ensures same { SameRow ([], []) result }
+        ensures same { SameRow no_row result }
         ensures open { has_number result day number ≡ true }
     {
         Row {

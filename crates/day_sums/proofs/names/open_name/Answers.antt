@@ -1,5 +1,5 @@
-use Rattle.std.proofs.Common.{◌≡◌, ◌∙◌, sym, ap, subst, List, [], ℕ, rules}
-use Rattle.day_sums.specs.Row.{Kept, SameRow, has_number}
+use Rattle.std.proofs.Common.{◌≡◌, ◌∙◌, sym, ap, subst, List, ℕ, rules}
+use Rattle.day_sums.specs.Row.{Kept, no_row, SameRow, has_number}
 use Rattle.day_sums.specs.Sums.{Names, row_at}
 use Rattle.day_sums.proofs.NameLemmas.{Writes, same_rows, row_own, in_row}
 use Rattle.day_sums.proofs.names.open_name.Goals as goal
@@ -15,11 +15,11 @@ pub returns-in-Ok-clause-same : goal.returns-in-Ok-clause-same
 returns-in-Ok-clause-same c =
     let old = c.get_mut.follows.lender-at-none in
     let kept = c.get_mut.follows.holds-at-none in
-    let none : ([], []) ≡ row_at c.args.names.now c.args.account.now = ap in_row c.in_default.ensures.value in
+    let none : no_row ≡ row_at c.args.names.now c.args.account.now = ap in_row c.in_default.ensures.value in
     let put : Writes c.args.account.now old c.insert.new.self c.of-row.result =
     subst (λ (name : List ℕ). Writes name old c.insert.new.self c.of-row.result) c.in_ok-name.ensures.items
     c.in-Ok.ensures.updates in
-    let was : ([], []) ≡ row_at old c.args.account.now =
+    let was : no_row ≡ row_at old c.args.account.now =
     none ∙ ap (λ (m : Names). row_at m c.args.account.now) (sym kept) in
     subst (λ (m : Names). (a : List ℕ) → SameRow (row_at m a) (row_at c.insert.new.self a)) kept
     (same_rows c.args.account.now old c.insert.new.self c.of-row.result put
