@@ -19,9 +19,9 @@ use Rattle.sqlite.specs.Effect.{Database}
 use Rattle.sqlite.specs.Held.{Held}
 use Rattle.sqlite.specs.Start.{FindsIn}
 use Rattle.sqlite.specs.Files.{file_state, IsOpened, AreFoundIn}
-use Rattle.treasury_core.specs.Federation.{Federation}
-use Rattle.treasury_core.specs.Good.{IsGoodState}
-use Rattle.treasury_core.specs.Rows.{rows}
+use Rattle.treasury_state.specs.Federation.{Federation}
+use Rattle.treasury_state.specs.Good.{IsGoodState}
+use Rattle.treasury_state.specs.Rows.{rows}
 use Rattle.treasury_store.specs.Tables.{no_schema}
 use Rattle.treasury_api.specs.Step.{Standing}
 use Rattle.treasury.specs.Word.{AnswersWord, Told, AreTold}

@@ -18,8 +18,8 @@ use Rattle.sqlite.specs.Files.{file_state, over_files}
 use Rattle.money_core.specs.declared.cause.Cause.{Cause}
 use Rattle.money_core.specs.declared.cause.Cause.TheVariants.{OutOfMemory, ReadFault}
 use Rattle.book_core.specs.declared.refusal.Refusal.TheVariants.{Plain}
-use Rattle.treasury_core.specs.Federation.{Federation}
-use Rattle.treasury_core.specs.Rows.{rows}
+use Rattle.treasury_state.specs.Federation.{Federation}
+use Rattle.treasury_state.specs.Rows.{rows}
 use Rattle.treasury_store.specs.Treasury.{Treasury}
 use Rattle.treasury_requests.specs.declared.request.Spelled.{Spelled}
 use Rattle.treasury_api.specs.Answer.{answer_text}

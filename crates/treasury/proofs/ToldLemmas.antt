@@ -1,6 +1,6 @@
 -- Words over a file, one after another: their commands are a run of the machine of commands.
 use Rattle.std.proofs.Common.{◌≡◌, List, [], ◌∷◌, true, ℕ, sym, inl, inr}
-use Rattle.treasury_core.specs.Federation.{Federation}
+use Rattle.treasury_state.specs.Federation.{Federation}
 use Rattle.treasury_requests.specs.declared.request.Spelled.{Spelled}
 use Rattle.treasury_api.specs.Step.{Standing}
 use Rattle.treasury.specs.Word.{AnswersWord, Told, AreTold, turns_of_words}

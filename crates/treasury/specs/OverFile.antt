@@ -19,10 +19,10 @@ use Rattle.money_core.specs.declared.cause.Cause.{Cause}
 use Rattle.money_core.specs.declared.cause.Cause.TheVariants.{OutOfMemory, Store, Damaged, Request as NoRequest}
 use Rattle.money_core.specs.declared.cause.Cause.TheVariants.{ReadFault}
 use Rattle.book_core.specs.declared.refusal.Refusal.TheVariants.{Plain}
+use Rattle.treasury_state.specs.Federation.{Federation}
+use Rattle.treasury_state.specs.Rows.{rows}
 use Rattle.treasury_core.specs.declared.command.Answer.TheVariants.{Done}
-use Rattle.treasury_core.specs.Federation.{Federation}
-use Rattle.treasury_core.specs.History.{Turn}
-use Rattle.treasury_core.specs.Rows.{rows}
+use Rattle.treasury_core.specs.Run.{Turn}
 use Rattle.treasury_store.specs.Rows.{AreTreesOf}
 use Rattle.treasury_requests.specs.declared.request.Spelled.{Spelled}
 use Rattle.treasury_requests.specs.declared.request.Request.{Request}

@@ -9,8 +9,8 @@ ghost use Rattle.sqlite.specs.Held.{Held};
 ghost use Rattle.sqlite.specs.Start.{FindsIn};
 ghost use Rattle.sqlite.specs.Tree.{Trees};
 ghost use Rattle.sqlite.specs.Files.{file_state, IsOpened, HoldsDatabase};
-ghost use Rattle.treasury_core.specs.Federation.{Federation};
-ghost use Rattle.treasury_core.specs.Good.{IsGoodState};
+ghost use Rattle.treasury_state.specs.Federation.{Federation};
+ghost use Rattle.treasury_state.specs.Good.{IsGoodState};
 ghost use Rattle.treasury_api.specs.Step.{Standing};
 ghost use Rattle.treasury_api.specs.History.{KeepBooksTo};
 ghost use Rattle.treasury_api.specs.Web.{AreServed, turns_of_calls};
@@ -26,7 +26,7 @@ ghost use Rattle.treasury.specs.Serving.{HaveRowsAfter, ServesOver, ServesOpen, 
 
 use sqlite_disk::Disk;
 use treasury_api::calls_law;
-use treasury_core::headline_law;
+use treasury_laws::headline_law;
 
 /// A law of words over a file: said one after another, each on the state that the one before it left there, their
 /// commands are, with their replies and in their order, a run of the machine of commands that leads where the words do,

@@ -48,11 +48,11 @@ use treasury_api::{
     Listener, NOTHING_ENTERED, NoListener, commands_law, refusal_law, run_heard_lines, run_law,
     write_whole,
 };
-use treasury_core::{
+use treasury_files::{Left, wait_for};
+use treasury_laws::{
     accepted_closing_law, good_law, growing_law, headline_law, late_entry_law, lock_law,
     records_law, sound_law,
 };
-use treasury_files::{Left, wait_for};
 use treasury_memory::{MemoryStore, open_memory};
 use treasury_spelling::{is_dry_run, is_explained, read_words, value_of};
 use treasury_store::{Store, Treasury};

@@ -14,11 +14,11 @@ use Rattle.book_core.specs.declared.refusal.Refusal.TheVariants.{Plain, Text}
 use Rattle.journal_format.specs.declared.txn.Located.{Located}
 use Rattle.journal_format.specs.Pieces.{Reads}
 use Rattle.journal_format.specs.Fault.{IsFirstFault}
+use Rattle.treasury_state.specs.Federation.{Federation}
 use Rattle.treasury_core.specs.declared.command.Command.{Command as AnyCommand}
 use Rattle.treasury_core.specs.declared.command.Command.TheVariants as cmd
-use Rattle.treasury_core.specs.Good.{Fits}
 use Rattle.treasury_core.specs.declared.command.Answer.TheVariants.{Done}
-use Rattle.treasury_core.specs.Federation.{Federation}
+use Rattle.treasury_core.specs.Fits.{Fits}
 use Rattle.treasury_store.specs.Store.{AnswersState}
 use Rattle.treasury_store.specs.Treasury.{Treasury, IsTreasuryOf}
 use Rattle.sqlite.specs.Store.{Ghosts}

@@ -25,7 +25,7 @@ use Rattle.journal_format.specs.Pieces.{Reads}
 use Rattle.journal_format.proofs.ReadLemmas.{read_printable}
 use Rattle.treasury_core.specs.declared.command.Command.{Command as AnyCommand}
 use Rattle.treasury_core.specs.declared.command.Command.TheVariants as cmd
-use Rattle.treasury_core.specs.Good.{IsFile, Fits}
+use Rattle.treasury_core.specs.Fits.{IsFile, Fits}
 use Rattle.treasury_requests.specs.declared.request.Spelled.{Spelled}
 use Rattle.treasury_requests.specs.declared.request.Request.{Request}
 use Rattle.treasury_requests.specs.declared.request.Request.TheVariants.{Branch as ForBranch, Commodity as ForCommodity}

@@ -13,11 +13,11 @@ use Rattle.money_core.specs.declared.unit.Unit.{Unit}
 use Rattle.money_core.specs.Reading.{amount}
 use Rattle.journal_lines.specs.DateReading.{date_of}
 use Rattle.book_core.specs.declared.refusal.Refusal.{Refusal}
+use Rattle.treasury_state.proofs.BytesLemmas.{same_bytes}
+use Rattle.treasury_state.proofs.AllLemmas.{all-append}
 use Rattle.treasury_core.specs.declared.command.Answer.{Answer}
 use Rattle.treasury_core.specs.declared.command.Command.{Command as AnyCommand}
-use Rattle.treasury_core.proofs.BytesLemmas.{same_bytes}
-use Rattle.treasury_core.proofs.ChangeLemmas.{all-append}
-use Rattle.treasury_core.specs.History.{Turn}
+use Rattle.treasury_core.specs.Run.{Turn}
 use Rattle.treasury_requests.specs.declared.request.WrittenPart.{WrittenPart}
 use Rattle.treasury_requests.specs.declared.request.Spelled.{Spelled}
 use Rattle.treasury_requests.specs.declared.request.Request.{Request}

@@ -7,13 +7,14 @@ use Rattle.money_core.specs.declared.cause.Cause.{Cause}
 use Rattle.money_core.specs.declared.cause.Cause.TheVariants.{OutOfMemory, Store as Failed}
 use Rattle.book_core.specs.declared.refusal.Refusal.{Refusal}
 use Rattle.book_core.specs.declared.refusal.Refusal.TheVariants.{Plain}
+use Rattle.treasury_state.specs.declared.delta.Addition.{Addition}
+use Rattle.treasury_state.specs.Federation.{Federation}
+use Rattle.treasury_state.specs.Good.{IsGoodState}
 use Rattle.treasury_core.specs.declared.command.Answer.{Answer}
 use Rattle.treasury_core.specs.declared.command.Command.{Command as AnyCommand}
-use Rattle.treasury_core.specs.Federation.{Federation}
-use Rattle.treasury_core.specs.Good.{Fits, IsGoodState}
+use Rattle.treasury_core.specs.Fits.{Fits}
 use Rattle.treasury_core.specs.Step.{reply as command_reply, delta, Decides}
-use Rattle.treasury_core.specs.declared.delta.Addition.{Addition}
-use Rattle.treasury_core.specs.History.{Replies as Steps}
+use Rattle.treasury_core.specs.Run.{Replies as Steps}
 use Rattle.treasury_store.specs.Treasury.{Treasury, IsTreasuryOf, IsListed}
 use Rattle.treasury_store.proofs.OwnRefusalLemmas.{reply_not_failed, listed_reply}
 use Rattle.http_request.specs.declared.call.Form.{Form}

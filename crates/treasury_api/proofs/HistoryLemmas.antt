@@ -5,14 +5,14 @@ use Rattle.std.proofs.Common.{arith, refl, ap, ◌∙◌, sym, subst, inl, inr, 
 use Rattle.money_core.specs.declared.cause.Cause.TheVariants.{Store as Failed}
 use Rattle.book_core.specs.declared.refusal.Refusal.{Refusal}
 use Rattle.book_core.specs.declared.refusal.Refusal.TheVariants.{Plain}
+use Rattle.treasury_state.specs.Federation.{Federation}
+use Rattle.treasury_state.specs.Good.{IsGoodState}
 use Rattle.treasury_core.specs.declared.command.Answer.{Answer}
 use Rattle.treasury_core.specs.declared.command.Answer.TheVariants.{Done, Entered, Repeated}
 use Rattle.treasury_core.specs.declared.command.Command.{Command as AnyCommand}
-use Rattle.treasury_core.specs.Federation.{Federation}
-use Rattle.treasury_core.specs.Good.{IsGoodState}
+use Rattle.treasury_core.specs.Run.{Replies as CommandReplies, IsRun as IsCommandRun, state_after}
 use Rattle.treasury_core.proofs.ReplyLemmas.{run_good}
-use Rattle.treasury_core.specs.History.{Replies as CommandReplies, IsRun as IsCommandRun, state_after}
-use Rattle.treasury_core.specs.History.{IsRefusedOrRepeated}
+use Rattle.treasury_laws.specs.History.{IsRefusedOrRepeated}
 use Rattle.treasury_api.specs.declared.asking.Asked.{Asked}
 use Rattle.treasury_api.specs.declared.asking.Asked.TheVariants.{Command, DryRun, Report}
 use Rattle.treasury_api.specs.Asked.{Asks}

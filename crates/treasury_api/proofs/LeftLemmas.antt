@@ -17,11 +17,11 @@ use Rattle.book_core.specs.declared.refusal.Refusal.{Refusal}
 use Rattle.book_core.specs.declared.refusal.Refusal.TheVariants.{Plain, Text}
 use Rattle.journal_format.specs.declared.txn.Located.{Located}
 use Rattle.journal_format.proofs.FaultLemmas.{one_list, no_fault_read, one_fault}
+use Rattle.treasury_state.specs.Federation.{Federation}
+use Rattle.treasury_state.specs.Rows.{rows}
 use Rattle.treasury_core.specs.declared.command.Answer.{Answer}
 use Rattle.treasury_core.specs.declared.command.Command.{Command as AnyCommand}
 use Rattle.treasury_core.specs.declared.command.Command.TheVariants as cmd
-use Rattle.treasury_core.specs.Federation.{Federation}
-use Rattle.treasury_core.specs.Rows.{rows}
 use Rattle.treasury_store.specs.Rows.{Tables}
 use Rattle.treasury_store.specs.Store.{TablesAre, AnswersState}
 use Rattle.treasury_store.specs.Treasury.{Treasury, IsTreasuryOf, FailsBy, is_by_rules}

@@ -13,10 +13,10 @@ use Rattle.money_core.specs.declared.mark.Mark.TheVariants.{Point, Comma}
 use Rattle.money_core.specs.Style.{AreStyles, bool_eq, mark_eq, style_eq}
 use Rattle.money_core.proofs.SampleLemmas.{spelled_style}
 use Rattle.money_core.proofs.StyleLemmas.{declared-held}
-use Rattle.treasury_core.specs.Federation.{Federation}
-use Rattle.treasury_core.specs.Step.{commodity_reply, reply}
+use Rattle.treasury_state.specs.Federation.{Federation}
 use Rattle.treasury_core.specs.declared.command.Command.TheVariants as cmd
 use Rattle.treasury_core.specs.declared.command.Answer.TheVariants.{Repeated}
+use Rattle.treasury_core.specs.Step.{commodity_reply, reply}
 use Rattle.treasury_reports.specs.CommoditiesReport.{sample_text, AreSamples}
 use Rattle.treasury_api.specs.Asked.{asked_by_sample}
 use Rattle.treasury_api.specs.Lists.{AreRepeated}

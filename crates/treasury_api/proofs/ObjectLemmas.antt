@@ -12,7 +12,7 @@ use Rattle.money_core.specs.Cause.{number_of, name_of}
 use Rattle.json_text.specs.JsonText.{escaped, quoted, object_text, rows_text, lines_of}
 use Rattle.json_text.proofs.LengthLemmas.{length-quoted}
 use Rattle.json_text.specs.JsonText as held
-use Rattle.treasury_core.specs.Federation.{Federation}
+use Rattle.treasury_state.specs.Federation.{Federation}
 use Rattle.treasury_api.specs.declared.report.Report.{Report as AnyReport}
 use Rattle.treasury_api.specs.Report.{report_rows, report_json}
 use Rattle.treasury_told.specs.Sentence.{sentence_of}

@@ -7,9 +7,9 @@ use Rattle.sqlite.specs.Held.{state}
 use Rattle.money_core.specs.declared.cause.Cause.TheVariants.{OutOfMemory}
 use Rattle.book_core.specs.declared.refusal.Refusal.{Refusal}
 use Rattle.book_core.specs.declared.refusal.Refusal.TheVariants.{Plain}
+use Rattle.treasury_state.specs.Federation.{Federation}
 use Rattle.treasury_core.specs.declared.command.Answer.{Answer}
-use Rattle.treasury_core.specs.Federation.{Federation}
-use Rattle.treasury_core.specs.History.{Turn, IsRun, state_after}
+use Rattle.treasury_core.specs.Run.{Turn, IsRun, state_after}
 use Rattle.treasury_store.specs.Treasury.{Treasury, IsTreasuryOf}
 use Rattle.treasury_requests.specs.declared.request.Spelled.{Spelled}
 use Rattle.http_request.specs.declared.call.Form.{Form}

@@ -35,37 +35,38 @@ use Rattle.journal_format.specs.Printable.{IsPrintable}
 use Rattle.journal_balance.specs.Legs.{legs_of}
 use Rattle.journal_balance.proofs.EntryLemmas.{entry_day}
 use Rattle.journal_balance.proofs.DeclaredLemmas.{entry_declared, entry_asserts}
-use Rattle.treasury_core.specs.declared.record.Record.{Record}
+use Rattle.treasury_state.specs.declared.record.Record.{Record}
+use Rattle.treasury_state.specs.declared.transfer.Part.{Part}
+use Rattle.treasury_state.specs.declared.transfer.Transfer.{Transfer}
+use Rattle.treasury_state.specs.Federation.{Federation, is_branch_name, most_branches, has_branch, records_of, lock_of}
+use Rattle.treasury_state.specs.Federation.{entries, book_of, is_locked}
+use Rattle.treasury_state.specs.Mark.{held, is_held, is_repeat, is_product_mark, close_mark}
+use Rattle.treasury_state.specs.Transfer.{is_id, is_account_text, is_reserved, is_transit, dispatch_record}
+use Rattle.treasury_state.specs.Transfer.{receipt_record, receipts_of, transfer_at}
+use Rattle.treasury_state.specs.Good.{IsGoodRecord, IsGoodState}
+use Rattle.treasury_state.proofs.BranchLemmas.{of_branch}
 use Rattle.treasury_core.specs.declared.command.Answer.{Answer}
 use Rattle.treasury_core.specs.declared.command.Answer.TheVariants.{Repeated}
 use Rattle.treasury_core.specs.declared.command.Command.{Command}
 use Rattle.treasury_core.specs.declared.command.Command.TheVariants as cmd
-use Rattle.treasury_core.specs.Federation.{Federation, is_branch_name, most_branches, has_branch, records_of, lock_of}
-use Rattle.treasury_core.specs.Federation.{entries, book_of}
 use Rattle.treasury_core.specs.declared.command.Dispatch.{Dispatch}
 use Rattle.treasury_core.specs.declared.command.Receive.{Receive}
 use Rattle.treasury_core.specs.declared.command.Close.{Close}
 use Rattle.treasury_core.specs.declared.choice.Choice.{Choice}
-use Rattle.treasury_core.specs.declared.transfer.Part.{Part}
-use Rattle.treasury_core.specs.declared.transfer.Transfer.{Transfer}
-use Rattle.treasury_core.specs.Mark.{held, is_held, is_repeat, is_product_mark}
-use Rattle.treasury_core.specs.Transfer.{is_id, is_account_text, is_reserved, is_transit, dispatch_record}
-use Rattle.treasury_core.specs.Transfer.{receipt_record, receipts_of}
 use Rattle.treasury_core.specs.Choice.{is_selected, target_in, listed, list_text, choice_comments, list_limit}
 use Rattle.treasury_core.specs.Choice.{holds_transit, choice_refusal}
-use Rattle.treasury_core.specs.Closing.{close_mark, closing_record, closing_answer, closing_in}
-use Rattle.treasury_core.specs.Step.{unless, commodity_reply, is_locked, is_lock, goes_back, fault_on, unbalanced}
-use Rattle.treasury_core.specs.Step.{records_in_file, barred, refusal_of, refused_in, new_records, enter_refusal}
-use Rattle.treasury_core.specs.Step.{transfer_at, transfer_of, is_dispatched_so, dispatch_refusal, dispatch_reply}
-use Rattle.treasury_core.specs.Step.{key_of, qty_of, receipt_of, has_key, is_received_so, is_too_much, has_bad_key}
-use Rattle.treasury_core.specs.Step.{has_nothing_left, receipt_refusal, held_reply, receipt_reply, receive_reply}
-use Rattle.treasury_core.specs.Step.{entering_refusal, close_refusal, closed_reply, reply}
-use Rattle.treasury_core.specs.Good.{IsGoodRecord, IsGoodState, Fits}
-use Rattle.treasury_core.proofs.LateEntryLemmas.{all_at}
-use Rattle.treasury_core.proofs.OwnLemmas.{of_branch}
+use Rattle.treasury_core.specs.Closing.{closing_record, closing_answer, closing_in}
+use Rattle.treasury_core.specs.Step.{unless, commodity_reply, is_lock, goes_back, fault_on, unbalanced, records_in_file}
+use Rattle.treasury_core.specs.Step.{barred, refusal_of, refused_in, new_records, enter_refusal, transfer_of}
+use Rattle.treasury_core.specs.Step.{is_dispatched_so, dispatch_refusal, dispatch_reply, key_of, qty_of, receipt_of}
+use Rattle.treasury_core.specs.Step.{has_key, is_received_so, is_too_much, has_bad_key, has_nothing_left}
+use Rattle.treasury_core.specs.Step.{receipt_refusal, held_reply, receipt_reply, receive_reply, entering_refusal}
+use Rattle.treasury_core.specs.Step.{close_refusal, closed_reply, reply}
+use Rattle.treasury_core.specs.Fits.{Fits}
 use Rattle.treasury_core.proofs.ClosingReply.{not_more}
 use Rattle.treasury_core.proofs.ClosingRecord.{closing_record_good}
 use Rattle.treasury_core.proofs.ReplyLemmas.{new_good, dispatch_record_good, may_receive, receipt_record_good}
+use Rattle.treasury_laws.proofs.LateEntryLemmas.{all_at}
 use Rattle.treasury_api.specs.Answer.{IsPrintableFailure, IsPrintableRefusal}
 
 -- an entry of a transaction that can be printed

@@ -7,12 +7,13 @@ use Rattle.money_core.specs.declared.style.Style.{Style}
 use Rattle.money_core.specs.declared.cause.Cause.TheVariants.{OutOfMemory, Store as Failed}
 use Rattle.book_core.specs.declared.refusal.Refusal.{Refusal}
 use Rattle.book_core.specs.declared.refusal.Refusal.TheVariants.{Plain, Text, ClaimFailed}
+use Rattle.treasury_state.specs.Federation.{Federation}
+use Rattle.treasury_state.specs.Good.{IsGoodState}
 use Rattle.treasury_core.specs.declared.command.Answer.{Answer}
 use Rattle.treasury_core.specs.declared.command.Command.{Command as AnyCommand}
-use Rattle.treasury_core.specs.Federation.{Federation}
-use Rattle.treasury_core.specs.Good.{Fits, IsGoodState}
+use Rattle.treasury_core.specs.Fits.{Fits}
 use Rattle.treasury_core.specs.Step.{reply as command_reply, delta}
-use Rattle.treasury_core.specs.History.{Replies as Steps}
+use Rattle.treasury_core.specs.Run.{Replies as Steps}
 use Rattle.treasury_store.specs.Treasury.{Treasury, IsTreasuryOf, Performs, FailsBy, AddsNothing}
 use Rattle.treasury_store.specs.Treasury.{MayReply as MayPerform}
 use Rattle.http_request.specs.declared.call.Form.{Form}

@@ -7,10 +7,10 @@ use Rattle.sqlite.specs.State.{HasCleanDisk}
 use Rattle.sqlite.specs.Held.{state}
 use Rattle.money_core.specs.declared.cause.Cause.{Cause}
 use Rattle.money_core.specs.declared.cause.Cause.TheVariants.{OutOfMemory, ReadFault, WriteFault}
-use Rattle.treasury_core.specs.Federation.{Federation}
-use Rattle.treasury_core.specs.Rows.{rows}
-use Rattle.treasury_core.specs.History.{state_after}
-use Rattle.treasury_core.proofs.HeadlineLemmas.{keeps_books}
+use Rattle.treasury_state.specs.Federation.{Federation}
+use Rattle.treasury_state.specs.Rows.{rows}
+use Rattle.treasury_core.specs.Run.{state_after}
+use Rattle.treasury_laws.proofs.HeadlineLemmas.{keeps_books}
 use Rattle.treasury_store.specs.Kept.{ShutsByFault}
 use Rattle.treasury_store.specs.Treasury.{Treasury, IsTreasuryOf}
 use Rattle.treasury_store.specs.Left.{LeavesRows}

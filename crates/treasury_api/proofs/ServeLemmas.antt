@@ -15,11 +15,11 @@ use Rattle.money_core.specs.declared.cause.Cause.TheVariants.{OutOfMemory, Unkno
 use Rattle.money_core.specs.declared.cause.Cause.TheVariants.{Store as Failed}
 use Rattle.book_core.specs.declared.refusal.Refusal.{Refusal}
 use Rattle.book_core.specs.declared.refusal.Refusal.TheVariants.{Plain, Text, ClaimFailed}
+use Rattle.treasury_state.specs.Federation.{Federation}
+use Rattle.treasury_state.specs.Rows.{rows}
 use Rattle.treasury_core.specs.declared.command.Answer.{Answer}
 use Rattle.treasury_core.specs.declared.command.Answer.TheVariants.{Done}
 use Rattle.treasury_core.specs.declared.command.Command.{Command as AnyCommand}
-use Rattle.treasury_core.specs.Federation.{Federation}
-use Rattle.treasury_core.specs.Rows.{rows}
 use Rattle.treasury_store.specs.Kept.{ShutsByFault}
 use Rattle.treasury_store.specs.Treasury.{Treasury, IsTreasuryOf}
 use Rattle.treasury_store.proofs.LeftLemmas.{shuts_same}

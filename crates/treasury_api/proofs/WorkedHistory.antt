@@ -5,10 +5,10 @@ use Rattle.money_core.specs.declared.day.Day.{Day}
 use Rattle.money_core.specs.declared.cause.Cause.TheVariants.{UnknownBranch, Amount, Closed, Store as Failed}
 use Rattle.book_core.specs.declared.refusal.Refusal.{Refusal}
 use Rattle.book_core.specs.declared.refusal.Refusal.TheVariants.{Plain, Text, ClaimFailed}
+use Rattle.treasury_state.specs.Federation.{Federation}
+use Rattle.treasury_state.specs.Joined.{new_branch}
 use Rattle.treasury_core.specs.declared.command.Answer.TheVariants.{Done, Repeated}
 use Rattle.treasury_core.specs.declared.command.Command.TheVariants as cmd
-use Rattle.treasury_core.specs.Federation.{Federation}
-use Rattle.treasury_core.specs.Joined.{new_branch}
 use Rattle.treasury_core.specs.Step.{done}
 use Rattle.treasury_store.specs.Store.{empty_state}
 use Rattle.treasury_api.specs.declared.asking.Asked.{Asked}

@@ -9,14 +9,15 @@ use Rattle.book_core.specs.declared.refusal.Refusal.{Refusal}
 use Rattle.book_core.specs.declared.refusal.Refusal.TheVariants.{Plain}
 use Rattle.http_request.specs.declared.call.Form.TheVariants as form
 use Rattle.http_request.specs.declared.call.Call.TheVariants.{Command as CalledCommand}
+use Rattle.treasury_state.specs.Federation.{Federation}
+use Rattle.treasury_state.specs.Good.{IsGoodState}
 use Rattle.treasury_core.specs.declared.command.Answer.{Answer}
 use Rattle.treasury_core.specs.declared.command.Command.{Command as AnyCommand}
 use Rattle.treasury_core.specs.declared.command.Command.TheVariants as cmd
-use Rattle.treasury_core.specs.Federation.{Federation}
-use Rattle.treasury_core.specs.Good.{IsGoodState, Fits}
+use Rattle.treasury_core.specs.Fits.{Fits}
 use Rattle.treasury_core.specs.Step.{after}
-use Rattle.treasury_core.specs.History.{Turn, Replies}
-use Rattle.treasury_core.proofs.HeadlineLemmas.{keeps_books}
+use Rattle.treasury_core.specs.Run.{Turn, Replies}
+use Rattle.treasury_laws.proofs.HeadlineLemmas.{keeps_books}
 use Rattle.treasury_api.specs.declared.asking.Asked.TheVariants.{Command}
 use Rattle.treasury_requests.specs.declared.request.Request.TheVariants.{Branch}
 use Rattle.treasury_requests.specs.Request.{spelled, in_earnest}

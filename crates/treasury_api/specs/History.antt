@@ -2,10 +2,11 @@
 -- and repeats leave the state (own rules; docs/RULES.md, "Books", "Orders").
 use Rattle.std.specs.Prelude.{◌≡◌, ◌⊎◌, ⊤, ℕ, if◌then◌else◌, Result, Ok, Err, List, [], ◌∷◌, ◌++◌, map, codes}
 use Rattle.book_core.specs.declared.refusal.Refusal.{Refusal}
+use Rattle.treasury_state.specs.Federation.{Federation}
 use Rattle.treasury_core.specs.declared.command.Answer.{Answer}
-use Rattle.treasury_core.specs.Federation.{Federation}
-use Rattle.treasury_core.specs.Headline.{KeepsBooks}
-use Rattle.treasury_core.specs.History.{Turn as CommandTurn, IsRun as IsCommandRun, state_after, IsRefusedOrRepeated}
+use Rattle.treasury_core.specs.Run.{Turn as CommandTurn, IsRun as IsCommandRun, state_after}
+use Rattle.treasury_laws.specs.Headline.{KeepsBooks}
+use Rattle.treasury_laws.specs.History.{IsRefusedOrRepeated}
 use Rattle.treasury_api.specs.declared.asking.Asked.{Asked}
 use Rattle.treasury_api.specs.declared.asking.Asked.TheVariants.{Command, DryRun, Report}
 use Rattle.treasury_api.specs.Asked.{Asks}

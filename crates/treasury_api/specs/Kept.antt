@@ -3,8 +3,8 @@ use Rattle.std.specs.Prelude.{◌≡◌, ℕ, List, [], ◌∷◌, ◌++◌, Opt
 use Rattle.sqlite.specs.Store.{Ghosts}
 use Rattle.money_core.specs.declared.cause.Cause.{Cause}
 use Rattle.money_core.specs.declared.cause.Cause.TheVariants.{OutOfMemory, ReadFault, WriteFault}
-use Rattle.treasury_core.specs.History.{IsRun as IsCommandRun, state_after}
-use Rattle.treasury_core.specs.Headline.{KeepsBooks}
+use Rattle.treasury_core.specs.Run.{IsRun as IsCommandRun, state_after}
+use Rattle.treasury_laws.specs.Headline.{KeepsBooks}
 use Rattle.treasury_store.specs.Treasury.{Treasury}
 use Rattle.treasury_api.specs.RunEnd.{most_input, Finished, EndsBy}
 use Rattle.treasury_api.specs.Step.{Standing, Answers}

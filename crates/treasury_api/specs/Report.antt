@@ -4,7 +4,7 @@ use Rattle.std.specs.Prelude.{ℕ, List, [], ◌∷◌, ◌++◌, codes, Bool, t
 use Rattle.json_text.specs.JsonText.{Held, rows, object_text}
 use Rattle.http_request.specs.declared.call.Form.{Form}
 use Rattle.http_request.specs.declared.call.Form.TheVariants as form
-use Rattle.treasury_core.specs.Federation.{Federation, has_branch}
+use Rattle.treasury_state.specs.Federation.{Federation, has_branch}
 use Rattle.treasury_reports.specs.BalanceReport.{balance_text, balance_rows}
 use Rattle.treasury_reports.specs.RegisterReport.{register_text, register_rows}
 use Rattle.treasury_reports.specs.TransitReport.{transit_text, transit_rows}

@@ -5,9 +5,9 @@ use Rattle.std.specs.Prelude.{Ok, Err}
 use Rattle.money_core.specs.declared.cause.Cause.TheVariants.{UnknownBranch, OutOfMemory, Store as Failed}
 use Rattle.book_core.specs.declared.refusal.Refusal.{Refusal}
 use Rattle.book_core.specs.declared.refusal.Refusal.TheVariants.{Plain}
+use Rattle.treasury_state.specs.Federation.{Federation}
 use Rattle.treasury_core.specs.declared.command.Answer.{Answer}
 use Rattle.treasury_core.specs.declared.command.Answer.TheVariants.{Done}
-use Rattle.treasury_core.specs.Federation.{Federation}
 use Rattle.treasury_core.specs.Step.{reply as command_reply, after as after_command}
 use Rattle.treasury_store.specs.Store.{empty_state}
 use Rattle.treasury_api.specs.declared.asking.Asked.{Asked}

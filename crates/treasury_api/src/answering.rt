@@ -4,7 +4,7 @@ ghost use Rattle.std.specs.Prelude.{◌≡◌, ◌≤◌, ◌+◌, length, false
 ghost use Rattle.sqlite.specs.State.{HasCleanDisk};
 ghost use Rattle.sqlite.specs.Held.{state};
 ghost use Rattle.book_core.specs.declared.refusal.Refusal.{Refusal as Refused};
-ghost use Rattle.treasury_core.specs.Federation.{Federation};
+ghost use Rattle.treasury_state.specs.Federation.{Federation};
 ghost use Rattle.treasury_store.specs.Kept.{ShutsByFault, StaysAsIs};
 ghost use Rattle.treasury_store.specs.Shown.{ShowsNoState};
 ghost use Rattle.treasury_store.specs.Left.{LeavesStep};

@@ -1,9 +1,9 @@
 //! Dry runs: what a command would be answered, and what it would add.
 
 ghost use Rattle.std.specs.Prelude.{◌≡◌, ◌≤◌, ◌+◌, length, Ok, IfSome, OnOk};
-ghost use Rattle.treasury_core.specs.Good.{Fits};
-ghost use Rattle.treasury_core.specs.Step.{delta, reply};
 ghost use Rattle.treasury_core.specs.declared.command.Command.{Command as AnyCommand};
+ghost use Rattle.treasury_core.specs.Fits.{Fits};
+ghost use Rattle.treasury_core.specs.Step.{delta, reply};
 ghost use Rattle.treasury_requests.specs.Request.{HasDayNumbers};
 ghost use Rattle.treasury_api.specs.declared.asking.Asked.TheVariants.{DryRun};
 ghost use Rattle.treasury_api.specs.Asked.{SpelledAsks};

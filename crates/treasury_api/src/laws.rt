@@ -2,10 +2,10 @@
 
 ghost use Rattle.std.specs.Prelude.{◌≡◌, List, ℕ, Result, Ok};
 ghost use Rattle.book_core.specs.declared.refusal.Refusal.{Refusal as Refused};
+ghost use Rattle.treasury_state.specs.Federation.{Federation};
 ghost use Rattle.treasury_core.specs.declared.command.Answer.{Answer};
 ghost use Rattle.treasury_core.specs.declared.command.Command.{Command};
-ghost use Rattle.treasury_core.specs.Federation.{Federation};
-ghost use Rattle.treasury_core.specs.History.{IsRun as IsCommandRun, state_after};
+ghost use Rattle.treasury_core.specs.Run.{IsRun as IsCommandRun, state_after};
 ghost use Rattle.treasury_api.specs.declared.report.Report.{Report};
 ghost use Rattle.treasury_api.specs.Transcript.{IsTranscript};
 ghost use Rattle.treasury_api.specs.Step.{Standing, after, Answers};
@@ -17,8 +17,9 @@ ghost use Rattle.treasury_api.specs.Lists.{AreRepeated};
 
 use crate::asking::Asked;
 use book_core::Ledger;
-use treasury_core::{
-    State, closed_law, closing_law, entered_law, joined_law, other_journal_law, own_journal_law,
+use treasury_core::State;
+use treasury_laws::{
+    closed_law, closing_law, entered_law, joined_law, other_journal_law, own_journal_law,
     printed_journal_law, rows_law, transit_law, unchanged_law,
 };
 use treasury_reports::{samples_law, transfers_law};

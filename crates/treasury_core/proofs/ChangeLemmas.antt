@@ -1,15 +1,14 @@
 -- a change of one branch: what holds of the others stays
-use Rattle.std.proofs.Common.{◌≡◌, ℕ, suc, Bool, true, false, ◌||◌, List, [], ◌∷◌, ◌++◌, length, refl, ap, ◌∙◌, sym}
-use Rattle.std.proofs.Common.{Option}
+use Rattle.std.proofs.Common.{◌≡◌, ℕ, suc, Bool, true, false, ◌||◌, List, [], ◌∷◌, length, refl, ap, ◌∙◌, sym, Option}
 use Rattle.std.specs.Prelude.{if◌then◌else◌}
 use Rattle.std.specs.List.{list_any, AllByRecursion}
 use Rattle.std.specs.Str.{bytes_eq}
 use Rattle.money_core.specs.declared.day.Day.{Day}
-use Rattle.treasury_core.specs.declared.record.Record.{Record}
-use Rattle.treasury_core.specs.Federation.{Branch, has_name, records_in, lock_in}
-use Rattle.treasury_core.specs.Joined.{changed}
-use Rattle.treasury_core.specs.Good.{HaveOwnNames}
-use Rattle.treasury_core.proofs.BytesLemmas.{same_bytes, neither}
+use Rattle.treasury_state.specs.declared.record.Record.{Record}
+use Rattle.treasury_state.specs.Federation.{Branch, has_name, records_in, lock_in}
+use Rattle.treasury_state.specs.Joined.{changed}
+use Rattle.treasury_state.specs.Good.{HaveOwnNames}
+use Rattle.treasury_state.proofs.BytesLemmas.{same_bytes, neither}
 
 -- a change that leaves names
 abbrev pub KeepsName : (Branch → Branch) → Type 0
@@ -106,13 +105,3 @@ changed-twice g h name [] k = refl
 changed-twice g h name (b ∷ bs) k =
     twice_at g h name b bs (changed g name bs) (changed (λ x. h (g x)) name bs) (bytes_eq b.name name) refl k
     (changed-twice g h name bs k)
-
-pub all_weaker : {X : Type 0} (P Q : X → Type 0) (xs : List X) → ((x : X) → P x → Q x) → AllByRecursion P xs
-    → AllByRecursion Q xs
-all_weaker P Q [] f h = tt
-all_weaker P Q (x ∷ xs) f h = (f x h.0, all_weaker P Q xs f h.1)
-
-pub all-append : {X : Type 0} (P : X → Type 0) (xs ys : List X) → AllByRecursion P xs → AllByRecursion P ys
-    → AllByRecursion P (xs ++ ys)
-all-append P [] ys h k = k
-all-append P (x ∷ xs) ys h k = (h.0, all-append P xs ys h.1 k)

@@ -1,8 +1,8 @@
 -- a choice that is not refused: its comments can be printed, and it selects nothing on transit
 use Rattle.std.proofs.Common.{◌≡◌, ◌∙◌, ◌≤◌, ◌<◌, ◌+◌, ◌-◌, ◌==◌, ◌||◌, ◌⊎◌, inl, inr, ℕ, zero, suc, Bool, true, false}
 use Rattle.std.proofs.Common.{not, nat_eq, List, [], ◌∷◌, ◌++◌, length, slice_index, refl, sym, ap, subst, arith}
-use Rattle.std.proofs.Common.{append_assoc, append-nil, length-append, drop, get_or, drop-cons, add-one, true≢false}
-use Rattle.std.proofs.Common.{Option, Some, None}
+use Rattle.std.proofs.Common.{append-nil, length-append, drop, get_or, drop-cons, add-one, true≢false, Option, Some}
+use Rattle.std.proofs.Common.{None}
 use Rattle.std.specs.Prelude.{codes, nat_lt, nat_le, if◌then◌else◌, ⊤}
 use Rattle.std.specs.Bool.{Decides, one_answer}
 use Rattle.std.specs.Cmp.Lexicographic.{pointwise}
@@ -24,12 +24,12 @@ use Rattle.journal_lines.proofs.AccountLemmas.{account_whole}
 use Rattle.journal_format.specs.Mark.{mark_of}
 use Rattle.journal_format.specs.Printable.{is_note}
 use Rattle.journal_format.proofs.Utf8Lemmas.{utf8_joined, utf8_low}
+use Rattle.treasury_state.specs.Transfer.{is_account_text, is_reserved}
+use Rattle.treasury_state.proofs.BytesLemmas.{neither}
 use Rattle.treasury_core.specs.declared.choice.Choice.{Choice}
-use Rattle.treasury_core.specs.Transfer.{is_account_text, is_reserved}
 use Rattle.treasury_core.specs.Choice.{is_revenue_or_expense, retained_earnings, is_among, is_selected, target_in}
 use Rattle.treasury_core.specs.Choice.{listed, list_text, accounts_comment, into_comment, choice_comments}
 use Rattle.treasury_core.specs.Choice.{holds_transit, choice_refusal}
-use Rattle.treasury_core.proofs.BytesLemmas.{neither}
 
 -- ---- what is not refused
 
@@ -363,20 +363,6 @@ size_end names i h = ap sizes (drop_end names i h)
 abbrev pub behind_names : List (List ℕ) → List ℕ
 behind_names names = flat_map (λ (next : List ℕ). 59 ∷ next) names
 
-pub next_name : (old new all : List ℕ) (names : List (List ℕ)) (i : ℕ) (a : List ℕ) → i < length names
-    → a ≡ get_or names i a → old ++ behind_names (drop i names) ≡ all → new ≡ (old ++ 59 ∷ []) ++ a
-    → new ++ behind_names (drop (i + 1) names) ≡ all
-next_name old new all names i a h item e pushed =
-    ap (λ (xs : List ℕ). xs ++ behind_names (drop (i + 1) names)) pushed
-    ∙ (append_assoc (old ++ 59 ∷ []) a (behind_names (drop (i + 1) names))
-    ∙ (append_assoc old (59 ∷ []) (a ++ behind_names (drop (i + 1) names))
-    ∙ (sym (ap (λ (xs : List (List ℕ)). old ++ behind_names xs) (drop_text names i a h item)) ∙ e)))
-
-pub last_name : (old all : List ℕ) (names : List (List ℕ)) (i : ℕ) → length names ≤ i
-    → old ++ behind_names (drop i names) ≡ all → old ≡ all
-last_name old all names i h e =
-    sym (append-nil old) ∙ (sym (ap (λ (xs : List (List ℕ)). old ++ behind_names xs) (drop_end names i h)) ∙ e)
-
 -- ---- tests of texts
 
 pub tested_inside : (top text account : List ℕ) (r : Bool) → text ≡ top → Decides r (IsInside text account)
@@ -395,6 +381,3 @@ tested_texts xs ys zs r h e = one_answer r (pointwise bytes_eq xs zs)
 pub default_formed : is_account_text retained_earnings ≡ true
 unfolding is_account
 default_formed = and_from _ _ refl (utf8_low retained_earnings refl)
-
-pub none_refused : choice_refusal (record { accounts = None; into = None }) ≡ None
-none_refused = rw default_formed refl

@@ -15,19 +15,19 @@ use Rattle.journal_format.specs.declared.txn.Txn.{Txn}
 use Rattle.journal_format.specs.Pieces.{posting_limit}
 use Rattle.journal_balance.specs.Legs.{legs_of}
 use Rattle.journal_balance.specs.Plain.{written_entry}
-use Rattle.treasury_core.specs.declared.record.Record.{Record}
+use Rattle.treasury_state.specs.declared.record.Record.{Record}
+use Rattle.treasury_state.specs.declared.delta.Addition.TheVariants as add
+use Rattle.treasury_state.specs.Federation.{Branch, Federation, has_branch, entries}
+use Rattle.treasury_state.specs.Mark.{held, close_mark}
+use Rattle.treasury_state.specs.Good.{IsGoodState}
+use Rattle.treasury_state.proofs.FindLemmas.{IsThere}
+use Rattle.treasury_state.proofs.RecordLemmas.{fit_records}
 use Rattle.treasury_core.specs.declared.command.Answer.TheVariants.{Done, Repeated}
 use Rattle.treasury_core.specs.declared.command.Close.{Close}
 use Rattle.treasury_core.specs.declared.command.Command.TheVariants as cmd
-use Rattle.treasury_core.specs.declared.delta.Addition.TheVariants as add
-use Rattle.treasury_core.specs.Federation.{Branch, Federation, has_branch, entries}
-use Rattle.treasury_core.specs.Mark.{held}
 use Rattle.treasury_core.specs.Choice.{is_selected, target_in, choice_comments, choice_refusal}
-use Rattle.treasury_core.specs.Closing.{close_mark, closing_record, closing_in, closing_answer, closing_reply}
+use Rattle.treasury_core.specs.Closing.{closing_record, closing_in, closing_answer, closing_reply}
 use Rattle.treasury_core.specs.Step.{unless, reply, added, entering_refusal, close_refusal, closed_reply}
-use Rattle.treasury_core.specs.Good.{IsGoodState}
-use Rattle.treasury_core.proofs.FindLemmas.{IsThere}
-use Rattle.treasury_core.proofs.KeepLemmas.{fit_records}
 use Rattle.treasury_core.proofs.ClosingPrinted.{closing_legs}
 use Rattle.treasury_core.proofs.ClosingReply.{of_branch, not_more}
 use Rattle.treasury_core.proofs.ClosingRecord.{is_closing_of, closing_record_good}

@@ -33,16 +33,16 @@ use Rattle.journal_format.specs.declared.txn.Txn.{Txn}
 use Rattle.journal_balance.specs.Legs.{commodities, declared}
 use Rattle.journal_balance.specs.Plain.{written_legs, written_entry}
 use Rattle.journal_balance.proofs.DeclaredLemmas.{entry_declared}
-use Rattle.treasury_core.specs.declared.record.Record.{Record}
-use Rattle.treasury_core.specs.Federation.{Federation, entries, book_of, records_of}
-use Rattle.treasury_core.specs.Good.{IsGoodRecord, IsGoodState}
+use Rattle.treasury_state.specs.declared.record.Record.{Record}
+use Rattle.treasury_state.specs.Federation.{Federation, entries, book_of, records_of}
+use Rattle.treasury_state.specs.Good.{IsGoodRecord, IsGoodState}
+use Rattle.treasury_state.proofs.BytesLemmas.{same_bytes, self_bytes, other_bytes, neither}
+use Rattle.treasury_state.proofs.BranchLemmas.{of_branch}
 use Rattle.treasury_core.specs.Accounts.{placed_name, with_name, ordered_names, book_accounts}
 use Rattle.treasury_core.specs.Closing.{through, selected, closed_account, held_in, gaining_account, closing_postings}
 use Rattle.treasury_core.specs.Closing.{closing_txn, closing_of, closing}
 use Rattle.treasury_core.specs.Closed.{IsClosing, closed_book}
 use Rattle.treasury_core.proofs.AccountOrder.{book_accounts_are}
-use Rattle.treasury_core.proofs.BytesLemmas.{same_bytes, self_bytes, other_bytes, neither}
-use Rattle.treasury_core.proofs.OwnLemmas.{of_branch}
 use Rattle.treasury_core.proofs.ClosingSums.{picked, picked-append, picked-value, picked-sum, legs-append, picked_known}
 use Rattle.treasury_core.proofs.ClosingSums.{picked_behind, picked_closed, picked_unknown, held_if, held_all, held_none}
 use Rattle.treasury_core.proofs.ClosingSums.{held_own, AreApart}
@@ -116,7 +116,7 @@ unselected_at select a name rest e h true s =
     ap (λ (b : Bool). b || list_any (bytes_eq a) rest) (differ select a name false e s) ∙ h
 unselected_at select a name rest e h false s = h
 
-unselected : (select : List ℕ → Bool) (a : List ℕ) (names : List (List ℕ)) → select a ≡ false
+pub unselected : (select : List ℕ → Bool) (a : List ℕ) (names : List (List ℕ)) → select a ≡ false
     → list_any (bytes_eq a) (filter select names) ≡ false
 unselected select a [] e = refl
 unselected select a (name ∷ names) e =
@@ -222,7 +222,7 @@ absent_through b day a unit e =
 
 -- ---- a commodity that is not declared
 
-zero_either : (t : Bool) (q : ℤ) → q ≡ pos 0 → (if t then q else pos 0) ≡ pos 0
+pub zero_either : (t : Bool) (q : ℤ) → q ≡ pos 0 → (if t then q else pos 0) ≡ pos 0
 zero_either true q e = e
 zero_either false q e = refl
 
@@ -330,11 +330,11 @@ closing_balanced m b known day into names unit =
 
 -- ---- what the closing moves on an account
 
-abbrev moves : ℕ → List Entry → Day → List ℕ → (List ℕ → Bool) → List ℕ → Commodity → ℤ
+abbrev pub moves : ℕ → List Entry → Day → List ℕ → (List ℕ → Bool) → List ℕ → Commodity → ℤ
 moves m b day into select a unit =
     sum_in Own a unit (written_legs (closing_postings b day into (selected select b) (commodities 0 m)))
 
-moves_is : (m : ℕ) (b : List Entry) → IsKnown m b
+pub moves_is : (m : ℕ) (b : List Entry) → IsKnown m b
     → (day : Day) (into : List ℕ) (select : List ℕ → Bool) (a : List ℕ) (unit : Commodity) →
     moves m b day into select a unit
     ≡ (pos 0 -ℤ held_if (λ (n : List ℕ). bytes_eq n a) b day unit (selected select b))
@@ -380,16 +380,6 @@ moves_target m b known day into select unit out =
     let all = moves_is m b known day into select into unit in
     let none = held_none into b day unit (selected select b) (unselected select into (book_accounts b) out) in
     let own = ap (λ (t : Bool). if t then held_in b day unit (selected select b) else pos 0) (self_bytes into) in
-    omega (arith, ints, all, own, none)
-
-moves_other : (m : ℕ) (b : List Entry) → IsKnown m b
-    → (day : Day) (into : List ℕ) (select : List ℕ → Bool) (a : List ℕ) (unit : Commodity) → select a ≡ false
-    → bytes_eq into a ≡ false →
-    moves m b day into select a unit ≡ pos 0
-moves_other m b known day into select a unit off apart =
-    let all = moves_is m b known day into select a unit in
-    let none = held_none a b day unit (selected select b) (unselected select a (book_accounts b) off) in
-    let own = ap (λ (t : Bool). if t then held_in b day unit (selected select b) else pos 0) apart in
     omega (arith, ints, all, own, none)
 
 -- ---- the book with the closing
@@ -455,23 +445,3 @@ gained select into f name day t unit later h past =
     let when = ap (λ (s : Bool). if s then moves (length f.styles) b day into select into unit else pos 0) past in
     let by = moves_target (length f.styles) b (book_known f name h.good) day into select unit h.apart in
     omega (arith, ints, is, when, by)
-
-pub untouched : (select : List ℕ → Bool) (into : List ℕ) (f : Federation) (name : List ℕ) (day : Day) (t : Txn)
-    (a : List ℕ) (unit : Commodity) (x : Day) → IsClosing select into f name day t → select a ≡ false
-    → bytes_eq into a ≡ false →
-    balance Own (closed_book f name t) a unit (Through x) ≡ balance Own (book_of f name) a unit (Through x)
-untouched select into f name day t a unit x h off apart =
-    let b = book_of f name in
-    let is = closed_balance select into f name day t h a unit x in
-    let by = moves_other (length f.styles) b (book_known f name h.good) day into select a unit off apart in
-    let none = zero_either (int_le day.0 x.0) (moves (length f.styles) b day into select a unit) by in
-    omega (arith, ints, is, none)
-
-pub unmoved_before : (select : List ℕ → Bool) (into : List ℕ) (f : Federation) (name : List ℕ) (day : Day) (t : Txn)
-    (a : List ℕ) (unit : Commodity) (x : Day) → IsClosing select into f name day t → int_le day.0 x.0 ≡ false →
-    balance Own (closed_book f name t) a unit (Through x) ≡ balance Own (book_of f name) a unit (Through x)
-unmoved_before select into f name day t a unit x h early =
-    let b = book_of f name in
-    let is = closed_balance select into f name day t h a unit x in
-    let none = ap (λ (s : Bool). if s then moves (length f.styles) b day into select a unit else pos 0) early in
-    omega (arith, ints, is, none)

@@ -1,7 +1,7 @@
 -- one more commodity or account of a closing
-use Rattle.std.proofs.Common.{◌≡◌, ◌≤◌, ◌<◌, ◌+◌, ◌-◌, ℕ, zero, suc, true, false, List, [], ◌∷◌, ◌++◌, length, drop}
-use Rattle.std.proofs.Common.{get_or, refl, ap, ◌∙◌, sym, arith, add-one, append_assoc, append-nil, drop-cons, ℤ, ◌+ℤ◌}
-use Rattle.std.proofs.Common.{Option, Ok, Err}
+use Rattle.std.proofs.Common.{◌≡◌, ◌≤◌, ◌<◌, ◌+◌, ◌-◌, ℕ, zero, suc, true, List, [], ◌∷◌, ◌++◌, length, drop, get_or}
+use Rattle.std.proofs.Common.{refl, ap, ◌∙◌, sym, arith, add-one, append_assoc, append-nil, drop-cons, ℤ, ◌+ℤ◌, Option}
+use Rattle.std.proofs.Common.{Ok, Err}
 use Rattle.std.specs.Prelude.{filter, cond, Bool, Result, OnOk, ⊤}
 use Rattle.std.specs.List.{flat_map}
 use Rattle.money_core.specs.declared.unit.Unit.{Unit as Commodity}
@@ -46,15 +46,6 @@ next_account F p old new all names i a h item passes e pushed =
     ap (λ (xs : List Posting). xs ++ flat_map F (filter p more)) pushed
     ∙ append_assoc old (F a) (flat_map F (filter p more))
     ∙ sym (ap (λ (t : Bool). old ++ flat_map F (cond t (a ∷ filter p more) (filter p more))) passes)
-    ∙ sym (ap (λ (xs : List (List ℕ)). old ++ flat_map F (filter p xs)) (drop_name names i a h item))
-    ∙ e
-
-pub other_account : (F : List ℕ → List Posting) (p : List ℕ → Bool) (old all : List Posting) (names : List (List ℕ))
-    (i : ℕ) (a : List ℕ) → i < length names → a ≡ get_or names i a → p a ≡ false
-    → old ++ flat_map F (filter p (drop i names)) ≡ all → old ++ flat_map F (filter p (drop (i + 1) names)) ≡ all
-other_account F p old all names i a h item fails e =
-    let more = drop (i + 1) names in
-    sym (ap (λ (t : Bool). old ++ flat_map F (cond t (a ∷ filter p more) (filter p more))) fails)
     ∙ sym (ap (λ (xs : List (List ℕ)). old ++ flat_map F (filter p xs)) (drop_name names i a h item))
     ∙ e
 

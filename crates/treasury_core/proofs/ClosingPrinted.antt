@@ -47,7 +47,7 @@ use Rattle.journal_format.specs.Printable.{is_remark_text, is_note, is_amount, i
 use Rattle.journal_format.specs.Printable.{is_value, is_posting, IsPrintable}
 use Rattle.journal_format.proofs.SizeLemmas.{body_size, head_is, header_small, remarks_push, remark_small}
 use Rattle.journal_format.proofs.SizeLemmas.{postings-append, no_remarks}
-use Rattle.journal_format.proofs.Utf8Lemmas.{is_low, utf8_low}
+use Rattle.journal_format.proofs.Utf8Lemmas.{utf8_low}
 use Rattle.journal_balance.specs.Conversion.{symbol_in, symbol_of, conversion_account}
 use Rattle.journal_balance.specs.Legs.{commodities, declared, leg, rest_leg, sum_of, amount_legs, posting_legs}
 use Rattle.journal_balance.specs.Legs.{legs_among, legs_of}
@@ -55,20 +55,22 @@ use Rattle.journal_balance.specs.Plain.{written_leg, written_legs, written_entry
 use Rattle.journal_balance.proofs.FaultLemmas.{legs_found}
 use Rattle.journal_balance.proofs.NameLemmas.{conversion_formed}
 use Rattle.journal_balance.proofs.WrittenLemmas.{legs_of-written}
-use Rattle.treasury_core.specs.declared.record.Record.{Record}
+use Rattle.treasury_state.specs.declared.record.Record.{Record}
+use Rattle.treasury_state.specs.Federation.{Federation, entries, book_of, records_of}
+use Rattle.treasury_state.specs.Transfer.{is_account_text}
+use Rattle.treasury_state.specs.Good.{IsGoodRecord, IsGoodState}
+use Rattle.treasury_state.specs.Mark.{close_mark}
+use Rattle.treasury_state.proofs.AllLemmas.{all-append}
+use Rattle.treasury_state.proofs.BranchLemmas.{of_branch}
+use Rattle.treasury_state.proofs.OpenLemmas.{good_book}
+use Rattle.treasury_state.proofs.DateLemmas.{all_weaker}
 use Rattle.treasury_core.specs.declared.choice.Choice.{Choice}
-use Rattle.treasury_core.specs.Federation.{Federation, entries, book_of, records_of}
-use Rattle.treasury_core.specs.Transfer.{is_account_text}
-use Rattle.treasury_core.specs.Good.{IsGoodRecord, IsGoodState}
 use Rattle.treasury_core.specs.Accounts.{placed_name, with_name, ordered_names, book_accounts}
 use Rattle.treasury_core.specs.Choice.{is_selected, target_in, choice_comments, choice_refusal}
 use Rattle.treasury_core.specs.Closing.{through, zero_claim, posting_of, selected, closed_account, held_in}
-use Rattle.treasury_core.specs.Closing.{gaining_account, closing_postings, close_mark, closing_txn, closing_in}
+use Rattle.treasury_core.specs.Closing.{gaining_account, closing_postings, closing_txn, closing_in}
 use Rattle.treasury_core.specs.Closed.{IsClosing}
-use Rattle.treasury_core.proofs.ChangeLemmas.{all-append}
-use Rattle.treasury_core.proofs.OwnLemmas.{of_branch}
-use Rattle.treasury_core.proofs.OpenLemmas.{good_book}
-use Rattle.treasury_core.proofs.ProductLemmas.{line_small}
+use Rattle.treasury_core.proofs.ProductLemmas.{line_small, same_size}
 use Rattle.treasury_core.proofs.ChoiceLemmas.{allowed, comments_print, few_chosen}
 use Rattle.treasury_core.proofs.ClosingSums.{picked-value, spread, picked_closed, held_all, AreApart, closed_small}
 use Rattle.treasury_core.proofs.ClosingSums.{abs_value, same_spread}
@@ -145,9 +147,6 @@ held_is b day unit m names known =
     let all = sym (picked-value unit legs) ∙ picked_closed (λ (n : List ℕ). true) unit b day m names known in
     let same = held_all b day unit names in
     omega (arith, ints, all, same)
-
-same_size : (q : ℤ) → unsigned_abs (pos 0 -ℤ q) ≡ unsigned_abs q
-same_size q = omega (arith, ints)
 
 held_small : (b : List Entry) → HasRoom b → (day : Day) (unit : Commodity) (m : ℕ) (names : List (List ℕ))
     → AreApart names → unit.0 < m → unsigned_abs (held_in b day unit names) ≤ limit
@@ -451,19 +450,6 @@ lines_small styles are (p ∷ ps) h =
 -- its mark is well formed
 date_byte : (b : ℕ) → (is_ascii_digit b || (b == 45)) ≡ true → is_mark_byte b ≡ true
 date_byte b h = grind (arith, common_steps)
-
-low_byte : (b : ℕ) → (is_ascii_digit b || (b == 45)) ≡ true → is_low b ≡ true
-low_byte b h = grind (arith, common_steps)
-
-all_weaker : (p q : ℕ → Bool) → ((b : ℕ) → p b ≡ true → q b ≡ true) → (xs : List ℕ) → list_all p xs ≡ true
-    → list_all q xs ≡ true
-all_weaker p q f [] h = refl
-all_weaker p q f (x ∷ xs) h = let both =
-    and_parts (p x) (list_all p xs) h in and_from (q x) (list_all q xs) (f x both.0) (all_weaker p q f xs both.1)
-
-pub date_utf8 : (day : Day) → IsDayNumber day → is_utf8 (printed_date day) ≡ true
-date_utf8 day h = utf8_low (printed_date day)
-    (all_weaker (λ b. is_ascii_digit b || (b == 45)) is_low low_byte (printed_date day) (dates_print day h).form)
 
 mark_fits : (day : Day) → IsDayNumber day → is_mark (close_mark day) ≡ true
 mark_fits day h =

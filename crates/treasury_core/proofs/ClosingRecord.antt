@@ -14,17 +14,17 @@ use Rattle.journal_format.specs.declared.txn.Txn.{Txn}
 use Rattle.journal_format.specs.Pieces.{posting_limit}
 use Rattle.journal_balance.specs.Legs.{commodities}
 use Rattle.journal_balance.specs.Plain.{written_leg, written_legs}
+use Rattle.treasury_state.specs.Federation.{Federation, book_of, is_locked}
+use Rattle.treasury_state.specs.Transfer.{is_reserved, is_transit}
+use Rattle.treasury_state.specs.Mark.{close_mark}
+use Rattle.treasury_state.specs.Good.{IsGoodRecord, IsGoodState}
+use Rattle.treasury_state.proofs.AllLemmas.{all-append}
 use Rattle.treasury_core.specs.declared.choice.Choice.{Choice}
-use Rattle.treasury_core.specs.Federation.{Federation, book_of}
-use Rattle.treasury_core.specs.Transfer.{is_reserved, is_transit}
 use Rattle.treasury_core.specs.Accounts.{book_accounts}
 use Rattle.treasury_core.specs.Choice.{is_selected, target_in, choice_comments, choice_refusal}
 use Rattle.treasury_core.specs.Closing.{selected, closed_account, held_in, gaining_account, closing_postings}
-use Rattle.treasury_core.specs.Closing.{closing_txn, close_mark, closing_in, closing_record}
+use Rattle.treasury_core.specs.Closing.{closing_txn, closing_in, closing_record}
 use Rattle.treasury_core.specs.Closed.{IsClosing}
-use Rattle.treasury_core.specs.Step.{is_locked}
-use Rattle.treasury_core.specs.Good.{IsGoodRecord, IsGoodState}
-use Rattle.treasury_core.proofs.ChangeLemmas.{all-append}
 use Rattle.treasury_core.proofs.ChoiceLemmas.{IsChoice, allowed, selected_off}
 use Rattle.treasury_core.proofs.ClosingLemmas.{from_closing}
 use Rattle.treasury_core.proofs.ClosingPrinted.{each_spread, each_closed, closing_legs, closing_printable}

@@ -15,9 +15,9 @@ use Rattle.journal_format.specs.declared.txn.Txn.{Txn}
 use Rattle.journal_format.specs.Pieces.{posting_limit}
 use Rattle.journal_format.specs.Printable.{IsPrintable}
 use Rattle.journal_balance.specs.Legs.{declared}
+use Rattle.treasury_state.specs.Federation.{Federation, has_branch, book_of}
+use Rattle.treasury_state.specs.Good.{IsGoodState}
 use Rattle.treasury_core.specs.declared.choice.Choice.{Choice}
-use Rattle.treasury_core.specs.Federation.{Federation, has_branch, book_of}
-use Rattle.treasury_core.specs.Good.{IsGoodState}
 use Rattle.treasury_core.specs.Choice.{is_selected, target_in, choice_comments, choice_refusal}
 use Rattle.treasury_core.specs.Closing.{selected, closing_postings, closing_of, closing, closing_in, closing_answer}
 use Rattle.treasury_core.specs.Closing.{chosen_answer, closing_reply}

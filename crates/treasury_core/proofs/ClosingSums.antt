@@ -24,8 +24,9 @@ use Rattle.book_core.proofs.SumLemmas.{moved-append}
 use Rattle.journal_format.specs.declared.posting.Posting.{Posting}
 use Rattle.journal_balance.specs.Legs.{commodities}
 use Rattle.journal_balance.specs.Plain.{written_leg, written_legs}
+use Rattle.treasury_state.proofs.BytesLemmas.{same_bytes, other_bytes, neither}
 use Rattle.treasury_core.specs.Closing.{through, zero_claim, posting_of, closed_account, held_in}
-use Rattle.treasury_core.proofs.BytesLemmas.{same_bytes, other_bytes, neither}
+use Rattle.treasury_core.proofs.ProductLemmas.{same_size}
 
 -- ---- what postings pick
 
@@ -408,9 +409,6 @@ weight_entries names unit limit n (e ∷ es) =
 abbrev sizes : List Entry → Day → Commodity → List (List ℕ) → ℕ
 sizes b day unit [] = 0
 sizes b day unit (name ∷ names) = unsigned_abs (pos 0 -ℤ through b day name unit) + sizes b day unit names
-
-same_size : (q : ℤ) → unsigned_abs (pos 0 -ℤ q) ≡ unsigned_abs q
-same_size q = omega (arith, ints)
 
 sizes_weight : (b : List Entry) (day : Day) (unit : Commodity) (names : List (List ℕ)) → AreApart names
     → sizes b day unit names ≤ weight (meets names unit (Through day)) (posted b)

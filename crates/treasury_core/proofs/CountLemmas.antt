@@ -1,6 +1,6 @@
 -- the texts of a file are counted one by one
-use Rattle.std.proofs.Common.{◌≡◌, ◌<◌, ◌+◌, ◌^◌, ℕ, Bool, true, false, ◌&&◌, cond, List, [], ◌∷◌, ◌++◌, length, refl}
-use Rattle.std.proofs.Common.{ap, ◌∙◌, sym, arith, Option, Some, None}
+use Rattle.std.proofs.Common.{◌≡◌, ◌+◌, ℕ, Bool, true, false, ◌&&◌, cond, List, [], ◌∷◌, ◌++◌, refl, ap, ◌∙◌, sym}
+use Rattle.std.proofs.Common.{arith, Option, Some, None}
 use Rattle.std.specs.Prelude.{if◌then◌else◌, is_some, not}
 use Rattle.std.specs.Global.{Vec}
 use Rattle.std.specs.HashMap.{HashMap}
@@ -8,13 +8,13 @@ use Rattle.std.specs.List.{count_by}
 use Rattle.std.specs.Str.{bytes_eq}
 use Rattle.std.specs.declared.hash.FoldHasher.{FoldHasher}
 use Rattle.std.specs.declared.hash.BuildHasherDefault.{BuildHasherDefault}
-use Rattle.std.proofs.lemmas.List.Sums.{sum_by-append, count_by-le-length}
+use Rattle.std.proofs.lemmas.List.Sums.{sum_by-append}
 use Rattle.money_core.specs.declared.style.Style.{Style}
 use Rattle.journal_format.specs.declared.txn.Txn.{Txn}
 use Rattle.journal_format.specs.CanonicalText.{body_text}
-use Rattle.treasury_core.specs.Mark.{alike}
+use Rattle.treasury_state.specs.Mark.{alike}
+use Rattle.treasury_state.proofs.BytesLemmas.{same_bytes}
 use Rattle.treasury_core.specs.Counted.{count_of, counted_more, AreCounted}
-use Rattle.treasury_core.proofs.BytesLemmas.{same_bytes}
 
 abbrev pub Counts : Type 0
 Counts = HashMap (Vec ℕ) ℕ (BuildHasherDefault FoldHasher)
@@ -25,10 +25,6 @@ count_push p ts t = sum_by-append (λ (x : Txn). cond (p x) 1 0) ts (t ∷ []) �
 unmarked_hit : (o : Option (List ℕ)) (t : Bool) → o ≡ None → (not (is_some o) && t) ≡ t
 unmarked_hit None t e = refl
 unmarked_hit (Some m) t e = absurd cc
-
-marked_miss : (m : List ℕ) (o : Option (List ℕ)) (t : Bool) → o ≡ Some m → (not (is_some o) && t) ≡ false
-marked_miss m None t e = absurd cc
-marked_miss m (Some k) t e = refl
 
 -- an unmarked transaction is counted
 one_more : (styles : List Style) (text other : List ℕ) (before : List Txn) (n m : ℕ) (t : Bool)
@@ -50,21 +46,3 @@ counted_next styles t before old new text mark same h next = λ other.
     (ap (λ (x : List ℕ). bytes_eq x other.items) same ∙ sym
     (unmarked_hit t.mark (bytes_eq (body_text styles t) other.items) mark))
     ∙ sym (count_push (λ (x : Txn). not (is_some x.mark) && bytes_eq (body_text styles x) other.items) before t)
-
--- a marked one is not
-pub counted_same : (styles : List Style) (t : Txn) (before : List Txn) (counts : Counts) (mark : List ℕ)
-    → t.mark ≡ Some mark → AreCounted styles counts before → AreCounted styles counts (before ++ t ∷ [])
-counted_same styles t before counts mark is h = λ other.
-    h other
-    ∙ omega arith
-    ∙ ap (λ (b : Bool). alike styles other.items before + cond b 1 0)
-    (sym (marked_miss mark t.mark (bytes_eq (body_text styles t) other.items) is))
-    ∙ sym (count_push (λ (x : Txn). not (is_some x.mark) && bytes_eq (body_text styles x) other.items) before t)
-
--- there is room for one more
-pub counts_small : (styles : List Style) (before : List Txn) (counts : Counts) → AreCounted styles counts before
-    → length before + 1 < 2 ^ 64 → (text : Vec ℕ) → count_of counts text + 1 < 2 ^ 64
-counts_small styles before counts h small text =
-    let few =
-    count_by-le-length (λ (x : Txn). not (is_some x.mark) && bytes_eq (body_text styles x) text.items) before in
-    omega (arith, few, small, h text)

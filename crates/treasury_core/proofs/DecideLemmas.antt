@@ -1,62 +1,28 @@
 -- what a decision answers
-use Rattle.std.proofs.Common.{◌≡◌, ◌⊎◌, ◌-◌, ℕ, Bool, true, false, List, [], ◌∷◌, ◌++◌, length, map, refl, ap, ◌∙◌, sym}
-use Rattle.std.proofs.Common.{subst, arith, inl, inr, append-nil, Option, Some, None, Ok, Err}
-use Rattle.std.specs.Prelude.{Result, IfOk, MatchResult, ◌==◌, find, cond}
-use Rattle.std.specs.List.{AllByRecursion}
-use Rattle.std.specs.Option.{option_or}
-use Rattle.std.specs.Str.{bytes_eq}
-use Rattle.std.proofs.lemmas.Bool.Decides.{nat_tests}
+use Rattle.std.proofs.Common.{◌≡◌, ◌⊎◌, ◌-◌, ℕ, false, List, length, map, refl, ap, ◌∙◌, sym, subst, inl, inr, Some}
+use Rattle.std.proofs.Common.{None, Ok, Err}
+use Rattle.std.specs.Prelude.{Result, IfOk, MatchResult}
 use Rattle.money_core.specs.declared.style.Style.{Style}
 use Rattle.money_core.specs.declared.cause.Cause.TheVariants.{OutOfMemory, UnknownBranch}
-use Rattle.book_core.specs.declared.entry.Entry.{Entry}
 use Rattle.book_core.specs.declared.refusal.Refusal.{Refusal}
 use Rattle.book_core.specs.declared.refusal.Refusal.TheVariants.{Plain}
-use Rattle.book_core.specs.GoodBook.{IsGoodBook, verdict}
-use Rattle.book_core.proofs.GoodBookLemmas.{verdict_good}
 use Rattle.journal_format.specs.declared.txn.Located.{Located}
-use Rattle.treasury_core.specs.declared.record.Record.{Record}
+use Rattle.treasury_state.specs.declared.record.Record.{Record}
+use Rattle.treasury_state.specs.declared.delta.Addition.{Addition}
+use Rattle.treasury_state.specs.declared.delta.Addition.TheVariants as add
+use Rattle.treasury_state.specs.Federation.{Branch, Federation, has_branch}
+use Rattle.treasury_state.specs.Joined.{joined}
+use Rattle.treasury_state.specs.Good.{IsGoodState}
+use Rattle.treasury_state.proofs.FindLemmas.{IsThere}
 use Rattle.treasury_core.specs.declared.command.Answer.{Answer}
 use Rattle.treasury_core.specs.declared.command.Answer.TheVariants.{Entered}
-use Rattle.treasury_core.specs.declared.delta.Addition.{Addition}
-use Rattle.treasury_core.specs.declared.delta.Addition.TheVariants as add
 use Rattle.treasury_core.specs.declared.command.Command.{Command}
 use Rattle.treasury_core.specs.declared.command.Command.TheVariants as cmd
-use Rattle.treasury_core.specs.Federation.{Branch, Federation, has_name, has_branch, entries}
-use Rattle.treasury_core.specs.Joined.{joined}
 use Rattle.treasury_core.specs.Step.{unless, entered, records_in_file, new_in, file_refusal, reply, after, added, delta}
 use Rattle.treasury_core.specs.Step.{step, Decides}
-use Rattle.treasury_core.specs.Good.{Fits, IsGoodState}
-use Rattle.treasury_core.specs.Kept.{branch_at}
-use Rattle.treasury_core.proofs.FindLemmas.{IsThere}
+use Rattle.treasury_core.specs.Fits.{Fits}
 use Rattle.treasury_core.proofs.JoinedLemmas.{after_joined}
 use Rattle.treasury_core.proofs.ReplyLemmas.{after_good}
-
--- no new records: the book is as good as it was
-pub same_book : (book : List Entry) (new : List Record) → (length new == 0) ≡ true → IsGoodBook book
-    → verdict (book ++ entries new) ≡ None
-same_book book [] e good = ap verdict (append-nil book) ∙ verdict_good book good
-same_book book (r ∷ rs) e good = absurd (let k : length (r ∷ rs) ≡ 0 = grind (arith, nat_tests) in omega (arith, k))
-
--- what holds of all branches holds of one that was found
-pub found_holds : (P : Branch → Type 0) (bs : List Branch) (name : List ℕ) (b : Branch) → branch_at bs name ≡ Some b
-    → AllByRecursion P bs → P b
-found_holds P [] name b e h = absurd cc
-found_holds P (x ∷ xs) name b e h = by_test (bytes_eq x.name name) e (λ k. found_holds P xs name b k h.1)
-  where
-    by_test : (t : Bool) → cond t (Some x) (find (has_name name) xs) ≡ Some b → (find (has_name name) xs ≡ Some b → P b)
-        → P b
-    by_test true k later = subst P (let same : x ≡ b = cc in same) h.0
-    by_test false k later = later k
-
--- a file's refusal, part by part
-pub refused_first : (o p : Option Refusal) (e : Refusal) → o ≡ Some e → option_or o p ≡ Some e
-refused_first o p e h = ap (λ (x : Option Refusal). option_or x p) h
-
-pub refused_next : (o p : Option Refusal) (e : Refusal) → o ≡ None → p ≡ Some e → option_or o p ≡ Some e
-refused_next o p e h k = ap (λ (x : Option Refusal). option_or x p) h ∙ k
-
-pub none_refused : (o p : Option Refusal) → o ≡ None → p ≡ None → option_or o p ≡ None
-none_refused o p h k = ap (λ (x : Option Refusal). option_or x p) h ∙ k
 
 -- a file into a branch that is there
 reply_there : (f : Federation) (name : List ℕ) (file : List Located) (b : Branch) → IsThere f.branches name b

@@ -1,45 +1,33 @@
 -- a dispatch and a receipt leave a good state good
-use Rattle.std.proofs.Common.{◌≡◌, ℕ, Bool, true, false, cond, List, [], ◌∷◌, ◌++◌, refl, ap, ◌∙◌, sym, subst, arith}
-use Rattle.std.proofs.Common.{Option, Some, None}
-use Rattle.std.specs.Prelude.{find, filter}
-use Rattle.std.specs.List.{list_any, AllByRecursion}
+use Rattle.std.proofs.Common.{◌≡◌, ℕ, true, false, cond, List, [], ◌∷◌, ◌++◌, refl, ap, ◌∙◌, sym, arith, Some, None}
+use Rattle.std.specs.Prelude.{find}
+use Rattle.std.specs.List.{list_any}
 use Rattle.std.specs.Str.{bytes_eq}
 use Rattle.money_core.specs.declared.style.Style.{Style}
 use Rattle.book_core.specs.GoodBook.{verdict}
-use Rattle.treasury_core.specs.declared.record.Record.{Record}
-use Rattle.treasury_core.specs.declared.transfer.Transfer.{Transfer}
-use Rattle.treasury_core.specs.declared.transfer.Part.{Part}
-use Rattle.treasury_core.specs.Federation.{Branch, Federation, entries, book_of}
-use Rattle.treasury_core.specs.Mark.{held, is_of_transfer, is_closing}
-use Rattle.treasury_core.specs.Transfer.{has_id, asked, out_records, in_records, receipts_of, dispatch_record}
-use Rattle.treasury_core.specs.Transfer.{receipt_record, out_mark}
-use Rattle.treasury_core.specs.Joined.{with_records, changed, inserted, received, with_receipt, with_entered}
-use Rattle.treasury_core.specs.Joined.{with_dispatched, with_received}
-use Rattle.treasury_core.specs.Good.{IsGoodRecord, IsGoodBranch, IsGoodTransfer, IsCarried, IsGoodState}
-use Rattle.treasury_core.specs.Fair.{IsMarked}
-use Rattle.treasury_core.proofs.BytesLemmas.{self_bytes, other_bytes}
-use Rattle.treasury_core.proofs.MarkLemmas.{id_no_colon}
-use Rattle.treasury_core.proofs.LookupLemmas.{first_held}
-use Rattle.treasury_core.proofs.AskedLemmas.{no_out}
-use Rattle.treasury_core.proofs.PassLemmas.{same_transfer, pass_out, inserted_elsewhere, inserted_here}
-use Rattle.treasury_core.proofs.PassLemmas.{received_elsewhere, received_here}
+use Rattle.treasury_state.specs.declared.record.Record.{Record}
+use Rattle.treasury_state.specs.declared.transfer.Transfer.{Transfer}
+use Rattle.treasury_state.specs.declared.transfer.Part.{Part}
+use Rattle.treasury_state.specs.Federation.{Branch, Federation, entries, book_of}
+use Rattle.treasury_state.specs.Mark.{held, is_of_transfer, is_closing}
+use Rattle.treasury_state.specs.Transfer.{has_id, asked, receipts_of, dispatch_record, receipt_record}
+use Rattle.treasury_state.specs.Joined.{with_records, changed, inserted, received, with_receipt, with_entered}
+use Rattle.treasury_state.specs.Joined.{with_dispatched, with_received}
+use Rattle.treasury_state.specs.Good.{IsGoodRecord, IsGoodBranch, IsGoodTransfer, IsCarried, IsGoodState}
+use Rattle.treasury_state.proofs.BytesLemmas.{self_bytes, other_bytes}
+use Rattle.treasury_state.proofs.MarkLemmas.{id_no_colon}
+use Rattle.treasury_state.proofs.AskedLemmas.{no_out}
+use Rattle.treasury_state.proofs.FairLemmas.{in_step, good_marked}
+use Rattle.treasury_state.proofs.OrderLemmas.{own_ids}
+use Rattle.treasury_state.proofs.AllLemmas.{all_weaker}
+use Rattle.treasury_state.proofs.DispatchLemmas.{IsWhole, all_whole}
+use Rattle.treasury_core.proofs.PassLemmas.{inserted_elsewhere, inserted_here, received_elsewhere, received_here}
 use Rattle.treasury_core.proofs.GetsLemmas.{gets, keeps, no_receipt}
-use Rattle.treasury_core.proofs.FairLemmas.{found, in_step, good_marked}
 use Rattle.treasury_core.proofs.ReceiveLemmas.{IsReceipt, good_with, asks_more}
-use Rattle.treasury_core.proofs.OrderLemmas.{own_ids, sorted_inserted, sorted_received}
-use Rattle.treasury_core.proofs.ChangeLemmas.{length-changed, names-changed, all-changed, all_weaker}
+use Rattle.treasury_core.proofs.OrderLemmas.{sorted_inserted, sorted_received}
+use Rattle.treasury_core.proofs.ChangeLemmas.{length-changed, names-changed, all-changed}
 use Rattle.treasury_core.proofs.TransferLemmas.{other_branches, all-inserted, all-received}
 use Rattle.treasury_core.proofs.KeepLemmas.{branch_entered, same_names, transfers-changed}
-
--- a branch that is good and carries what transfers ask for
-pub record IsWhole (styles : List Style) (ts : List Transfer) (b : Branch) : Type 0 where
-  pub good : IsGoodBranch styles b
-  pub carried : IsCarried ts b
-
-pub all_whole : (styles : List Style) (ts : List Transfer) (bs : List Branch) → AllByRecursion (IsGoodBranch styles) bs
-    → AllByRecursion (IsCarried ts) bs → AllByRecursion (IsWhole styles ts) bs
-all_whole styles ts [] h k = tt
-all_whole styles ts (b ∷ bs) h k = (record { good = h.0; carried = k.0 }, all_whole styles ts bs h.1 k.1)
 
 -- a transfer's record comes into its branch
 gets_record : (styles : List Style) (ts ts' : List Transfer) (b : Branch) (r : Record) → IsWhole styles ts b
@@ -123,52 +111,3 @@ good_received f t p good here fair may written passes =
       carried =
           all_weaker (IsWhole f.styles ts') (IsCarried ts') (changed g t.target f.branches) (λ b h. h.carried) whole;
     }
-
--- the record of a dispatch stands in its source's book
-asked_first : (x : Transfer) (rest : List Record) (t : Bool) → t ≡ true
-    → held (out_records x t ++ rest) (out_mark x) ≡ Some (dispatch_record x)
-asked_first x rest true e = first_held (dispatch_record x) rest
-asked_first x rest false e = absurd cc
-
-asked_at : (t x : Transfer) (xs : List Transfer) (c : Bool) → bytes_eq x.id t.id ≡ c
-    → cond c (Some x) (find (has_id t.id) xs) ≡ Some t
-    → (find (has_id t.id) xs ≡ Some t → held (asked xs t.source) (out_mark t) ≡ Some (dispatch_record t))
-    → held (asked (x ∷ xs) t.source) (out_mark t) ≡ Some (dispatch_record t)
-asked_at t x xs true g e h =
-    let P : Transfer → Type 0 = λ y. held (asked (x ∷ xs) y.source) (out_mark y) ≡ Some (dispatch_record y) in
-    subst P (same_transfer x t e) (asked_first x
-    (in_records x (bytes_eq x.target x.source) (receipts_of x) ++ asked xs x.source) (bytes_eq x.source x.source)
-    (self_bytes x.source))
-asked_at t x xs false g e h = pass_out x (asked xs t.source) t.id (bytes_eq x.source t.source)
-    (bytes_eq x.target t.source) (receipts_of x) g ∙ h e
-
-asked_out : (t : Transfer) (ts : List Transfer) → find (has_id t.id) ts ≡ Some t
-    → held (asked ts t.source) (out_mark t) ≡ Some (dispatch_record t)
-asked_out t [] e = absurd cc
-asked_out t (x ∷ xs) e = asked_at t x xs (bytes_eq x.id t.id) refl e (asked_out t xs)
-
-held_at : (P : Record → Type 0) (x r : Record) (o : Option Record) (t : Bool) → cond t (Some x) o ≡ Some r → P x
-    → (o ≡ Some r → P r) → P r
-held_at P x r o true e p h = subst P (let k : x ≡ r = cc in k) p
-held_at P x r o false e p h = h e
-
-kept_at : (P : Record → Type 0) (m : List ℕ) (x r : Record) (xs : List Record) (t : Bool)
-    → held (cond t (x ∷ xs) xs) m ≡ Some r → P x → (held xs m ≡ Some r → P r) → P r
-kept_at P m x r xs true e p h = held_at P x r (held xs m) (bytes_eq x.mark m) e p h
-kept_at P m x r xs false e p h = h e
-
-pub held_holds : (P : Record → Type 0) (m : List ℕ) (r : Record) (rs : List Record)
-    → held (filter is_of_transfer rs) m ≡ Some r → AllByRecursion P rs → P r
-held_holds P m r [] e h = absurd cc
-held_holds P m r (x ∷ xs) e h =
-    kept_at P m x r (filter is_of_transfer xs) (is_of_transfer x) e h.0 (λ k. held_holds P m r xs k h.1)
-
-pub dispatch_written : (f : Federation) (t : Transfer) → IsGoodState f → find (has_id t.id) f.transfers ≡ Some t
-    → IsGoodTransfer f.branches t → IsGoodRecord f.styles (dispatch_record t)
-dispatch_written f t good here fair =
-    let b = found (IsWhole f.styles f.transfers) f.branches t.source
-    (all_whole f.styles f.transfers f.branches good.branches good.carried) fair.source in
-    let at : held (filter is_of_transfer b.branch.records) (out_mark t) ≡ Some (dispatch_record t) =
-    b.holds.carried (out_mark t) ∙ (ap (λ (n : List ℕ). held (asked f.transfers n) (out_mark t)) b.named ∙ asked_out t
-    f.transfers here) in
-    held_holds (IsGoodRecord f.styles) (out_mark t) (dispatch_record t) b.branch.records at b.holds.good.records

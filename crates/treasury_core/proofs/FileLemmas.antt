@@ -17,15 +17,16 @@ use Rattle.journal_format.specs.declared.txn.Located.{Located}
 use Rattle.journal_format.specs.Printable.{IsPrintable}
 use Rattle.journal_format.specs.CanonicalText.{body_text, marked}
 use Rattle.journal_balance.specs.Legs.{legs_of, balancing_fault}
-use Rattle.treasury_core.specs.declared.record.Record.{Record}
-use Rattle.treasury_core.specs.Mark.{is_held, HaveOwnMarks, is_repeat, is_product_mark, mark_of}
-use Rattle.treasury_core.specs.Transfer.{is_transit}
-use Rattle.treasury_core.specs.Step.{is_locked, number_in, recorded, records_from, refusal_of, refused_in, new_in}
-use Rattle.treasury_core.specs.Good.{IsGoodRecord}
-use Rattle.treasury_core.specs.History.{IsNew}
+use Rattle.treasury_state.specs.declared.record.Record.{Record}
+use Rattle.treasury_state.specs.Mark.{is_held, HaveOwnMarks, is_repeat, is_product_mark, mark_of}
+use Rattle.treasury_state.specs.Transfer.{is_transit}
+use Rattle.treasury_state.specs.Federation.{is_locked}
+use Rattle.treasury_state.specs.Good.{IsGoodRecord}
+use Rattle.treasury_state.proofs.HeldLemmas.{own_push, not_held}
+use Rattle.treasury_state.proofs.AllLemmas.{all-append, all_weaker}
+use Rattle.treasury_core.specs.Step.{number_in, recorded, records_from, refusal_of, refused_in, new_in, IsNew}
 use Rattle.treasury_core.proofs.HashLemmas.{printable_marked}
-use Rattle.treasury_core.proofs.HeldLemmas.{own_push, not_held, fewer_held, repeat_held}
-use Rattle.treasury_core.proofs.ChangeLemmas.{all-append, all_weaker}
+use Rattle.treasury_core.proofs.HeldLemmas.{fewer_held, repeat_held}
 
 -- the mark plays no part in what a transaction does
 pub legs_of-marked : (styles : List Style) (t : Txn) (mark : Option (List ℕ))

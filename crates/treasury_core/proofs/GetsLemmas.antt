@@ -5,39 +5,27 @@ use Rattle.std.specs.Prelude.{filter, find}
 use Rattle.std.specs.List.{list_any, AllByRecursion}
 use Rattle.std.specs.Str.{bytes_eq}
 use Rattle.std.proofs.lemmas.List.Elements.{filter-append}
-use Rattle.treasury_core.specs.declared.record.Record.{Record}
-use Rattle.treasury_core.specs.declared.transfer.Part.{Part}
-use Rattle.treasury_core.specs.declared.transfer.Transfer.{Transfer}
-use Rattle.treasury_core.specs.Mark.{held, is_transfer_mark, is_of_transfer}
-use Rattle.treasury_core.specs.Transfer.{asked, out_records, in_records, receipts_of, in_mark, has_id}
-use Rattle.treasury_core.specs.Federation.{Branch}
-use Rattle.treasury_core.specs.Joined.{with_records}
-use Rattle.treasury_core.proofs.WayLemmas.{IsClear, IsInStep}
-use Rattle.treasury_core.proofs.BytesLemmas.{same_bytes}
-use Rattle.treasury_core.proofs.HeldLemmas.{held_push, own_push}
-use Rattle.treasury_core.specs.Fair.{HasNoColon, IsMarked}
-use Rattle.treasury_core.proofs.MarkLemmas.{id_no_colon}
-use Rattle.treasury_core.proofs.AskedLemmas.{HaveOwnIds, none_append, none_out_at, none_of_key, no_in}
-use Rattle.treasury_core.proofs.PassLemmas.{pass_in, same_transfer}
+use Rattle.treasury_state.specs.declared.record.Record.{Record}
+use Rattle.treasury_state.specs.declared.transfer.Part.{Part}
+use Rattle.treasury_state.specs.declared.transfer.Transfer.{Transfer}
+use Rattle.treasury_state.specs.Mark.{held, is_of_transfer}
+use Rattle.treasury_state.specs.Transfer.{asked, out_records, in_records, receipts_of, in_mark, has_id}
+use Rattle.treasury_state.specs.Federation.{Branch}
+use Rattle.treasury_state.specs.Joined.{with_records}
+use Rattle.treasury_state.specs.Fair.{HasNoColon, IsMarked}
+use Rattle.treasury_state.proofs.WayLemmas.{IsClear, IsInStep}
+use Rattle.treasury_state.proofs.BytesLemmas.{same_bytes}
+use Rattle.treasury_state.proofs.HeldLemmas.{held_push, own_push}
+use Rattle.treasury_state.proofs.MarkLemmas.{id_no_colon}
+use Rattle.treasury_state.proofs.AskedLemmas.{HaveOwnIds, none_append, none_out_at, none_of_key, no_in}
+use Rattle.treasury_state.proofs.SkipLemmas.{same_transfer}
+use Rattle.treasury_state.proofs.FilterLemmas.{held-filter}
+use Rattle.treasury_core.proofs.PassLemmas.{pass_in}
 
 all_push : (P : Record → Type 0) (rs : List Record) (r : Record) → AllByRecursion P rs → P r
     → AllByRecursion P (rs ++ r ∷ [])
 all_push P [] r h p = (p, tt)
 all_push P (x ∷ xs) r h p = (h.0, all_push P xs r h.1 p)
-
--- a transfer's mark is looked up among the transfers' records
-filtered_at : (r : Record) (rs : List Record) (m : List ℕ) (b t : Bool) → is_transfer_mark r.mark ≡ b
-    → bytes_eq r.mark m ≡ t → is_transfer_mark m ≡ true → held (filter is_of_transfer rs) m ≡ held rs m
-    → held (cond b (r ∷ filter is_of_transfer rs) (filter is_of_transfer rs)) m ≡ held (r ∷ rs) m
-filtered_at r rs m true t e f g h = ap (λ (o : Option Record). cond (bytes_eq r.mark m) (Some r) o) h
-filtered_at r rs m false true e f g h = let k = ap is_transfer_mark (same_bytes r.mark m f) in absurd cc
-filtered_at r rs m false false e f g h = h ∙ sym (ap (λ (b : Bool). cond b (Some r) (held rs m)) f)
-
-pub held-filter : (rs : List Record) (m : List ℕ) → is_transfer_mark m ≡ true
-    → held (filter is_of_transfer rs) m ≡ held rs m
-held-filter [] m g = refl
-held-filter (r ∷ rs) m g =
-    filtered_at r rs m (is_transfer_mark r.mark) (bytes_eq r.mark m) refl refl g (held-filter rs m g)
 
 -- a branch that gets a transfer's record
 pub gets : (ts ts' : List Transfer) (d : Branch) (r : Record) → IsInStep ts d → is_of_transfer r ≡ true

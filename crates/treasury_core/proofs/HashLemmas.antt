@@ -18,8 +18,8 @@ use Rattle.journal_format.specs.declared.txn.Txn.{Txn}
 use Rattle.journal_format.specs.CanonicalText.{body_text, marked}
 use Rattle.journal_format.specs.Mark.{is_mark, is_mark_byte}
 use Rattle.journal_format.specs.Printable.{IsPrintable, is_mark_or_none}
-use Rattle.treasury_core.specs.Mark.{hash_mark, mark_of}
-use Rattle.treasury_core.proofs.ChangeLemmas.{all-append}
+use Rattle.treasury_state.specs.Mark.{hash_mark, mark_of}
+use Rattle.treasury_state.proofs.AllLemmas.{all-append}
 
 -- bytes, and their digits
 bytes_of_word : (x : ℕ) → AllByRecursion (λ (b : ℕ). b < 256) (to_be_bytes w32 x)

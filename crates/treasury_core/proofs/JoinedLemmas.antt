@@ -6,21 +6,21 @@ use Rattle.std.specs.Str.{bytes_eq}
 use Rattle.money_core.specs.declared.day.Day.{Day}
 use Rattle.book_core.specs.declared.refusal.Refusal.{Refusal}
 use Rattle.journal_format.specs.declared.txn.Txn.{Txn}
-use Rattle.treasury_core.specs.declared.record.Record.{Record}
+use Rattle.treasury_state.specs.declared.record.Record.{Record}
+use Rattle.treasury_state.specs.declared.delta.Addition.{Addition}
+use Rattle.treasury_state.specs.declared.delta.Addition.TheVariants as add
+use Rattle.treasury_state.specs.declared.transfer.Transfer.{Transfer}
+use Rattle.treasury_state.specs.Federation.{Branch, Federation}
+use Rattle.treasury_state.specs.Joined.{with_records, changed, with_entered, with_locked, joined, joined_one}
+use Rattle.treasury_state.specs.Transfer.{transfer_at}
 use Rattle.treasury_core.specs.declared.command.Answer.{Answer}
 use Rattle.treasury_core.specs.declared.command.Answer.TheVariants.{Done, Entered, Repeated}
-use Rattle.treasury_core.specs.declared.delta.Addition.{Addition}
-use Rattle.treasury_core.specs.declared.delta.Addition.TheVariants as add
-use Rattle.treasury_core.specs.declared.transfer.Transfer.{Transfer}
 use Rattle.treasury_core.specs.declared.command.Receive.{Receive}
 use Rattle.treasury_core.specs.declared.command.Command.{Command}
 use Rattle.treasury_core.specs.declared.command.Command.TheVariants as cmd
-use Rattle.treasury_core.specs.Federation.{Branch, Federation}
 use Rattle.treasury_core.specs.Closing.{closing_in}
-use Rattle.treasury_core.specs.Joined.{with_records, changed, with_entered, with_locked, joined, joined_one}
 use Rattle.treasury_core.specs.Step.{done, added, after, delta, new_records, receipt_additions, with_receipt_of}
-use Rattle.treasury_core.specs.Step.{transfer_at, closing_records}
-use Rattle.treasury_core.specs.History.{Turn, state_after, history}
+use Rattle.treasury_core.specs.Step.{closing_records}
 
 -- one list of records is another
 same_records : (b : Branch) (xs ys : List Record) → xs ≡ ys
@@ -93,13 +93,6 @@ after_joined f c (Ok (Entered new repeated)) = done_joined f c
 after_joined f c (Ok Repeated) = refl
 after_joined f c (Err refusal) = refl
 
-joined-append : (f : Federation) (xs ys : List Addition) → joined f (xs ++ ys) ≡ joined (joined f xs) ys
+pub joined-append : (f : Federation) (xs ys : List Addition) → joined f (xs ++ ys) ≡ joined (joined f xs) ys
 joined-append f [] ys = refl
 joined-append f (x ∷ xs) ys = joined-append (joined_one f x) xs ys
-
-pub run_joined : (f : Federation) (turns : List Turn) → state_after f turns ≡ joined f (history f turns)
-run_joined f [] = refl
-run_joined f (t ∷ ts) =
-    run_joined (after f t.command t.reply) ts
-    ∙ ap (λ (g : Federation). joined g (history (after f t.command t.reply) ts)) (after_joined f t.command t.reply)
-    ∙ sym (joined-append f (delta f t.command t.reply) (history (after f t.command t.reply) ts))

@@ -1,8 +1,7 @@
 -- what becomes of a transaction, by the record that holds its mark
-use Rattle.std.proofs.Common.{◌≡◌, ℕ, Bool, true, false, ◌||◌, ◌&&◌, cond, List, [], ◌∷◌, ◌++◌, refl, ap, ◌∙◌, sym}
-use Rattle.std.proofs.Common.{subst, append_assoc, Option, Some, None, Ok, Err, ◌⊎◌, inl, inr}
-use Rattle.std.specs.Prelude.{if◌then◌else◌, Result, IfSome}
-use Rattle.std.specs.Option.{unwrap_or}
+use Rattle.std.proofs.Common.{◌≡◌, Bool, true, false, ◌||◌, ◌&&◌, cond, List, [], ◌∷◌, ◌++◌, refl, ap, ◌∙◌, sym, subst}
+use Rattle.std.proofs.Common.{append_assoc, Option, Some, None, Ok, Err, ◌⊎◌, inl, inr}
+use Rattle.std.specs.Prelude.{if◌then◌else◌, Result}
 use Rattle.std.specs.List.{AllByRecursion}
 use Rattle.std.specs.Str.{bytes_eq}
 use Rattle.money_core.specs.declared.style.Style.{Style}
@@ -11,32 +10,15 @@ use Rattle.money_core.specs.declared.cause.Cause.TheVariants.{MarkClash, OutOfMe
 use Rattle.book_core.specs.declared.refusal.Refusal.{Refusal}
 use Rattle.book_core.specs.declared.refusal.Refusal.TheVariants.{Plain}
 use Rattle.journal_format.specs.CanonicalText.{body_text}
-use Rattle.treasury_core.specs.declared.record.Record.{Record}
-use Rattle.treasury_core.specs.Mark.{is_held, held, HaveOwnMarks, is_repeat}
+use Rattle.treasury_state.specs.declared.record.Record.{Record}
+use Rattle.treasury_state.specs.Mark.{held, HaveOwnMarks, is_repeat}
+use Rattle.treasury_state.proofs.BytesLemmas.{same_bytes, or_false}
+use Rattle.treasury_state.proofs.HeldLemmas.{none_tail, own_push}
+use Rattle.treasury_state.proofs.AllLemmas.{all-append}
+use Rattle.treasury_state.proofs.LookupLemmas.{same_some}
+use Rattle.treasury_state.proofs.HolderLemmas.{unheld, holding}
 use Rattle.treasury_core.specs.Step.{barred, refused_in, new_in}
 use Rattle.treasury_core.specs.Judged.{new_unless, judged}
-use Rattle.treasury_core.proofs.BytesLemmas.{same_bytes, or_false}
-use Rattle.treasury_core.proofs.HeldLemmas.{none_tail, own_push}
-use Rattle.treasury_core.proofs.ChangeLemmas.{all-append}
-
--- what holds of all holds of the holder
-held_at : (P : Record → Type 0) (r : Record) (o : Option Record) (t : Bool) → P r → IfSome o P
-    → IfSome (cond t (Some r) o) P
-held_at P r o true p h = p
-held_at P r o false p h = h
-
-pub held_all : (P : Record → Type 0) (rs : List Record) (m : List ℕ) → AllByRecursion P rs → IfSome (held rs m) P
-held_all P [] m h = tt
-held_all P (r ∷ rs) m h = held_at P r (held rs m) (bytes_eq r.mark m) h.0 (held_all P rs m h.1)
-
--- no holder: it is neither held nor repeated
-unheld_at : (t u : Bool) → t ≡ false → u ≡ false → (t || u) ≡ false
-unheld_at t u e h = rw (e, h) refl
-
-pub unheld : (rs : List Record) (m : List ℕ) → held rs m ≡ None → is_held rs m ≡ false
-unheld [] m e = refl
-unheld (r ∷ rs) m e = let k = none_tail r (held rs m) (bytes_eq r.mark m) e in unheld_at (bytes_eq r.mark m)
-    (is_held rs m) k.0 (unheld rs m k.1)
 
 fresh_at : (t s u : Bool) → t ≡ false → u ≡ false → ((t && s) || u) ≡ false
 fresh_at t s u e h = rw (e, h) refl
@@ -49,19 +31,6 @@ unrepeated styles (h ∷ hs) r e =
     fresh_at (bytes_eq h.mark r.mark) (bytes_eq (body_text styles h.txn) (body_text styles r.txn))
     (is_repeat styles hs r) k.0 (unrepeated styles hs r k.1)
 
--- a holder: it is held, and repeated where the texts are equal
-some_is : (x y : Record) → ◌≡◌ {A = Option Record} (Some x) (Some y) → x ≡ y
-some_is x y e = ap (λ (o : Option Record). unwrap_or o x) e
-
-holding_at : (r x : Record) (o : Option Record) (t u : Bool) → cond t (Some r) o ≡ Some x → (o ≡ Some x → u ≡ true)
-    → (t || u) ≡ true
-holding_at r x o true u e h = refl
-holding_at r x o false u e h = h e
-
-pub holding : (rs : List Record) (m : List ℕ) (x : Record) → held rs m ≡ Some x → is_held rs m ≡ true
-holding [] m x e = absurd cc
-holding (r ∷ rs) m x e = holding_at r x (held rs m) (bytes_eq r.mark m) (is_held rs m) e (holding rs m x)
-
 repeating_at : (styles : List Style) (h x r : Record) (hs : List Record) (t : Bool) → bytes_eq h.mark r.mark ≡ t
     → held hs h.mark ≡ None → cond t (Some h) (held hs r.mark) ≡ Some x
     → (held hs r.mark ≡ Some x → is_repeat styles hs r ≡ bytes_eq (body_text styles x.txn) (body_text styles r.txn))
@@ -71,7 +40,7 @@ repeating_at styles h x r hs true g n e k =
     let none : held hs r.mark ≡ None = ap (held hs) (sym (same_bytes h.mark r.mark g)) ∙ n in
     ap (λ (u : Bool). bytes_eq (body_text styles h.txn) (body_text styles r.txn) || u) (unrepeated styles hs r none)
     ∙ or_false (bytes_eq (body_text styles h.txn) (body_text styles r.txn))
-    ∙ ap (λ (y : Record). bytes_eq (body_text styles y.txn) (body_text styles r.txn)) (some_is h x e)
+    ∙ ap (λ (y : Record). bytes_eq (body_text styles y.txn) (body_text styles r.txn)) (same_some h x e)
 repeating_at styles h x r hs false g n e k = k e
 
 pub repeating : (styles : List Style) (rs : List Record) (r x : Record) → HaveOwnMarks rs → held rs r.mark ≡ Some x

@@ -1,9 +1,7 @@
 -- what is added leaves a good state good
 use Rattle.std.proofs.Common.{◌≡◌, ◌<◌, ℕ, Bool, true, false, ◌||◌, cond, List, [], ◌∷◌, ◌++◌, length, refl, ap, ◌∙◌}
-use Rattle.std.proofs.Common.{sym, subst, arith, append-nil, length-append, Option, Some, None, Ok, ℤ, pos, neg_ℤ}
-use Rattle.std.proofs.Common.{◌≤ℤ◌, FitsSigned}
+use Rattle.std.proofs.Common.{sym, subst, arith, append-nil, length-append, Option, Some, None, Ok}
 use Rattle.std.specs.Prelude.{filter}
-use Rattle.std.specs.Int.{w32}
 use Rattle.std.specs.List.{list_any, AllByRecursion}
 use Rattle.std.specs.Str.{bytes_eq}
 use Rattle.std.proofs.lemmas.List.Elements.{filter-append}
@@ -15,29 +13,27 @@ use Rattle.money_core.specs.declared.unit.Declared.TheVariants.{New}
 use Rattle.money_core.specs.Style.{is_style, declared}
 use Rattle.money_core.proofs.StyleLemmas.{AreStyles-snoc, declared-was_new}
 use Rattle.money_core.proofs.GrowthLemmas.{styles_grow}
-use Rattle.book_core.specs.GoodBook.{IsFit, IsGoodBook, verdict}
+use Rattle.book_core.specs.GoodBook.{IsGoodBook, verdict}
 use Rattle.book_core.proofs.GoodBookLemmas.{good_verdict, fit-append, good_nil}
 use Rattle.journal_lines.specs.Date.{IsDayNumber}
-use Rattle.journal_lines.proofs.DateLemmas.{day_number_bounds}
 use Rattle.journal_format.proofs.MoreStylesLemmas.{printable_stays}
-use Rattle.journal_balance.proofs.EntryLemmas.{entry_fit, entry_day}
 use Rattle.journal_balance.proofs.GrowthLemmas.{legs_of-append}
-use Rattle.treasury_core.specs.declared.record.Record.{Record}
-use Rattle.treasury_core.specs.declared.transfer.Transfer.{Transfer}
-use Rattle.treasury_core.specs.Federation.{Branch, Federation, is_branch_name, has_name, has_branch, records_of}
-use Rattle.treasury_core.specs.Federation.{lock_of, entries, book_of}
-use Rattle.treasury_core.specs.Mark.{held, HaveOwnMarks, is_transfer_mark, is_closing_mark, is_of_transfer}
-use Rattle.treasury_core.specs.Transfer.{is_transit, asked}
-use Rattle.treasury_core.specs.Joined.{new_branch, with_records, with_lock, changed, with_style, with_branch}
-use Rattle.treasury_core.specs.Joined.{with_entered, with_locked}
-use Rattle.treasury_core.specs.Step.{is_locked, goes_back}
-use Rattle.treasury_core.specs.Good.{IsGoodRecord, IsOffTransit, IsWithinLock, IsGoodBranch, IsGoodTransfer, IsCarried}
-use Rattle.treasury_core.specs.Good.{HaveOwnNames, IsGoodState, IsShort}
-use Rattle.treasury_core.specs.History.{IsNew}
-use Rattle.treasury_core.proofs.BytesLemmas.{same_bytes, other_bytes, neither, or_false}
-use Rattle.treasury_core.proofs.HistoryLemmas.{entries-append}
+use Rattle.treasury_state.specs.declared.record.Record.{Record}
+use Rattle.treasury_state.specs.declared.transfer.Transfer.{Transfer}
+use Rattle.treasury_state.specs.Federation.{Branch, Federation, is_branch_name, has_name, has_branch, records_of}
+use Rattle.treasury_state.specs.Federation.{lock_of, entries, book_of, is_locked}
+use Rattle.treasury_state.specs.Mark.{held, HaveOwnMarks, is_transfer_mark, is_closing_mark, is_of_transfer}
+use Rattle.treasury_state.specs.Transfer.{is_transit, asked}
+use Rattle.treasury_state.specs.Joined.{new_branch, with_records, with_lock, changed, with_style, with_branch}
+use Rattle.treasury_state.specs.Joined.{with_entered, with_locked}
+use Rattle.treasury_state.specs.Good.{IsGoodRecord, IsOffTransit, IsWithinLock, IsGoodBranch, IsGoodTransfer, IsCarried}
+use Rattle.treasury_state.specs.Good.{HaveOwnNames, IsGoodState}
+use Rattle.treasury_state.proofs.BytesLemmas.{same_bytes, other_bytes, neither, or_false}
+use Rattle.treasury_state.proofs.EntriesLemmas.{entries-append}
+use Rattle.treasury_state.proofs.AllLemmas.{all_weaker, all-append}
+use Rattle.treasury_state.proofs.RecordLemmas.{fit_records, short_day}
+use Rattle.treasury_core.specs.Step.{goes_back, IsNew}
 use Rattle.treasury_core.proofs.ChangeLemmas.{length-changed, any-changed, names-changed, all-changed, changed-twice}
-use Rattle.treasury_core.proofs.ChangeLemmas.{all_weaker, all-append}
 use Rattle.treasury_core.proofs.TransferLemmas.{other_branches}
 
 -- one more branch
@@ -141,22 +137,6 @@ good_style f style unit good is new =
       carried = good.carried;
     }
 
--- the entries of good records are fit
-pub fit_records : (styles : List Style) (rs : List Record) → AllByRecursion (IsGoodRecord styles) rs
-    → AllByRecursion IsFit (entries rs)
-fit_records styles [] h = tt
-fit_records styles (r ∷ rs) h =
-    (entry_fit styles r.txn r.entry h.0.printable.postings h.0.legs, fit_records styles rs h.1)
-
--- and on days of the years 1 to 9999
-pub day_records : (styles : List Style) (rs : List Record) → AllByRecursion (IsGoodRecord styles) rs
-    → AllByRecursion (λ (r : Record). IsDayNumber r.entry.day) rs
-day_records styles [] h = tt
-day_records styles (r ∷ rs) h = (
-  subst IsDayNumber (sym (entry_day styles r.txn r.entry h.0.legs)) h.0.printable.header.number,
-  day_records styles rs h.1,
-)
-
 -- a branch with more good records, whose book passes with them
 pub branch_entered : (styles : List Style) (rs : List Record) (b : Branch) → IsGoodBranch styles b
     → HaveOwnMarks (b.records ++ rs) → AllByRecursion (IsGoodRecord styles) rs
@@ -179,13 +159,6 @@ pub later_lock : (lock : Option Day) (day d : Day) → goes_back lock day ≡ fa
     → is_locked (Some day) d ≡ true
 later_lock None day d g h = absurd cc
 later_lock (Some lock) day d g h = grind (arith, ints)
-
--- a day of the years 1 to 9999 is in 32 bits
-short_bounds : (z : ℤ) → neg_ℤ (pos 719_162) ≤ℤ z → z ≤ℤ pos 2_932_896 → FitsSigned w32 z
-short_bounds z low high = omega (arith, ints)
-
-pub short_day : (d : Day) → IsDayNumber d → IsShort d
-short_day d h = let bounds = day_number_bounds d h in short_bounds d.0 bounds.0 bounds.1
 
 branch_locked : (styles : List Style) (day : Day) (b : Branch) → IsDayNumber day → goes_back b.locked day ≡ false
     → IsGoodBranch styles b → IsGoodBranch styles (with_lock day b)

@@ -1,6 +1,6 @@
 -- Dispatch and Receive keep the records and the transfers in step
 use Rattle.std.proofs.Common.{◌≡◌, ℕ, Bool, true, false, cond, List, [], ◌∷◌, ◌++◌, map, refl, ap, ◌∙◌, sym, subst}
-use Rattle.std.proofs.Common.{Option, Some, None}
+use Rattle.std.proofs.Common.{Option, Some}
 use Rattle.std.specs.Prelude.{if◌then◌else◌, find, codes}
 use Rattle.std.specs.Option.{option_or}
 use Rattle.std.specs.Ordering.{is_lt}
@@ -8,29 +8,18 @@ use Rattle.std.specs.List.{list_any, AllByRecursion}
 use Rattle.std.specs.Str.{bytes_eq}
 use Rattle.std.proofs.lemmas.List.Folds.{find-append}
 use Rattle.book_core.specs.Account.{name_cmp}
-use Rattle.treasury_core.specs.declared.record.Record.{Record}
-use Rattle.treasury_core.specs.declared.transfer.Part.{Part}
-use Rattle.treasury_core.specs.declared.transfer.Transfer.{Transfer}
-use Rattle.treasury_core.specs.Mark.{has_mark, held}
-use Rattle.treasury_core.specs.Transfer.{asked, out_records, in_records, receipts_of, out_mark, in_mark, has_id}
-use Rattle.treasury_core.specs.Transfer.{dispatch_record, receipt_record}
-use Rattle.treasury_core.specs.Joined.{inserted, received, with_receipt}
-use Rattle.treasury_core.specs.Fair.{HasNoColon, IsMarked}
-use Rattle.treasury_core.proofs.BytesLemmas.{same_bytes, neither}
-use Rattle.treasury_core.proofs.MarkLemmas.{id_no_colon}
-use Rattle.treasury_core.proofs.AskedLemmas.{none_out_at, none_in_at, out_of_in, out_of_out}
-
--- records without that mark are passed over
-pub skip : (xs rest : List Record) (m : List ℕ) → held xs m ≡ None → held (xs ++ rest) m ≡ held rest m
-skip xs rest m e = find-append (has_mark m) xs rest ∙ ap (λ (o : Option Record). option_or o (held rest m)) e
-
--- the records of other transfers have other marks
-pub pass_out : (x : Transfer) (rest : List Record) (id : List ℕ) (a b : Bool) (ps : List Part)
-    → bytes_eq x.id id ≡ false
-    → held (out_records x a ++ (in_records x b ps ++ rest)) (codes "out:" ++ id) ≡ held rest (codes "out:" ++ id)
-pass_out x rest id a b ps e =
-    skip (out_records x a) (in_records x b ps ++ rest) (codes "out:" ++ id) (out_of_out x id a e) ∙ skip
-    (in_records x b ps) rest (codes "out:" ++ id) (out_of_in x id b ps)
+use Rattle.treasury_state.specs.declared.record.Record.{Record}
+use Rattle.treasury_state.specs.declared.transfer.Part.{Part}
+use Rattle.treasury_state.specs.declared.transfer.Transfer.{Transfer}
+use Rattle.treasury_state.specs.Mark.{has_mark, held}
+use Rattle.treasury_state.specs.Transfer.{asked, out_records, in_records, receipts_of, out_mark, in_mark, has_id}
+use Rattle.treasury_state.specs.Transfer.{dispatch_record, receipt_record}
+use Rattle.treasury_state.specs.Joined.{inserted, received, with_receipt}
+use Rattle.treasury_state.specs.Fair.{HasNoColon, IsMarked}
+use Rattle.treasury_state.proofs.BytesLemmas.{same_bytes, neither}
+use Rattle.treasury_state.proofs.MarkLemmas.{id_no_colon}
+use Rattle.treasury_state.proofs.AskedLemmas.{none_out_at, none_in_at}
+use Rattle.treasury_state.proofs.SkipLemmas.{skip, pass_out, same_transfer}
 
 pub pass_in : (x : Transfer) (rest : List Record) (id key : List ℕ) (a b : Bool) (ps : List Part) → HasNoColon x.id
     → HasNoColon id → bytes_eq x.id id ≡ false
@@ -138,9 +127,6 @@ inserted_here t (x ∷ xs) name m e f g =
 out_same : (p : Part) (t : Transfer) (a : Bool) → out_records (with_receipt p t) a ≡ out_records t a
 out_same p t true = refl
 out_same p t false = refl
-
-pub same_transfer : (x t : Transfer) → ◌≡◌ {A = Option Transfer} (Some x) (Some t) → x ≡ t
-same_transfer x t e = ap (λ (o : Option Transfer). elim o as (λ v. Transfer) [ None ↦ x | Some y ↦ y ]) e
 
 in_elsewhere : (p : Part) (t : Transfer) (name : List ℕ) (rest : List Record) → bytes_eq t.target name ≡ false
     → out_records (with_receipt p t) (bytes_eq t.source name)

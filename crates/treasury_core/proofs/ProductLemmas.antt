@@ -1,6 +1,6 @@
 -- the transactions of transfers can be printed, and do what their two postings say
 use Rattle.std.proofs.Common.{◌≡◌, ◌≤◌, ◌<◌, ◌+◌, ◌-◌, ◌&&◌, ◌||◌, ◌==◌, nat_eq, ℕ, zero, suc, Bool, true, false, List}
-use Rattle.std.proofs.Common.{[], ◌∷◌, ◌++◌, length, ℤ, pos, ◌+ℤ◌, ◌-ℤ◌, refl, ap, ◌∙◌, sym, subst, arith, Some, None}
+use Rattle.std.proofs.Common.{[], ◌∷◌, ◌++◌, length, ℤ, pos, ◌+ℤ◌, ◌-ℤ◌, refl, ap, ◌∙◌, sym, subst, arith, None}
 use Rattle.std.proofs.Common.{length-append, append_assoc, append-nil}
 use Rattle.std.specs.Prelude.{codes, not, nat_lt, nat_le, slice_index, unsigned_abs, if◌then◌else◌}
 use Rattle.std.specs.List.{list_all, slice_split, All, AllByRecursion}
@@ -23,12 +23,11 @@ use Rattle.journal_lines.specs.Blank.{is_blank, is_trimmed}
 use Rattle.journal_lines.specs.Date.{IsDayNumber}
 use Rattle.journal_lines.specs.Comment.{has_no}
 use Rattle.journal_lines.specs.Printed.{is_clean, is_description}
-use Rattle.journal_lines.specs.AccountName.{is_account, is_part, has_gap, is_gap}
-use Rattle.journal_lines.specs.AccountName.{is_name_byte as is_account_byte}
+use Rattle.journal_lines.specs.AccountName.{is_account, is_part, has_gap, is_gap, is_name_byte as is_account_byte}
 use Rattle.journal_format.specs.declared.posting.Posting.{Posting}
 use Rattle.journal_format.specs.CanonicalText.{body_text}
 use Rattle.journal_format.specs.Mark.{is_mark, is_mark_byte}
-use Rattle.journal_format.specs.Printable.{is_amount, is_posting, is_value}
+use Rattle.journal_format.specs.Printable.{is_amount, is_posting}
 use Rattle.journal_format.proofs.Utf8Lemmas.{utf8_low, utf8_joined, is_low}
 use Rattle.journal_format.proofs.PostingLemmas.{part_length}
 use Rattle.journal_format.proofs.SizeLemmas.{body_size, head_is, header_small, postings-append, posting_size, line_is}
@@ -36,13 +35,14 @@ use Rattle.journal_format.proofs.SizeLemmas.{posting_small, no_remarks}
 use Rattle.journal_format.specs.BodySize.{postings_size, remarks_size}
 use Rattle.journal_balance.specs.Legs.{leg}
 use Rattle.journal_balance.proofs.WrittenLemmas.{legs_of-written}
-use Rattle.treasury_core.specs.declared.transfer.Part.{Part}
-use Rattle.treasury_core.specs.declared.transfer.Transfer.{Transfer}
-use Rattle.treasury_core.specs.Federation.{is_name_byte, is_branch_name}
-use Rattle.treasury_core.specs.Transfer.{is_id, is_id_byte, is_all, is_key, posting, product_record, transit_account}
-use Rattle.treasury_core.specs.Transfer.{out_mark, mark_tail, in_mark, text_tail, in_text, dispatch_record}
-use Rattle.treasury_core.specs.Transfer.{receipt_record}
-use Rattle.treasury_core.specs.Good.{IsGoodRecord}
+use Rattle.treasury_state.specs.declared.transfer.Part.{Part}
+use Rattle.treasury_state.specs.declared.transfer.Transfer.{Transfer}
+use Rattle.treasury_state.specs.Federation.{is_name_byte, is_branch_name}
+use Rattle.treasury_state.specs.Transfer.{is_id, is_id_byte, is_all, is_key, posting, product_record, transit_account}
+use Rattle.treasury_state.specs.Transfer.{out_mark, mark_tail, in_mark, text_tail, in_text, dispatch_record}
+use Rattle.treasury_state.specs.Transfer.{receipt_record}
+use Rattle.treasury_state.specs.Good.{IsGoodRecord}
+use Rattle.treasury_state.proofs.AmountLemmas.{amount_of}
 
 -- ---- bytes
 
@@ -355,7 +355,7 @@ is_posting_of : (styles : List Style) (account : List ℕ) (unit : Commodity) (q
     → is_utf8 account ≡ true → is_amount styles unit q ≡ true → is_posting styles (posting (leg account unit q)) ≡ true
 is_posting_of styles account unit q h k a = rw (h, k, a) refl
 
-same_size : (q : ℤ) → unsigned_abs (pos 0 -ℤ q) ≡ unsigned_abs q
+pub same_size : (q : ℤ) → unsigned_abs (pos 0 -ℤ q) ≡ unsigned_abs q
 same_size q = omega (arith, ints)
 
 amount_back : (styles : List Style) (unit : Commodity) (q : ℤ) → is_amount styles unit q ≡ true
@@ -463,14 +463,6 @@ dispatch_good styles t are h =
       second_utf8 = h.utf8;
       amount = h.amount;
     })
-
-pub amount_of : (styles : List Style) (account : List ℕ) (unit : Commodity) (q : ℤ)
-    → is_posting styles (posting (leg account unit q)) ≡ true → is_amount styles unit q ≡ true
-amount_of styles account unit q h =
-    let one = and_parts (is_account account && is_utf8 account && is_value styles (Some (unit, q)) None None) _ h in
-    let two = and_parts (is_account account && is_utf8 account) (is_value styles (Some (unit, q)) None None) one.0 in
-    let three = and_parts (is_amount styles unit q && true) _ two.1 in
-    (and_parts (is_amount styles unit q) _ three.0).0
 
 -- the same amount, or less
 amount_less : (styles : List Style) (unit : Commodity) (q z : ℤ) → is_amount styles unit z ≡ true

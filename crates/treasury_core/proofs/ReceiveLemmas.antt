@@ -1,28 +1,28 @@
 -- a transfer with one receipt more is good again, and asks for one record more
-use Rattle.std.proofs.Common.{◌≡◌, ◌∙◌, ℕ, Bool, true, false, ◌||◌, cond, List, [], ◌∷◌, ◌++◌, map, ℤ, pos, ◌+ℤ◌, ◌-ℤ◌}
-use Rattle.std.proofs.Common.{◌≤ℤ◌, refl, sym, ap, subst, arith, append_assoc, append-nil, Option, Some, None}
-use Rattle.std.specs.Prelude.{if◌then◌else◌, int_le, find, ⊤}
+use Rattle.std.proofs.Common.{◌≡◌, ◌∙◌, ℕ, Bool, true, false, cond, List, [], ◌∷◌, ◌++◌, map, ℤ, ◌-ℤ◌, ◌≤ℤ◌, refl, sym}
+use Rattle.std.proofs.Common.{ap, subst, arith, append-nil, Option, Some, None}
+use Rattle.std.specs.Prelude.{if◌then◌else◌}
 use Rattle.std.specs.Ordering.{is_lt}
 use Rattle.std.specs.Option.{option_or}
-use Rattle.std.specs.List.{list_any, AllByRecursion}
+use Rattle.std.specs.List.{list_any}
 use Rattle.std.specs.Str.{bytes_eq}
 use Rattle.std.proofs.lemmas.Int.{ints}
 use Rattle.std.proofs.lemmas.List.Folds.{find-append}
 use Rattle.book_core.specs.Account.{name_cmp}
-use Rattle.treasury_core.specs.declared.record.Record.{Record}
-use Rattle.treasury_core.specs.declared.transfer.Part.{Part}
-use Rattle.treasury_core.specs.declared.transfer.Receipt.{Receipt}
-use Rattle.treasury_core.specs.declared.transfer.Transfer.{Transfer}
-use Rattle.treasury_core.specs.Federation.{Branch}
-use Rattle.treasury_core.specs.Mark.{has_mark, held}
-use Rattle.treasury_core.specs.Transfer.{all_key, is_all, is_key, sum_of, rest_part, of_rest, receipts_of, left_of}
-use Rattle.treasury_core.specs.Transfer.{in_mark, receipt_record}
-use Rattle.treasury_core.specs.Joined.{put_part, parts_with, rest_with, with_receipt}
-use Rattle.treasury_core.specs.Good.{AreKeyed, IsGoodPart, HasGoodParts, IsGoodRest, IsGoodTransfer}
-use Rattle.treasury_core.specs.Fair.{HasNoColon}
-use Rattle.treasury_core.proofs.BytesLemmas.{same_bytes, neither}
-use Rattle.treasury_core.proofs.MarkLemmas.{and_never, mark_eq, none_all}
-use Rattle.treasury_core.proofs.AskedLemmas.{none_of_key}
+use Rattle.treasury_state.specs.declared.record.Record.{Record}
+use Rattle.treasury_state.specs.declared.transfer.Part.{Part}
+use Rattle.treasury_state.specs.declared.transfer.Receipt.{Receipt}
+use Rattle.treasury_state.specs.declared.transfer.Transfer.{Transfer}
+use Rattle.treasury_state.specs.Federation.{Branch}
+use Rattle.treasury_state.specs.Mark.{has_mark, held}
+use Rattle.treasury_state.specs.Transfer.{all_key, is_all, is_key, sum_of, rest_part, of_rest, receipts_of, left_of}
+use Rattle.treasury_state.specs.Transfer.{in_mark, receipt_record}
+use Rattle.treasury_state.specs.Joined.{put_part, parts_with, rest_with, with_receipt}
+use Rattle.treasury_state.specs.Good.{IsGoodPart, IsGoodRest, IsGoodTransfer}
+use Rattle.treasury_state.specs.Fair.{HasNoColon}
+use Rattle.treasury_state.proofs.BytesLemmas.{same_bytes, neither}
+use Rattle.treasury_state.proofs.MarkLemmas.{and_never, mark_eq}
+use Rattle.treasury_state.proofs.AskedLemmas.{none_of_key}
 use Rattle.treasury_core.proofs.PartLemmas.{le_to, none_yet, left_none, all_put, sum_put, keyed_put}
 use Rattle.treasury_core.proofs.PassLemmas.{Asks}
 use Rattle.treasury_core.proofs.GetsLemmas.{IsFresh}

@@ -5,8 +5,8 @@ use Rattle.std.proofs.Common.{◌≤ℤ◌}
 use Rattle.std.specs.Prelude.{if◌then◌else◌, Result, not, ⊤, find, is_some, int_le, int_lt, unsigned_abs, nat_eq}
 use Rattle.std.specs.Cmp.Lexicographic.{pointwise}
 use Rattle.std.specs.List.{list_any, AllByRecursion}
-use Rattle.std.specs.Str.{bytes_eq}
-use Rattle.std.proofs.lemmas.Bool.{leb-false, leb-true, and_from}
+use Rattle.std.specs.Str.{bytes_eq, is_utf8}
+use Rattle.std.proofs.lemmas.Bool.{leb-false, and_from, and_parts}
 use Rattle.std.proofs.lemmas.Bool.Decides.{nat_tests}
 use Rattle.std.proofs.lemmas.Int.{ints}
 use Rattle.money_core.specs.declared.style.Style.{Style}
@@ -24,16 +24,27 @@ use Rattle.book_core.specs.declared.refusal.Refusal.TheVariants.{Plain}
 use Rattle.book_core.specs.GoodBook.{verdict}
 use Rattle.journal_lines.specs.AccountName.{is_account}
 use Rattle.journal_lines.specs.Date.{IsDayNumber}
-use Rattle.std.specs.Str.{is_utf8}
-use Rattle.std.proofs.lemmas.Bool.{and_parts}
 use Rattle.journal_format.specs.declared.txn.Txn.{Txn}
 use Rattle.journal_format.specs.declared.txn.Located.{Located}
 use Rattle.journal_format.specs.Pieces.{posting_limit}
-use Rattle.journal_format.specs.Printable.{is_amount, is_posting}
-use Rattle.journal_balance.specs.Legs.{leg}
-use Rattle.treasury_core.specs.declared.record.Record.{Record}
-use Rattle.treasury_core.specs.declared.transfer.Part.{Part}
-use Rattle.treasury_core.specs.declared.transfer.Transfer.{Transfer}
+use Rattle.journal_format.specs.Printable.{is_amount}
+use Rattle.treasury_state.specs.declared.record.Record.{Record}
+use Rattle.treasury_state.specs.declared.transfer.Part.{Part}
+use Rattle.treasury_state.specs.declared.transfer.Transfer.{Transfer}
+use Rattle.treasury_state.specs.Federation.{Branch, Federation, is_branch_name, has_branch, records_in, records_of}
+use Rattle.treasury_state.specs.Federation.{lock_of, entries, book_of, is_locked}
+use Rattle.treasury_state.specs.Mark.{held, HaveOwnMarks, close_mark}
+use Rattle.treasury_state.specs.Transfer.{is_id, is_account_text, is_reserved, has_id, dispatch_record, receipt_record}
+use Rattle.treasury_state.specs.Transfer.{is_all, is_key, receipts_of, left_of, transfer_at}
+use Rattle.treasury_state.specs.Joined.{with_entered, with_locked, with_received}
+use Rattle.treasury_state.specs.Good.{IsGoodBranch, IsGoodRecord, IsGoodTransfer, IsGoodState}
+use Rattle.treasury_state.proofs.BytesLemmas.{same_bytes, neither}
+use Rattle.treasury_state.proofs.MarkLemmas.{not_all}
+use Rattle.treasury_state.proofs.PartLemmas.{le_from, small_from}
+use Rattle.treasury_state.proofs.FairLemmas.{known, names_of}
+use Rattle.treasury_state.proofs.HeldLemmas.{own_push}
+use Rattle.treasury_state.proofs.DispatchLemmas.{dispatch_written}
+use Rattle.treasury_state.proofs.FoundLemmas.{found_transfer, amount_small}
 use Rattle.treasury_core.specs.declared.command.Answer.{Answer}
 use Rattle.treasury_core.specs.declared.command.Answer.TheVariants.{Done, Entered, Repeated}
 use Rattle.treasury_core.specs.declared.command.AskedPart.{AskedPart}
@@ -42,34 +53,24 @@ use Rattle.treasury_core.specs.declared.command.Receive.{Receive}
 use Rattle.treasury_core.specs.declared.command.Close.{Close}
 use Rattle.treasury_core.specs.declared.command.Command.{Command}
 use Rattle.treasury_core.specs.declared.command.Command.TheVariants as cmd
-use Rattle.treasury_core.specs.Federation.{Branch, Federation, is_branch_name, has_branch, records_in, records_of}
-use Rattle.treasury_core.specs.Federation.{lock_of, entries, book_of}
-use Rattle.treasury_core.specs.Mark.{held, is_held, HaveOwnMarks}
-use Rattle.treasury_core.specs.Transfer.{is_id, is_account_text, is_reserved, has_id, dispatch_record, receipt_record}
-use Rattle.treasury_core.specs.Transfer.{all_key, is_all, is_key, receipts_of, left_of, posting, transit_account}
 use Rattle.treasury_core.specs.Choice.{choice_comments, choice_refusal}
-use Rattle.treasury_core.specs.Closing.{close_mark, closing_record, closing_answer, closing_in}
-use Rattle.treasury_core.specs.Joined.{with_entered, with_locked, with_received}
+use Rattle.treasury_core.specs.Closing.{closing_record, closing_answer, closing_in}
 use Rattle.treasury_core.specs.Step.{unless, reply, done, after, new_records, records_in_file, unbalanced, refused_in}
-use Rattle.treasury_core.specs.Step.{is_lock, goes_back, is_locked, commodity_reply, transfer_at, transfer_of}
-use Rattle.treasury_core.specs.Step.{is_dispatched_so, receipt_of, is_received_so, receipt_reply, entering_refusal}
-use Rattle.treasury_core.specs.Step.{close_refusal, closed_reply, closing_records, key_of, qty_of, has_key, is_too_much}
-use Rattle.treasury_core.specs.Step.{has_bad_key, has_nothing_left, receipt_refusal, held_reply, with_receipt_of}
-use Rattle.treasury_core.specs.Good.{Fits, IsGoodBranch, IsGoodRecord, IsGoodTransfer, IsGoodState}
-use Rattle.treasury_core.specs.History.{Turn, Replies, after_turn, IsRun, state_after, IsNew}
+use Rattle.treasury_core.specs.Step.{is_lock, goes_back, commodity_reply, transfer_of, is_dispatched_so, receipt_of}
+use Rattle.treasury_core.specs.Step.{is_received_so, receipt_reply, entering_refusal, close_refusal, closed_reply}
+use Rattle.treasury_core.specs.Step.{closing_records, key_of, qty_of, has_key, is_too_much, has_bad_key}
+use Rattle.treasury_core.specs.Step.{has_nothing_left, receipt_refusal, held_reply, with_receipt_of, IsNew}
+use Rattle.treasury_core.specs.Fits.{Fits}
+use Rattle.treasury_core.specs.Run.{Turn, Replies, after_turn, IsRun, state_after}
 use Rattle.treasury_core.proofs.FileLemmas.{records_good, all-new, own-new, all_fresh, neither_refusal}
-use Rattle.treasury_core.proofs.BytesLemmas.{same_bytes, neither}
-use Rattle.treasury_core.proofs.MarkLemmas.{not_all}
-use Rattle.treasury_core.proofs.PartLemmas.{le_from, left_high, small_from}
+use Rattle.treasury_core.proofs.PartLemmas.{left_high}
 use Rattle.treasury_core.proofs.ReceiveLemmas.{IsReceipt}
-use Rattle.treasury_core.proofs.FairLemmas.{known, names_of}
 use Rattle.treasury_core.proofs.KeepLemmas.{good_branch, good_style, own_entries, good_entered, good_locked}
 use Rattle.treasury_core.proofs.KeepLemmas.{good_closed}
-use Rattle.treasury_core.proofs.HeldLemmas.{own_push}
 use Rattle.treasury_core.proofs.ClosingReply.{not_more}
 use Rattle.treasury_core.proofs.ClosingRecord.{closing_record_good, closing_record_own}
-use Rattle.treasury_core.proofs.DispatchLemmas.{good_dispatched, good_received, dispatch_written}
-use Rattle.treasury_core.proofs.ProductLemmas.{IsWritable, dispatch_good, amount_of, receipt_good}
+use Rattle.treasury_core.proofs.DispatchLemmas.{good_dispatched, good_received}
+use Rattle.treasury_core.proofs.ProductLemmas.{IsWritable, dispatch_good, receipt_good}
 
 -- an answer to a command that is done
 abbrev pub IsDone : Answer → Type 0
@@ -396,25 +397,6 @@ taken f r a is h =
     let id = holds (is_id r.id) _ _ a branch.1 in
     let bad = passes (has_bad_key r.part) _ _ a id.1 in
     taken_at f r a (transfer_at f r.id) is bad.0 refl bad.1
-
-pub found_transfer : (P : Transfer → Type 0) (id : List ℕ) (ts : List Transfer) (t : Transfer)
-    → find (has_id id) ts ≡ Some t → AllByRecursion P ts → P t × (t.id ≡ id)
-found_transfer P id [] t e h = absurd cc
-found_transfer P id (x ∷ xs) t e h = found_at (bytes_eq x.id id) refl e (found_transfer P id xs t) h
-  where
-    found_at : (c : Bool) → bytes_eq x.id id ≡ c → cond c (Some x) (find (has_id id) xs) ≡ Some t
-        → (find (has_id id) xs ≡ Some t → AllByRecursion P xs → P t × (t.id ≡ id)) → AllByRecursion P (x ∷ xs)
-        → P t × (t.id ≡ id)
-    found_at true g e k h = subst (λ y. P y × (y.id ≡ id)) (let s : x ≡ t = cc in s) (h.0, same_bytes x.id id g)
-    found_at false g e k h = k e h.1
-
--- the quantity of a transfer is within the limit
-pub amount_small : (f : Federation) (t : Transfer) → IsGoodRecord f.styles (dispatch_record t)
-    → unsigned_abs t.qty ≤ limit
-amount_small f t written =
-    let account = transit_account t.source t.target in
-    let first = (and_parts (is_posting f.styles (posting (leg account t.unit t.qty))) _ written.printable.postings).0 in
-    leb-true (unsigned_abs t.qty) limit (and_parts _ _ (amount_of f.styles account t.unit t.qty first)).1
 
 -- and so is what is received of it
 receipt_small : (f : Federation) (t : Transfer) (p : Part) → IsGoodTransfer f.branches t

@@ -2,14 +2,13 @@
 use Rattle.std.proofs.Common.{◌≡◌, ◌<◌, ◌+◌, ℕ, suc, List, [], ◌∷◌, ◌++◌, length, take, drop, get_or, ap, ◌∙◌, sym}
 use Rattle.std.proofs.Common.{subst, arith, append_assoc, drop-cons, Option, None}
 use Rattle.std.specs.Option.{option_or}
-use Rattle.std.proofs.lemmas.List.{take_more}
-use Rattle.std.proofs.lemmas.List.{map-append}
+use Rattle.std.proofs.lemmas.List.{take_more, map-append}
 use Rattle.money_core.specs.declared.style.Style.{Style}
 use Rattle.book_core.specs.declared.refusal.Refusal.{Refusal}
 use Rattle.journal_format.specs.declared.txn.Txn.{Txn}
 use Rattle.journal_format.specs.declared.txn.Located.{Located}
 use Rattle.journal_balance.specs.Legs.{legs_of}
-use Rattle.treasury_core.specs.declared.record.Record.{Record}
+use Rattle.treasury_state.specs.declared.record.Record.{Record}
 use Rattle.treasury_core.specs.Step.{fault_on, unbalanced, recorded_in, records_from}
 use Rattle.treasury_core.specs.Counted.{AreCounted}
 use Rattle.treasury_core.proofs.CountLemmas.{Counts}

@@ -5,12 +5,12 @@ use Rattle.std.specs.Ordering.{is_lt}
 use Rattle.std.specs.List.{list_any, AllByRecursion}
 use Rattle.std.specs.Str.{bytes_eq}
 use Rattle.book_core.specs.Account.{name_cmp}
-use Rattle.treasury_core.specs.declared.transfer.Part.{Part}
-use Rattle.treasury_core.specs.declared.transfer.Transfer.{Transfer}
-use Rattle.treasury_core.specs.Federation.{Branch, has_name}
-use Rattle.treasury_core.specs.Transfer.{has_id}
-use Rattle.treasury_core.specs.Joined.{inserted, received, with_receipt}
-use Rattle.treasury_core.specs.Good.{IsGoodTransfer}
+use Rattle.treasury_state.specs.declared.transfer.Part.{Part}
+use Rattle.treasury_state.specs.declared.transfer.Transfer.{Transfer}
+use Rattle.treasury_state.specs.Federation.{Branch, has_name}
+use Rattle.treasury_state.specs.Transfer.{has_id}
+use Rattle.treasury_state.specs.Joined.{inserted, received, with_receipt}
+use Rattle.treasury_state.specs.Good.{IsGoodTransfer}
 
 -- a transfer is one of other branches with the same names
 pub other_branches : (bs cs : List Branch) (t : Transfer)

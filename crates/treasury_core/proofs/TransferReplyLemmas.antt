@@ -15,50 +15,37 @@ use Rattle.money_core.specs.declared.cause.Cause.TheVariants.{UnknownTransfer, W
 use Rattle.money_core.specs.Amount.{limit}
 use Rattle.book_core.specs.declared.refusal.Refusal.{Refusal}
 use Rattle.book_core.specs.declared.refusal.Refusal.TheVariants.{Plain}
-use Rattle.treasury_core.specs.declared.transfer.Part.{Part}
-use Rattle.treasury_core.specs.declared.transfer.Receipt.{Receipt}
-use Rattle.treasury_core.specs.declared.transfer.Transfer.{Transfer}
+use Rattle.treasury_state.specs.declared.transfer.Part.{Part}
+use Rattle.treasury_state.specs.declared.transfer.Receipt.{Receipt}
+use Rattle.treasury_state.specs.declared.transfer.Transfer.{Transfer}
+use Rattle.treasury_state.specs.declared.delta.Addition.{Addition}
+use Rattle.treasury_state.specs.declared.delta.Addition.TheVariants as add
+use Rattle.treasury_state.specs.Federation.{Branch, Federation, has_branch}
+use Rattle.treasury_state.specs.Transfer.{is_id, all_key, is_all, is_key, rest_part, of_rest, receipts_of, has_id}
+use Rattle.treasury_state.specs.Transfer.{dispatch_record, receipt_record, transfer_at}
+use Rattle.treasury_state.specs.Good.{HasGoodParts, IsGoodTransfer, IsGoodState}
+use Rattle.treasury_state.proofs.FindLemmas.{IsThere}
+use Rattle.treasury_state.proofs.BytesLemmas.{neither, other_bytes}
+use Rattle.treasury_state.proofs.MarkLemmas.{not_all, none_all}
+use Rattle.treasury_state.proofs.PartLemmas.{le_from, small_from}
+use Rattle.treasury_state.proofs.FoundLemmas.{found_transfer}
+use Rattle.treasury_state.proofs.NotLemmas.{transfer_small}
 use Rattle.treasury_core.specs.declared.command.Answer.{Answer}
 use Rattle.treasury_core.specs.declared.command.Answer.TheVariants.{Done, Repeated}
-use Rattle.treasury_core.specs.declared.delta.Addition.{Addition}
-use Rattle.treasury_core.specs.declared.delta.Addition.TheVariants as add
 use Rattle.treasury_core.specs.declared.command.AskedPart.{AskedPart}
 use Rattle.treasury_core.specs.declared.command.Dispatch.{Dispatch}
 use Rattle.treasury_core.specs.declared.command.Receive.{Receive}
 use Rattle.treasury_core.specs.declared.command.Command.{Command}
 use Rattle.treasury_core.specs.declared.command.Command.TheVariants as cmd
-use Rattle.treasury_core.specs.Federation.{Branch, Federation, has_branch}
-use Rattle.treasury_core.specs.Transfer.{is_id, all_key, is_all, is_key, rest_part, of_rest, receipts_of, has_id}
-use Rattle.treasury_core.specs.Transfer.{dispatch_record, receipt_record}
-use Rattle.treasury_core.specs.Step.{unless, transfer_at, transfer_of, is_dispatched_so, dispatch_refusal, key_of}
-use Rattle.treasury_core.specs.Step.{qty_of, receipt_of, has_key, is_amount_so, is_received_so, has_bad_key}
-use Rattle.treasury_core.specs.Step.{has_nothing_left, receipt_refusal, held_reply, receipt_reply, reply, added, delta}
-use Rattle.treasury_core.specs.Step.{Decides}
-use Rattle.treasury_core.specs.Good.{HasGoodParts, IsGoodTransfer, IsGoodState, IsReceive}
-use Rattle.treasury_core.proofs.FindLemmas.{IsThere}
-use Rattle.treasury_core.proofs.DispatchLemmas.{dispatch_written}
-use Rattle.treasury_core.proofs.BytesLemmas.{neither, other_bytes}
-use Rattle.treasury_core.proofs.MarkLemmas.{not_all, none_all}
-use Rattle.treasury_core.proofs.PartLemmas.{le_from, left_low, left_high, small_from}
-use Rattle.treasury_core.proofs.ReplyLemmas.{found_transfer, amount_small}
+use Rattle.treasury_core.specs.Step.{unless, transfer_of, is_dispatched_so, dispatch_refusal, key_of, qty_of}
+use Rattle.treasury_core.specs.Step.{receipt_of, has_key, is_amount_so, is_received_so, has_bad_key, has_nothing_left}
+use Rattle.treasury_core.specs.Step.{receipt_refusal, held_reply, receipt_reply, reply, added, delta, Decides}
+use Rattle.treasury_core.specs.Fits.{IsReceive}
+use Rattle.treasury_core.proofs.PartLemmas.{left_low, left_high}
 
 -- what was tested of equal texts, and looked up
 pub same_test : {x y a b : List ℕ} {t : Bool} → x ≡ a → y ≡ b → bytes_eq x y ≡ t → bytes_eq a b ≡ t
 same_test {x} {y} {a} {b} {t} e f h = ap (λ (z : List ℕ). bytes_eq z b) (sym e) ∙ (ap (bytes_eq x) (sym f) ∙ h)
-
-unequal : (t u : Bool) → u ≡ not t → u ≡ true → t ≡ false
-unequal true u e h = absurd (let k : false ≡ true = sym e ∙ h in cc)
-unequal false u e h = refl
-
-equal : (t u : Bool) → u ≡ not t → u ≡ false → t ≡ true
-equal true u e h = refl
-equal false u e h = absurd (let k : true ≡ false = sym e ∙ h in cc)
-
-pub not_true : {t u : Bool} → u ≡ not t → u ≡ true → t ≡ false
-not_true {t = t} {u = u} e h = unequal t u e h
-
-pub not_false : {t u : Bool} → u ≡ not t → u ≡ false → t ≡ true
-not_false {t = t} {u = u} e h = equal t u e h
 
 pub same_find : {id other : List ℕ} {ts us : List Transfer} {o : Option Transfer} → id ≡ other → ts ≡ us
     → find (has_id other) us ≡ o → find (has_id id) ts ≡ o
@@ -292,14 +279,6 @@ receipt_adds f r t at = rw at refl
 pub transfer_good : (f : Federation) (id : List ℕ) (t : Transfer) → IsGoodState f → transfer_at f id ≡ Some t
     → IsGoodTransfer f.branches t
 transfer_good f id t good at = (found_transfer (IsGoodTransfer f.branches) id f.transfers t at good.transfers).0
-
--- the amount of a transfer is within the limit
-pub transfer_small : (f : Federation) (id : List ℕ) (t : Transfer) → IsGoodState f → transfer_at f id ≡ Some t
-    → unsigned_abs t.qty ≤ limit
-transfer_small f id t good at =
-    let fair = found_transfer (IsGoodTransfer f.branches) id f.transfers t at good.transfers in
-    let here : find (has_id t.id) f.transfers ≡ Some t = ap (λ (m : List ℕ). find (has_id m) f.transfers) fair.1 ∙ at in
-    amount_small f t (dispatch_written f t good here fair.0)
 
 -- and so is what is asked of it
 small_at : (styles : List Style) (t : Transfer) (o : Option AskedPart)

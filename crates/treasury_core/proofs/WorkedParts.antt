@@ -1,5 +1,5 @@
 -- A transfer of 50.00 EUR from north to south on 2024-03-01 that is received in parts (days since 1970-01-01).
-use Rattle.std.proofs.Common.{◌≡◌, ℕ, List, [], ◌∷◌, codes, ℤ, pos, refl, Option, Some, None, Ok, Err}
+use Rattle.std.proofs.Common.{◌≡◌, ℕ, List, [], ◌∷◌, codes, pos, refl, Some, None, Ok, Err}
 use Rattle.std.specs.Str.{is_utf8, chars}
 use lib.Utf8.{encode}
 use Rattle.journal_lines.specs.AccountName.{is_account}
@@ -10,15 +10,14 @@ use Rattle.book_core.specs.declared.refusal.Refusal.TheVariants.{Plain}
 use Rattle.book_core.specs.Balance.{balance}
 use Rattle.book_core.specs.Claim.{failure, fault, stray}
 use Rattle.book_core.specs.GoodBook.{verdict}
-use Rattle.treasury_core.specs.declared.transfer.Transfer.{Transfer}
+use Rattle.treasury_state.specs.declared.transfer.Transfer.{Transfer}
+use Rattle.treasury_state.specs.Federation.{Federation}
+use Rattle.treasury_state.specs.Transfer.{in_mark, in_text, left_of, open_of}
+use Rattle.treasury_state.specs.Joined.{with_receipt}
 use Rattle.treasury_core.specs.declared.command.Answer.TheVariants.{Done, Repeated}
-use Rattle.treasury_core.specs.declared.command.Command.{Command}
 use Rattle.treasury_core.specs.declared.command.Command.TheVariants.{Receive}
-use Rattle.treasury_core.specs.Federation.{Federation}
-use Rattle.treasury_core.specs.Transfer.{is_key, in_mark, in_text, left_of, open_of}
-use Rattle.treasury_core.specs.Joined.{with_receipt}
-use Rattle.treasury_core.specs.Step.{receipt_of, reply}
 use Rattle.treasury_core.specs.declared.command.Receive.{Receive as Received}
+use Rattle.treasury_core.specs.Step.{receipt_of, reply}
 
 abbrev day : ℕ → Day
 day n = record { 0 = pos n }

@@ -8,8 +8,8 @@ use Rattle.money_core.specs.declared.cause.Cause.TheVariants.{ReservedAccount, L
 use Rattle.book_core.specs.declared.refusal.Refusal.{Refusal}
 use Rattle.book_core.specs.declared.refusal.Refusal.TheVariants.{Plain}
 use Rattle.book_core.specs.Account.{colon, is_inside}
+use Rattle.treasury_state.specs.Transfer.{is_account_text, is_reserved}
 use Rattle.treasury_core.specs.declared.choice.Choice.{Choice}
-use Rattle.treasury_core.specs.Transfer.{is_account_text, is_reserved}
 
 -- ---- what is closed where nothing is chosen
 

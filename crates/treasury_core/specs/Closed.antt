@@ -4,8 +4,8 @@ use Rattle.money_core.specs.declared.day.Day.{Day}
 use Rattle.book_core.specs.declared.entry.Entry.{Entry}
 use Rattle.journal_format.specs.declared.txn.Txn.{Txn}
 use Rattle.journal_balance.specs.Plain.{written_entry}
-use Rattle.treasury_core.specs.Federation.{Federation, book_of}
-use Rattle.treasury_core.specs.Good.{IsGoodState}
+use Rattle.treasury_state.specs.Federation.{Federation, book_of}
+use Rattle.treasury_state.specs.Good.{IsGoodState}
 use Rattle.treasury_core.specs.Closing.{closing}
 
 -- the transaction is the closing of a branch of a good state at a day, of the accounts that are selected, into one that

@@ -16,15 +16,15 @@ use Rattle.book_core.specs.declared.entry.Entry.{Entry}
 use Rattle.book_core.specs.declared.refusal.Refusal.{Refusal}
 use Rattle.book_core.specs.declared.refusal.Refusal.TheVariants.{Plain}
 use Rattle.book_core.specs.Balance.{balance}
-use Rattle.journal_lines.specs.Date.{printed_date}
 use Rattle.journal_format.specs.declared.posting.Posting.{Posting}
 use Rattle.journal_format.specs.declared.txn.Txn.{Txn}
 use Rattle.journal_format.specs.Pieces.{posting_limit}
 use Rattle.journal_balance.specs.Legs.{declared}
 use Rattle.journal_balance.specs.Plain.{written_entry}
-use Rattle.treasury_core.specs.declared.record.Record.{Record}
+use Rattle.treasury_state.specs.declared.record.Record.{Record}
+use Rattle.treasury_state.specs.Federation.{Federation, has_branch, book_of}
+use Rattle.treasury_state.specs.Mark.{close_mark}
 use Rattle.treasury_core.specs.declared.choice.Choice.{Choice}
-use Rattle.treasury_core.specs.Federation.{Federation, has_branch, book_of}
 use Rattle.treasury_core.specs.Accounts.{book_accounts}
 use Rattle.treasury_core.specs.Choice.{is_selected, target_in, choice_comments, choice_refusal}
 
@@ -79,10 +79,6 @@ closing_postings b day into accounts units =
     flat_map (closed_account b day units) accounts ++ gaining_account b day into accounts units
 
 -- ---- the transaction
-
--- the mark of a closing: `close:DAY`
-abbrev pub close_mark : Day → List ℕ
-close_mark day = codes "close:" ++ printed_date day
 
 -- a closing with these comments and postings: no status or code
 abbrev pub closing_txn : Day → List (List ℕ) → List Posting → Txn

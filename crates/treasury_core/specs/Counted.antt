@@ -8,7 +8,7 @@ use Rattle.std.specs.declared.hash.FoldHasher.{FoldHasher}
 use Rattle.std.specs.declared.hash.BuildHasherDefault.{BuildHasherDefault}
 use Rattle.money_core.specs.declared.style.Style.{Style}
 use Rattle.journal_format.specs.declared.txn.Txn.{Txn}
-use Rattle.treasury_core.specs.Mark.{alike}
+use Rattle.treasury_state.specs.Mark.{alike}
 
 -- two texts are equal
 abbrev pub is_text : Vec ℕ → Vec ℕ → Bool

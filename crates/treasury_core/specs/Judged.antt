@@ -7,7 +7,7 @@ use Rattle.money_core.specs.declared.cause.Cause.TheVariants.{MarkClash}
 use Rattle.book_core.specs.declared.refusal.Refusal.{Refusal}
 use Rattle.book_core.specs.declared.refusal.Refusal.TheVariants.{Plain}
 use Rattle.journal_format.specs.CanonicalText.{body_text}
-use Rattle.treasury_core.specs.declared.record.Record.{Record}
+use Rattle.treasury_state.specs.declared.record.Record.{Record}
 use Rattle.treasury_core.specs.Step.{barred}
 
 -- new, unless it is barred

@@ -26,28 +26,28 @@ use Rattle.journal_format.specs.declared.txn.Txn.{Txn}
 use Rattle.journal_format.specs.declared.txn.Located.{Located}
 use Rattle.journal_format.specs.CanonicalText.{body_text, marked}
 use Rattle.journal_balance.specs.Legs.{legs_of}
-use Rattle.treasury_core.specs.declared.record.Record.{Record}
-use Rattle.treasury_core.specs.declared.transfer.Part.{Part}
-use Rattle.treasury_core.specs.declared.transfer.Transfer.{Transfer}
+use Rattle.treasury_state.specs.declared.record.Record.{Record}
+use Rattle.treasury_state.specs.declared.transfer.Part.{Part}
+use Rattle.treasury_state.specs.declared.transfer.Transfer.{Transfer}
+use Rattle.treasury_state.specs.declared.delta.Addition.{Addition}
+use Rattle.treasury_state.specs.declared.delta.Addition.TheVariants as add
+use Rattle.treasury_state.specs.Federation.{Federation, is_branch_name, most_branches, has_branch, records_of, lock_of}
+use Rattle.treasury_state.specs.Federation.{entries, is_locked}
+use Rattle.treasury_state.specs.Mark.{held, is_held, is_repeat, is_product_mark, mark_of, alike, close_mark}
+use Rattle.treasury_state.specs.Transfer.{is_id, is_account_text, is_reserved, is_transit, dispatch_record}
+use Rattle.treasury_state.specs.Transfer.{receipt_record, all_key, is_key, receipts_of, left_of, transfer_at}
+use Rattle.treasury_state.specs.Joined.{with_style, with_branch, with_entered, with_locked, with_dispatched}
+use Rattle.treasury_state.specs.Joined.{with_received}
 use Rattle.treasury_core.specs.declared.command.Answer.{Answer}
 use Rattle.treasury_core.specs.declared.command.Answer.TheVariants.{Done, Entered, Repeated}
-use Rattle.treasury_core.specs.declared.delta.Addition.{Addition}
-use Rattle.treasury_core.specs.declared.delta.Addition.TheVariants as add
 use Rattle.treasury_core.specs.declared.command.AskedPart.{AskedPart}
 use Rattle.treasury_core.specs.declared.command.Dispatch.{Dispatch}
 use Rattle.treasury_core.specs.declared.command.Receive.{Receive}
 use Rattle.treasury_core.specs.declared.command.Close.{Close}
 use Rattle.treasury_core.specs.declared.command.Command.{Command}
 use Rattle.treasury_core.specs.declared.command.Command.TheVariants as cmd
-use Rattle.treasury_core.specs.Federation.{Federation, is_branch_name, most_branches, has_branch, records_of, lock_of}
-use Rattle.treasury_core.specs.Federation.{entries}
-use Rattle.treasury_core.specs.Mark.{held, is_held, is_repeat, is_product_mark, mark_of, alike}
-use Rattle.treasury_core.specs.Transfer.{is_id, is_account_text, is_reserved, is_transit, has_id, dispatch_record}
-use Rattle.treasury_core.specs.Transfer.{receipt_record, all_key, is_key, receipts_of, left_of}
 use Rattle.treasury_core.specs.Choice.{choice_comments, choice_refusal}
-use Rattle.treasury_core.specs.Closing.{close_mark, closing_record, closing_answer, closing_in}
-use Rattle.treasury_core.specs.Joined.{with_style, with_branch, with_entered, with_locked, with_dispatched}
-use Rattle.treasury_core.specs.Joined.{with_received}
+use Rattle.treasury_core.specs.Closing.{closing_record, closing_answer, closing_in}
 
 -- the answer, unless there is a refusal
 abbrev pub unless : Answer → Option Refusal → Result Answer Refusal
@@ -69,11 +69,6 @@ commodity_reply (Ok (Same unit)) = Ok Repeated
 commodity_reply (Err cause) = Err (Plain cause)
 
 -- ---- Lock
-
--- the day is on or before the lock day
-abbrev pub is_locked : Option Day → Day → Bool
-is_locked None day = false
-is_locked (Some lock) day = int_le day.0 lock.0
 
 -- the lock day is that day, and it is behind that day
 abbrev pub is_lock : Option Day → Day → Bool
@@ -132,6 +127,14 @@ barred lock r =
     else if is_locked lock r.entry.day then Some (Plain Locked)
     else None
 
+-- a record that comes new behind those that are held: no one has its mark, which is not the product's, it has no leg on
+-- `assets:transit` or below it, and its day is behind the lock day
+pub record IsNew (lock : Option Day) (held : List Record) (r : Record) : Type 0 where
+  pub absent : is_held held r.mark ≡ false
+  pub own : is_product_mark r.mark ≡ false
+  pub clear : list_any is_transit r.entry.legs ≡ false
+  pub unlocked : is_locked lock r.entry.day ≡ false
+
 -- why a transaction that is no repeat is refused, if it is
 abbrev pub refusal_of : Option Day → List Record → Record → Option Refusal
 refusal_of lock held r = if is_held held r.mark then Some (Plain MarkClash) else barred lock r
@@ -173,10 +176,6 @@ enter_reply f name file =
     else unless (entered (length (new_records f name file)) (length file)) (enter_refusal f name file)
 
 -- ---- Dispatch
-
--- the transfer of that ID, if there is one
-abbrev pub transfer_at : Federation → List ℕ → Option Transfer
-transfer_at f id = find (has_id id) f.transfers
 
 -- the transfer that a dispatch asks for
 abbrev pub transfer_of : Dispatch → Transfer

@@ -5,15 +5,15 @@ ghost use Rattle.std.specs.List.{list_all, list_any};
 ghost use Rattle.std.specs.Result.{IsOkUnless};
 ghost use Rattle.std.specs.Str.{bytes_eq, str_to_ascii_lowercase};
 ghost use Rattle.book_core.specs.Account.{is_inside};
-ghost use Rattle.treasury_core.specs.Transfer.{is_account_text};
+ghost use Rattle.treasury_state.specs.Transfer.{is_account_text};
 ghost use Rattle.treasury_core.specs.Choice.{first_part, is_revenue_or_expense, is_among, is_selected, target_in};
 ghost use Rattle.treasury_core.specs.Choice.{listed, list_text, list_limit, holds_transit, choice_comments};
 ghost use Rattle.treasury_core.specs.Choice.{choice_refusal};
 
-use crate::enter::{is_account_text, is_reserved_account};
 use book_core::{Refusal, is_inside};
 use money_core::{Cause, Copied, Items, Text};
 use std::alloc::Global;
+use treasury_state::{is_account_text, is_reserved_account};
 
 /// The account that gets what revenue and expense accounts held.
 const RETAINED_EARNINGS: &str = "equity:retained earnings";

@@ -8,26 +8,26 @@ ghost use Rattle.journal_lines.specs.Date.{IsDayNumber};
 ghost use Rattle.journal_format.specs.Printable.{IsPrintable};
 ghost use Rattle.journal_balance.specs.Legs.{legs_of};
 ghost use Rattle.journal_balance.specs.Plain.{written_entry};
+ghost use Rattle.treasury_state.specs.Mark.{close_mark};
+ghost use Rattle.treasury_state.specs.Seen.{branch_of};
+ghost use Rattle.treasury_state.specs.Federation.{branch_at};
+ghost use Rattle.treasury_state.specs.Index.{IsKept};
 ghost use Rattle.treasury_core.specs.Choice.{choice_comments, choice_refusal};
-ghost use Rattle.treasury_core.specs.Closing.{close_mark, closing_record, closing_answer, closing_in};
+ghost use Rattle.treasury_core.specs.Closing.{closing_record, closing_answer, closing_in};
 ghost use Rattle.treasury_core.specs.Step.{entering_refusal, close_refusal, added, Decides};
-ghost use Rattle.treasury_core.specs.Seen.{branch_of};
-ghost use Rattle.treasury_core.specs.Kept.{branch_at, IsKept};
 
 use crate::choice::{Choice, choice_comments, choice_refusal};
-use crate::closing::{close_mark, closing_entry};
+use crate::closing::closing_entry;
 use crate::command::{Close, Command};
 use crate::decision::{Decision, recorded, repeated, settled};
-use crate::delta::{Addition, Delta};
-use crate::enter::is_locked;
-use crate::index::find_mark;
-use crate::record::Record;
-use crate::state::{Branch, State, find_branch};
 use book_core::{Ledger, Refusal};
 use journal_balance::legs;
 use journal_format::Txn;
 use money_core::{Cause, Copied, Day, Same, Styles};
 use std::alloc::Global;
+use treasury_state::{
+    Addition, Branch, Delta, Record, State, close_mark, find_branch, find_mark, is_locked,
+};
 
 /// Whether the record of a closing tells that it was asked for as it is now.
 fn is_asked_again(alloc: Global, row: &Record, choice: &Choice) -> Result<bool, Cause>

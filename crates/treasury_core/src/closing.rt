@@ -12,16 +12,14 @@ ghost use Rattle.journal_balance.specs.Legs.{declared};
 ghost use Rattle.journal_balance.specs.Plain.{written_leg, written_legs};
 ghost use Rattle.treasury_core.specs.Choice.{is_selected, target_in, choice_comments};
 ghost use Rattle.treasury_core.specs.Closing.{selected, through, zero_claim, posting_of, closed_account};
-ghost use Rattle.treasury_core.specs.Closing.{closing_postings, close_mark, closing_txn, closing_of, closing_answer};
-ghost use Rattle.treasury_core.specs.Closing.{closing_reply};
+ghost use Rattle.treasury_core.specs.Closing.{closing_postings, closing_txn, closing_of, closing_answer, closing_reply};
 
 use crate::choice::{Choice, choice_comments, choice_refusal, is_selected, target_of};
-use crate::state::State;
 use book_core::{Claim, ClaimKind, Ledger, Refusal};
 use journal_format::{Posting, Txn};
-use journal_lines::print_date;
-use money_core::{Cause, Copied, Day, Items, Styles, Text, Unit, text_of};
+use money_core::{Cause, Day, Items, Styles, Text, Unit};
 use std::alloc::Global;
+use treasury_state::{State, close_mark};
 
 /// The greatest number of postings of a closing.
 const MAX_POSTINGS: usize = 1_000;
@@ -197,19 +195,6 @@ fn closing_postings<L: Ledger>(
     let mut rest = gaining.into_vec();
     postings.append(&mut rest)?;
     Ok(Items::from_vec(postings))
-}
-
-/// The mark of a closing: `close:DAY`.
-pub(crate) fn close_mark(alloc: Global, day: Day) -> Result<Text, Cause>
-    requires { IsDayNumber day }
-    ensures value { IfOk result (λ mark. mark ≡ close_mark day) }
-    ensures memory { IsOkUnless result Cause.OutOfMemory }
-{
-    let mut bytes = Vec::new(alloc);
-    print_date(alloc, day, &mut bytes)?;
-    let date = text_of(&bytes);
-    let mark = format!(in alloc; "close:{date}")?;
-    Ok(Text::from_string(mark))
 }
 
 /// The transaction of a closing with these postings, and the comments of its choice.

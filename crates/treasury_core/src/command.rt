@@ -6,7 +6,7 @@ ghost use Rattle.std.specs.List.{AllByRecursion};
 ghost use Rattle.money_core.specs.AmountText.{IsDeclared};
 ghost use Rattle.journal_format.specs.declared.txn.Located.{Located as Found};
 ghost use Rattle.journal_format.specs.Printable.{IsPrintable};
-ghost use Rattle.treasury_core.specs.Good.{Fits, IsDispatch, IsReceive};
+ghost use Rattle.treasury_core.specs.Fits.{Fits, IsDispatch, IsReceive};
 
 use crate::choice::Choice;
 use journal_format::{Located, is_printable};

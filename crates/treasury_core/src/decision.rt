@@ -1,70 +1,36 @@
 //! The reply to a command, and what it adds.
 
-ghost use Rattle.std.specs.Prelude.{Ok, Err, Some, None, ◌≡◌, ◌≤◌, ◌-◌, ◌⊎◌, [], ◌∷◌, ◌++◌, map, length, slice_index};
-ghost use Rattle.std.specs.Prelude.{MatchResult, IfOk, IfErr, OnOk};
-ghost use Rattle.std.specs.List.{list_all, AllByRecursion};
+ghost use Rattle.std.specs.Prelude.{Ok, Err, Some, None, ◌≡◌, ◌≤◌, ◌-◌, ◌⊎◌, [], ◌∷◌, ◌++◌, map, length, MatchResult};
+ghost use Rattle.std.specs.Prelude.{IfOk, IfErr, OnOk};
 ghost use Rattle.std.specs.Result.{IsOkUnless};
-ghost use Rattle.book_core.specs.GoodBook.{IsFit, IsGoodBook, Checks, verdict};
-ghost use Rattle.treasury_core.specs.declared.record.Record.{Record as Row};
-ghost use Rattle.treasury_core.specs.Federation.{is_name_byte, is_branch_name, has_branch, lock_of, entries};
-ghost use Rattle.treasury_core.specs.Joined.{joined};
+ghost use Rattle.book_core.specs.GoodBook.{IsFit, IsGoodBook, verdict};
+ghost use Rattle.treasury_state.specs.declared.record.Record.{Record as Row};
+ghost use Rattle.treasury_state.specs.Federation.{has_branch, lock_of, entries};
+ghost use Rattle.treasury_state.specs.Joined.{joined};
+ghost use Rattle.treasury_state.specs.Good.{IsGoodBranch, IsGoodState};
+ghost use Rattle.treasury_state.specs.Seen.{branch_of};
+ghost use Rattle.treasury_state.specs.Index.{IsKept};
 ghost use Rattle.treasury_core.specs.Step.{is_lock, goes_back, records_in_file, new_in, file_refusal, step, Decides};
-ghost use Rattle.treasury_core.specs.Good.{Fits, IsFile, IsGoodBranch, IsGoodState};
-ghost use Rattle.treasury_core.specs.Seen.{branch_of};
-ghost use Rattle.treasury_core.specs.Kept.{IsKept};
-ghost use Rattle.treasury_core.specs.History.{Replies};
+ghost use Rattle.treasury_core.specs.Fits.{Fits, IsFile};
+ghost use Rattle.treasury_core.specs.Run.{Replies};
 
 use crate::close::decide_close;
 use crate::command::{Answer, Command};
-use crate::delta::{Addition, Delta};
 use crate::dispatch::decide_dispatch;
 use crate::enter::new_of;
 use crate::file::records_in_file;
 use crate::receive::decide_receive;
-use crate::record::Record;
-use crate::state::{Branch, State, find_branch};
-use book_core::{Count, Entry, Ledger, Refusal};
+use book_core::{Ledger, Refusal};
 use journal_format::Located;
 use money_core::{Cause, Copied, Day, Declared, Items, Style, Styles, Text};
 use std::alloc::Global;
 use std::slice;
-
-/// The greatest number of branches.
-pub const MAX_BRANCHES: usize = 32;
-
-/// The greatest number of bytes of a branch's name.
-const MAX_NAME: usize = 32;
+use treasury_state::{
+    Addition, Branch, Delta, MAX_BRANCHES, Record, State, check, find_branch, is_branch_name,
+};
 
 /// What a decision answers: what the command is answered, and what it adds.
 pub(crate) type Decision = Result<(Answer, Delta), Refusal>;
-
-/// Whether the byte may stand in a branch's name.
-fn is_name_byte(byte: u8) -> bool
-    ensures { result ≡ is_name_byte byte }
-{
-    byte.is_ascii_lowercase() || byte.is_ascii_digit() || byte == b'-'
-}
-
-/// Whether each byte may stand in a branch's name.
-fn has_name_bytes(name: &[u8]) -> bool
-    ensures { result ≡ list_all is_name_byte name.now }
-{
-    name.iter().all(|b| is_name_byte(*b))
-}
-
-/// The first byte, or zero.
-fn first_byte(name: &[u8]) -> u8
-    ensures { result ≡ slice_index name.now 0 }
-{
-    if name.is_empty() { 0 } else { name[0] }
-}
-
-/// Whether the name is well formed.
-pub(crate) fn is_branch_name(name: &[u8]) -> bool
-    ensures { result ≡ is_branch_name name.now }
-{
-    first_byte(name).is_ascii_lowercase() && has_name_bytes(name) && name.len() <= MAX_NAME
-}
 
 /// Whether there is a branch of that name.
 pub(crate) fn has_branch<L: Ledger>(state: &State<L>, name: &str) -> bool
@@ -207,34 +173,6 @@ fn decide_lock<L: Ledger>(alloc: Global, state: &State<L>, name: &Text, day: Day
         return Err(Refusal::Plain(Cause::LockBack));
     }
     done(new_lock(alloc, name, day))
-}
-
-/// The entries of records, in order.
-fn entries_of(alloc: Global, rows: &[Record]) -> Result<Items<Entry>, Cause>
-    ensures value { IfOk result (λ list. list ≡ entries rows.now) }
-    ensures memory { IsOkUnless result Cause.OutOfMemory }
-{
-    let mut list = Vec::with_capacity(alloc, rows.len())?;
-    for row in rows {
-        let entry = row.entry.copy()?;
-        list.push(entry)?;
-    }
-    Ok(Items::from_vec(list))
-}
-
-/// Checks the book with all new records; where there are none, it stays as good as it is.
-pub(crate) fn check<L: Ledger>(alloc: Global, ledger: &L, new: &[Record]) -> Result<(), Refusal>
-    requires good { IsGoodBook (L.book ledger.now) }
-    requires fit { AllByRecursion IsFit (entries new.now) }
-    ensures { Checks (L.book ledger.now ++ entries new.now) result }
-{
-    if new.is_empty() {
-        return Ok(());
-    }
-    match entries_of(alloc, new) {
-        Ok(list) => ledger.check(list.items(), &mut Count { claims: 0 }),
-        Err(cause) => Err(Refusal::Plain(cause)),
-    }
 }
 
 /// An addition for each record, in order.

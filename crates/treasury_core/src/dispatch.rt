@@ -1,66 +1,24 @@
 //! Money dispatched from one branch to another.
 
 ghost use Rattle.std.specs.Prelude.{Some, None, ◌≡◌, ◌≤◌, ◌⊎◌, [], ◌∷◌, ◌++◌, IfOk, IfErr, OnOk, unsigned_abs};
-ghost use Rattle.std.specs.List.{list_all};
 ghost use Rattle.std.specs.Result.{IsOkUnless};
 ghost use Rattle.money_core.specs.Amount.{limit};
 ghost use Rattle.book_core.specs.GoodBook.{IsGoodBook, verdict};
-ghost use Rattle.treasury_core.specs.Federation.{entries};
-ghost use Rattle.treasury_core.specs.Transfer.{is_id_byte, is_id, is_key, dispatch_record};
+ghost use Rattle.treasury_state.specs.Federation.{entries};
+ghost use Rattle.treasury_state.specs.Transfer.{dispatch_record};
+ghost use Rattle.treasury_state.specs.Index.{IsKept};
 ghost use Rattle.treasury_core.specs.Step.{transfer_of, is_dispatched_so, dispatch_refusal, Decides};
-ghost use Rattle.treasury_core.specs.Good.{IsDispatch};
-ghost use Rattle.treasury_core.specs.Kept.{IsKept};
+ghost use Rattle.treasury_core.specs.Fits.{IsDispatch};
 
 use crate::command::{Command, Dispatch};
 use crate::decision::{Decision, has_branch, recorded, repeated, settled};
-use crate::delta::{Addition, Delta};
-use crate::enter::{is_account_text, is_locked, is_reserved_account};
-use crate::order::find_transfer;
-use crate::product::dispatch_record;
-use crate::state::{Branch, State, find_branch};
-use crate::transfer::{Transfer, is_all};
 use book_core::{Ledger, Refusal};
 use money_core::{Cause, Copied, Items};
 use std::alloc::Global;
-
-/// The greatest number of bytes of a transfer's ID.
-const MAX_ID: usize = 64;
-
-/// The greatest number of bytes of a part's key.
-const MAX_KEY: usize = 32;
-
-/// Whether the byte may stand in a transfer's ID.
-fn is_id_byte(byte: u8) -> bool
-    ensures { result ≡ is_id_byte byte }
-{
-    byte.is_ascii_alphabetic()
-        || byte.is_ascii_digit()
-        || byte == b'-'
-        || byte == b'.'
-        || byte == b'_'
-}
-
-/// Whether each byte may.
-fn has_id_bytes(id: &[u8]) -> bool
-    ensures { result ≡ list_all is_id_byte id.now }
-{
-    id.iter().all(|b| is_id_byte(*b))
-}
-
-/// Whether the ID is well formed.
-pub(crate) fn is_id(id: &[u8]) -> bool
-    ensures { result ≡ is_id id.now }
-{
-    !id.is_empty() && id.len() <= MAX_ID && has_id_bytes(id)
-}
-
-/// Whether the key of a part is well formed.
-pub(crate) fn is_key(key: &str) -> bool
-    ensures { result ≡ is_key key.now }
-{
-    let bytes = key.as_bytes();
-    !bytes.is_empty() && bytes.len() <= MAX_KEY && has_id_bytes(bytes) && !is_all(key)
-}
+use treasury_state::{
+    Addition, Branch, Delta, State, Transfer, dispatch_record, find_branch, find_transfer,
+    is_account_text, is_id, is_locked, is_reserved_account,
+};
 
 /// Whether the transfer was dispatched just so.
 fn is_dispatched_so(dispatch: &Dispatch, transfer: &Transfer) -> bool

@@ -1,72 +1,28 @@
 //! Which transactions of a file are new.
 
-ghost use Rattle.std.specs.Prelude.{Ok, Err, Some, None, true, false, ◌≡◌, ◌⊎◌, [], ◌∷◌, ◌++◌, IfOk, IfErr, OnOk};
-ghost use Rattle.std.specs.Prelude.{IfSome, option_copied};
-ghost use Rattle.std.specs.List.{list_any, AllByRecursion};
+ghost use Rattle.std.specs.Prelude.{Ok, Err, Some, None, ◌≡◌, ◌⊎◌, ◌++◌, IfOk, IfErr, OnOk, IfSome, option_copied};
+ghost use Rattle.std.specs.List.{AllByRecursion};
 ghost use Rattle.std.specs.Result.{IsOkUnless};
 ghost use Rattle.std.specs.Str.{bytes_eq};
 ghost use Rattle.journal_format.specs.CanonicalText.{body_text};
 ghost use Rattle.journal_format.specs.Printable.{IsPrintable};
-ghost use Rattle.treasury_core.specs.Mark.{held, is_repeat, is_product_mark, HaveOwnMarks};
-ghost use Rattle.treasury_core.specs.Transfer.{is_account_text, is_reserved, is_transit};
-ghost use Rattle.treasury_core.specs.Step.{is_locked, barred, refusal_of, refused_in, new_in};
-ghost use Rattle.treasury_core.specs.Good.{IsGoodRecord};
-ghost use Rattle.treasury_core.specs.Kept.{IsIndexOf};
+ghost use Rattle.treasury_state.specs.Mark.{held, is_product_mark, HaveOwnMarks};
+ghost use Rattle.treasury_state.specs.Good.{IsGoodRecord};
+ghost use Rattle.treasury_state.specs.Index.{IsIndexOf};
+ghost use Rattle.treasury_core.specs.Step.{barred, refused_in, new_in};
 ghost use Rattle.treasury_core.specs.Judged.{judged};
 
-use crate::index::{find_mark, push_marked};
-use crate::mark::text_of;
-use crate::record::Record;
-use book_core::{Leg, Refusal};
-use journal_lines::{is_account, is_reserved};
-use money_core::{Cause, Day, Items, Styles, Text};
+use book_core::Refusal;
+use money_core::{Cause, Day, Items, Styles};
 use std::alloc::Global;
 use std::collections::HashMap;
+use treasury_state::{Record, find_mark, has_transit, is_locked, push_marked, text_of};
 
 /// Whether the mark belongs to the product.
 pub(crate) fn is_product_mark(mark: &str) -> bool
     ensures { result ≡ is_product_mark mark.now }
 {
     mark.starts_with("out:") || mark.starts_with("in:") || mark.starts_with("close:")
-}
-
-/// Whether the account is well formed.
-pub(crate) fn is_account_text(account: &Text) -> bool
-    ensures { result ≡ is_account_text account.now }
-{
-    account.is_text();
-    is_account(account.as_str().as_bytes())
-}
-
-/// Whether the account is `assets:transit` or below it.
-pub(crate) fn is_reserved_account(account: &str) -> bool
-    ensures { result ≡ is_reserved account.now }
-{
-    is_reserved(account.as_bytes())
-}
-
-/// Whether the leg is on such an account.
-fn is_transit(leg: &Leg) -> bool
-    ensures { result ≡ is_transit leg.now }
-{
-    is_reserved_account(leg.account.as_str())
-}
-
-/// Whether one of the legs is.
-pub(crate) fn has_transit(legs: &[Leg]) -> bool
-    ensures { result ≡ list_any is_transit legs.now }
-{
-    legs.iter().any(|leg| is_transit(leg))
-}
-
-/// Whether the day is on or before the lock day.
-pub(crate) fn is_locked(lock: Option<Day>, day: Day) -> bool
-    ensures { result ≡ is_locked lock day }
-{
-    match lock {
-        None => false,
-        Some(lock) => day.0 <= lock.0,
-    }
 }
 
 /// Why a transaction is refused whose mark is not held, if it is.

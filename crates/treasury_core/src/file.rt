@@ -8,19 +8,18 @@ ghost use Rattle.journal_format.specs.declared.txn.Txn.{Txn as Transaction};
 ghost use Rattle.journal_format.specs.CanonicalText.{marked};
 ghost use Rattle.journal_format.specs.Printable.{IsPrintable};
 ghost use Rattle.journal_balance.specs.Legs.{legs_of};
-ghost use Rattle.treasury_core.specs.Mark.{hash_mark, mark_of};
+ghost use Rattle.treasury_state.specs.Mark.{hash_mark, mark_of};
 ghost use Rattle.treasury_core.specs.Step.{number_in, fault_on, unbalanced, recorded, recorded_in, records_in_file};
-ghost use Rattle.treasury_core.specs.Good.{IsFile};
+ghost use Rattle.treasury_core.specs.Fits.{IsFile};
 ghost use Rattle.treasury_core.specs.Counted.{count_of, counted_more, AreCounted};
 
-use crate::mark::{hash_mark, text_of};
-use crate::record::Record;
 use book_core::{Entry, Refusal};
 use journal_balance::legs;
 use journal_format::{Located, Txn};
 use money_core::{Cause, Copied, Fault, Items, Styles, Text};
 use std::alloc::Global;
 use std::collections::HashMap;
+use treasury_state::{Record, hash_mark, text_of};
 
 /// The mark of the next unmarked transaction with that canonical text, which is counted.
 fn next_mark(

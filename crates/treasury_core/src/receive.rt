@@ -8,25 +8,23 @@ ghost use Rattle.std.specs.Result.{IsOkUnless};
 ghost use Rattle.std.specs.Str.{bytes_eq};
 ghost use Rattle.money_core.specs.Amount.{limit};
 ghost use Rattle.book_core.specs.GoodBook.{IsGoodBook, verdict};
-ghost use Rattle.treasury_core.specs.Federation.{entries};
-ghost use Rattle.treasury_core.specs.Transfer.{receipts_of, receipt_record};
+ghost use Rattle.treasury_state.specs.Federation.{entries};
+ghost use Rattle.treasury_state.specs.Transfer.{receipts_of, receipt_record};
+ghost use Rattle.treasury_state.specs.Good.{HasGoodParts};
+ghost use Rattle.treasury_state.specs.Index.{IsKept};
 ghost use Rattle.treasury_core.specs.Step.{key_of, qty_of, receipt_of, has_key, is_received_so, is_too_much};
 ghost use Rattle.treasury_core.specs.Step.{has_bad_key, has_nothing_left, receipt_refusal, Decides};
-ghost use Rattle.treasury_core.specs.Good.{HasGoodParts, IsReceive};
-ghost use Rattle.treasury_core.specs.Kept.{IsKept};
+ghost use Rattle.treasury_core.specs.Fits.{IsReceive};
 
 use crate::command::{Command, Receive};
 use crate::decision::{Decision, recorded, repeated, settled};
-use crate::delta::{Addition, Delta};
-use crate::dispatch::{is_id, is_key};
-use crate::enter::{is_account_text, is_locked, is_reserved_account};
-use crate::order::find_transfer;
-use crate::product::receipt_record;
-use crate::state::{Branch, State, find_branch};
-use crate::transfer::{Part, Receipt, Transfer, left_of};
 use book_core::{Ledger, Refusal};
 use money_core::{Cause, Copied, Text};
 use std::alloc::Global;
+use treasury_state::{
+    Addition, Branch, Delta, Part, Receipt, State, Transfer, find_branch, find_transfer,
+    is_account_text, is_id, is_key, is_locked, is_reserved_account, left_of, receipt_record,
+};
 
 /// Whether a part is asked for whose key is not well formed.
 fn has_bad_key(receive: &Receive) -> bool

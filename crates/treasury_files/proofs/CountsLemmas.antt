@@ -7,14 +7,14 @@ use Rattle.std.specs.Ordering.{is_lt}
 use Rattle.std.specs.Str.{bytes_eq}
 use Rattle.std.proofs.lemmas.List.Sums.{sum_by-cons}
 use Rattle.book_core.specs.Account.{name_cmp}
-use Rattle.treasury_core.specs.declared.transfer.Part.{Part}
-use Rattle.treasury_core.specs.declared.transfer.Transfer.{Transfer}
-use Rattle.treasury_core.specs.declared.delta.Addition.{Addition}
-use Rattle.treasury_core.specs.declared.delta.Addition.TheVariants as add
-use Rattle.treasury_core.specs.Federation.{Branch, Federation}
-use Rattle.treasury_core.specs.Transfer.{is_all}
-use Rattle.treasury_core.specs.Joined.{new_branch, with_records, with_lock, changed, inserted, put_part, parts_with}
-use Rattle.treasury_core.specs.Joined.{with_receipt, received, joined_one, joined}
+use Rattle.treasury_state.specs.declared.transfer.Part.{Part}
+use Rattle.treasury_state.specs.declared.transfer.Transfer.{Transfer}
+use Rattle.treasury_state.specs.declared.delta.Addition.{Addition}
+use Rattle.treasury_state.specs.declared.delta.Addition.TheVariants as add
+use Rattle.treasury_state.specs.Federation.{Branch, Federation}
+use Rattle.treasury_state.specs.Transfer.{is_all}
+use Rattle.treasury_state.specs.Joined.{new_branch, with_records, with_lock, changed, inserted, put_part, parts_with}
+use Rattle.treasury_state.specs.Joined.{with_receipt, received, joined_one, joined}
 use Rattle.treasury_files.specs.declared.shrinking.Counts.{Counts}
 use Rattle.treasury_files.specs.Counts.{parts_of, records_in, counts_of, AreKept, Keeps}
 

@@ -1,8 +1,8 @@
 -- How much a treasury has, and when none of it is missing later (own rules; docs/RULES.md, "The program").
 use Rattle.std.specs.Prelude.{◌≤◌, ◌<◌, ℕ, List, map, length, slice_index}
 use Rattle.std.specs.List.{sum_by}
-use Rattle.treasury_core.specs.declared.transfer.Transfer.{Transfer}
-use Rattle.treasury_core.specs.Federation.{Branch, Federation}
+use Rattle.treasury_state.specs.declared.transfer.Transfer.{Transfer}
+use Rattle.treasury_state.specs.Federation.{Branch, Federation}
 use Rattle.treasury_files.specs.declared.shrinking.Counts.{Counts}
 
 -- the receipts of parts of a transfer

@@ -12,9 +12,9 @@ use Rattle.sqlite.specs.Held.{Held}
 use Rattle.sqlite.specs.Start.{FindsIn}
 use Rattle.sqlite.specs.Files.{file_state, IsOpened}
 use Rattle.sqlite.specs.Closing.{HoldsAlone}
-use Rattle.treasury_core.specs.Federation.{Federation}
-use Rattle.treasury_core.specs.Good.{IsGoodState}
-use Rattle.treasury_core.specs.Rows.{rows}
+use Rattle.treasury_state.specs.Federation.{Federation}
+use Rattle.treasury_state.specs.Good.{IsGoodState}
+use Rattle.treasury_state.specs.Rows.{rows}
 use Rattle.treasury_store.specs.Rows.{Holds, HoldsEither, ShowsTables}
 use Rattle.treasury_store.specs.Store.{empty_state}
 use Rattle.treasury_store.specs.Tables.{no_schema}

@@ -15,7 +15,7 @@ use Rattle.sqlite.specs.Files.{file_state, over_files, IsOpened}
 use Rattle.sqlite.specs.Closing.{IsCopied}
 use Rattle.money_core.specs.declared.cause.Cause.{Cause}
 use Rattle.money_core.specs.declared.cause.Cause.TheVariants.{OutOfMemory, Store as Failed, Damaged}
-use Rattle.treasury_core.specs.Federation.{Federation}
+use Rattle.treasury_state.specs.Federation.{Federation}
 use Rattle.treasury_store.specs.Rows.{Tables, HoldsEither}
 use Rattle.treasury_store.specs.Store.{TablesAre}
 use Rattle.treasury_store.specs.Treasury.{Treasury, IsTreasuryOf}

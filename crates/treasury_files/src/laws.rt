@@ -1,11 +1,11 @@
 //! That no command takes anything back.
 
 ghost use Rattle.std.specs.Prelude.{List};
-ghost use Rattle.treasury_core.specs.Federation.{Federation};
-ghost use Rattle.treasury_core.specs.History.{Turn, state_after};
+ghost use Rattle.treasury_state.specs.Federation.{Federation};
+ghost use Rattle.treasury_core.specs.Run.{Turn, state_after};
 ghost use Rattle.treasury_files.specs.Counts.{Keeps, counts_of};
 
-use treasury_core::joined_law;
+use treasury_laws::joined_law;
 
 /// A law of counts: a run of the machine of commands leaves no count smaller. So a log of a file's own, which has what
 /// commands added to the state of the file, takes nothing back. Costs nothing.

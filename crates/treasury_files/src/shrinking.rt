@@ -2,7 +2,7 @@
 
 ghost use Rattle.std.specs.Prelude.{◌≡◌, ◌↔◌, map, IsTrue, IfSome};
 ghost use Rattle.std.specs.List.{sum_by};
-ghost use Rattle.treasury_core.specs.Seen.{branches_of};
+ghost use Rattle.treasury_state.specs.Seen.{branches_of};
 ghost use Rattle.treasury_files.specs.Counts.{Keeps, AreKept, counts_of, parts_of, records_in};
 
 use book_core::Ledger;

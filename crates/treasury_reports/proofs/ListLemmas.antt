@@ -19,19 +19,19 @@ use Rattle.money_core.specs.AmountText.{IsDeclared}
 use Rattle.journal_lines.specs.Date.{IsDayNumber}
 use Rattle.journal_format.specs.Printable.{is_posting}
 use Rattle.journal_balance.specs.Legs.{leg}
-use Rattle.treasury_core.specs.declared.transfer.Transfer.{Transfer}
-use Rattle.treasury_core.specs.Federation.{Federation}
-use Rattle.treasury_core.specs.Transfer.{open_of, open_amount, is_between, receipts_of, received_by, dispatch_record}
-use Rattle.treasury_core.specs.Transfer.{posting, transit_account, has_id}
-use Rattle.treasury_core.specs.Good.{IsGoodRecord, IsGoodTransfer, IsGoodState}
-use Rattle.treasury_core.specs.Fair.{IsFair}
+use Rattle.treasury_state.specs.declared.transfer.Transfer.{Transfer}
+use Rattle.treasury_state.specs.Federation.{Federation}
+use Rattle.treasury_state.specs.Transfer.{open_of, open_amount, is_between, receipts_of, received_by, dispatch_record}
+use Rattle.treasury_state.specs.Transfer.{posting, transit_account, has_id}
+use Rattle.treasury_state.specs.Good.{IsGoodRecord, IsGoodTransfer, IsGoodState}
+use Rattle.treasury_state.specs.Fair.{IsFair}
 use Rattle.journal_lines.proofs.DateLemmas.{day_number_bounds, day_number_from}
-use Rattle.treasury_core.proofs.PartLemmas.{le_from, all_positive, received_low, small_from}
-use Rattle.treasury_core.proofs.WayLemmas.{all_good, open_low}
-use Rattle.treasury_core.proofs.FairLemmas.{all_fair, names_good}
-use Rattle.treasury_core.proofs.ProductLemmas.{amount_of}
-use Rattle.treasury_core.proofs.DispatchLemmas.{dispatch_written}
-use Rattle.treasury_core.proofs.JudgingLemmas.{all_found}
+use Rattle.treasury_state.proofs.PartLemmas.{le_from, all_positive, received_low, small_from}
+use Rattle.treasury_state.proofs.WayLemmas.{all_good, open_low}
+use Rattle.treasury_state.proofs.FairLemmas.{all_fair, names_good}
+use Rattle.treasury_state.proofs.AmountLemmas.{amount_of}
+use Rattle.treasury_state.proofs.DispatchLemmas.{dispatch_written}
+use Rattle.treasury_state.proofs.EachFoundLemmas.{all_found}
 use Rattle.treasury_reports.specs.BranchesReport.{is_calendar}
 use Rattle.treasury_reports.specs.TransfersReport.{pending, AddUpToTransit}
 use Rattle.treasury_reports.specs.Lent.{IsListableTransfer}

@@ -18,16 +18,16 @@ use Rattle.book_core.specs.Balance.{counts, total, value, moved, turnover, balan
 use Rattle.book_core.specs.GoodBook.{IsFit, IsGoodBook, most_turnover}
 use Rattle.book_core.proofs.SumLemmas.{Within, Within_abs, Within_add, total-append, moved-append}
 use Rattle.book_core.proofs.GoodBookLemmas.{good_nil}
-use Rattle.treasury_core.specs.Federation.{Federation, has_branch, entries, book_of}
-use Rattle.treasury_core.specs.Transfer.{transit_account, open_amount}
-use Rattle.treasury_core.specs.Good.{IsGoodState}
-use Rattle.treasury_core.proofs.OwnLemmas.{of_branch}
-use Rattle.treasury_core.proofs.FairLemmas.{all_fair, names_good, adds_up_named}
-use Rattle.treasury_core.proofs.OpenLemmas.{unknown}
-use Rattle.treasury_core.proofs.WayLemmas.{open_none, open_sum_low}
-use Rattle.treasury_core.proofs.BytesLemmas.{same_bytes}
-use Rattle.treasury_core.specs.Fair.{IsFair}
-use Rattle.treasury_core.specs.declared.transfer.Transfer.{Transfer}
+use Rattle.treasury_state.specs.declared.transfer.Transfer.{Transfer}
+use Rattle.treasury_state.specs.Federation.{Federation, has_branch, entries, book_of}
+use Rattle.treasury_state.specs.Transfer.{transit_account, open_amount}
+use Rattle.treasury_state.specs.Good.{IsGoodState}
+use Rattle.treasury_state.specs.Fair.{IsFair}
+use Rattle.treasury_state.proofs.BranchLemmas.{of_branch}
+use Rattle.treasury_state.proofs.FairLemmas.{all_fair, names_good, adds_up_named}
+use Rattle.treasury_state.proofs.OpenLemmas.{unknown}
+use Rattle.treasury_state.proofs.WayLemmas.{open_none, open_sum_low}
+use Rattle.treasury_state.proofs.BytesLemmas.{same_bytes}
 use Rattle.std.proofs.lemmas.Slice.Eq.{bytes_eq-Decides}
 
 -- what counts, twice, less all that is of the commodity

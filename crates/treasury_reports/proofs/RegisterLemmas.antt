@@ -27,10 +27,10 @@ use Rattle.book_core.proofs.GoodBookLemmas.{good_nil}
 use Rattle.journal_lines.specs.Date.{IsDayNumber}
 use Rattle.journal_balance.proofs.FaultLemmas.{legs_found}
 use Rattle.journal_balance.proofs.DeclaredLemmas.{entry_declared}
-use Rattle.treasury_core.specs.declared.record.Record.{Record}
-use Rattle.treasury_core.specs.Federation.{Federation, records_of, entries}
-use Rattle.treasury_core.specs.Good.{IsGoodRecord, IsGoodState}
-use Rattle.treasury_core.proofs.OwnLemmas.{of_branch}
+use Rattle.treasury_state.specs.declared.record.Record.{Record}
+use Rattle.treasury_state.specs.Federation.{Federation, records_of, entries}
+use Rattle.treasury_state.specs.Good.{IsGoodRecord, IsGoodState}
+use Rattle.treasury_state.proofs.BranchLemmas.{of_branch}
 use Rattle.treasury_reports.specs.declared.listed.Listed.{Listed}
 use Rattle.treasury_reports.specs.RegisterReport.{listed_leg, listed_legs, listed_in, listed_from, put_by_day, by_day}
 use Rattle.treasury_reports.specs.RegisterReport.{legs_in, is_wanted}

@@ -5,10 +5,10 @@ use Rattle.money_core.specs.declared.mark.Mark.{Mark}
 use Rattle.money_core.specs.declared.mark.Mark.TheVariants.{Point, Comma}
 use Rattle.money_core.specs.declared.day.Day.{Day}
 use Rattle.money_core.specs.AmountText.{printed_symbol}
-use Rattle.treasury_core.specs.declared.transfer.Part.{Part}
-use Rattle.treasury_core.specs.declared.transfer.Receipt.{Receipt}
-use Rattle.treasury_core.specs.declared.transfer.Transfer.{Transfer}
-use Rattle.treasury_core.specs.Transfer.{open_of}
+use Rattle.treasury_state.specs.declared.transfer.Part.{Part}
+use Rattle.treasury_state.specs.declared.transfer.Receipt.{Receipt}
+use Rattle.treasury_state.specs.declared.transfer.Transfer.{Transfer}
+use Rattle.treasury_state.specs.Transfer.{open_of}
 use Rattle.treasury_reports.specs.BranchesReport.{is_calendar, lock_column}
 use Rattle.treasury_reports.specs.CommoditiesReport.{sample_number, sample_text}
 use Rattle.treasury_reports.specs.AccountsReport.{account_line}

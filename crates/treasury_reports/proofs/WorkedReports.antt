@@ -6,9 +6,9 @@ use Rattle.money_core.specs.declared.day.Day.{Day}
 use Rattle.book_core.specs.declared.leg.Leg.{Leg}
 use Rattle.journal_format.specs.declared.txn.Txn.{Txn}
 use Rattle.journal_format.specs.CanonicalText.{txn_text}
-use Rattle.treasury_core.specs.declared.record.Record.{Record}
-use Rattle.treasury_core.specs.declared.transfer.Transfer.{Transfer}
-use Rattle.treasury_core.specs.Federation.{Branch, Federation}
+use Rattle.treasury_state.specs.declared.record.Record.{Record}
+use Rattle.treasury_state.specs.declared.transfer.Transfer.{Transfer}
+use Rattle.treasury_state.specs.Federation.{Branch, Federation}
 use Rattle.treasury_reports.specs.declared.listed.Listed.{Listed}
 use Rattle.std.proofs.Common.{append-nil, ◌∙◌}
 use Rattle.journal_lines.specs.Tag.{first_tag, starts_tag, tag_at}

@@ -1,7 +1,7 @@
 -- The accounts of a branch (own rule; docs/FORMATS.md, "Accounts report").
 use Rattle.std.specs.Prelude.{ℕ, List, [], ◌∷◌, ◌++◌, map, codes}
 use Rattle.std.specs.List.{flat_map}
-use Rattle.treasury_core.specs.Federation.{Federation, book_of}
+use Rattle.treasury_state.specs.Federation.{Federation, book_of}
 use Rattle.treasury_reports.specs.BalanceReport.{book_accounts}
 
 -- an account's line

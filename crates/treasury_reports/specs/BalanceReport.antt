@@ -14,7 +14,7 @@ use Rattle.book_core.specs.declared.place.Until.TheVariants.{Through}
 use Rattle.book_core.specs.Account.{name_cmp}
 use Rattle.book_core.specs.Book.{legs_of, accounts_of}
 use Rattle.book_core.specs.Balance.{balance}
-use Rattle.treasury_core.specs.Federation.{Federation, book_of}
+use Rattle.treasury_state.specs.Federation.{Federation, book_of}
 use Rattle.treasury_reports.specs.Columns.{amount_column}
 
 -- the list with the name before the first one that is greater, if it is not there yet

@@ -4,7 +4,7 @@ use Rattle.std.specs.Prelude.{Option, Some, None, [], ◌∷◌, map}
 use Rattle.std.specs.List.{flat_map}
 use Rattle.money_core.specs.declared.day.Day.{Day}
 use Rattle.journal_lines.specs.Date.{printed_date}
-use Rattle.treasury_core.specs.Federation.{Branch, Federation}
+use Rattle.treasury_state.specs.Federation.{Branch, Federation}
 use Rattle.treasury_reports.specs.Columns.{right_aligned, number_width}
 
 -- a day from 0001-01-01 to 9999-12-31: a lock day that another program wrote may be none

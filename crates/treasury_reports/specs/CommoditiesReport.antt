@@ -7,7 +7,7 @@ use Rattle.money_core.specs.declared.mark.Mark.{Mark}
 use Rattle.money_core.specs.Mark.{decimal_byte, group_byte}
 use Rattle.money_core.specs.AmountText.{gap, printed_symbol}
 use Rattle.money_core.specs.Style.{IsSample}
-use Rattle.treasury_core.specs.Federation.{Federation}
+use Rattle.treasury_state.specs.Federation.{Federation}
 
 -- a thousand, in groups or not
 abbrev pub thousand : Mark → Bool → List ℕ

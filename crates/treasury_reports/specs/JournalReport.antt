@@ -3,8 +3,7 @@ use Rattle.std.specs.Prelude.{ℕ, List, [], ◌∷◌, map}
 use Rattle.money_core.specs.declared.style.Style.{Style}
 use Rattle.journal_format.specs.declared.txn.Txn.{Txn}
 use Rattle.journal_format.specs.CanonicalText.{txn_text, journal_text}
-use Rattle.treasury_core.specs.Federation.{Federation, records_of}
-use Rattle.treasury_core.specs.History.{txns_in}
+use Rattle.treasury_state.specs.Federation.{Federation, records_of, txns_in}
 
 -- the canonical texts of a branch's transactions, each with its mark and an empty line behind it, in order of entry
 unfoldable pub branch_journal : Federation → List ℕ → List ℕ

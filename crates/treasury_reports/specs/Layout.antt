@@ -9,8 +9,8 @@ use Rattle.book_core.specs.declared.entry.Entry.{Entry}
 use Rattle.book_core.specs.declared.account.Reach.TheVariants.{Own}
 use Rattle.book_core.specs.declared.place.Until.TheVariants.{Through}
 use Rattle.book_core.specs.Balance.{balance, value}
-use Rattle.treasury_core.specs.declared.transfer.Transfer.{Transfer}
-use Rattle.treasury_core.specs.Federation.{Branch, Federation}
+use Rattle.treasury_state.specs.declared.transfer.Transfer.{Transfer}
+use Rattle.treasury_state.specs.Federation.{Branch, Federation}
 use Rattle.treasury_reports.specs.declared.layout.Layout.{Layout}
 use Rattle.treasury_reports.specs.declared.layout.Layout.TheVariants.{Text, Json}
 use Rattle.treasury_reports.specs.declared.listed.Listed.{Listed}

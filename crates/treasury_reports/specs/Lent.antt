@@ -8,8 +8,8 @@ use Rattle.money_core.specs.AmountText.{IsDeclared}
 use Rattle.book_core.specs.Balance.{value, moved}
 use Rattle.book_core.specs.GoodBook.{most_turnover}
 use Rattle.journal_lines.specs.Date.{IsDayNumber}
-use Rattle.treasury_core.specs.declared.transfer.Transfer.{Transfer}
-use Rattle.treasury_core.specs.Fair.{IsFair}
+use Rattle.treasury_state.specs.declared.transfer.Transfer.{Transfer}
+use Rattle.treasury_state.specs.Fair.{IsFair}
 use Rattle.treasury_reports.specs.declared.listed.Listed.{Listed}
 use Rattle.treasury_reports.specs.RegisterReport.{legs_in}
 

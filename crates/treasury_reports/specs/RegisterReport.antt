@@ -12,8 +12,8 @@ use Rattle.journal_lines.specs.Date.{printed_date}
 use Rattle.journal_lines.specs.Tag.{tags_of}
 use Rattle.journal_format.specs.declared.posting.Posting.{Posting}
 use Rattle.journal_format.specs.declared.txn.Txn.{Txn}
-use Rattle.treasury_core.specs.declared.record.Record.{Record}
-use Rattle.treasury_core.specs.Federation.{Federation, records_of}
+use Rattle.treasury_state.specs.declared.record.Record.{Record}
+use Rattle.treasury_state.specs.Federation.{Federation, records_of}
 use Rattle.treasury_reports.specs.declared.listed.Listed.{Listed}
 use Rattle.treasury_reports.specs.Columns.{right_aligned, number_width, amount_column}
 

@@ -7,9 +7,9 @@ use Rattle.money_core.specs.declared.unit.Unit.{Unit as Commodity}
 use Rattle.money_core.specs.declared.day.Day.{Day}
 use Rattle.money_core.specs.AmountText.{printed_in}
 use Rattle.journal_lines.specs.Date.{printed_date}
-use Rattle.treasury_core.specs.declared.transfer.Transfer.{Transfer}
-use Rattle.treasury_core.specs.Federation.{Federation}
-use Rattle.treasury_core.specs.Transfer.{open_of, open_amount}
+use Rattle.treasury_state.specs.declared.transfer.Transfer.{Transfer}
+use Rattle.treasury_state.specs.Federation.{Federation}
+use Rattle.treasury_state.specs.Transfer.{open_of, open_amount}
 use Rattle.treasury_reports.specs.Columns.{amount_column}
 
 -- something of the transfer is open through the day

@@ -5,10 +5,9 @@ use Rattle.std.specs.Str.{bytes_eq}
 use Rattle.money_core.specs.declared.unit.Unit.{Unit as Commodity}
 use Rattle.money_core.specs.declared.day.Day.{Day}
 use Rattle.money_core.specs.AmountText.{printed_in}
-use Rattle.treasury_core.specs.declared.transfer.Transfer.{Transfer}
-use Rattle.treasury_core.specs.Federation.{Federation}
-use Rattle.treasury_core.specs.Transfer.{open_amount}
-use Rattle.treasury_core.specs.History.{names_of}
+use Rattle.treasury_state.specs.declared.transfer.Transfer.{Transfer}
+use Rattle.treasury_state.specs.Federation.{Federation, names_of}
+use Rattle.treasury_state.specs.Transfer.{open_amount}
 use Rattle.treasury_reports.specs.Columns.{amount_column}
 use Rattle.treasury_reports.specs.BalanceReport.{ordered_names, first_units}
 

@@ -4,7 +4,7 @@ ghost use Rattle.std.specs.Prelude.{◌≡◌, ◌↔◌, ◌⊎◌, ◌++◌, f
 ghost use Rattle.std.specs.Result.{IsOkUnless};
 ghost use Rattle.std.specs.List.{flat_map};
 ghost use Rattle.json_text.specs.JsonText.{rows_text};
-ghost use Rattle.treasury_core.specs.Federation.{has_branch};
+ghost use Rattle.treasury_state.specs.Federation.{has_branch};
 ghost use Rattle.treasury_reports.specs.AccountsReport.{account_line, accounts_text, accounts_rows};
 ghost use Rattle.treasury_reports.specs.Layout.{account_piece};
 
@@ -12,7 +12,7 @@ use crate::layout::{Layout, push_cells, push_rows};
 use book_core::Ledger;
 use money_core::{Cause, Text};
 use std::alloc::{AllocError, Global};
-use treasury_core::State;
+use treasury_state::State;
 
 /// Appends the line of an account.
 fn push_line(account: &str, out: &mut Vec<u8>) -> Result<(), AllocError>

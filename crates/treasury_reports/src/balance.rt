@@ -5,7 +5,7 @@ ghost use Rattle.std.specs.Result.{IsOkUnless};
 ghost use Rattle.json_text.specs.JsonText.{rows_text};
 ghost use Rattle.money_core.specs.AmountText.{IsDeclared};
 ghost use Rattle.book_core.specs.GoodBook.{HasRoom};
-ghost use Rattle.treasury_core.specs.Federation.{has_branch};
+ghost use Rattle.treasury_state.specs.Federation.{has_branch};
 ghost use Rattle.treasury_reports.specs.BalanceReport.{amount_line, balance_text, balance_rows};
 ghost use Rattle.treasury_reports.specs.Layout.{amount_piece, balance_piece, account_pieces, book_pieces};
 
@@ -14,7 +14,7 @@ use crate::layout::{Layout, push_cells, push_rows};
 use book_core::Ledger;
 use money_core::{Cause, Day, Styles, Unit};
 use std::alloc::Global;
-use treasury_core::State;
+use treasury_state::State;
 
 /// The line of a balance; nothing where it is zero.
 fn amount_line(

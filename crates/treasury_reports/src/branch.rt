@@ -1,10 +1,10 @@
 //! The branch of a name.
 
 ghost use Rattle.std.specs.Prelude.{◌≡◌, true, false, MatchOption};
-ghost use Rattle.treasury_core.specs.Federation.{has_branch, records_of};
+ghost use Rattle.treasury_state.specs.Federation.{has_branch, records_of};
 
 use book_core::Ledger;
-use treasury_core::{Record, State};
+use treasury_state::{Record, State};
 
 /// The records of the branch of that name, in order of entry, if there is one.
 pub fn records_of<'a, L: Ledger>(state: &'a State<L>, name: &str) -> Option<&'a [Record]>

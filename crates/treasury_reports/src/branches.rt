@@ -4,7 +4,7 @@ ghost use Rattle.std.specs.Prelude.{◌≡◌, ◌++◌, Some, IfOk, OnOk, OnErr
 ghost use Rattle.std.specs.Result.{IsOkUnless};
 ghost use Rattle.std.specs.List.{flat_map};
 ghost use Rattle.json_text.specs.JsonText.{rows_text};
-ghost use Rattle.treasury_core.specs.Seen.{branch_of, branches_of};
+ghost use Rattle.treasury_state.specs.Seen.{branch_of, branches_of};
 ghost use Rattle.treasury_reports.specs.BranchesReport.{lock_column, branch_line, branches_text};
 ghost use Rattle.treasury_reports.specs.BranchesReport.{lock_cell, branch_cells, branches_rows};
 ghost use Rattle.treasury_reports.specs.Layout.{comma_row, branch_piece};
@@ -15,7 +15,7 @@ use book_core::Ledger;
 use journal_lines::{is_day_number, print_date};
 use money_core::{Cause, Day};
 use std::alloc::Global;
-use treasury_core::{Branch, State};
+use treasury_state::{Branch, State};
 
 /// Appends a lock day that is there. Tables that another program wrote may have one that no calendar has.
 fn push_day(alloc: Global, day: Day, out: &mut Vec<u8>) -> Result<(), Cause>

@@ -15,7 +15,7 @@ use crate::layout::{Layout, push_cells, push_rows};
 use book_core::Ledger;
 use money_core::{Cause, Mark, Style, Styles, Unit, read_symbol};
 use std::alloc::{AllocError, Global};
-use treasury_core::State;
+use treasury_state::State;
 
 /// Whether a symbol can stand without quotes: whether it reads as a symbol.
 fn is_bare(symbol: &str) -> bool

@@ -5,9 +5,8 @@ ghost use Rattle.std.specs.Result.{IsOkUnless};
 ghost use Rattle.std.specs.List.{AllByRecursion, flat_map};
 ghost use Rattle.json_text.specs.JsonText.{rows_text};
 ghost use Rattle.journal_format.specs.CanonicalText.{journal_text, txn_text};
-ghost use Rattle.treasury_core.specs.Federation.{has_branch};
-ghost use Rattle.treasury_core.specs.Good.{IsGoodRecord};
-ghost use Rattle.treasury_core.specs.History.{txns_in};
+ghost use Rattle.treasury_state.specs.Federation.{has_branch, txns_in};
+ghost use Rattle.treasury_state.specs.Good.{IsGoodRecord};
 ghost use Rattle.treasury_reports.specs.JournalReport.{branch_journal, txn_cells, journal_rows};
 ghost use Rattle.treasury_reports.specs.Layout.{comma_row};
 
@@ -18,7 +17,7 @@ use journal_format::{print_journal, print_txn};
 use money_core::{Cause, Styles};
 use std::alloc::Global;
 use std::slice;
-use treasury_core::{Record, State};
+use treasury_state::{Record, State};
 
 /// Appends the row of a record: the canonical text of its transaction.
 fn push_record_row(

@@ -9,7 +9,7 @@ use crate::asked::is_wanted;
 use book_core::{Leg, is_inside};
 use money_core::{Cause, Copied, Day, Text};
 use std::alloc::Global;
-use treasury_core::Record;
+use treasury_state::Record;
 
 /// A leg that a register lists.
 #[derive(Debug, Drop)]

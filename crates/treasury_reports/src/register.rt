@@ -8,8 +8,8 @@ ghost use Rattle.json_text.specs.JsonText.{rows_text};
 ghost use Rattle.money_core.specs.Amount.{limit};
 ghost use Rattle.money_core.specs.AmountText.{IsDeclared};
 ghost use Rattle.book_core.specs.GoodBook.{HasRoom};
-ghost use Rattle.treasury_core.specs.Federation.{has_branch, entries};
-ghost use Rattle.treasury_core.specs.Good.{IsGoodRecord};
+ghost use Rattle.treasury_state.specs.Federation.{has_branch, entries};
+ghost use Rattle.treasury_state.specs.Good.{IsGoodRecord};
 ghost use Rattle.treasury_reports.specs.RegisterReport.{register_line, register_text, register_cells, register_rows};
 ghost use Rattle.treasury_reports.specs.Layout.{comma_row, register_piece, register_pieces};
 ghost use Rattle.treasury_reports.specs.RegisterReport.{description_column, by_day, listed_from};
@@ -23,7 +23,7 @@ use book_core::Ledger;
 use journal_lines::print_date;
 use money_core::{Cause, Styles, Unit};
 use std::alloc::{AllocError, Global};
-use treasury_core::{Record, State};
+use treasury_state::{Record, State};
 
 /// Appends a description behind two spaces, where it is not empty.
 fn push_description(description: &[u8], out: &mut Vec<u8>) -> Result<(), AllocError>

@@ -4,8 +4,8 @@ ghost use Rattle.std.specs.Prelude.{◌≡◌, ◌++◌, List, IfOk, OnOk, OnErr
 ghost use Rattle.std.specs.Result.{IsOkUnless};
 ghost use Rattle.std.specs.List.{AllByRecursion, flat_map};
 ghost use Rattle.json_text.specs.JsonText.{rows_text};
-ghost use Rattle.treasury_core.specs.Fair.{IsFair};
-ghost use Rattle.treasury_core.specs.declared.transfer.Transfer.{Transfer as Sent};
+ghost use Rattle.treasury_state.specs.declared.transfer.Transfer.{Transfer as Sent};
+ghost use Rattle.treasury_state.specs.Fair.{IsFair};
 ghost use Rattle.treasury_reports.specs.TransfersReport.{way_text, is_pending, transfer_line, transfers_text};
 ghost use Rattle.treasury_reports.specs.TransfersReport.{AddUpToTransit};
 ghost use Rattle.money_core.specs.declared.day.Day.{Day as Number};
@@ -19,7 +19,7 @@ use book_core::Ledger;
 use journal_lines::print_date;
 use money_core::{Cause, Day, Styles};
 use std::alloc::{AllocError, Global};
-use treasury_core::{State, Transfer, open_of};
+use treasury_state::{State, Transfer, open_of};
 
 /// Appends which way a transfer goes.
 fn push_way(transfer: &Transfer, out: &mut Vec<u8>) -> Result<(), AllocError>

@@ -5,7 +5,7 @@ ghost use Rattle.std.specs.Result.{IsOkUnless};
 ghost use Rattle.std.specs.List.{list_any, flat_map};
 ghost use Rattle.std.specs.Str.{bytes_eq};
 ghost use Rattle.json_text.specs.JsonText.{rows_text};
-ghost use Rattle.treasury_core.specs.Federation.{Federation};
+ghost use Rattle.treasury_state.specs.Federation.{Federation};
 ghost use Rattle.treasury_reports.specs.TransitReport.{is_from, is_way, open_line, branch_names, transit_text};
 ghost use Rattle.treasury_reports.specs.TransitReport.{open_cells, transit_rows};
 ghost use Rattle.treasury_reports.specs.Layout.{comma_row, open_piece, transit_piece, way_pieces, pieces_from};
@@ -18,7 +18,7 @@ use crate::names::names_in_order;
 use book_core::Ledger;
 use money_core::{Cause, Day, Text, Unit};
 use std::alloc::Global;
-use treasury_core::{State, Transfer, open_amount};
+use treasury_state::{State, Transfer, open_amount};
 
 /// Whether the transfer was dispatched from a branch on or before the day.
 fn is_from(transfer: &Transfer, from: &str, day: Day) -> bool

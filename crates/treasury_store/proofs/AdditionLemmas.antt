@@ -14,29 +14,29 @@ use Rattle.money_core.specs.declared.day.Day.{Day}
 use Rattle.money_core.specs.declared.style.Style.{Style}
 use Rattle.book_core.specs.Account.{name_cmp}
 use Rattle.journal_format.proofs.MoreStylesLemmas.{printable_stays}
-use Rattle.treasury_core.specs.declared.record.Record.{Record}
-use Rattle.treasury_core.specs.declared.transfer.Part.{Part}
-use Rattle.treasury_core.specs.declared.transfer.Transfer.{Transfer}
-use Rattle.treasury_core.specs.declared.delta.Addition.{Addition}
-use Rattle.treasury_core.specs.declared.delta.Addition.TheVariants as add
-use Rattle.treasury_core.specs.declared.rows.EntryRow.{EntryRow}
-use Rattle.treasury_core.specs.declared.rows.LegRow.{LegRow}
-use Rattle.treasury_core.specs.declared.rows.ClaimRow.{ClaimRow}
-use Rattle.treasury_core.specs.declared.rows.TransferRow.{TransferRow}
-use Rattle.treasury_core.specs.Federation.{Branch, Federation, has_name, name_place}
-use Rattle.treasury_core.specs.Good.{IsGoodRecord, IsGoodBranch, IsGoodTransfer, IsGoodState}
-use Rattle.treasury_core.specs.History.{names_of, Grows}
-use Rattle.treasury_core.specs.Joined.{new_branch, with_records, with_lock, changed, inserted, put_part, parts_with}
-use Rattle.treasury_core.specs.Joined.{rest_with, with_receipt, received, with_entered, with_received, joined_one}
-use Rattle.treasury_core.specs.Joined.{joined}
-use Rattle.treasury_core.specs.Room.{IsRoomy}
-use Rattle.treasury_core.specs.Rows.{unit_row, branch_row, entry_row, entry_rows_from, leg_rows, claim_rows}
-use Rattle.treasury_core.specs.Rows.{transfer_row, part_row, part_rows, rows}
-use Rattle.treasury_core.specs.Transfer.{is_all, has_id}
-use Rattle.treasury_core.proofs.AskedLemmas.{HaveOwnIds}
-use Rattle.treasury_core.proofs.BackLemmas.{room_back}
-use Rattle.treasury_core.proofs.BytesLemmas.{neither, same_bytes}
-use Rattle.treasury_core.proofs.OrderLemmas.{own_ids}
+use Rattle.treasury_state.specs.declared.record.Record.{Record}
+use Rattle.treasury_state.specs.declared.transfer.Part.{Part}
+use Rattle.treasury_state.specs.declared.transfer.Transfer.{Transfer}
+use Rattle.treasury_state.specs.declared.delta.Addition.{Addition}
+use Rattle.treasury_state.specs.declared.delta.Addition.TheVariants as add
+use Rattle.treasury_state.specs.declared.rows.EntryRow.{EntryRow}
+use Rattle.treasury_state.specs.declared.rows.LegRow.{LegRow}
+use Rattle.treasury_state.specs.declared.rows.ClaimRow.{ClaimRow}
+use Rattle.treasury_state.specs.declared.rows.TransferRow.{TransferRow}
+use Rattle.treasury_state.specs.Federation.{Branch, Federation, has_name, name_place, names_of}
+use Rattle.treasury_state.specs.Good.{IsGoodRecord, IsGoodBranch, IsGoodTransfer, IsGoodState}
+use Rattle.treasury_state.specs.Joined.{new_branch, with_records, with_lock, changed, inserted, put_part, parts_with}
+use Rattle.treasury_state.specs.Joined.{rest_with, with_receipt, received, with_entered, with_received, joined_one}
+use Rattle.treasury_state.specs.Joined.{joined}
+use Rattle.treasury_state.specs.Room.{IsRoomy}
+use Rattle.treasury_state.specs.Rows.{unit_row, branch_row, entry_row, entry_rows_from, leg_rows, claim_rows}
+use Rattle.treasury_state.specs.Rows.{transfer_row, part_row, part_rows, rows}
+use Rattle.treasury_state.specs.Transfer.{is_all, has_id}
+use Rattle.treasury_state.proofs.AskedLemmas.{HaveOwnIds}
+use Rattle.treasury_state.proofs.BackLemmas.{room_back}
+use Rattle.treasury_state.proofs.BytesLemmas.{neither, same_bytes}
+use Rattle.treasury_state.proofs.OrderLemmas.{own_ids}
+use Rattle.treasury_laws.specs.History.{Grows}
 use Rattle.treasury_store.specs.declared.change.Change.TheVariants as change
 use Rattle.treasury_store.specs.Rows.{Tables, locked, received as takes, joined as written}
 use Rattle.treasury_store.specs.Numbers.{records_each, numbers_of}

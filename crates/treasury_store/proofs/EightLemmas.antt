@@ -9,9 +9,9 @@ use Rattle.sqlite.specs.Order.{Row, column}
 use Rattle.sqlite.specs.State.{State, Executes}
 use Rattle.sqlite.specs.Effect.{value_rows}
 use Rattle.sqlite_rules.specs.Cast.{cast_row}
-use Rattle.treasury_core.specs.declared.rows.EntryRow.{EntryRow}
-use Rattle.treasury_core.specs.declared.rows.LegRow.{LegRow}
-use Rattle.treasury_core.specs.declared.rows.ClaimRow.{ClaimRow}
+use Rattle.treasury_state.specs.declared.rows.EntryRow.{EntryRow}
+use Rattle.treasury_state.specs.declared.rows.LegRow.{LegRow}
+use Rattle.treasury_state.specs.declared.rows.ClaimRow.{ClaimRow}
 use Rattle.treasury_store.specs.Tables.{entry, leg, claim, store_schema}
 use Rattle.treasury_store.specs.Rows.{Tables, Holds, unit_row, branch_row, entry_row, leg_row, claim_row, transfer_row}
 use Rattle.treasury_store.specs.Rows.{part_row, shown_unit, shown_branch, shown_entry, shown_leg, shown_claim}

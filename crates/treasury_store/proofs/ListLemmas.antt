@@ -8,12 +8,12 @@ use Rattle.std.proofs.lemmas.List.{append-nil, append_assoc, take-append-drop, t
 use Rattle.money_core.specs.declared.style.Style.{Style}
 use Rattle.money_core.specs.Style.{AreStyles}
 use Rattle.money_core.proofs.PositionLemmas.{some_chosen, position-none}
-use Rattle.treasury_core.specs.declared.delta.Addition.{Addition}
-use Rattle.treasury_core.specs.declared.delta.Addition.TheVariants as add
-use Rattle.treasury_core.specs.Federation.{Federation}
-use Rattle.treasury_core.specs.Joined.{joined}
-use Rattle.treasury_core.specs.Room.{IsRoomy}
-use Rattle.treasury_core.proofs.BackLemmas.{room_back}
+use Rattle.treasury_state.specs.declared.delta.Addition.{Addition}
+use Rattle.treasury_state.specs.declared.delta.Addition.TheVariants as add
+use Rattle.treasury_state.specs.Federation.{Federation}
+use Rattle.treasury_state.specs.Joined.{joined}
+use Rattle.treasury_state.specs.Room.{IsRoomy}
+use Rattle.treasury_state.proofs.BackLemmas.{room_back}
 use Rattle.treasury_store.specs.Changes.{place_in, style_with, name_with, styles_with, names_with}
 use Rattle.treasury_store.proofs.AdditionLemmas.{styles_grow}
 

@@ -27,13 +27,13 @@ use Rattle.treasury_store.specs.Rows.{ShowsTables, HoldsFirst, shown_unit, shown
 use Rattle.treasury_store.specs.Rows.{shown_entry, shown_leg, shown_claim}
 use Rattle.treasury_store.specs.Rows.{shown_transfer, shown_part}
 use Rattle.treasury_store.specs.Order.{unit_cmp, branch_cmp, entry_cmp, leg_cmp, claim_cmp, transfer_cmp, part_cmp}
-use Rattle.treasury_core.specs.declared.rows.UnitRow.{UnitRow}
-use Rattle.treasury_core.specs.declared.rows.BranchRow.{BranchRow}
-use Rattle.treasury_core.specs.declared.rows.EntryRow.{EntryRow}
-use Rattle.treasury_core.specs.declared.rows.LegRow.{LegRow}
-use Rattle.treasury_core.specs.declared.rows.ClaimRow.{ClaimRow}
-use Rattle.treasury_core.specs.declared.rows.TransferRow.{TransferRow}
-use Rattle.treasury_core.specs.declared.rows.PartRow.{PartRow}
+use Rattle.treasury_state.specs.declared.rows.UnitRow.{UnitRow}
+use Rattle.treasury_state.specs.declared.rows.BranchRow.{BranchRow}
+use Rattle.treasury_state.specs.declared.rows.EntryRow.{EntryRow}
+use Rattle.treasury_state.specs.declared.rows.LegRow.{LegRow}
+use Rattle.treasury_state.specs.declared.rows.ClaimRow.{ClaimRow}
+use Rattle.treasury_state.specs.declared.rows.TransferRow.{TransferRow}
+use Rattle.treasury_state.specs.declared.rows.PartRow.{PartRow}
 use Rattle.treasury_store.proofs.Texts.{first_unit_rows_is, first_branch_rows_is, first_entry_rows_is}
 use Rattle.treasury_store.proofs.Texts.{first_leg_rows_is, first_claim_rows_is, first_transfer_rows_is}
 use Rattle.treasury_store.proofs.Texts.{table_query, unit_rows_text, unit_rows_is, unit_columns, unit_order, unit_query}

@@ -33,7 +33,7 @@ use Rattle.sqlite.specs.Listing.{understood}
 use Rattle.sqlite.specs.State.{State, mode_of, Executes}
 use Rattle.sqlite.proofs.Callers.{statement_of, runs_as}
 use Rattle.treasury_store.specs.Tables.{branch, store_schema}
-use Rattle.treasury_core.specs.declared.rows.BranchRow.{BranchRow}
+use Rattle.treasury_state.specs.declared.rows.BranchRow.{BranchRow}
 use Rattle.treasury_store.specs.Rows.{Tables, Holds, unit_row, branch_row, entry_row, leg_row, claim_row, transfer_row}
 use Rattle.treasury_store.specs.Rows.{part_row, shown_unit, shown_branch, shown_entry, shown_leg, shown_claim}
 use Rattle.treasury_store.specs.Rows.{shown_transfer, shown_part, with_lock}

@@ -9,12 +9,11 @@ use Rattle.std.proofs.lemmas.Grind.{flat_map-append}
 use Rattle.std.proofs.lemmas.List.Sorted.{IsPermutation-trans, IsPermutation-append_right}
 use Rattle.std.proofs.lemmas.Bool.Decides.{Decides-int_eq}
 use Rattle.money_core.specs.declared.day.Day.{Day}
-use Rattle.treasury_core.specs.declared.record.Record.{Record}
-use Rattle.treasury_core.specs.declared.rows.BranchRow.{BranchRow}
-use Rattle.treasury_core.specs.Federation.{Branch, name_place}
-use Rattle.treasury_core.specs.History.{names_of}
-use Rattle.treasury_core.specs.Joined.{new_branch, with_records, with_lock, changed}
-use Rattle.treasury_core.specs.Rows.{branch_row}
+use Rattle.treasury_state.specs.declared.record.Record.{Record}
+use Rattle.treasury_state.specs.declared.rows.BranchRow.{BranchRow}
+use Rattle.treasury_state.specs.Federation.{Branch, name_place, names_of}
+use Rattle.treasury_state.specs.Joined.{new_branch, with_records, with_lock, changed}
+use Rattle.treasury_state.specs.Rows.{branch_row}
 use Rattle.treasury_store.specs.Rows.{locked}
 use Rattle.treasury_store.specs.Numbers.{records_each}
 use Rattle.treasury_store.specs.Changes.{place_in}

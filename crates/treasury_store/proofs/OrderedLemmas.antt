@@ -9,7 +9,7 @@ use Rattle.std.specs.Cmp.{int_cmp_is}
 use Rattle.std.proofs.lemmas.Int.{ints}
 use Rattle.std.proofs.lemmas.Map.Text.{is_eq-slice_cmp}
 use Rattle.book_core.specs.Account.{name_cmp}
-use Rattle.treasury_core.proofs.BytesLemmas.{self_bytes}
+use Rattle.treasury_state.proofs.BytesLemmas.{self_bytes}
 use Rattle.std.proofs.lemmas.List.Concat.{flat_map_single}
 use Rattle.sqlite.specs.Tree.{IsAscending}
 use Rattle.money_core.specs.declared.cause.Cause.{Cause}
@@ -21,21 +21,21 @@ use Rattle.book_core.specs.declared.leg.Leg.{Leg}
 use Rattle.book_core.specs.GoodBook.{AreApart, IsFit}
 use Rattle.journal_format.specs.declared.posting.Posting.{Posting}
 use Rattle.journal_balance.specs.Legs.{posting_legs, placed, claims_among, entry_of, unless, balancing_fault, legs_of}
-use Rattle.treasury_core.specs.declared.record.Record.{Record}
-use Rattle.treasury_core.specs.declared.transfer.Part.{Part}
-use Rattle.treasury_core.specs.declared.transfer.Transfer.{Transfer}
-use Rattle.treasury_core.specs.declared.rows.UnitRow.{UnitRow}
-use Rattle.treasury_core.specs.declared.rows.BranchRow.{BranchRow}
-use Rattle.treasury_core.specs.declared.rows.EntryRow.{EntryRow}
-use Rattle.treasury_core.specs.declared.rows.LegRow.{LegRow}
-use Rattle.treasury_core.specs.declared.rows.ClaimRow.{ClaimRow}
-use Rattle.treasury_core.specs.declared.rows.TransferRow.{TransferRow}
-use Rattle.treasury_core.specs.declared.rows.PartRow.{PartRow}
-use Rattle.treasury_core.specs.Federation.{Branch, Federation, entries}
-use Rattle.treasury_core.specs.Good.{AreAscending, AreKeyed, IsGoodRecord, IsGoodBranch, IsGoodTransfer, IsGoodState}
-use Rattle.treasury_core.specs.Rows.{unit_row, branch_row, leg_row, leg_rows, claim_row, claim_rows, transfer_row}
-use Rattle.treasury_core.specs.Rows.{part_row, part_rows, rows}
-use Rattle.treasury_core.proofs.ChangeLemmas.{all_weaker, all-append}
+use Rattle.treasury_state.specs.declared.record.Record.{Record}
+use Rattle.treasury_state.specs.declared.transfer.Part.{Part}
+use Rattle.treasury_state.specs.declared.transfer.Transfer.{Transfer}
+use Rattle.treasury_state.specs.declared.rows.UnitRow.{UnitRow}
+use Rattle.treasury_state.specs.declared.rows.BranchRow.{BranchRow}
+use Rattle.treasury_state.specs.declared.rows.EntryRow.{EntryRow}
+use Rattle.treasury_state.specs.declared.rows.LegRow.{LegRow}
+use Rattle.treasury_state.specs.declared.rows.ClaimRow.{ClaimRow}
+use Rattle.treasury_state.specs.declared.rows.TransferRow.{TransferRow}
+use Rattle.treasury_state.specs.declared.rows.PartRow.{PartRow}
+use Rattle.treasury_state.specs.Federation.{Branch, Federation, entries}
+use Rattle.treasury_state.specs.Good.{AreAscending, AreKeyed, IsGoodRecord, IsGoodBranch, IsGoodTransfer, IsGoodState}
+use Rattle.treasury_state.specs.Rows.{unit_row, branch_row, leg_row, leg_rows, claim_row, claim_rows, transfer_row}
+use Rattle.treasury_state.specs.Rows.{part_row, part_rows, rows}
+use Rattle.treasury_state.proofs.AllLemmas.{all_weaker, all-append}
 use Rattle.treasury_store.specs.Order.{entry_cmp, leg_cmp, claim_cmp, transfer_cmp, part_cmp, InOrder}
 use Rattle.treasury_store.proofs.NumberedLemmas.{rows_from, rows_in}
 use Rattle.treasury_store.proofs.AdditionLemmas.{entry_alone, alone}

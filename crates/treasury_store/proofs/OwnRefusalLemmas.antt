@@ -25,9 +25,13 @@ use Rattle.book_core.specs.Claim.{failure}
 use Rattle.journal_format.specs.declared.txn.Txn.{Txn}
 use Rattle.journal_format.specs.declared.txn.Located.{Located}
 use Rattle.journal_format.specs.Pieces.{posting_limit}
-use Rattle.treasury_core.specs.declared.record.Record.{Record}
-use Rattle.treasury_core.specs.declared.transfer.Part.{Part}
-use Rattle.treasury_core.specs.declared.transfer.Transfer.{Transfer}
+use Rattle.treasury_state.specs.declared.record.Record.{Record}
+use Rattle.treasury_state.specs.declared.transfer.Part.{Part}
+use Rattle.treasury_state.specs.declared.transfer.Transfer.{Transfer}
+use Rattle.treasury_state.specs.Federation.{Federation, is_branch_name, most_branches, has_branch, records_of, lock_of}
+use Rattle.treasury_state.specs.Federation.{entries, is_locked}
+use Rattle.treasury_state.specs.Mark.{held, is_held, is_repeat, is_product_mark, close_mark}
+use Rattle.treasury_state.specs.Transfer.{is_id, is_account_text, is_reserved, is_transit, receipts_of, transfer_at}
 use Rattle.treasury_core.specs.declared.command.Answer.{Answer}
 use Rattle.treasury_core.specs.declared.command.Answer.TheVariants.{Done, Repeated}
 use Rattle.treasury_core.specs.declared.command.Dispatch.{Dispatch}
@@ -36,18 +40,13 @@ use Rattle.treasury_core.specs.declared.command.Receive.{Receive}
 use Rattle.treasury_core.specs.declared.command.Close.{Close}
 use Rattle.treasury_core.specs.declared.command.Command.{Command}
 use Rattle.treasury_core.specs.declared.command.Command.TheVariants as cmd
-use Rattle.treasury_core.specs.Federation.{Federation, is_branch_name, most_branches, has_branch, records_of, lock_of}
-use Rattle.treasury_core.specs.Federation.{entries}
-use Rattle.treasury_core.specs.Mark.{held, is_held, is_repeat, is_product_mark}
-use Rattle.treasury_core.specs.Transfer.{is_id, is_account_text, is_reserved, is_transit, receipts_of}
 use Rattle.treasury_core.specs.Choice.{is_selected, target_in, listed, list_text, choice_comments, list_limit}
 use Rattle.treasury_core.specs.Choice.{holds_transit, choice_refusal}
-use Rattle.treasury_core.specs.Closing.{close_mark, closing_record, closing_answer, closing_in}
+use Rattle.treasury_core.specs.Closing.{closing_record, closing_answer, closing_in}
 use Rattle.treasury_core.specs.Step.{unless, reply, commodity_reply, fault_on, unbalanced, barred, refused_in}
-use Rattle.treasury_core.specs.Step.{file_refusal, dispatch_refusal, receipt_refusal, receipt_reply, transfer_at}
-use Rattle.treasury_core.specs.Step.{is_dispatched_so, is_received_so, entering_refusal, close_refusal, closed_reply}
-use Rattle.treasury_core.specs.Step.{is_lock, is_locked, goes_back, held_reply, key_of, qty_of, has_key, is_too_much}
-use Rattle.treasury_core.specs.Step.{has_bad_key, has_nothing_left}
+use Rattle.treasury_core.specs.Step.{file_refusal, dispatch_refusal, receipt_refusal, receipt_reply, is_dispatched_so}
+use Rattle.treasury_core.specs.Step.{is_received_so, entering_refusal, close_refusal, closed_reply, is_lock, goes_back}
+use Rattle.treasury_core.specs.Step.{held_reply, key_of, qty_of, has_key, is_too_much, has_bad_key, has_nothing_left}
 use Rattle.treasury_store.specs.Store.{AnswersState}
 use Rattle.treasury_store.specs.Treasury.{FailsBy, MayReply, is_by_rules, IsListed}
 

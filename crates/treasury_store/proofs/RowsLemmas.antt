@@ -15,13 +15,13 @@ use Rattle.sqlite.specs.Rowids.TheVariants.{Chosen}
 use Rattle.sqlite.specs.Tree.{Trees}
 use Rattle.sqlite.specs.Effect.{value_rows}
 use Rattle.sqlite.specs.State.{State, Executes}
-use Rattle.treasury_core.specs.declared.rows.UnitRow.{UnitRow}
-use Rattle.treasury_core.specs.declared.rows.BranchRow.{BranchRow}
-use Rattle.treasury_core.specs.declared.rows.EntryRow.{EntryRow}
-use Rattle.treasury_core.specs.declared.rows.LegRow.{LegRow}
-use Rattle.treasury_core.specs.declared.rows.ClaimRow.{ClaimRow}
-use Rattle.treasury_core.specs.declared.rows.TransferRow.{TransferRow}
-use Rattle.treasury_core.specs.declared.rows.PartRow.{PartRow}
+use Rattle.treasury_state.specs.declared.rows.UnitRow.{UnitRow}
+use Rattle.treasury_state.specs.declared.rows.BranchRow.{BranchRow}
+use Rattle.treasury_state.specs.declared.rows.EntryRow.{EntryRow}
+use Rattle.treasury_state.specs.declared.rows.LegRow.{LegRow}
+use Rattle.treasury_state.specs.declared.rows.ClaimRow.{ClaimRow}
+use Rattle.treasury_state.specs.declared.rows.TransferRow.{TransferRow}
+use Rattle.treasury_state.specs.declared.rows.PartRow.{PartRow}
 use Rattle.treasury_store.specs.Tables.{unit, branch, entry, leg, claim, transfer, receipt, store_schema}
 use Rattle.treasury_store.specs.Rows.{Tables, Holds, unit_row, branch_row, entry_row, leg_row, claim_row, transfer_row}
 use Rattle.treasury_store.specs.Rows.{part_row, shown_unit, shown_branch, shown_entry, shown_leg, shown_claim}

@@ -5,13 +5,13 @@ use Rattle.std.proofs.lemmas.List.Sorted.{IsPermutation-trans, IsPermutation-map
 use Rattle.std.proofs.lemmas.List.Sorted.{IsPermutation-append_left}
 use Rattle.std.proofs.lemmas.List.{append_assoc}
 use Rattle.sqlite.specs.Effect.{Database}
-use Rattle.treasury_core.specs.declared.rows.UnitRow.{UnitRow}
-use Rattle.treasury_core.specs.declared.rows.BranchRow.{BranchRow}
-use Rattle.treasury_core.specs.declared.rows.EntryRow.{EntryRow}
-use Rattle.treasury_core.specs.declared.rows.LegRow.{LegRow}
-use Rattle.treasury_core.specs.declared.rows.ClaimRow.{ClaimRow}
-use Rattle.treasury_core.specs.declared.rows.TransferRow.{TransferRow}
-use Rattle.treasury_core.specs.declared.rows.PartRow.{PartRow}
+use Rattle.treasury_state.specs.declared.rows.UnitRow.{UnitRow}
+use Rattle.treasury_state.specs.declared.rows.BranchRow.{BranchRow}
+use Rattle.treasury_state.specs.declared.rows.EntryRow.{EntryRow}
+use Rattle.treasury_state.specs.declared.rows.LegRow.{LegRow}
+use Rattle.treasury_state.specs.declared.rows.ClaimRow.{ClaimRow}
+use Rattle.treasury_state.specs.declared.rows.TransferRow.{TransferRow}
+use Rattle.treasury_state.specs.declared.rows.PartRow.{PartRow}
 use Rattle.treasury_store.specs.declared.change.Change.{Change}
 use Rattle.treasury_store.specs.declared.change.Change.TheVariants as change
 use Rattle.treasury_store.specs.Rows.{Tables, Holds, unit_row, branch_row, entry_row, leg_row, claim_row}

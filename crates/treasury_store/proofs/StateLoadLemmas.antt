@@ -9,11 +9,11 @@ use Rattle.sqlite.specs.State.{HasCleanDisk, IsUnchanged}
 use Rattle.sqlite.specs.Held.{Held, state}
 use Rattle.money_core.specs.declared.cause.Cause.{Cause}
 use Rattle.money_core.specs.declared.cause.Cause.TheVariants.{OutOfMemory, Damaged}
-use Rattle.treasury_core.specs.declared.rows.Parts.{Parts}
-use Rattle.treasury_core.specs.Federation.{Federation}
-use Rattle.treasury_core.specs.Good.{IsGoodState}
-use Rattle.treasury_core.specs.Rows.{rows}
-use Rattle.treasury_core.proofs.RowsLawLemmas.{same_state}
+use Rattle.treasury_state.specs.declared.rows.Parts.{Parts}
+use Rattle.treasury_state.specs.Federation.{Federation}
+use Rattle.treasury_state.specs.Good.{IsGoodState}
+use Rattle.treasury_state.specs.Rows.{rows}
+use Rattle.treasury_laws.proofs.RowsLawLemmas.{same_state}
 use Rattle.treasury_store.specs.declared.store.Store.{Store}
 use Rattle.treasury_store.specs.Tables.{store_schema}
 use Rattle.treasury_store.specs.Rows.{Tables, Holds, ShowsTables}

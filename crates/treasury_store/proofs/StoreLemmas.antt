@@ -6,12 +6,12 @@ use Rattle.sqlite.specs.Tree.{Trees}
 use Rattle.sqlite.specs.State.{State, HasCleanDisk, Survives}
 use Rattle.sqlite.specs.Held.{Held, state}
 use Rattle.sqlite.proofs.StateLemmas.{survives_weaker}
-use Rattle.treasury_core.specs.declared.delta.Addition.{Addition}
-use Rattle.treasury_core.specs.Federation.{Federation}
-use Rattle.treasury_core.specs.Good.{IsGoodState}
-use Rattle.treasury_core.specs.Joined.{joined}
-use Rattle.treasury_core.specs.Rows.{rows}
-use Rattle.treasury_core.proofs.BackLemmas.{good_room}
+use Rattle.treasury_state.specs.declared.delta.Addition.{Addition}
+use Rattle.treasury_state.specs.Federation.{Federation}
+use Rattle.treasury_state.specs.Good.{IsGoodState}
+use Rattle.treasury_state.specs.Joined.{joined}
+use Rattle.treasury_state.specs.Rows.{rows}
+use Rattle.treasury_state.proofs.BackLemmas.{good_room}
 use Rattle.treasury_store.specs.declared.change.Change.{Change}
 use Rattle.treasury_store.specs.declared.store.Store.{Store}
 use Rattle.treasury_store.specs.Rows.{Tables, Holds, joined as written}

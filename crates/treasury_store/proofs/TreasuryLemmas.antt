@@ -12,27 +12,27 @@ use Rattle.sqlite.specs.Effect.{Database}
 use Rattle.sqlite.specs.State.{HasCleanDisk, Survives}
 use Rattle.sqlite.specs.Held.{Held, state}
 use Rattle.sqlite.proofs.StateLemmas.{survives_weaker, survives_then}
+use Rattle.treasury_state.specs.declared.record.Record.{Record}
+use Rattle.treasury_state.specs.declared.transfer.Transfer.{Transfer}
+use Rattle.treasury_state.specs.declared.delta.Addition.{Addition}
+use Rattle.treasury_state.specs.declared.delta.Addition.TheVariants as add
+use Rattle.treasury_state.specs.Federation.{Federation}
+use Rattle.treasury_state.specs.Good.{IsGoodState}
+use Rattle.treasury_state.specs.Joined.{joined_one, joined}
+use Rattle.treasury_state.specs.Transfer.{transfer_at, has_id}
+use Rattle.treasury_state.specs.Rows.{rows}
+use Rattle.treasury_state.proofs.AllLemmas.{all-append}
 use Rattle.treasury_core.specs.declared.command.Answer.{Answer}
 use Rattle.treasury_core.specs.declared.command.Answer.TheVariants.{Done, Entered, Repeated}
 use Rattle.treasury_core.specs.declared.command.Command.{Command}
 use Rattle.treasury_core.specs.declared.command.Command.TheVariants as cmd
-use Rattle.treasury_core.specs.Federation.{Federation}
 use Rattle.treasury_core.specs.declared.command.Receive.{Receive}
-use Rattle.treasury_core.specs.declared.record.Record.{Record}
-use Rattle.treasury_core.specs.declared.transfer.Transfer.{Transfer}
-use Rattle.treasury_core.specs.declared.delta.Addition.{Addition}
-use Rattle.treasury_core.specs.declared.delta.Addition.TheVariants as add
-use Rattle.treasury_core.specs.Good.{Fits, IsGoodState}
-use Rattle.treasury_core.specs.Joined.{joined_one, joined}
-use Rattle.treasury_core.specs.Step.{reply, after, added, delta, step, new_records, transfer_at}
-use Rattle.treasury_core.specs.Step.{receipt_additions, closing_records}
+use Rattle.treasury_core.specs.Fits.{Fits}
+use Rattle.treasury_core.specs.Step.{reply, after, added, delta, step, new_records, receipt_additions, closing_records}
 use Rattle.treasury_core.specs.Closing.{closing_in}
-use Rattle.treasury_core.specs.Transfer.{has_id}
-use Rattle.treasury_core.specs.Rows.{rows}
-use Rattle.treasury_core.specs.History.{IsRun, state_after}
-use Rattle.treasury_core.specs.Headline.{KeepsBooks}
-use Rattle.treasury_core.proofs.HeadlineLemmas.{keeps_books}
-use Rattle.treasury_core.proofs.ChangeLemmas.{all-append}
+use Rattle.treasury_core.specs.Run.{IsRun, state_after}
+use Rattle.treasury_laws.specs.Headline.{KeepsBooks}
+use Rattle.treasury_laws.proofs.HeadlineLemmas.{keeps_books}
 use Rattle.treasury_store.specs.declared.store.Store.{Store}
 use Rattle.treasury_store.specs.Rows.{Holds, AreTreesOf}
 use Rattle.treasury_store.specs.Kept.{KeepsTables}

@@ -7,16 +7,15 @@ use Rattle.std.proofs.lemmas.List.{length-append, length-map}
 use Rattle.money_core.specs.declared.style.Style.{Style}
 use Rattle.money_core.specs.Style.{AreStyles}
 use Rattle.book_core.specs.declared.claim.Placed.{Placed}
-use Rattle.treasury_core.specs.declared.record.Record.{Record}
-use Rattle.treasury_core.specs.declared.delta.Addition.{Addition}
-use Rattle.treasury_core.specs.declared.delta.Addition.TheVariants as add
-use Rattle.treasury_core.specs.Federation.{Branch, Federation, entries, name_place}
-use Rattle.treasury_core.specs.Good.{IsGoodRecord, IsGoodBranch, IsGoodState}
-use Rattle.treasury_core.specs.History.{names_of}
-use Rattle.treasury_core.specs.Joined.{new_branch, with_records, with_lock, changed, joined_one, joined}
-use Rattle.treasury_core.specs.Room.{HasRoom, IsRoomy}
-use Rattle.treasury_core.proofs.BackLemmas.{room_fit, room_within, room_back, good_room}
-use Rattle.treasury_core.proofs.ChangeLemmas.{all_weaker}
+use Rattle.treasury_state.specs.declared.record.Record.{Record}
+use Rattle.treasury_state.specs.declared.delta.Addition.{Addition}
+use Rattle.treasury_state.specs.declared.delta.Addition.TheVariants as add
+use Rattle.treasury_state.specs.Federation.{Branch, Federation, entries, name_place, names_of}
+use Rattle.treasury_state.specs.Good.{IsGoodRecord, IsGoodBranch, IsGoodState}
+use Rattle.treasury_state.specs.Joined.{new_branch, with_records, with_lock, changed, joined_one, joined}
+use Rattle.treasury_state.specs.Room.{HasRoom, IsRoomy}
+use Rattle.treasury_state.proofs.BackLemmas.{room_fit, room_within, room_back, good_room}
+use Rattle.treasury_state.proofs.AllLemmas.{all_weaker}
 use Rattle.treasury_store.specs.Numbers.{Numbering, records_each, numbers_of}
 use Rattle.treasury_store.specs.Changes.{Counts, place_in, styles_with, names_with, counts_of, IsWritable, CanWrite}
 use Rattle.treasury_store.specs.Changes.{CanWriteFrom}

@@ -6,14 +6,14 @@ use Rattle.std.specs.List.{AllByRecursion}
 use Rattle.money_core.specs.declared.style.Style.{Style}
 use Rattle.book_core.specs.declared.claim.Placed.{Placed}
 use Rattle.journal_format.specs.Printable.{IsPrintable}
-use Rattle.treasury_core.specs.declared.record.Record.{Record}
-use Rattle.treasury_core.specs.declared.transfer.Part.{Part}
-use Rattle.treasury_core.specs.declared.delta.Addition.{Addition}
-use Rattle.treasury_core.specs.declared.delta.Addition.TheVariants as add
-use Rattle.treasury_core.specs.Federation.{Branch, name_place}
-use Rattle.treasury_core.specs.Joined.{new_branch}
-use Rattle.treasury_core.specs.Rows.{unit_row, branch_row, entry_row, leg_rows, claim_rows, transfer_row, part_row}
-use Rattle.treasury_core.specs.Transfer.{is_all}
+use Rattle.treasury_state.specs.declared.record.Record.{Record}
+use Rattle.treasury_state.specs.declared.transfer.Part.{Part}
+use Rattle.treasury_state.specs.declared.delta.Addition.{Addition}
+use Rattle.treasury_state.specs.declared.delta.Addition.TheVariants as add
+use Rattle.treasury_state.specs.Federation.{Branch, name_place}
+use Rattle.treasury_state.specs.Joined.{new_branch}
+use Rattle.treasury_state.specs.Rows.{unit_row, branch_row, entry_row, leg_rows, claim_rows, transfer_row, part_row}
+use Rattle.treasury_state.specs.Transfer.{is_all}
 use Rattle.treasury_store.specs.declared.change.Change.{Change}
 use Rattle.treasury_store.specs.declared.change.Change.TheVariants as change
 use Rattle.treasury_store.specs.Numbers.{Numbering}

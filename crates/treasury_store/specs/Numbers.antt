@@ -1,8 +1,7 @@
 -- What new rows are numbered by.
 use Rattle.std.specs.Prelude.{ℕ, List, map, length}
 use Rattle.money_core.specs.declared.style.Style.{Style}
-use Rattle.treasury_core.specs.Federation.{Branch, Federation}
-use Rattle.treasury_core.specs.History.{names_of}
+use Rattle.treasury_state.specs.Federation.{Branch, Federation, names_of}
 
 -- the commodities, under which bodies are printed; the names of the branches, in order, and how many records each has
 pub record Numbering : Type 0 where

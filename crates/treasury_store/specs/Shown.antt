@@ -1,9 +1,9 @@
 -- What tables show that are no treasury's.
 use Rattle.std.specs.Prelude.{◌≡◌}
 use Rattle.sqlite.specs.Effect.{Database}
-use Rattle.treasury_core.specs.Federation.{Federation}
-use Rattle.treasury_core.specs.Good.{IsGoodState}
-use Rattle.treasury_core.specs.Rows.{rows}
+use Rattle.treasury_state.specs.Federation.{Federation}
+use Rattle.treasury_state.specs.Good.{IsGoodState}
+use Rattle.treasury_state.specs.Rows.{rows}
 use Rattle.treasury_store.specs.Tables.{store_schema}
 use Rattle.treasury_store.specs.Rows.{ShowsTables}
 

@@ -6,13 +6,13 @@ use Rattle.money_core.specs.declared.cause.Cause.TheVariants.{OutOfMemory, Store
 use Rattle.sqlite.specs.Store.{Ghosts}
 use Rattle.sqlite.specs.State.{HasCleanDisk}
 use Rattle.sqlite.specs.Held.{Held, state}
-use Rattle.treasury_core.specs.declared.delta.Addition.{Addition}
-use Rattle.treasury_core.specs.declared.delta.Addition.TheVariants as add
-use Rattle.treasury_core.specs.Federation.{Federation}
-use Rattle.treasury_core.specs.Transfer.{is_all, has_id}
-use Rattle.treasury_core.specs.Joined.{joined_one, joined}
-use Rattle.treasury_core.specs.Good.{IsGoodState}
-use Rattle.treasury_core.specs.Rows.{rows}
+use Rattle.treasury_state.specs.declared.delta.Addition.{Addition}
+use Rattle.treasury_state.specs.declared.delta.Addition.TheVariants as add
+use Rattle.treasury_state.specs.Federation.{Federation}
+use Rattle.treasury_state.specs.Transfer.{is_all, has_id}
+use Rattle.treasury_state.specs.Joined.{joined_one, joined}
+use Rattle.treasury_state.specs.Good.{IsGoodState}
+use Rattle.treasury_state.specs.Rows.{rows}
 use Rattle.treasury_store.specs.Rows.{Tables, Holds}
 use Rattle.treasury_store.specs.Numbers.{numbers_of}
 use Rattle.treasury_store.specs.declared.store.Store.{Store}

@@ -8,13 +8,13 @@ use Rattle.book_core.specs.declared.refusal.Refusal.TheVariants.{Plain}
 use Rattle.sqlite.specs.Store.{Ghosts}
 use Rattle.sqlite.specs.State.{Survives}
 use Rattle.sqlite.specs.Held.{state}
+use Rattle.treasury_state.specs.Federation.{Federation}
+use Rattle.treasury_state.specs.Rows.{rows}
 use Rattle.treasury_core.specs.declared.command.Answer.{Answer}
 use Rattle.treasury_core.specs.declared.command.Command.{Command}
-use Rattle.treasury_core.specs.Federation.{Federation}
-use Rattle.treasury_core.specs.Rows.{rows}
 use Rattle.treasury_core.specs.Step.{reply, after, delta, step}
-use Rattle.treasury_core.specs.Good.{Fits}
-use Rattle.treasury_core.specs.History.{Turn, Replies}
+use Rattle.treasury_core.specs.Fits.{Fits}
+use Rattle.treasury_core.specs.Run.{Turn, Replies}
 use Rattle.treasury_store.specs.declared.store.Store.{Store}
 use Rattle.treasury_store.specs.Rows.{Holds, AreTreesOf}
 use Rattle.treasury_store.specs.Store.{IsOf}

@@ -4,8 +4,8 @@ ghost use Rattle.std.specs.Prelude.{◌≡◌, ◌≤◌, ◌∷◌, ◌++◌, [
 ghost use Rattle.std.specs.Result.{IsOkUnless};
 ghost use Rattle.std.specs.Str.{bytes_eq};
 ghost use Rattle.money_core.specs.Style.{AreStyles};
-ghost use Rattle.treasury_core.specs.History.{names_of};
-ghost use Rattle.treasury_core.specs.Seen.{branches_of};
+ghost use Rattle.treasury_state.specs.Federation.{names_of};
+ghost use Rattle.treasury_state.specs.Seen.{branches_of};
 ghost use Rattle.treasury_store.specs.Changes.{place_in, style_with, name_with, styles_with, names_with};
 ghost use Rattle.treasury_store.specs.Numbers.{records_each, numbers_of};
 

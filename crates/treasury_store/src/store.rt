@@ -6,10 +6,10 @@ ghost use Rattle.sqlite.specs.State.{HasCleanDisk, IsLive, Survives};
 ghost use Rattle.sqlite.specs.Held.{state};
 ghost use Rattle.sqlite.specs.Effect.{Database};
 ghost use Rattle.sqlite_trees.specs.View.{doubt};
-ghost use Rattle.treasury_core.specs.Federation.{Federation};
-ghost use Rattle.treasury_core.specs.Good.{IsGoodState};
-ghost use Rattle.treasury_core.specs.Joined.{joined};
-ghost use Rattle.treasury_core.specs.Rows.{rows};
+ghost use Rattle.treasury_state.specs.Federation.{Federation};
+ghost use Rattle.treasury_state.specs.Good.{IsGoodState};
+ghost use Rattle.treasury_state.specs.Joined.{joined};
+ghost use Rattle.treasury_state.specs.Rows.{rows};
 ghost use Rattle.treasury_store.specs.Rows.{Tables, Holds, HoldsEither, ShowsTables};
 ghost use Rattle.treasury_store.specs.Kept.{ChangesNothing, KeepsTables, StaysAsIs};
 ghost use Rattle.treasury_store.specs.Tables.{no_schema, store_schema};
@@ -31,6 +31,7 @@ use money_core::Cause;
 use sqlite::{Alter, Connection, Error, ErrorCode};
 use std::alloc::Global;
 use treasury_core::{Delta, State};
+use treasury_rows::Build;
 
 /// A connection whose tables are the rows of a state.
 #[derive(Drop)]

@@ -9,7 +9,7 @@ use Rattle.std.specs.String.{string_bytes}
 use Rattle.std.specs.declared.string.String.{String}
 use Rattle.std.specs.declared.alloc.Global.{Global}
 use Rattle.std.proofs.lemmas.List.Folds.{list_any_more}
-use Rattle.treasury_core.proofs.BytesLemmas.{self_bytes}
+use Rattle.treasury_state.proofs.BytesLemmas.{self_bytes}
 
 but_not : (a b c : Bool) → ((a && not b) && not c) ≡ (a && not (b || c))
 but_not true true c = refl

@@ -8,8 +8,8 @@ use Rattle.std.specs.List.{position_from, AllByRecursion}
 use Rattle.std.specs.Option.{option_map}
 use Rattle.money_core.specs.declared.style.Style.{Style}
 use Rattle.journal_format.specs.Printable.{IsPrintable}
-use Rattle.treasury_core.proofs.DraftLemmas.{less}
-use Rattle.treasury_core.specs.declared.record.Record.{Record}
+use Rattle.treasury_state.specs.declared.record.Record.{Record}
+use Rattle.treasury_state.proofs.RestLemmas.{less}
 use Rattle.treasury_told.specs.declared.explain.standing.Standing.{Standing}
 use Rattle.treasury_told.specs.declared.explain.standing.Holder.{Holder}
 use Rattle.treasury_told.specs.declared.explain.standing.Holder.TheVariants as at

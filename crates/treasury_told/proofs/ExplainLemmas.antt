@@ -9,12 +9,12 @@ use Rattle.book_core.specs.declared.refusal.Refusal.TheVariants.{Plain}
 use Rattle.journal_format.specs.declared.txn.Located.{Located}
 use Rattle.journal_format.specs.Pieces.{Reads}
 use Rattle.journal_format.specs.Printable.{IsPrintable}
-use Rattle.treasury_core.specs.declared.record.Record.{Record}
-use Rattle.treasury_core.specs.Federation.{Branch, Federation, records_in, records_of, lock_of}
-use Rattle.treasury_core.specs.Good.{IsGoodRecord, IsGoodBranch, IsGoodState}
-use Rattle.treasury_core.specs.Mark.{HaveOwnMarks}
+use Rattle.treasury_state.specs.declared.record.Record.{Record}
+use Rattle.treasury_state.specs.Federation.{Branch, Federation, records_in, records_of, lock_of}
+use Rattle.treasury_state.specs.Good.{IsGoodRecord, IsGoodBranch, IsGoodState}
+use Rattle.treasury_state.specs.Mark.{HaveOwnMarks}
+use Rattle.treasury_state.proofs.AllLemmas.{all_weaker}
 use Rattle.treasury_core.specs.Step.{records_in_file, refused_in, unbalanced}
-use Rattle.treasury_core.proofs.ChangeLemmas.{all_weaker}
 use Rattle.treasury_core.proofs.ReplyLemmas.{own_marks_of}
 use Rattle.treasury_told.specs.declared.explain.at_fault.Bar.{Bar}
 use Rattle.treasury_told.specs.declared.explain.standing.Standing.{Standing}

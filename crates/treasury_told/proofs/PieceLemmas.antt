@@ -7,7 +7,7 @@ use Rattle.std.proofs.lemmas.Int.{ints}
 use Rattle.money_core.specs.declared.day.Day.{Day}
 use Rattle.journal_lines.specs.Date.{IsDayNumber, printed_date}
 use Rattle.journal_lines.proofs.DateLemmas.{day_number_bounds, day_number_from}
-use Rattle.treasury_core.proofs.PartLemmas.{le_from}
+use Rattle.treasury_state.proofs.PartLemmas.{le_from}
 use Rattle.treasury_told.specs.Pieces.{is_in_calendar, shown_day}
 
 within_calendar : (day : Day) → IsDayNumber day → is_in_calendar day ≡ true

@@ -18,14 +18,15 @@ use Rattle.journal_format.specs.declared.txn.Txn.{Txn}
 use Rattle.journal_format.specs.declared.txn.Located.{Located}
 use Rattle.journal_format.specs.CanonicalText.{body_text, marked}
 use Rattle.journal_balance.specs.Legs.{legs_of, entry_of, unless, balancing_fault}
-use Rattle.treasury_core.specs.declared.record.Record.{Record}
-use Rattle.treasury_core.specs.Mark.{has_mark, is_held, held, HaveOwnMarks, is_repeat, is_product_mark, mark_of}
+use Rattle.treasury_state.specs.declared.record.Record.{Record}
+use Rattle.treasury_state.specs.Mark.{has_mark, is_held, held, HaveOwnMarks, is_repeat, is_product_mark, mark_of}
+use Rattle.treasury_state.specs.Federation.{is_locked}
+use Rattle.treasury_state.specs.Transfer.{is_transit}
+use Rattle.treasury_state.proofs.BytesLemmas.{or_false, same_bytes}
 use Rattle.treasury_core.specs.Step.{fault_on, unbalanced, recorded, recorded_in, records_from, number_in, barred}
-use Rattle.treasury_core.specs.Step.{refusal_of, refused_in, records_in_file, is_locked}
-use Rattle.treasury_core.specs.Transfer.{is_transit}
-use Rattle.treasury_core.proofs.BytesLemmas.{or_false, same_bytes}
+use Rattle.treasury_core.specs.Step.{refusal_of, refused_in, records_in_file}
 use Rattle.journal_balance.proofs.EntryLemmas.{entry_day}
-use Rattle.treasury_core.proofs.HeldLemmas.{held_push, own_push}
+use Rattle.treasury_state.proofs.HeldLemmas.{held_push, own_push}
 use Rattle.treasury_told.specs.declared.explain.at_fault.Bar.{Bar}
 use Rattle.treasury_told.specs.declared.explain.at_fault.Bar.TheVariants as by
 use Rattle.treasury_told.specs.declared.explain.standing.Standing.{Standing}

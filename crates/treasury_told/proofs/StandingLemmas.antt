@@ -10,8 +10,8 @@ use Rattle.std.specs.Str.{bytes_eq}
 use Rattle.std.proofs.lemmas.List.{append-nil, map-append, length-map, take_more, length-take-le}
 use Rattle.std.specs.HashMap.{get_by_text}
 use Rattle.std.specs.Option.{option_or}
-use Rattle.treasury_core.specs.Kept.{IsIndexOf}
-use Rattle.treasury_core.proofs.IndexLemmas.{Index, pushed}
+use Rattle.treasury_state.specs.Index.{IsIndexOf}
+use Rattle.treasury_state.proofs.IndexLemmas.{Index, pushed}
 use Rattle.std.proofs.lemmas.List.Sums.{count_by-le-length}
 use Rattle.money_core.specs.declared.cause.Cause.{Cause}
 use Rattle.money_core.specs.declared.cause.Cause.TheVariants.{OutOfMemory}
@@ -19,8 +19,8 @@ use Rattle.money_core.specs.declared.style.Style.{Style}
 use Rattle.journal_format.specs.declared.txn.Txn.{Txn}
 use Rattle.journal_format.specs.declared.txn.Located.{Located}
 use Rattle.journal_format.specs.CanonicalText.{body_text}
-use Rattle.treasury_core.specs.declared.record.Record.{Record}
-use Rattle.treasury_core.specs.Mark.{has_mark, is_held, mark_of, alike}
+use Rattle.treasury_state.specs.declared.record.Record.{Record}
+use Rattle.treasury_state.specs.Mark.{has_mark, is_held, mark_of, alike}
 use Rattle.treasury_core.specs.Step.{number_in}
 use Rattle.treasury_core.specs.Counted.{count_of, AreCounted}
 use Rattle.treasury_core.proofs.CountLemmas.{Counts}

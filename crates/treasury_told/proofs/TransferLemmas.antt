@@ -7,15 +7,15 @@ use Rattle.std.specs.List.{AllByRecursion}
 use Rattle.std.specs.Option.{option_map, option_or}
 use Rattle.std.specs.Str.{bytes_eq}
 use Rattle.std.proofs.lemmas.List.Folds.{find-append}
-use Rattle.treasury_core.specs.declared.transfer.Part.{Part}
-use Rattle.treasury_core.specs.declared.transfer.Receipt.{Receipt}
-use Rattle.treasury_core.specs.declared.transfer.Transfer.{Transfer}
-use Rattle.treasury_core.specs.Federation.{Federation}
-use Rattle.treasury_core.specs.Good.{HasGoodParts, IsGoodTransfer, IsGoodState}
+use Rattle.treasury_state.specs.declared.transfer.Part.{Part}
+use Rattle.treasury_state.specs.declared.transfer.Receipt.{Receipt}
+use Rattle.treasury_state.specs.declared.transfer.Transfer.{Transfer}
+use Rattle.treasury_state.specs.Federation.{Federation}
+use Rattle.treasury_state.specs.Good.{HasGoodParts, IsGoodTransfer, IsGoodState}
+use Rattle.treasury_state.specs.Transfer.{all_key, is_key, of_rest, rest_part, receipts_of, has_id}
+use Rattle.treasury_state.proofs.BytesLemmas.{other_bytes}
+use Rattle.treasury_state.proofs.MarkLemmas.{not_all}
 use Rattle.treasury_core.specs.Step.{has_key}
-use Rattle.treasury_core.specs.Transfer.{all_key, is_key, of_rest, rest_part, receipts_of, has_id}
-use Rattle.treasury_core.proofs.BytesLemmas.{other_bytes}
-use Rattle.treasury_core.proofs.MarkLemmas.{not_all}
 
 part_or_none : (o : Option Part) → o ≡ option_or o None
 part_or_none None = refl

@@ -16,10 +16,11 @@ use Rattle.journal_format.specs.declared.txn.Located.{Located}
 use Rattle.journal_format.specs.CanonicalText.{body_text}
 use Rattle.journal_format.specs.Printable.{IsPrintable}
 use Rattle.journal_balance.specs.Legs.{legs_of}
-use Rattle.treasury_core.specs.declared.record.Record.{Record}
-use Rattle.treasury_core.specs.Mark.{is_product_mark}
-use Rattle.treasury_core.specs.Step.{is_locked, refused_in, records_in_file}
-use Rattle.treasury_core.specs.Transfer.{is_transit}
+use Rattle.treasury_state.specs.declared.record.Record.{Record}
+use Rattle.treasury_state.specs.Mark.{is_product_mark}
+use Rattle.treasury_state.specs.Federation.{is_locked}
+use Rattle.treasury_state.specs.Transfer.{is_transit}
+use Rattle.treasury_core.specs.Step.{refused_in, records_in_file}
 use Rattle.treasury_told.specs.declared.explain.at_fault.Bar.{Bar}
 use Rattle.treasury_told.specs.declared.explain.at_fault.Bar.TheVariants as by
 use Rattle.treasury_told.specs.declared.explain.standing.Standing.{Standing}

@@ -1,10 +1,9 @@
 -- The transfer that a request is on, and what is left of it (own rule; docs/RULES.md, "Explanations").
 use Rattle.std.specs.Prelude.{ℕ, List, codes, Option, Some, None}
 use Rattle.money_core.specs.declared.style.Style.{Style}
-use Rattle.treasury_core.specs.declared.transfer.Transfer.{Transfer}
-use Rattle.treasury_core.specs.Federation.{Federation}
-use Rattle.treasury_core.specs.Step.{transfer_at}
-use Rattle.treasury_core.specs.Transfer.{left_of}
+use Rattle.treasury_state.specs.declared.transfer.Transfer.{Transfer}
+use Rattle.treasury_state.specs.Federation.{Federation}
+use Rattle.treasury_state.specs.Transfer.{transfer_at, left_of}
 use Rattle.treasury_requests.specs.declared.request.Request.{Request}
 use Rattle.treasury_requests.specs.declared.request.Request.TheVariants as req
 use Rattle.treasury_requests.specs.declared.request.WrittenPart.{WrittenPart}

@@ -1,7 +1,7 @@
 -- What is said of a lock that stands against a request (own rule; docs/RULES.md, "Explanations").
 use Rattle.std.specs.Prelude.{ℕ, List, [], ◌++◌, codes, Option, Some, None}
 use Rattle.money_core.specs.declared.day.Day.{Day}
-use Rattle.treasury_core.specs.Federation.{Federation, lock_of}
+use Rattle.treasury_state.specs.Federation.{Federation, lock_of}
 use Rattle.treasury_requests.specs.declared.request.Request.{Request}
 use Rattle.treasury_requests.specs.declared.request.Request.TheVariants as req
 use Rattle.treasury_told.specs.Shown.{shown_text, line_text}

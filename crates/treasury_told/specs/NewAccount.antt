@@ -4,8 +4,8 @@ use Rattle.std.specs.List.{list_any}
 use Rattle.std.specs.Str.{bytes_eq}
 use Rattle.book_core.specs.declared.leg.Leg.{Leg}
 use Rattle.journal_format.specs.declared.posting.Posting.{Posting}
-use Rattle.treasury_core.specs.declared.record.Record.{Record}
-use Rattle.treasury_core.specs.Mark.{is_product_mark}
+use Rattle.treasury_state.specs.declared.record.Record.{Record}
+use Rattle.treasury_state.specs.Mark.{is_product_mark}
 
 -- a posting of the record's transaction is on the account
 abbrev pub posts_to : List ℕ → Record → Bool

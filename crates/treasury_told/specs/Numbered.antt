@@ -1,7 +1,7 @@
 -- Entries and legs by their numbers (own rules; docs/RULES.md, "Explanations").
 use Rattle.std.specs.Prelude.{ℕ, zero, suc, List, ◌++◌, map, Option, None, slice_get}
 use Rattle.std.specs.List.{filter}
-use Rattle.treasury_core.specs.declared.record.Record.{Record}
+use Rattle.treasury_state.specs.declared.record.Record.{Record}
 use Rattle.treasury_told.specs.declared.explain.standing.Standing.{Standing}
 use Rattle.treasury_told.specs.declared.explain.numbered.Numbered.{Numbered}
 use Rattle.treasury_told.specs.declared.explain.numbered.Numbered.TheVariants as by

@@ -7,8 +7,8 @@ use Rattle.book_core.specs.declared.refusal.Refusal.TheVariants.{Plain}
 use Rattle.journal_format.specs.declared.txn.Located.{Located}
 use Rattle.journal_format.specs.Pieces.{Reads}
 use Rattle.journal_balance.specs.Legs.{legs_of}
-use Rattle.treasury_core.specs.declared.record.Record.{Record}
-use Rattle.treasury_core.specs.Federation.{Federation, records_of, lock_of}
+use Rattle.treasury_state.specs.declared.record.Record.{Record}
+use Rattle.treasury_state.specs.Federation.{Federation, records_of, lock_of}
 use Rattle.treasury_core.specs.Step.{records_in_file, refused_in, unbalanced}
 use Rattle.treasury_requests.specs.declared.request.Request.{Request}
 use Rattle.treasury_requests.specs.declared.request.Request.TheVariants as req

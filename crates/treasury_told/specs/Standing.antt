@@ -8,8 +8,8 @@ use Rattle.money_core.specs.declared.style.Style.{Style}
 use Rattle.book_core.specs.declared.entry.Entry.{Entry}
 use Rattle.journal_format.specs.declared.txn.Txn.{Txn}
 use Rattle.journal_format.specs.declared.txn.Located.{Located}
-use Rattle.treasury_core.specs.declared.record.Record.{Record}
-use Rattle.treasury_core.specs.Mark.{mark_of, has_mark, is_held}
+use Rattle.treasury_state.specs.declared.record.Record.{Record}
+use Rattle.treasury_state.specs.Mark.{mark_of, has_mark, is_held}
 use Rattle.treasury_core.specs.Step.{number_in}
 use Rattle.treasury_told.specs.declared.explain.standing.Standing.{Standing}
 use Rattle.treasury_told.specs.declared.explain.standing.Holder.{Holder}

@@ -4,11 +4,11 @@ ghost use Rattle.std.specs.Prelude.{◌≡◌, ◌≢◌, List, ℕ, Result, Som
 ghost use Rattle.std.specs.List.{AllByRecursion};
 ghost use Rattle.http_request.specs.declared.call.Call.{Call};
 ghost use Rattle.http_request.specs.declared.call.Form.{Form};
-ghost use Rattle.treasury_core.specs.Good.{IsGoodState};
+ghost use Rattle.treasury_state.specs.Good.{IsGoodState};
 ghost use Rattle.money_core.specs.declared.style.Style.{Style};
 ghost use Rattle.book_core.specs.declared.refusal.Refusal.{Refusal as Refused};
+ghost use Rattle.treasury_state.specs.Federation.{Federation};
 ghost use Rattle.treasury_core.specs.declared.command.Answer.{Answer};
-ghost use Rattle.treasury_core.specs.Federation.{Federation};
 ghost use Rattle.serde_json.specs.Data.{Data};
 ghost use Rattle.serde_json.specs.Read.{read};
 ghost use Rattle.json_text.specs.ReadBack.{HasMembers};
@@ -21,7 +21,7 @@ ghost use Rattle.treasury_api.specs.Web.{AnswersCall, AnsweredCall, AreServed, t
 ghost use Rattle.treasury_api.specs.Web.{CommandsOnly, AreCommandsOf};
 
 use json_text::json_law;
-use treasury_core::headline_law;
+use treasury_laws::headline_law;
 
 /// A law of connections: answered one after another, each by the state that the one before it left, the commands that
 /// they called for are, with their replies and in their order, a run of the machine of commands that leads where the

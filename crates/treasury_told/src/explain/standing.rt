@@ -16,11 +16,11 @@ ghost use Rattle.journal_format.specs.Fault.{IsFirstFault};
 ghost use Rattle.journal_format.specs.Pieces.{Reads};
 ghost use Rattle.journal_format.specs.Printable.{IsPrintable};
 ghost use Rattle.journal_balance.specs.Legs.{legs_of};
+ghost use Rattle.treasury_state.specs.Federation.{has_name, lock_of, records_of};
+ghost use Rattle.treasury_state.specs.Index.{IsIndexOf};
+ghost use Rattle.treasury_state.specs.Mark.{mark_of};
+ghost use Rattle.treasury_state.specs.Seen.{branch_of, branches_of};
 ghost use Rattle.treasury_core.specs.Counted.{count_of, counted_more, AreCounted};
-ghost use Rattle.treasury_core.specs.Federation.{has_name, lock_of, records_of};
-ghost use Rattle.treasury_core.specs.Kept.{IsIndexOf};
-ghost use Rattle.treasury_core.specs.Mark.{mark_of};
-ghost use Rattle.treasury_core.specs.Seen.{branch_of, branches_of};
 ghost use Rattle.treasury_core.specs.Step.{number_in};
 ghost use Rattle.treasury_told.specs.Standing.{entry_in, is_nobody, holder_at, located_of, AreStanding};
 

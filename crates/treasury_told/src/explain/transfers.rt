@@ -3,9 +3,9 @@
 ghost use Rattle.std.specs.Prelude.{◌≡◌, ◌-ℤ◌, true, ◌++◌, find, OnOk, IfSome};
 ghost use Rattle.std.specs.Option.{option_map};
 ghost use Rattle.std.specs.Result.{IsOkUnless};
-ghost use Rattle.treasury_core.specs.Good.{HasGoodParts};
+ghost use Rattle.treasury_state.specs.Good.{HasGoodParts};
+ghost use Rattle.treasury_state.specs.Transfer.{has_id, is_key, left_of, receipts_of, sum_of};
 ghost use Rattle.treasury_core.specs.Step.{has_key};
-ghost use Rattle.treasury_core.specs.Transfer.{has_id, is_key, left_of, receipts_of, sum_of};
 ghost use Rattle.treasury_told.specs.HeldTransfer.{id_of, part_of, transfer_in, left_line};
 
 use crate::explain::pieces::{push_amount, push_day, push_named_amount};

@@ -1,5 +1,5 @@
 use Rattle.std.proofs.Math.Logic.{∥∥₁_map}
-use Rattle.treasury_core.specs.Federation.{Federation}
+use Rattle.treasury_state.specs.Federation.{Federation}
 use Rattle.treasury_store.specs.Store.{empty_state}
 use Rattle.treasury_files.specs.Left.{HoldsOf}
 use Rattle.treasury_api.specs.History.{KeepBooksTo}

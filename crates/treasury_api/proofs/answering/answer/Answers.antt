@@ -2,7 +2,7 @@ use Rattle.std.proofs.Common.{◌≡◌, ◌∙◌, ◌++◌, List, Ok, Err, tru
 use Rattle.std.specs.Prelude.{◌↔◌}
 use Rattle.money_core.specs.declared.cause.Cause.TheVariants.{UnknownBranch}
 use Rattle.money_core.specs.declared.style.Style.{Style}
-use Rattle.treasury_core.specs.Federation.{Federation}
+use Rattle.treasury_state.specs.Federation.{Federation}
 use Rattle.treasury_store.specs.Treasury.{Treasury, IsTreasuryOf}
 use Rattle.treasury_store.proofs.TreasuryLemmas.{ok_unfailed}
 use Rattle.treasury_store.proofs.LeftLemmas.{shuts_by, shuts_then}

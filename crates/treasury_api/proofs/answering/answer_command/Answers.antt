@@ -1,5 +1,5 @@
 use Rattle.std.proofs.Common.{rules, arith, refl, inl}
-use Rattle.treasury_core.specs.Rows.{rows}
+use Rattle.treasury_state.specs.Rows.{rows}
 use Rattle.treasury_store.proofs.LeftLemmas.{shuts_same}
 use Rattle.treasury_api.proofs.ReplyLemmas.{performed, refusal_held, fits_of}
 use Rattle.treasury_api.proofs.LeftLemmas.{leaves_first, open_refused, fails_not, fails_refused, fails_done}

@@ -1,15 +1,15 @@
 use Rattle.std.proofs.Common.{◌≡◌, ap, sym, ◌∙◌, inr, true, false, Some, None, refl, List}
 use Rattle.std.specs.Cmp.Lexicographic.{pointwise}
 use Rattle.std.specs.Str.{bytes_eq}
-use Rattle.treasury_core.specs.declared.record.Record.{Record}
+use Rattle.treasury_state.specs.declared.record.Record.{Record}
+use Rattle.treasury_state.specs.Mark.{held, close_mark}
+use Rattle.treasury_state.specs.Seen.{branch_of}
+use Rattle.treasury_state.specs.Federation.{branch_at}
+use Rattle.treasury_state.proofs.FindLemmas.{there, missing}
 use Rattle.treasury_core.specs.declared.command.Command.TheVariants.{Close}
-use Rattle.treasury_core.specs.Mark.{held}
 use Rattle.treasury_core.specs.Choice.{choice_comments}
-use Rattle.treasury_core.specs.Closing.{close_mark, closing_in}
+use Rattle.treasury_core.specs.Closing.{closing_in}
 use Rattle.treasury_core.specs.Step.{added, close_refusal}
-use Rattle.treasury_core.specs.Seen.{branch_of}
-use Rattle.treasury_core.specs.Kept.{branch_at}
-use Rattle.treasury_core.proofs.FindLemmas.{there, missing}
 use Rattle.treasury_core.proofs.TransferReplyLemmas.{repeats, settles}
 use Rattle.treasury_core.proofs.CloseLemmas.{no_branch, closed_so, closed_other, closes_now}
 use Rattle.treasury_core.proofs.close.decide_close.Goals as goal

@@ -4,14 +4,14 @@ use Rattle.money_core.specs.declared.cause.Cause.TheVariants.{OutOfMemory}
 use Rattle.book_core.specs.declared.refusal.Refusal.{Refusal}
 use Rattle.book_core.specs.declared.refusal.Refusal.TheVariants.{Plain}
 use Rattle.book_core.specs.GoodBook.{IsGoodBook}
-use Rattle.treasury_core.specs.declared.record.Record.{Record}
-use Rattle.treasury_core.specs.declared.delta.Addition.{Addition}
-use Rattle.treasury_core.specs.declared.delta.Addition.TheVariants as add
+use Rattle.treasury_state.specs.declared.record.Record.{Record}
+use Rattle.treasury_state.specs.declared.delta.Addition.{Addition}
+use Rattle.treasury_state.specs.declared.delta.Addition.TheVariants as add
+use Rattle.treasury_state.specs.Good.{IsGoodBranch}
+use Rattle.treasury_state.specs.Seen.{branch_of}
+use Rattle.treasury_state.proofs.FindLemmas.{there}
+use Rattle.treasury_state.proofs.HoldsLemmas.{found_holds}
 use Rattle.treasury_core.specs.Closing.{closing_reply, closing_record}
-use Rattle.treasury_core.specs.Good.{IsGoodBranch}
-use Rattle.treasury_core.specs.Seen.{branch_of}
-use Rattle.treasury_core.proofs.FindLemmas.{there}
-use Rattle.treasury_core.proofs.DecideLemmas.{found_holds}
 use Rattle.treasury_core.proofs.CloseLemmas.{IsTold, told, refused, told_legs, told_fit, told_refusal, closing_adds}
 use Rattle.treasury_core.proofs.close.entered.Goals as goal
 

@@ -1,6 +1,6 @@
 use Rattle.std.proofs.Common.{◌≡◌, ◌++◌, map}
-use Rattle.treasury_core.specs.declared.record.Record.{Record}
-use Rattle.treasury_core.specs.declared.delta.Addition.TheVariants as add
+use Rattle.treasury_state.specs.declared.record.Record.{Record}
+use Rattle.treasury_state.specs.declared.delta.Addition.TheVariants as add
 use Rattle.treasury_core.proofs.decision.additions_of.Given as goal
 
 abbrev pub invariant-rows : goal.invariant-rows

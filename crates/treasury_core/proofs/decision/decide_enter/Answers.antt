@@ -1,12 +1,13 @@
 use Rattle.std.proofs.Common.{◌≡◌, ap, sym, subst, ◌∙◌, arith, inr, length, List, [], Some, None}
 use Rattle.money_core.specs.declared.style.Style.{Style}
+use Rattle.treasury_state.specs.Good.{IsGoodBranch}
+use Rattle.treasury_state.specs.Seen.{branch_of}
+use Rattle.treasury_state.specs.Federation.{branch_at}
+use Rattle.treasury_state.proofs.FindLemmas.{there, missing}
+use Rattle.treasury_state.proofs.HoldsLemmas.{found_holds}
 use Rattle.treasury_core.specs.Step.{records_in_file}
-use Rattle.treasury_core.specs.Good.{IsGoodBranch}
-use Rattle.treasury_core.specs.Seen.{branch_of}
-use Rattle.treasury_core.specs.Kept.{branch_at}
-use Rattle.treasury_core.proofs.FindLemmas.{there, missing}
 use Rattle.treasury_core.proofs.FileLemmas.{length-new, length-records}
-use Rattle.treasury_core.proofs.DecideLemmas.{found_holds, reply_missing, enters_by, refuses_by}
+use Rattle.treasury_core.proofs.DecideLemmas.{reply_missing, enters_by, refuses_by}
 use Rattle.treasury_core.proofs.decision.decide_enter.Goals as goal
 
 pub returns-in_default : goal.returns-in_default

@@ -1,5 +1,5 @@
 use Rattle.std.proofs.Common.{sym}
-use Rattle.treasury_core.proofs.FindLemmas.{there, missing}
+use Rattle.treasury_state.proofs.FindLemmas.{there, missing}
 use Rattle.treasury_core.proofs.decision.has_branch.Goals as goal
 
 pub returns-in-None : goal.returns-in-None

@@ -1,11 +1,11 @@
 use Rattle.std.proofs.Common.{[], sym, subst, ◌∙◌, arith, List}
 use Rattle.std.specs.List.{AllByRecursion}
 use Rattle.book_core.specs.GoodBook.{IsFit}
-use Rattle.treasury_core.specs.declared.record.Record.{Record}
-use Rattle.treasury_core.specs.Federation.{entries}
-use Rattle.treasury_core.specs.Good.{IsGoodRecord}
+use Rattle.treasury_state.specs.declared.record.Record.{Record}
+use Rattle.treasury_state.specs.Federation.{entries}
+use Rattle.treasury_state.specs.Good.{IsGoodRecord}
+use Rattle.treasury_state.proofs.RecordLemmas.{fit_records}
 use Rattle.treasury_core.proofs.FileLemmas.{records_good, all-new}
-use Rattle.treasury_core.proofs.KeepLemmas.{fit_records}
 use Rattle.treasury_core.proofs.decision.new_records.Goals as goal
 
 pub new_of-requires-clause-rows : goal.new_of-requires-clause-rows

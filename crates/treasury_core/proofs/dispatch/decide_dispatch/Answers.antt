@@ -1,14 +1,13 @@
 use Rattle.std.proofs.Common.{◌≡◌, ap, sym, ◌∙◌, inr, true, false, Some, None}
 use Rattle.std.specs.Str.{bytes_eq}
+use Rattle.treasury_state.specs.Federation.{has_branch, branch_at}
+use Rattle.treasury_state.specs.Transfer.{is_id, transfer_at}
+use Rattle.treasury_state.specs.Good.{IsGoodBranch}
+use Rattle.treasury_state.specs.Seen.{branch_of}
+use Rattle.treasury_state.proofs.FindLemmas.{there, missing}
+use Rattle.treasury_state.proofs.HoldsLemmas.{found_holds}
 use Rattle.treasury_core.specs.declared.command.Command.TheVariants.{Dispatch}
-use Rattle.treasury_core.specs.Federation.{has_branch}
-use Rattle.treasury_core.specs.Transfer.{is_id}
-use Rattle.treasury_core.specs.Step.{transfer_at, dispatch_refusal}
-use Rattle.treasury_core.specs.Good.{IsGoodBranch}
-use Rattle.treasury_core.specs.Seen.{branch_of}
-use Rattle.treasury_core.specs.Kept.{branch_at}
-use Rattle.treasury_core.proofs.FindLemmas.{there, missing}
-use Rattle.treasury_core.proofs.DecideLemmas.{found_holds}
+use Rattle.treasury_core.specs.Step.{dispatch_refusal}
 use Rattle.treasury_core.proofs.TransferReplyLemmas.{IsAsked, same_test, same_find, repeats, settles, no_source}
 use Rattle.treasury_core.proofs.TransferReplyLemmas.{no_target, same_branch, bad_id, dispatched_so, dispatched_other}
 use Rattle.treasury_core.proofs.TransferReplyLemmas.{dispatched_new, dispatch_adds}

@@ -3,14 +3,14 @@ use Rattle.std.specs.Prelude.{IfSome, option_copied, Result}
 use Rattle.std.specs.List.{AllByRecursion}
 use Rattle.book_core.specs.declared.refusal.Refusal.{Refusal}
 use Rattle.journal_format.specs.Printable.{IsPrintable}
-use Rattle.treasury_core.specs.declared.record.Record.{Record}
-use Rattle.treasury_core.specs.Mark.{held}
+use Rattle.treasury_state.specs.declared.record.Record.{Record}
+use Rattle.treasury_state.specs.Mark.{held}
+use Rattle.treasury_state.specs.Good.{IsGoodRecord}
+use Rattle.treasury_state.proofs.AllLemmas.{all_weaker}
+use Rattle.treasury_state.proofs.HolderLemmas.{held_all}
 use Rattle.treasury_core.specs.Step.{refused_in, new_in}
-use Rattle.treasury_core.specs.Good.{IsGoodRecord}
 use Rattle.treasury_core.specs.Judged.{judged}
-use Rattle.treasury_core.proofs.ChangeLemmas.{all_weaker}
-use Rattle.treasury_core.proofs.JudgedLemmas.{by_cause, held_all, taken, passed, next_refused, next_new, next_own}
-use Rattle.treasury_core.proofs.JudgedLemmas.{next_held}
+use Rattle.treasury_core.proofs.JudgedLemmas.{by_cause, taken, passed, next_refused, next_new, next_own, next_held}
 use Rattle.treasury_core.proofs.enter.new_of.Goals as goal
 
 pub is_new-requires-clause-holder : goal.is_new-requires-clause-holder

@@ -1,9 +1,9 @@
 use Rattle.std.proofs.Common.{◌≡◌, ◌++◌}
 use Rattle.std.specs.List.{AllByRecursion}
-use Rattle.treasury_core.specs.Mark.{HaveOwnMarks}
+use Rattle.treasury_state.specs.Mark.{HaveOwnMarks}
+use Rattle.treasury_state.specs.Good.{IsGoodRecord}
+use Rattle.treasury_state.specs.Index.{IsIndexOf}
 use Rattle.treasury_core.specs.Step.{refused_in, new_in}
-use Rattle.treasury_core.specs.Good.{IsGoodRecord}
-use Rattle.treasury_core.specs.Kept.{IsIndexOf}
 use Rattle.treasury_core.proofs.enter.new_of.Given as goal
 
 -- behind the old records and the new ones so far, the rest is refused and taken as all is behind the old ones

@@ -1,6 +1,6 @@
+use Rattle.std.proofs.Common.{take}
 use Rattle.treasury_core.proofs.RowsLemmas.{rows_next, balanced_next, count_next}
 use Rattle.treasury_core.proofs.FileLemmas.{txns_of}
-use Rattle.std.proofs.Common.{take}
 use Rattle.treasury_core.proofs.file.records_in_file.Goals as goal
 
 pub loop-located-preserved : goal.loop-located-preserved

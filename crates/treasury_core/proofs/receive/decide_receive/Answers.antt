@@ -1,18 +1,18 @@
 use Rattle.std.proofs.Common.{◌≡◌, ap, sym, ◌∙◌, inr, true, false, Bool, Option, Some, None}
 use Rattle.std.specs.Str.{bytes_eq}
+use Rattle.treasury_state.specs.Transfer.{is_id, transfer_at}
+use Rattle.treasury_state.specs.Good.{IsGoodBranch}
+use Rattle.treasury_state.specs.Seen.{branch_of}
+use Rattle.treasury_state.specs.Federation.{branch_at}
+use Rattle.treasury_state.proofs.FindLemmas.{there, missing}
+use Rattle.treasury_state.proofs.HoldsLemmas.{found_holds}
+use Rattle.treasury_state.proofs.NotLemmas.{not_true, not_false}
 use Rattle.treasury_core.specs.declared.command.Command.TheVariants.{Receive}
-use Rattle.treasury_core.specs.Transfer.{is_id}
-use Rattle.treasury_core.specs.Step.{transfer_at, has_bad_key, has_nothing_left, receipt_refusal}
-use Rattle.treasury_core.specs.Good.{IsGoodBranch}
-use Rattle.treasury_core.specs.Seen.{branch_of}
-use Rattle.treasury_core.specs.Kept.{branch_at}
-use Rattle.treasury_core.proofs.FindLemmas.{there, missing}
-use Rattle.treasury_core.proofs.DecideLemmas.{found_holds}
-use Rattle.treasury_core.proofs.TransferReplyLemmas.{IsClaimed, IsAimed, so_held, same_test, same_find, not_true}
-use Rattle.treasury_core.proofs.TransferReplyLemmas.{not_false, repeats, settles, no_branch, bad_receipt_id, bad_key}
-use Rattle.treasury_core.proofs.TransferReplyLemmas.{no_transfer, wrong_branch, received_so, received_other}
-use Rattle.treasury_core.proofs.TransferReplyLemmas.{received_all, received_new, receipt_adds, transfer_good}
-use Rattle.treasury_core.proofs.TransferReplyLemmas.{asked_small}
+use Rattle.treasury_core.specs.Step.{has_bad_key, has_nothing_left, receipt_refusal}
+use Rattle.treasury_core.proofs.TransferReplyLemmas.{IsClaimed, IsAimed, so_held, same_test, same_find, repeats}
+use Rattle.treasury_core.proofs.TransferReplyLemmas.{settles, no_branch, bad_receipt_id, bad_key, no_transfer}
+use Rattle.treasury_core.proofs.TransferReplyLemmas.{wrong_branch, received_so, received_other, received_all}
+use Rattle.treasury_core.proofs.TransferReplyLemmas.{received_new, receipt_adds, transfer_good, asked_small}
 use Rattle.treasury_core.proofs.receive.decide_receive.Goals as goal
 
 pub returns-in_default : goal.returns-in_default

@@ -1,7 +1,7 @@
 use Rattle.std.proofs.Common.{◌≡◌, ◌∙◌, ap, sym, Bool, List, ℕ, Some, None, Option}
 use Rattle.std.specs.Prelude.{find}
 use Rattle.std.specs.Option.{option_map}
-use Rattle.treasury_core.specs.declared.transfer.Part.{Part}
+use Rattle.treasury_state.specs.declared.transfer.Part.{Part}
 use Rattle.treasury_core.specs.Step.{has_key, is_received_so}
 use Rattle.treasury_core.proofs.TransferReplyLemmas.{so_part}
 use Rattle.treasury_core.proofs.receive.held_so.Goals as goal

@@ -3,9 +3,9 @@ use Rattle.std.specs.Prelude.{IfErr}
 use Rattle.money_core.specs.declared.cause.Cause.TheVariants.{OutOfMemory}
 use Rattle.book_core.specs.declared.refusal.Refusal.TheVariants.{Plain}
 use Rattle.book_core.specs.GoodBook.{verdict}
-use Rattle.treasury_core.specs.declared.record.Record.{Record}
-use Rattle.treasury_core.specs.Federation.{entries}
-use Rattle.treasury_core.specs.Transfer.{receipt_record}
+use Rattle.treasury_state.specs.declared.record.Record.{Record}
+use Rattle.treasury_state.specs.Federation.{entries}
+use Rattle.treasury_state.specs.Transfer.{receipt_record}
 use Rattle.treasury_core.specs.Step.{receipt_of}
 use Rattle.treasury_core.proofs.receive.taken.Goals as goal
 

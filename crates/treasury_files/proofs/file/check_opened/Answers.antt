@@ -1,6 +1,6 @@
 use Rattle.std.proofs.Common.{◌≡◌, ◌∙◌, false, Result, Ok, Err, IfErr, OnErr, inr, sym, subst}
 use Rattle.sqlite.specs.Held.{state}
-use Rattle.treasury_core.specs.Rows.{rows}
+use Rattle.treasury_state.specs.Rows.{rows}
 use Rattle.treasury_store.specs.Creating.{has_receipt}
 use Rattle.treasury_store.specs.Opening.{IsEither}
 use Rattle.treasury_files.proofs.LeftLemmas.{in_either, only_first}

@@ -1,6 +1,6 @@
 use Rattle.std.proofs.Common.{sym, subst}
-use Rattle.treasury_core.specs.Federation.{Federation}
-use Rattle.treasury_core.specs.History.{history}
+use Rattle.treasury_state.specs.Federation.{Federation}
+use Rattle.treasury_laws.specs.History.{history}
 use Rattle.treasury_files.specs.Counts.{Keeps, counts_of}
 use Rattle.treasury_files.proofs.CountsLemmas.{keeps_joined}
 use Rattle.treasury_files.proofs.laws.counts_law.Goals as goal

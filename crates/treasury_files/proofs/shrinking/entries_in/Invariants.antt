@@ -1,5 +1,5 @@
 use Rattle.std.proofs.Common.{◌≡◌, map, take}
-use Rattle.treasury_core.specs.Seen.{branches_of}
+use Rattle.treasury_state.specs.Seen.{branches_of}
 use Rattle.treasury_files.specs.Counts.{records_in}
 use Rattle.treasury_files.proofs.shrinking.entries_in.Given as goal
 

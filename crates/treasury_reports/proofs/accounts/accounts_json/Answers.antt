@@ -1,7 +1,7 @@
 use Rattle.std.proofs.Common.{◌≡◌, ◌∙◌, List, ap}
 use Rattle.std.specs.List.{flat_map}
 use Rattle.book_core.specs.declared.entry.Entry.{Entry}
-use Rattle.treasury_core.specs.Federation.{book_of}
+use Rattle.treasury_state.specs.Federation.{book_of}
 use Rattle.treasury_reports.specs.declared.layout.Layout.TheVariants.{Json}
 use Rattle.treasury_reports.specs.BalanceReport.{book_accounts}
 use Rattle.treasury_reports.specs.AccountsReport.{account_cells, accounts_rows}

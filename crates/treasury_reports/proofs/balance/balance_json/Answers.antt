@@ -1,7 +1,7 @@
 use Rattle.std.proofs.Common.{◌≡◌, ◌∙◌, ◌++◌, List, ℕ, ap}
 use Rattle.money_core.specs.declared.style.Style.{Style}
 use Rattle.book_core.specs.declared.entry.Entry.{Entry}
-use Rattle.treasury_core.specs.Federation.{book_of}
+use Rattle.treasury_state.specs.Federation.{book_of}
 use Rattle.treasury_reports.specs.declared.layout.Layout.TheVariants.{Json}
 use Rattle.treasury_reports.specs.BalanceReport.{balance_rows}
 use Rattle.treasury_reports.specs.Layout.{book_pieces}

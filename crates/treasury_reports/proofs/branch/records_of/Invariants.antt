@@ -1,7 +1,7 @@
 use Rattle.std.proofs.Common.{◌≡◌, drop}
 use Rattle.std.specs.List.{list_any}
-use Rattle.treasury_core.specs.Federation.{has_name, has_branch, records_in, records_of}
-use Rattle.treasury_core.specs.Seen.{branches_of}
+use Rattle.treasury_state.specs.Federation.{has_name, has_branch, records_in, records_of}
+use Rattle.treasury_state.specs.Seen.{branches_of}
 use Rattle.treasury_reports.proofs.branch.records_of.Given as goal
 
 abbrev pub invariant-branches : goal.invariant-branches

@@ -1,6 +1,6 @@
 use Rattle.std.proofs.Common.{◌≡◌, ◌∙◌, List, ap}
 use Rattle.std.specs.List.{flat_map}
-use Rattle.treasury_core.specs.Federation.{Branch}
+use Rattle.treasury_state.specs.Federation.{Branch}
 use Rattle.treasury_reports.specs.declared.layout.Layout.TheVariants.{Json}
 use Rattle.treasury_reports.specs.BranchesReport.{branch_cells, branches_rows}
 use Rattle.treasury_reports.specs.Layout.{branch_piece}

@@ -1,6 +1,6 @@
 use Rattle.std.proofs.Common.{◌≡◌, ◌++◌, ◌∙◌, List, ℕ, ap, length, refl}
 use Rattle.std.specs.Prelude.{codes, decimal}
-use Rattle.treasury_core.specs.declared.record.Record.{Record}
+use Rattle.treasury_state.specs.declared.record.Record.{Record}
 use Rattle.treasury_reports.specs.Columns.{right_aligned}
 use Rattle.treasury_reports.specs.BranchesReport.{lock_column, branch_line}
 use Rattle.treasury_reports.proofs.AppendLemmas.{then}

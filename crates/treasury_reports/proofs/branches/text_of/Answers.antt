@@ -1,7 +1,7 @@
 use Rattle.std.proofs.Common.{◌≡◌, ◌≤◌, ◌∙◌, length, take, arith, ap}
 use Rattle.std.specs.List.{flat_map}
 use Rattle.std.proofs.lemmas.List.{take_all}
-use Rattle.treasury_core.specs.Seen.{branch_of}
+use Rattle.treasury_state.specs.Seen.{branch_of}
 use Rattle.treasury_reports.specs.Layout.{branch_piece}
 use Rattle.treasury_reports.proofs.ListLemmas.{flat_map-map}
 use Rattle.treasury_reports.proofs.branches.text_of.Goals as goal

@@ -1,6 +1,6 @@
 use Rattle.std.proofs.Common.{◌≡◌, take}
 use Rattle.std.specs.List.{flat_map}
-use Rattle.treasury_core.specs.Seen.{branch_of}
+use Rattle.treasury_state.specs.Seen.{branch_of}
 use Rattle.treasury_reports.specs.Layout.{branch_piece}
 use Rattle.treasury_reports.proofs.branches.text_of.Given as goal
 

@@ -2,9 +2,8 @@ use Rattle.std.proofs.Common.{◌≡◌, ◌∙◌, List, ap}
 use Rattle.std.specs.List.{flat_map}
 use Rattle.money_core.specs.declared.style.Style.{Style}
 use Rattle.journal_format.specs.declared.txn.Txn.{Txn}
-use Rattle.treasury_core.specs.declared.record.Record.{Record}
-use Rattle.treasury_core.specs.Federation.{records_of}
-use Rattle.treasury_core.specs.History.{txns_in}
+use Rattle.treasury_state.specs.declared.record.Record.{Record}
+use Rattle.treasury_state.specs.Federation.{records_of, txns_in}
 use Rattle.treasury_reports.specs.JournalReport.{txn_cells, journal_rows}
 use Rattle.treasury_reports.specs.Layout.{comma_row}
 use Rattle.treasury_reports.proofs.ListLemmas.{flat_map-map}

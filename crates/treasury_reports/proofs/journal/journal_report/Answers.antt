@@ -1,8 +1,8 @@
 use Rattle.std.proofs.Common.{◌≡◌, ◌++◌, ◌∙◌, List, ℕ, ap, OnOk, subst}
 use Rattle.money_core.specs.declared.style.Style.{Style}
 use Rattle.journal_format.specs.CanonicalText.{journal_text}
-use Rattle.treasury_core.specs.declared.record.Record.{Record}
-use Rattle.treasury_core.specs.History.{txns_in}
+use Rattle.treasury_state.specs.declared.record.Record.{Record}
+use Rattle.treasury_state.specs.Federation.{txns_in}
 use Rattle.treasury_reports.specs.JournalReport.{branch_journal}
 use Rattle.treasury_reports.proofs.RegisterLemmas.{good_records}
 use Rattle.treasury_reports.proofs.journal.journal_report.Goals as goal

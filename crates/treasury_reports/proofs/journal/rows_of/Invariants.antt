@@ -1,6 +1,6 @@
 use Rattle.std.proofs.Common.{◌≡◌, take}
 use Rattle.std.specs.List.{flat_map}
-use Rattle.treasury_core.specs.declared.record.Record.{Record}
+use Rattle.treasury_state.specs.declared.record.Record.{Record}
 use Rattle.treasury_reports.specs.JournalReport.{txn_cells}
 use Rattle.treasury_reports.specs.Layout.{comma_row}
 use Rattle.treasury_reports.proofs.journal.rows_of.Given as goal

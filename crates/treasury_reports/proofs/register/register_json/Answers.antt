@@ -1,7 +1,7 @@
 use Rattle.std.proofs.Common.{◌≡◌, ◌∙◌, [], List, ap, option_copied}
 use Rattle.money_core.specs.declared.style.Style.{Style}
-use Rattle.treasury_core.specs.declared.record.Record.{Record}
-use Rattle.treasury_core.specs.Federation.{records_of}
+use Rattle.treasury_state.specs.declared.record.Record.{Record}
+use Rattle.treasury_state.specs.Federation.{records_of}
 use Rattle.treasury_reports.specs.declared.layout.Layout.TheVariants.{Json}
 use Rattle.treasury_reports.specs.RegisterReport.{register_rows, by_day, listed_from}
 use Rattle.treasury_reports.specs.Layout.{register_pieces}

@@ -1,6 +1,6 @@
 use Rattle.std.proofs.Common.{◌≡◌, ◌++◌, ◌∙◌, [], List, ℕ, ap, option_copied}
 use Rattle.money_core.specs.declared.style.Style.{Style}
-use Rattle.treasury_core.specs.declared.record.Record.{Record}
+use Rattle.treasury_state.specs.declared.record.Record.{Record}
 use Rattle.treasury_reports.specs.declared.layout.Layout.TheVariants.{Text}
 use Rattle.treasury_reports.specs.RegisterReport.{register_text, by_day, listed_from}
 use Rattle.treasury_reports.specs.Layout.{register_pieces}

@@ -2,7 +2,7 @@ use Rattle.std.proofs.Common.{◌≡◌, ◌++◌, refl, ap, ◌∙◌, sym, Lis
 use Rattle.std.specs.Prelude.{codes}
 use Rattle.std.proofs.lemmas.Int.{to_z-of_z}
 use Rattle.journal_lines.specs.Date.{printed_date}
-use Rattle.treasury_core.specs.Transfer.{open_of}
+use Rattle.treasury_state.specs.Transfer.{open_of}
 use Rattle.treasury_reports.specs.Columns.{amount_column}
 use Rattle.treasury_reports.specs.TransfersReport.{way_text, transfer_line}
 use Rattle.treasury_reports.proofs.AppendLemmas.{then}

@@ -1,7 +1,7 @@
 use Rattle.std.proofs.Common.{◌≡◌, ◌∙◌, List, ap}
 use Rattle.std.specs.List.{flat_map}
 use Rattle.money_core.specs.declared.style.Style.{Style}
-use Rattle.treasury_core.specs.declared.transfer.Transfer.{Transfer}
+use Rattle.treasury_state.specs.declared.transfer.Transfer.{Transfer}
 use Rattle.treasury_reports.specs.declared.layout.Layout.TheVariants.{Json}
 use Rattle.treasury_reports.specs.TransfersReport.{is_pending, pending, transfer_cells, transfers_rows}
 use Rattle.treasury_reports.specs.Layout.{transfer_piece, pending_piece}

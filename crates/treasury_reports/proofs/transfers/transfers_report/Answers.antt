@@ -1,7 +1,7 @@
 use Rattle.std.proofs.Common.{◌≡◌, ◌++◌, ◌∙◌, List, ℕ, ap}
 use Rattle.std.specs.List.{flat_map}
 use Rattle.money_core.specs.declared.style.Style.{Style}
-use Rattle.treasury_core.specs.declared.transfer.Transfer.{Transfer}
+use Rattle.treasury_state.specs.declared.transfer.Transfer.{Transfer}
 use Rattle.treasury_reports.specs.TransfersReport.{is_pending, transfer_line, transfers_text}
 use Rattle.treasury_reports.specs.declared.layout.Layout.TheVariants.{Text}
 use Rattle.treasury_reports.specs.Layout.{pending_piece}

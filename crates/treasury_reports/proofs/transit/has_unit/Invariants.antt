@@ -1,6 +1,6 @@
 use Rattle.std.proofs.Common.{◌≡◌, drop, nat_eq}
 use Rattle.std.specs.List.{list_any}
-use Rattle.treasury_core.specs.declared.transfer.Transfer.{Transfer}
+use Rattle.treasury_state.specs.declared.transfer.Transfer.{Transfer}
 use Rattle.treasury_reports.specs.Lent.{lent}
 use Rattle.treasury_reports.proofs.transit.has_unit.Given as goal
 

@@ -1,7 +1,7 @@
 use Rattle.std.proofs.Common.{◌≡◌, ◌++◌, refl, ap, ◌∙◌, List, ℕ, rules, w64}
 use Rattle.std.specs.Prelude.{codes}
 use Rattle.std.proofs.lemmas.Int.{to_z-of_z}
-use Rattle.treasury_core.specs.Transfer.{open_amount}
+use Rattle.treasury_state.specs.Transfer.{open_amount}
 use Rattle.treasury_reports.specs.Columns.{amount_column}
 use Rattle.treasury_reports.proofs.AppendLemmas.{then}
 use Rattle.treasury_reports.proofs.OpenLemmas.{open_is_declared}

@@ -1,7 +1,7 @@
 use Rattle.std.proofs.Common.{◌≡◌, ◌++◌, ◌∙◌, List, ℕ, [], Bool, ap, sym, subst, OnOk, append-nil, nat_eq}
 use Rattle.std.specs.Prelude.{if◌then◌else◌}
 use Rattle.std.specs.List.{list_any}
-use Rattle.treasury_core.specs.declared.transfer.Transfer.{Transfer}
+use Rattle.treasury_state.specs.declared.transfer.Transfer.{Transfer}
 use Rattle.treasury_reports.specs.TransitReport.{is_way}
 use Rattle.treasury_reports.specs.Layout.{open_piece}
 use Rattle.treasury_reports.proofs.FilterLemmas.{any-filter}

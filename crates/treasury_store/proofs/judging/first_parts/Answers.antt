@@ -7,7 +7,7 @@ use Rattle.treasury_store.proofs.Texts.{first_claim_rows_is, first_transfer_rows
 use Rattle.treasury_store.proofs.LoadLemmas.{first_units_are, first_branches_are, first_entries_are, first_legs_are}
 use Rattle.treasury_store.proofs.LoadLemmas.{first_claims_are, first_transfers_are}
 use Rattle.treasury_store.proofs.QueriesLemmas.{then_reads, then_has_read, reads_if_read}
-use Rattle.treasury_core.proofs.SameRowLemmas.{same_parts}
+use Rattle.treasury_rows.proofs.SameRowLemmas.{same_parts}
 use Rattle.treasury_store.proofs.JudgingLemmas.{still_held}
 use Rattle.treasury_store.proofs.judging.first_parts.Goals as goal
 

@@ -1,7 +1,7 @@
 use Rattle.std.proofs.Common.{◌≡◌, ◌∙◌, ◌++◌, [], ◌∷◌, sym, ap, subst}
 use Rattle.money_core.specs.declared.style.Style.{Style}
 use Rattle.money_core.specs.Style.{AreStyles}
-use Rattle.treasury_core.proofs.BackLemmas.{declares, declare_fails}
+use Rattle.treasury_state.proofs.BackLemmas.{declares, declare_fails}
 use Rattle.treasury_store.proofs.numbers.declare.Goals as goal
 
 pub returns-in-Ok-clause-ok : goal.returns-in-Ok-clause-ok

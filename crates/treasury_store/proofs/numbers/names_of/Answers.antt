@@ -1,6 +1,6 @@
 use Rattle.std.proofs.Common.{◌∙◌}
-use Rattle.treasury_core.specs.Federation.{Branch}
-use Rattle.treasury_core.specs.Seen.{branch_of}
+use Rattle.treasury_state.specs.Federation.{Branch}
+use Rattle.treasury_state.specs.Seen.{branch_of}
 use Rattle.treasury_store.proofs.ListLemmas.{mapped_more}
 use Rattle.treasury_store.proofs.numbers.names_of.Goals as goal
 

@@ -1,6 +1,6 @@
 use Rattle.std.proofs.Common.{◌≡◌, take}
-use Rattle.treasury_core.specs.History.{names_of}
-use Rattle.treasury_core.specs.Seen.{branches_of}
+use Rattle.treasury_state.specs.Federation.{names_of}
+use Rattle.treasury_state.specs.Seen.{branches_of}
 use Rattle.treasury_store.proofs.numbers.names_of.Given as goal
 
 -- so far

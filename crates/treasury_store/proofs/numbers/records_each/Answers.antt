@@ -1,6 +1,6 @@
 use Rattle.std.proofs.Common.{◌∙◌, ap, length}
-use Rattle.treasury_core.specs.Federation.{Branch}
-use Rattle.treasury_core.specs.Seen.{branch_of}
+use Rattle.treasury_state.specs.Federation.{Branch}
+use Rattle.treasury_state.specs.Seen.{branch_of}
 use Rattle.treasury_store.proofs.ListLemmas.{mapped_more}
 use Rattle.treasury_store.proofs.numbers.records_each.Goals as goal
 

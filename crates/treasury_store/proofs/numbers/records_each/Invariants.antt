@@ -1,5 +1,5 @@
 use Rattle.std.proofs.Common.{◌≡◌, take}
-use Rattle.treasury_core.specs.Seen.{branches_of}
+use Rattle.treasury_state.specs.Seen.{branches_of}
 use Rattle.treasury_store.specs.Numbers.{records_each}
 use Rattle.treasury_store.proofs.numbers.records_each.Given as goal
 

@@ -1,7 +1,7 @@
 use Rattle.std.proofs.Common.{◌++◌, ◌∙◌, ap, List}
 use Rattle.std.specs.Prelude.{slice_get}
 use Rattle.std.proofs.lemmas.Result.{on_ok_weaker}
-use Rattle.treasury_core.specs.declared.record.Record.{Record}
+use Rattle.treasury_state.specs.declared.record.Record.{Record}
 use Rattle.treasury_told.specs.Refused.{at_place}
 use Rattle.treasury_told.proofs.explain.explain_barred.Goals as goal
 

@@ -1,5 +1,5 @@
 use Rattle.std.proofs.Common.{◌≡◌, ◌∙◌, List, Some, sym, ap, subst₂, arith}
-use Rattle.treasury_core.specs.declared.delta.Addition.{Addition}
+use Rattle.treasury_state.specs.declared.delta.Addition.{Addition}
 use Rattle.treasury_store.specs.Numbers.{Numbering, numbers_of}
 use Rattle.treasury_store.specs.Changes.{changes_of, numbers_with}
 use Rattle.treasury_store.proofs.StoreLemmas.{becomes_of, crash_joined, knows_joined, some_numbers}

@@ -1,6 +1,6 @@
 use Rattle.std.proofs.Common.{◌≡◌, refl, sym, ap, subst}
 use Rattle.sqlite.specs.Held.{state}
-use Rattle.treasury_core.specs.Rows.{rows}
+use Rattle.treasury_state.specs.Rows.{rows}
 use Rattle.treasury_store.specs.declared.store.Store.{Store}
 use Rattle.treasury_store.specs.Tables.{store_schema}
 use Rattle.treasury_store.specs.Rows.{ShowsTables}

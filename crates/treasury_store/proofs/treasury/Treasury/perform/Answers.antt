@@ -3,9 +3,9 @@ use Rattle.sqlite.specs.State.{HasCleanDisk}
 use Rattle.sqlite.specs.Held.{state}
 use Rattle.money_core.specs.declared.style.Style.{Style}
 use Rattle.book_core.specs.declared.refusal.Refusal.TheVariants.{Plain}
-use Rattle.treasury_core.specs.Federation.{Federation}
-use Rattle.treasury_core.specs.Good.{Fits}
-use Rattle.treasury_core.specs.Rows.{rows}
+use Rattle.treasury_state.specs.Federation.{Federation}
+use Rattle.treasury_state.specs.Rows.{rows}
+use Rattle.treasury_core.specs.Fits.{Fits}
 use Rattle.treasury_core.specs.Step.{step}
 use Rattle.treasury_store.specs.declared.store.Store.{Store}
 use Rattle.treasury_store.specs.Rows.{Holds}

@@ -1,5 +1,5 @@
 use Rattle.std.proofs.Common.{rules, subst}
-use Rattle.treasury_core.specs.Federation.{Federation}
+use Rattle.treasury_state.specs.Federation.{Federation}
 use Rattle.treasury_store.proofs.OwnRefusalLemmas.{refused_unfailed}
 use Rattle.treasury_store.proofs.TreasuryLemmas.{performs_decided, SurvivesChange, decided_joins}
 use Rattle.treasury_store.proofs.treasury.Treasury.settle.Goals as goal

@@ -1,5 +1,5 @@
 use Rattle.std.proofs.Common.{subst}
-use Rattle.treasury_core.specs.Federation.{Federation}
+use Rattle.treasury_state.specs.Federation.{Federation}
 use Rattle.treasury_store.specs.Store.{IsOf}
 use Rattle.treasury_store.proofs.TreasuryLemmas.{fails_as}
 use Rattle.treasury_store.proofs.treasury.Treasury.start.Goals as goal

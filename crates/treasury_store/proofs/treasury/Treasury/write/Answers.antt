@@ -1,5 +1,5 @@
 use Rattle.std.proofs.Common.{subst}
-use Rattle.treasury_core.specs.Joined.{joined}
+use Rattle.treasury_state.specs.Joined.{joined}
 use Rattle.treasury_store.specs.Treasury.{Treasury}
 use Rattle.treasury_store.proofs.TreasuryLemmas.{SurvivesChange, survives_write}
 use Rattle.treasury_store.proofs.treasury.Treasury.write.Goals as goal

@@ -1,5 +1,5 @@
 use Rattle.std.proofs.Common.{rules, ◌≡◌, subst, sym}
-use Rattle.treasury_core.specs.Federation.{Federation}
+use Rattle.treasury_state.specs.Federation.{Federation}
 use Rattle.treasury_store.specs.Store.{IsOf}
 use Rattle.treasury_store.proofs.TreasuryLemmas.{decided_joins}
 use Rattle.treasury_tests.proofs.store.commits.perform.Goals as goal

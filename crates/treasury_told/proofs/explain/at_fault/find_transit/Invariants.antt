@@ -1,6 +1,6 @@
 use Rattle.std.proofs.Common.{◌≡◌, drop}
 use Rattle.std.specs.Prelude.{find}
-use Rattle.treasury_core.specs.Transfer.{is_transit}
+use Rattle.treasury_state.specs.Transfer.{is_transit}
 use Rattle.treasury_told.proofs.explain.at_fault.find_transit.Given as goal
 
 -- the first one is among those that are left

@@ -1,7 +1,7 @@
 use Rattle.std.proofs.Common.{◌∙◌, ap}
 use Rattle.book_core.specs.Account.{is_inside}
 use Rattle.journal_lines.specs.AccountName.{transit}
-use Rattle.treasury_core.proofs.TransitLemmas.{reserved_test}
+use Rattle.treasury_state.proofs.TransitLemmas.{reserved_test}
 use Rattle.treasury_told.proofs.explain.at_fault.is_transit.Goals as goal
 
 pub returns : goal.returns

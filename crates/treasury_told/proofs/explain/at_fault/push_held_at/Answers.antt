@@ -1,6 +1,6 @@
 use Rattle.std.proofs.Common.{◌++◌, ◌∙◌, ap, sym, append-nil, Option}
 use Rattle.std.proofs.lemmas.Option.{slice_get_past}
-use Rattle.treasury_core.specs.declared.record.Record.{Record}
+use Rattle.treasury_state.specs.declared.record.Record.{Record}
 use Rattle.treasury_told.specs.Refused.{record_line}
 use Rattle.treasury_told.proofs.explain.at_fault.push_held_at.Goals as goal
 

@@ -1,7 +1,7 @@
 use Rattle.std.proofs.Common.{◌≡◌, ◌++◌, ◌∙◌, ap, append_assoc, List, ℕ, Option, Some}
 use Rattle.std.proofs.lemmas.Result.{on_ok_weaker}
 use Rattle.money_core.specs.declared.day.Day.{Day}
-use Rattle.treasury_core.specs.Federation.{Federation, lock_of}
+use Rattle.treasury_state.specs.Federation.{Federation, lock_of}
 use Rattle.treasury_requests.specs.declared.request.Request.{Request}
 use Rattle.treasury_told.specs.Lock.{branch_of, branch_lock, close_hint, locked_line, locked_text, lock_text}
 use Rattle.treasury_told.proofs.explain.held.push_lock.Goals as goal

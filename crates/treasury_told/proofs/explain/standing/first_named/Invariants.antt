@@ -1,7 +1,7 @@
 use Rattle.std.proofs.Common.{◌≡◌, drop}
 use Rattle.std.specs.Prelude.{find}
-use Rattle.treasury_core.specs.Federation.{has_name}
-use Rattle.treasury_core.specs.Seen.{branches_of}
+use Rattle.treasury_state.specs.Federation.{has_name}
+use Rattle.treasury_state.specs.Seen.{branches_of}
 use Rattle.treasury_told.proofs.explain.standing.first_named.Given as goal
 
 -- it is among those that are left

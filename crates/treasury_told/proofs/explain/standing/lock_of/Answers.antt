@@ -1,6 +1,6 @@
 use Rattle.std.proofs.Common.{sym}
-use Rattle.treasury_core.specs.Seen.{branch_of}
-use Rattle.treasury_core.proofs.FindLemmas.{there, missing}
+use Rattle.treasury_state.specs.Seen.{branch_of}
+use Rattle.treasury_state.proofs.FindLemmas.{there, missing}
 use Rattle.treasury_told.proofs.explain.standing.lock_of.Goals as goal
 
 pub returns-in-Some : goal.returns-in-Some

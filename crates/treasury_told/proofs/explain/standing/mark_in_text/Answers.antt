@@ -1,5 +1,5 @@
 use Rattle.std.proofs.Common.{◌∙◌, ap, ℕ, List}
-use Rattle.treasury_core.specs.Mark.{mark_of}
+use Rattle.treasury_state.specs.Mark.{mark_of}
 use Rattle.treasury_core.proofs.CountLemmas.{counted_next}
 use Rattle.treasury_told.proofs.StandingLemmas.{numbered, if_ok_weaker, on_ok_from}
 use Rattle.treasury_told.proofs.explain.standing.mark_in_text.Goals as goal

@@ -1,5 +1,5 @@
 use Rattle.std.proofs.Common.{take}
-use Rattle.treasury_core.specs.Kept.{IsIndexOf}
+use Rattle.treasury_state.specs.Index.{IsIndexOf}
 use Rattle.treasury_told.proofs.explain.standing.places_of.Given as goal
 
 -- the places so far are those of the records so far

@@ -3,7 +3,7 @@ use Rattle.std.specs.Str.{bytes_eq}
 use Rattle.std.specs.String.{string_bytes}
 use Rattle.std.specs.HashMap.{get_by_text}
 use Rattle.std.proofs.lemmas.Map.Text.{hash_map_updates_text}
-use Rattle.treasury_core.proofs.IndexLemmas.{put_new}
+use Rattle.treasury_state.proofs.IndexLemmas.{put_new}
 use Rattle.treasury_told.proofs.explain.standing.put_place.Goals as goal
 
 pub returns-clause-put : goal.returns-clause-put

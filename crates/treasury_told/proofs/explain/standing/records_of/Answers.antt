@@ -1,9 +1,9 @@
 use Rattle.std.proofs.Common.{◌≡◌, ◌∙◌, ap, refl, sym, cond, ℕ, Bool, true, false, List, [], ◌∷◌, Some, None}
 use Rattle.std.specs.Prelude.{find, if◌then◌else◌}
 use Rattle.std.specs.Str.{bytes_eq}
-use Rattle.treasury_core.specs.Federation.{Branch, has_name, records_in}
-use Rattle.treasury_core.specs.Seen.{branch_of}
-use Rattle.treasury_core.proofs.FindLemmas.{there}
+use Rattle.treasury_state.specs.Federation.{Branch, has_name, records_in}
+use Rattle.treasury_state.specs.Seen.{branch_of}
+use Rattle.treasury_state.proofs.FindLemmas.{there}
 use Rattle.treasury_told.proofs.explain.standing.records_of.Goals as goal
 
 no_records_at : (b : Branch) (bs : List Branch) (name : List ℕ) (t : Bool) → bytes_eq b.name name ≡ t

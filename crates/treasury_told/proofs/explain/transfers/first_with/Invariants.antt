@@ -1,6 +1,6 @@
 use Rattle.std.proofs.Common.{◌≡◌, drop}
 use Rattle.std.specs.Prelude.{find}
-use Rattle.treasury_core.specs.Transfer.{has_id}
+use Rattle.treasury_state.specs.Transfer.{has_id}
 use Rattle.treasury_told.proofs.explain.transfers.first_with.Given as goal
 
 -- it is among those that are left

@@ -1,5 +1,5 @@
 use Rattle.std.proofs.Common.{sym}
-use Rattle.treasury_core.proofs.PartLemmas.{left_some}
+use Rattle.treasury_state.proofs.PartLemmas.{left_some}
 use Rattle.treasury_told.proofs.explain.transfers.left_of.Goals as goal
 
 pub returns-in-Some : goal.returns-in-Some

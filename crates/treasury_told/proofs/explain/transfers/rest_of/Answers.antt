@@ -1,7 +1,7 @@
 use Rattle.std.proofs.Common.{◌≡◌, ◌+◌, ◌-ℤ◌, pos, drop, arith, rules, FitsSigned, w64, to_z, of_z, sym, subst}
 use Rattle.std.specs.List.{AllByRecursion}
 use Rattle.std.proofs.lemmas.Int.{ints, to_z-of_z}
-use Rattle.treasury_core.proofs.PartLemmas.{IsPositive, le_from, sum_low, sum_more, all_left}
+use Rattle.treasury_state.proofs.PartLemmas.{IsPositive, le_from, sum_low, sum_more, all_left}
 use Rattle.treasury_told.proofs.explain.transfers.rest_of.Goals as goal
 
 pub overflow_sub-left : goal.overflow_sub-left

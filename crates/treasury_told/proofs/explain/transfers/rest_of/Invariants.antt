@@ -1,7 +1,7 @@
 use Rattle.std.proofs.Common.{◌≡◌, drop, ◌-ℤ◌, ◌+ℤ◌, pos, ◌≤ℤ◌}
 use Rattle.std.specs.List.{AllByRecursion}
-use Rattle.treasury_core.specs.Transfer.{sum_of}
-use Rattle.treasury_core.proofs.PartLemmas.{IsPositive}
+use Rattle.treasury_state.specs.Transfer.{sum_of}
+use Rattle.treasury_state.proofs.PartLemmas.{IsPositive}
 use Rattle.treasury_told.proofs.explain.transfers.rest_of.Given as goal
 
 -- less the parts that are left to take away, it is what all parts leave

@@ -1,7 +1,7 @@
 use Rattle.std.proofs.Common.{◌∙◌, ap, List}
 use Rattle.std.specs.Prelude.{find}
-use Rattle.treasury_core.specs.declared.transfer.Transfer.{Transfer}
-use Rattle.treasury_core.specs.Transfer.{has_id}
+use Rattle.treasury_state.specs.declared.transfer.Transfer.{Transfer}
+use Rattle.treasury_state.specs.Transfer.{has_id}
 use Rattle.treasury_told.proofs.TransferLemmas.{parts_good}
 use Rattle.treasury_told.proofs.explain.transfers.transfer_of.Goals as goal
 

@@ -1,8 +1,0 @@
-use Rattle.std.proofs.Common.{take}
-use Rattle.treasury_core.specs.Mark.{HaveOwnMarks}
-use Rattle.treasury_core.specs.Kept.{IsIndexOf}
-use Rattle.treasury_core.proofs.judging.marks.own_index.Given as goal
-
-abbrev pub invariant-loop-place : goal.invariant-loop-place
-invariant-loop-place l =
-    record { own : HaveOwnMarks (take l.place l.rows); found : IsIndexOf l.index (take l.place l.rows) }

@@ -1,5 +1,0 @@
-use Rattle.treasury_core.proofs.GrowingLemmas.{run_grown}
-use Rattle.treasury_core.proofs.law.growing_law.Goals as goal
-
-pub returns : goal.returns
-returns c = run_grown

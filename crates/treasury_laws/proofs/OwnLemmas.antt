@@ -1,0 +1,189 @@
+-- a branch's own journal, entered again
+use Rattle.std.proofs.Common.{◌≡◌, ◌+◌, ◌-◌, ℕ, Bool, true, false, ◌||◌, ◌&&◌, List, [], ◌∷◌, ◌++◌, length, refl, ap}
+use Rattle.std.proofs.Common.{◌∙◌, sym, subst, arith, inl, inr, append-nil, Option, Some, None, Ok, Err}
+use Rattle.std.specs.Prelude.{if◌then◌else◌, Result, not}
+use Rattle.std.specs.List.{list_any, AllByRecursion}
+use Rattle.std.specs.Option.{option_or}
+use Rattle.std.specs.Str.{bytes_eq}
+use Rattle.money_core.specs.declared.style.Style.{Style}
+use Rattle.money_core.specs.declared.day.Day.{Day}
+use Rattle.money_core.specs.declared.cause.Cause.{Cause}
+use Rattle.money_core.specs.declared.cause.Cause.TheVariants.{UnknownBranch}
+use Rattle.book_core.specs.declared.entry.Entry.{Entry}
+use Rattle.book_core.specs.declared.refusal.Refusal.{Refusal}
+use Rattle.book_core.specs.declared.refusal.Refusal.TheVariants.{Plain}
+use Rattle.book_core.specs.GoodBook.{IsGoodBook, verdict}
+use Rattle.book_core.proofs.GoodBookLemmas.{verdict_good, good_nil}
+use Rattle.journal_format.specs.declared.txn.Txn.{Txn}
+use Rattle.journal_format.specs.declared.txn.Located.{Located}
+use Rattle.journal_format.specs.CanonicalText.{body_text}
+use Rattle.journal_balance.specs.Legs.{legs_of}
+use Rattle.treasury_state.specs.declared.record.Record.{Record}
+use Rattle.treasury_state.specs.Federation.{Federation, has_branch, records_of, lock_of, entries, book_of}
+use Rattle.treasury_state.specs.Mark.{is_repeat, mark_of}
+use Rattle.treasury_state.specs.Joined.{with_entered}
+use Rattle.treasury_state.specs.Good.{IsGoodRecord, IsGoodState}
+use Rattle.treasury_state.proofs.BytesLemmas.{self_bytes, or_true}
+use Rattle.treasury_state.proofs.BranchLemmas.{of_branch}
+use Rattle.treasury_core.specs.declared.command.Answer.{Answer}
+use Rattle.treasury_core.specs.declared.command.Answer.TheVariants.{Done, Entered, Repeated}
+use Rattle.treasury_core.specs.declared.command.Command.TheVariants as cmd
+use Rattle.treasury_core.specs.Step.{unless, reply, done, after, step, entered, number_in, fault_on, unbalanced}
+use Rattle.treasury_core.specs.Step.{recorded, records_from, records_in_file, refused_in, new_in, new_records}
+use Rattle.treasury_core.specs.Step.{enter_refusal}
+use Rattle.treasury_core.proofs.FileLemmas.{length-new, length-records}
+use Rattle.treasury_core.proofs.JoinedLemmas.{with_none}
+use Rattle.treasury_laws.specs.History.{IsAmong, IsOwn, IsOwnJournal}
+
+pub among_all : (P : Record → Type 0) (rs : List Record) (r : Record) → IsAmong r rs → AllByRecursion P rs → P r
+among_all P [] r a h = absurd a
+among_all P (x ∷ xs) r (inl e) h = subst P e h.0
+among_all P (x ∷ xs) r (inr a) h = among_all P xs r a h.1
+
+pub among_any : (p : Record → Bool) (rs : List Record) (r : Record) → p r ≡ true → IsAmong r rs → list_any p rs ≡ true
+among_any p [] r e a = absurd a
+among_any p (x ∷ xs) r e (inl s) = ap (λ (t : Bool). t || list_any p xs) (ap p s ∙ e)
+among_any p (x ∷ xs) r e (inr a) = ap (λ (t : Bool). p x || t) (among_any p xs r e a) ∙ or_true (p x)
+
+-- the record of a record's transaction is that record
+recorded_again : (styles : List Style) (r : Record) (n : ℕ) → IsGoodRecord styles r
+    → recorded r.txn (mark_of styles r.txn n r.txn.mark) (legs_of styles r.txn) ≡ r ∷ []
+recorded_again styles r n good =
+    let mark : mark_of styles r.txn n r.txn.mark ≡ r.mark =
+    ap (λ (o : Option (List ℕ)). mark_of styles r.txn n o) good.marked in
+    ap (λ (m : List ℕ). recorded r.txn m (legs_of styles r.txn)) mark
+    ∙ (ap (λ (e : Result Entry Cause). recorded r.txn r.mark e) good.legs
+    ∙ ap (λ (o : Option (List ℕ)). let s : Record =
+    record { mark = r.mark; txn = record r.txn { mark = o }; entry = r.entry } in s ∷ []) (sym good.marked))
+
+pub recorded_own : (styles : List Style) (rs : List Record) (x : Located) (n : ℕ)
+    → AllByRecursion (IsGoodRecord styles) rs → (own : IsOwn rs x)
+    → recorded x.txn (mark_of styles x.txn n x.txn.mark) (legs_of styles x.txn) ≡ own.holder ∷ []
+recorded_own styles rs x n good own =
+    ap (λ (t : Txn). recorded t (mark_of styles t n t.mark) (legs_of styles t)) own.same
+    ∙ recorded_again styles own.holder n (among_all (IsGoodRecord styles) rs own.holder own.among good)
+
+among_file : (styles : List Style) (rs : List Record) (before : List Txn) (file : List Located)
+    → AllByRecursion (IsGoodRecord styles) rs → IsOwnJournal rs file
+    → AllByRecursion (λ (r : Record). IsAmong r rs) (records_from styles before file)
+among_file styles rs before [] good own = tt
+among_file styles rs before (x ∷ xs) good own =
+    let rest = among_file styles rs (before ++ x.txn ∷ []) xs good own.1 in
+    subst (λ (ys : List Record). AllByRecursion (λ (r : Record). IsAmong r rs)
+    (ys ++ records_from styles (before ++ x.txn ∷ []) xs))
+    (sym (recorded_own styles rs x (number_in styles before x.txn) good own.0)) (own.0.among, rest)
+
+pub balanced_own : (styles : List Style) (rs : List Record) (file : List Located)
+    → AllByRecursion (IsGoodRecord styles) rs → IsOwnJournal rs file → unbalanced styles file ≡ None
+balanced_own styles rs [] good own = refl
+balanced_own styles rs (x ∷ xs) good own =
+    let fine : legs_of styles x.txn ≡ Ok own.0.holder.entry =
+    ap (legs_of styles) own.0.same ∙ (among_all (IsGoodRecord styles) rs own.0.holder own.0.among good).legs in
+    ap (λ (e : Result Entry Cause). option_or (fault_on x.line e) (unbalanced styles xs)) fine ∙ balanced_own styles rs
+    xs good own.1
+
+-- repeats alone
+is_repeat_of : (styles : List Style) (rs : List Record) (r : Record) → IsAmong r rs → is_repeat styles rs r ≡ true
+is_repeat_of styles rs r a = among_any
+    (λ (h : Record). bytes_eq h.mark r.mark && bytes_eq (body_text styles h.txn) (body_text styles r.txn)) rs r
+    (rw (self_bytes r.mark, self_bytes (body_text styles r.txn)) refl) a
+
+none_refused : (styles : List Style) (lock : Option Day) (rs file : List Record)
+    → AllByRecursion (λ (r : Record). IsAmong r rs) file → refused_in styles lock rs file ≡ None
+none_refused styles lock rs [] h = refl
+none_refused styles lock rs (r ∷ file) h = rw (is_repeat_of styles rs r h.0) (none_refused styles lock rs file h.1)
+
+none_new : (rs file : List Record) → AllByRecursion (λ (r : Record). IsAmong r rs) file → new_in rs file ≡ []
+none_new rs [] h = refl
+none_new rs (r ∷ file) h =
+    rw (among_any (λ (x : Record). bytes_eq x.mark r.mark) rs r (self_bytes r.mark) h.0) (none_new rs file h.1)
+
+abbrev answer_of : List Record → ℕ → Option Refusal → Result Answer Refusal
+answer_of new n o = unless (entered (length new) n) o
+
+pub own_reply : (f : Federation) (name : List ℕ) (file : List Located) → IsGoodState f → has_branch f name ≡ true
+    → IsOwnJournal (records_of f name) file → reply f (cmd.Enter name file) ≡ Ok (Entered 0 (length file))
+unfolding reply
+own_reply f name file good here own =
+    let rs = records_of f name in
+    let all = of_branch (λ xs. AllByRecursion (IsGoodRecord f.styles) xs) f.styles f.branches name tt (λ b h. h.records)
+    good.branches in
+    let book : IsGoodBook (book_of f name) =
+    of_branch (λ xs. IsGoodBook (entries xs)) f.styles f.branches name good_nil (λ b h. h.book) good.branches in
+    let among = among_file f.styles rs [] file all own in
+    let none : new_records f name file ≡ [] = none_new rs (records_in_file f.styles file) among in
+    let passes : verdict (book_of f name ++ entries (new_records f name file)) ≡ None =
+    ap (λ (xs : List Record). verdict (book_of f name ++ entries xs)) none ∙
+    (ap verdict (append-nil (book_of f name)) ∙ verdict_good (book_of f name) book) in
+    let refusal : enter_refusal f name file ≡ None =
+    rw (
+      balanced_own f.styles rs file all own,
+      none_refused f.styles (lock_of f name) rs (records_in_file f.styles file) among,
+    ) passes in
+    ap (λ (t : Bool). if not t then Err (Plain UnknownBranch)
+    else unless (entered (length (new_records f name file)) (length file)) (enter_refusal f name file)) here
+    ∙ (ap (λ (o : Option Refusal). answer_of (new_records f name file) (length file) o) refusal
+    ∙ (ap (λ (xs : List Record). answer_of xs (length file) None) none
+    ∙ ap (λ (n : ℕ). let r : Result Answer Refusal = Ok (Entered 0 n) in r) (omega arith)))
+
+-- no new transaction: the state stays
+no_records : (rs : List Record) → length rs ≡ 0 → rs ≡ []
+no_records [] h = refl
+no_records (r ∷ rs) h = absurd (omega arith)
+
+abbrev count_in : Answer → ℕ
+count_in (Entered new repeated) = new
+count_in Done = 1
+count_in Repeated = 1
+
+abbrev count_of : Result Answer Refusal → ℕ
+count_of (Ok a) = count_in a
+count_of (Err e) = 1
+
+counted : (new : List Record) (n repeated : ℕ) (t : Bool) (e : Refusal) (o : Option Refusal)
+    → (if not t then Err e else answer_of new n o) ≡ Ok (Entered 0 repeated) → length new ≡ 0
+counted new n repeated true e None h = ap count_of h
+counted new n repeated true e (Some r) h = absurd cc
+counted new n repeated false e o h = absurd cc
+
+stays : (f : Federation) (name : List ℕ) (file : List Located) → new_records f name file ≡ []
+    → done f (cmd.Enter name file) ≡ f
+unfolding done
+stays f name file h = ap (λ (xs : List Record). with_entered f name xs) h ∙ with_none f name
+
+pub none_new_stays : (f : Federation) (name : List ℕ) (file : List Located) (repeated : ℕ)
+    → reply f (cmd.Enter name file) ≡ Ok (Entered 0 repeated) → (step f (cmd.Enter name file)).next ≡ f
+unfolding reply
+none_new_stays f name file repeated h =
+    ap (λ (r : Result Answer Refusal). after f (cmd.Enter name file) r) h
+    ∙ stays f name file (no_records (new_records f name file)
+    (counted (new_records f name file) (length file) repeated (has_branch f name) (Plain UnknownBranch)
+    (enter_refusal f name file) h))
+
+-- what an accepted file counts
+abbrev repeats_in : Answer → ℕ
+repeats_in (Entered new repeated) = repeated
+repeats_in Done = 0
+repeats_in Repeated = 0
+
+abbrev repeats_of : Result Answer Refusal → ℕ
+repeats_of (Ok a) = repeats_in a
+repeats_of (Err e) = 0
+
+counts : (new : List Record) (n m repeated : ℕ) (t : Bool) (e : Refusal) (o : Option Refusal)
+    → (if not t then Err e else answer_of new n o) ≡ Ok (Entered m repeated)
+    → (length new ≡ m) × (n - length new ≡ repeated)
+counts new n m repeated true e None h = (ap count_of h, ap repeats_of h)
+counts new n m repeated true e (Some r) h = absurd cc
+counts new n m repeated false e o h = absurd cc
+
+pub accepted_counts : (f : Federation) (name : List ℕ) (file : List Located) (new repeated : ℕ)
+    → reply f (cmd.Enter name file) ≡ Ok (Entered new repeated)
+    → (length (new_records f name file) ≡ new) × (new + repeated ≡ length file)
+unfolding reply
+accepted_counts f name file new repeated h =
+    let counted_ = counts (new_records f name file) (length file) new repeated (has_branch f name) (Plain UnknownBranch)
+    (enter_refusal f name file) h in
+    let few = length-new (records_of f name) (records_in_file f.styles file) in
+    let all = length-records f.styles [] file in
+    (counted_.0, omega (arith, counted_.0, counted_.1, few, all))

@@ -1,0 +1,18 @@
+use Rattle.treasury_core.proofs.ClosingLemmas.{closed, moved_on, gained}
+use Rattle.treasury_laws.proofs.UntouchedLemmas.{untouched, unmoved_before}
+use Rattle.treasury_laws.proofs.law.closed_law.Goals as goal
+
+pub returns-clause-closed : goal.returns-clause-closed
+returns-clause-closed c = closed
+
+pub returns-clause-moved : goal.returns-clause-moved
+returns-clause-moved c = moved_on
+
+pub returns-clause-gained : goal.returns-clause-gained
+returns-clause-gained c = gained
+
+pub returns-clause-untouched : goal.returns-clause-untouched
+returns-clause-untouched c = untouched
+
+pub returns-clause-before : goal.returns-clause-before
+returns-clause-before c = unmoved_before

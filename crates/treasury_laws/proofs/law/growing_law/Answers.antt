@@ -1,0 +1,5 @@
+use Rattle.treasury_laws.proofs.GrowingLemmas.{run_grown}
+use Rattle.treasury_laws.proofs.law.growing_law.Goals as goal
+
+pub returns : goal.returns
+returns c = run_grown

@@ -1,0 +1,11 @@
+pub mod PartSizeLemmas
+pub mod CarriedLemmas
+pub mod JudgingLemmas
+pub mod DraftLemmas
+pub mod UnitRowLemmas
+pub mod EntryRowLemmas
+pub mod BranchRowLemmas
+pub mod TransferRowLemmas
+pub mod PartRowLemmas
+pub mod DraftedLemmas
+pub mod SameRowLemmas

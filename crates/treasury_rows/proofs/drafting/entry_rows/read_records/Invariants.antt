@@ -1,0 +1,15 @@
+use Rattle.std.proofs.Common.{◌≡◌, ◌+◌, length}
+use Rattle.std.specs.List.{AllByRecursion}
+use Rattle.treasury_state.specs.Good.{IsGoodRecord}
+use Rattle.treasury_state.specs.Rows.{entry_row}
+use Rattle.treasury_rows.proofs.DraftLemmas.{IsFront}
+use Rattle.treasury_rows.proofs.drafting.entry_rows.read_records.Given as goal
+
+-- the records so far are good, and the front of any with these rows, and the rest has the rows that are left
+abbrev pub invariant-entry : goal.invariant-entry
+invariant-entry l = record {
+  count : length l.list ≡ l.row-index;
+  good : AllByRecursion (IsGoodRecord l.styles) l.list;
+  front : IsFront (entry_row l.styles l.branch) (AllByRecursion (IsGoodRecord l.styles)) 1 l.rows (l.row-index + 1)
+      l.row-index l.list;
+}

@@ -1,0 +1,15 @@
+use Rattle.std.proofs.Common.{◌≡◌, ◌++◌, ◌≤◌, drop}
+use Rattle.std.specs.Prelude.{unsigned_abs}
+use Rattle.std.specs.List.{AllByRecursion}
+use Rattle.money_core.specs.Amount.{limit}
+use Rattle.treasury_state.specs.declared.transfer.Transfer.{Transfer}
+use Rattle.treasury_state.specs.Transfer.{asked}
+use Rattle.treasury_state.specs.Fair.{IsMarked}
+use Rattle.treasury_rows.proofs.judging.carried.asked.Given as goal
+
+abbrev pub invariant-loop-transfer : goal.invariant-loop-transfer
+invariant-loop-transfer l = record {
+  all : l.rows ++ asked (drop l.transfer-index l.transfers) l.name ≡ asked l.transfers l.name;
+  marked : AllByRecursion IsMarked (drop l.transfer-index l.transfers);
+  small : AllByRecursion (λ (t : Transfer). unsigned_abs t.qty ≤ limit) (drop l.transfer-index l.transfers);
+}

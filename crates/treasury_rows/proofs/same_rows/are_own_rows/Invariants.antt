@@ -1,0 +1,8 @@
+use Rattle.std.proofs.Common.{ℕ}
+use Rattle.treasury_state.specs.Rows.{part_row}
+use Rattle.treasury_rows.proofs.SameRowLemmas.{Walk}
+use Rattle.treasury_rows.proofs.same_rows.are_own_rows.Given as goal
+
+-- the rows so far are those of the items so far: what is open is whether the rest has the rows that are left
+abbrev pub invariant-loop-i : goal.invariant-loop-i
+invariant-loop-i l = Walk (λ (k : ℕ). (part_row l.id)) 0 l.i l.i l.parts l.list

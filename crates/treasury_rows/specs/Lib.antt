@@ -1,0 +1,2 @@
+-- What mirrors code, for private clauses: nobody has to believe it
+pub mod Drafted

@@ -1,0 +1,31 @@
+-- the first of what is left of a list, and the rest
+use Rattle.std.proofs.Common.{◌≡◌, ◌<◌, ◌+◌, ℕ, suc, List, [], ◌∷◌, length, drop, get_or, ap, ◌∙◌, sym, arith}
+use Rattle.std.proofs.Common.{drop-cons, map}
+use Rattle.std.specs.List.{enumerate_from}
+
+-- the rows of a list, numbered
+abbrev pub numbered : {X Y : Type 0} → (ℕ → X → Y) → ℕ → List X → List Y
+numbered g n xs = map (λ p. g p.0 p.1) (enumerate_from n xs)
+
+pub first_of : {Y : Type 0} → Y → List Y → Y
+first_of d [] = d
+first_of d (y ∷ ys) = y
+
+pub rest_of : {Y : Type 0} → List Y → List Y
+rest_of [] = []
+rest_of (y ∷ ys) = ys
+
+pub heads : {Y : Type 0} (x y : Y) (xs ys : List Y) → x ∷ xs ≡ y ∷ ys → x ≡ y
+unfolding first_of
+heads x y xs ys e = ap (first_of x) e
+
+pub tails : {Y : Type 0} (x y : Y) (xs ys : List Y) → x ∷ xs ≡ y ∷ ys → xs ≡ ys
+unfolding rest_of
+tails x y xs ys e = ap rest_of e
+
+-- what is left begins with the next row
+pub less : {Y : Type 0} (rows : List Y) (i : ℕ) (row : Y) → i < length rows → row ≡ get_or rows i row
+    → drop i rows ≡ row ∷ drop (i + 1) rows
+less rows i row h e =
+    drop-cons rows i row h ∙ ap (λ y. y ∷ drop (suc i) rows) (sym e) ∙ ap (λ (j : ℕ). row ∷ drop j rows)
+    (let k : suc i ≡ i + 1 = omega arith in k)
