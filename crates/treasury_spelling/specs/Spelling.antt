@@ -83,9 +83,18 @@ request_in word rows =
     (day_in rows)) (first_of (codes "branch") rows)
     else report_in word rows
 
+-- the number that decimal digits write, where a plus may stand first
+abbrev pub number_in : List ℕ → ℕ
+number_in text = digits_value 10 (without_leading_plus text)
+
 -- a number of a port, in decimal digits
 abbrev pub IsPort : List ℕ → Type 0
-IsPort text = IsNumeral 10 (without_leading_plus text) × (digits_value 10 (without_leading_plus text) < 2 ^ 16)
+IsPort text = IsNumeral 10 (without_leading_plus text) × (number_in text < 2 ^ 16)
+
+-- that port is given
+abbrev pub HasPort : ℕ → List Row → Type 0
+HasPort port rows =
+    (text : List ℕ) × (first_of (codes "at") rows ≡ Some text) × IsPort text × (port ≡ number_in text)
 
 -- no port is given
 abbrev pub LacksPort : List Row → Type 0

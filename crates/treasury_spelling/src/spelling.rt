@@ -8,7 +8,7 @@ ghost use Rattle.treasury_requests.specs.Form.{shown, shown_part};
 ghost use Rattle.treasury_requests.specs.Request.{HasDayNumbers};
 ghost use Rattle.treasury_spelling.specs.Spelling.{day_in, dispatch_in, part_in, receive_in, list_in, report_in};
 ghost use Rattle.treasury_spelling.specs.Spelling.{request_in};
-ghost use Rattle.treasury_spelling.specs.Spelling.{is_set, is_dry_run, is_explained, LacksPort};
+ghost use Rattle.treasury_spelling.specs.Spelling.{is_set, is_dry_run, is_explained, HasPort, LacksPort};
 
 use clap::ArgMatches;
 use journal_lines::read_date;
@@ -22,9 +22,10 @@ pub fn value_of<'a>(values: &ArgMatches<'a>, name: &str) -> Option<&'a str>
     values.get_str(name)
 }
 
-/// The port that is given.
+/// The port that is given: that of the number which `--at` has.
 pub fn port_of(values: &ArgMatches<'_>) -> Option<u16>
-    ensures { result ≡ None → LacksPort (rows_of (found_of values.now)) }
+    ensures given { IfSome result (λ port. HasPort port (rows_of (found_of values.now))) }
+    ensures lacks { result ≡ None → LacksPort (rows_of (found_of values.now)) }
 {
     let text = match value_of(values, "at") {
         Some(text) => text,
