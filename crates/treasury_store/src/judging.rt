@@ -22,6 +22,7 @@ use money_core::{Cause, Items};
 use sqlite::{Alter, Connection, Error, Row};
 use std::alloc::Global;
 use treasury_core::{Parts, State};
+use treasury_rows::Build;
 
 /// The rows of a query of tables of version 1.
 fn first_queried<S: Alter>(conn: &mut Connection<S>, sql: &str) -> Result<Vec<Row>, Error>
