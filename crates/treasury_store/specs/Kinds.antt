@@ -2,7 +2,7 @@
 use Rattle.std.specs.Prelude.{Bool, true, false, List, [], ◌∷◌}
 use Rattle.treasury_store.specs.declared.change.Change.{Change}
 use Rattle.treasury_store.specs.declared.change.Change.TheVariants as change
-use Rattle.treasury_store.specs.declared.write.eight.Eight.{Eight}
+use Rattle.treasury_store.specs.declared.tables.eight.Eight.{Eight}
 
 abbrev pub is_entry : Change → Bool
 is_entry (change.Entry e) = true

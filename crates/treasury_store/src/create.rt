@@ -14,105 +14,16 @@ ghost use Rattle.treasury_store.specs.Tables.{state_tables};
 ghost use Rattle.treasury_store.specs.Creating.{is_ours, has_one, has_counter, Creates, MakesAll, GivesRow, Beside};
 ghost use Rattle.treasury_store.specs.Creating.{SurvivesMaking};
 
-use sqlite::types::ToSql;
+use crate::tables::branch::create_branch;
+use crate::tables::claim::create_claim;
+use crate::tables::entry::create_entry;
+use crate::tables::format::{create_format, put_format};
+use crate::tables::leg::create_leg;
+use crate::tables::receipt::create_receipt;
+use crate::tables::transfer::create_transfer;
+use crate::tables::unit::create_unit;
 use sqlite::{Alter, Connection, Error, ErrorCode, Transaction};
 use sqlite_schema::names::same_name;
-
-fn create_format<S: Alter>(tx: &mut Transaction<'_, S>) -> Result<usize, Error>
-    ensures same_reference { tx.new.conn.ghost_name ≡ tx.old.conn.ghost_name }
-    ensures creates { Creates S.Store tx.old.conn.now tx.new.conn.now result format }
-{
-    tx.execute("CREATE TABLE format (version INTEGER NOT NULL) STRICT", &[])
-}
-
-fn create_unit<S: Alter>(tx: &mut Transaction<'_, S>) -> Result<usize, Error>
-    ensures same_reference { tx.new.conn.ghost_name ≡ tx.old.conn.ghost_name }
-    ensures creates { Creates S.Store tx.old.conn.now tx.new.conn.now result unit }
-{
-    tx.execute(
-        "CREATE TABLE unit (nr INTEGER PRIMARY KEY, symbol TEXT NOT NULL UNIQUE, decimals INTEGER NOT NULL, mark TEXT NOT NULL, grouped INTEGER NOT NULL, leftside INTEGER NOT NULL, spaced INTEGER NOT NULL) STRICT",
-        &[],
-    )
-}
-
-fn create_branch<S: Alter>(tx: &mut Transaction<'_, S>) -> Result<usize, Error>
-    ensures same_reference { tx.new.conn.ghost_name ≡ tx.old.conn.ghost_name }
-    ensures creates { Creates S.Store tx.old.conn.now tx.new.conn.now result branch }
-{
-    tx.execute(
-        "CREATE TABLE branch (nr INTEGER PRIMARY KEY, name TEXT NOT NULL UNIQUE, locked INTEGER) STRICT",
-        &[],
-    )
-}
-
-fn create_entry<S: Alter>(tx: &mut Transaction<'_, S>) -> Result<usize, Error>
-    ensures same_reference { tx.new.conn.ghost_name ≡ tx.old.conn.ghost_name }
-    ensures creates { Creates S.Store tx.old.conn.now tx.new.conn.now result entry }
-{
-    tx.execute(
-        "CREATE TABLE entry (branch INTEGER NOT NULL, nr INTEGER NOT NULL, day INTEGER NOT NULL, mark TEXT NOT NULL, body TEXT NOT NULL, PRIMARY KEY (branch, nr), UNIQUE (branch, mark)) STRICT",
-        &[],
-    )
-}
-
-fn create_leg<S: Alter>(tx: &mut Transaction<'_, S>) -> Result<usize, Error>
-    ensures same_reference { tx.new.conn.ghost_name ≡ tx.old.conn.ghost_name }
-    ensures creates { Creates S.Store tx.old.conn.now tx.new.conn.now result leg }
-{
-    tx.execute(
-        "CREATE TABLE leg (branch INTEGER NOT NULL, entry INTEGER NOT NULL, nr INTEGER NOT NULL, account TEXT NOT NULL, unit INTEGER NOT NULL, qty INTEGER NOT NULL, PRIMARY KEY (branch, entry, nr)) STRICT",
-        &[],
-    )
-}
-
-fn create_claim<S: Alter>(tx: &mut Transaction<'_, S>) -> Result<usize, Error>
-    ensures same_reference { tx.new.conn.ghost_name ≡ tx.old.conn.ghost_name }
-    ensures creates { Creates S.Store tx.old.conn.now tx.new.conn.now result claim }
-{
-    tx.execute(
-        "CREATE TABLE claim (branch INTEGER NOT NULL, entry INTEGER NOT NULL, leg INTEGER NOT NULL, kind INTEGER NOT NULL, unit INTEGER NOT NULL, qty INTEGER NOT NULL, PRIMARY KEY (branch, entry, leg)) STRICT",
-        &[],
-    )
-}
-
-fn create_transfer<S: Alter>(tx: &mut Transaction<'_, S>) -> Result<usize, Error>
-    ensures same_reference { tx.new.conn.ghost_name ≡ tx.old.conn.ghost_name }
-    ensures creates { Creates S.Store tx.old.conn.now tx.new.conn.now result transfer }
-{
-    tx.execute(
-        "CREATE TABLE transfer (id TEXT NOT NULL PRIMARY KEY, source INTEGER NOT NULL, target INTEGER NOT NULL, unit INTEGER NOT NULL, qty INTEGER NOT NULL, dispatched INTEGER NOT NULL, payer TEXT NOT NULL, received INTEGER, payee TEXT) STRICT",
-        &[],
-    )
-}
-
-/// Makes the table of receipts in parts, which version 2 adds.
-pub(crate) fn create_receipt<S: Alter>(tx: &mut Transaction<'_, S>) -> Result<usize, Error>
-    ensures same_reference { tx.new.conn.ghost_name ≡ tx.old.conn.ghost_name }
-    ensures creates { Creates S.Store tx.old.conn.now tx.new.conn.now result receipt }
-{
-    tx.execute(
-        "CREATE TABLE receipt (transfer TEXT NOT NULL, part TEXT NOT NULL, qty INTEGER NOT NULL, received INTEGER NOT NULL, payee TEXT NOT NULL, PRIMARY KEY (transfer, part)) STRICT",
-        &[],
-    )
-}
-
-/// Puts the one row of `format`, which is the last table: the version.
-fn put_format<S: Alter>(tx: &mut Transaction<'_, S>) -> Result<usize, Error>
-    ensures same_reference { tx.new.conn.ghost_name ≡ tx.old.conn.ghost_name }
-    ensures gives { HasCleanDisk (state S.Store tx.new.conn.now)
-        → OnOk result ((s : Schema) → (state S.Store tx.old.conn.now).now.schema ≡ created s format
-        → list_any (λ t. same_name t.name (codes "format")) s.tables ≡ false
-        → (state S.Store tx.old.conn.now).now.trees (next_tree s) ≡ []
-        → GivesRow s (state S.Store tx.old.conn.now).now (state S.Store tx.new.conn.now).now) }
-    ensures inside { HasCleanDisk (state S.Store tx.new.conn.now)
-        → OnOk result (IsTrue (state S.Store tx.new.conn.now).in_transaction) }
-    ensures kept { HasCleanDisk (state S.Store tx.new.conn.now)
-        → KeepsCommit (state S.Store tx.old.conn.now) (state S.Store tx.new.conn.now) }
-    ensures survives { Survives (state S.Store tx.old.conn.now) (state S.Store tx.new.conn.now) (λ _. ⊥) }
-{
-    let version = 2i64.to_sql();
-    tx.execute("INSERT INTO format (version) VALUES (?1)", &[version])
-}
 
 /// Makes the tables of the state.
 fn create_state<S: Alter>(tx: &mut Transaction<'_, S>) -> Result<usize, Error>

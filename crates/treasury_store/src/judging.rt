@@ -15,8 +15,8 @@ ghost use Rattle.treasury_store.specs.Order.{InOrder};
 ghost use Rattle.treasury_store.specs.Judging.{ReadsFirst, HasReadFirst};
 
 use crate::failing::cause_of;
-use crate::load::{FromRow, read_all};
 use crate::open::{format_rows, is_version};
+use crate::row::{FromRow, read_all};
 use book_core::DayLedger;
 use money_core::{Cause, Items};
 use sqlite::{Alter, Connection, Error, Row};

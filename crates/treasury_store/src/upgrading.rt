@@ -12,7 +12,7 @@ ghost use Rattle.treasury_store.specs.Rows.{versions};
 ghost use Rattle.treasury_store.specs.Opening.{IsFirstNumbered};
 ghost use Rattle.treasury_store.specs.Upgrading.{SetsVersion, Upgrades};
 
-use crate::create::create_receipt;
+use crate::tables::receipt::create_receipt;
 use sqlite::{Alter, Connection, Error, ErrorCode, Transaction};
 
 /// Makes the row of `format` a 2.

@@ -1,10 +1,5 @@
 //! The writes of one command, in one transaction.
 
-mod claims;
-mod eight;
-mod entries;
-mod legs;
-
 ghost use Rattle.std.specs.Prelude.{◌≡◌, ◌<◌, ◌∷◌, [], length, filter, IfSome, IfNone, OnOk, OnErr, IsTrue};
 ghost use Rattle.sqlite_value.specs.Value.{owned};
 ghost use Rattle.sqlite.specs.declared.types.Value.TheVariants.{Text as Words};
@@ -18,122 +13,14 @@ ghost use Rattle.treasury_store.specs.Kept.{Writes};
 ghost use Rattle.treasury_store.specs.Kinds.{is_single};
 
 use crate::change::Change;
-use crate::write::claims::{put_claim, put_claims};
-use crate::write::entries::{put_entries, put_entry};
-use crate::write::legs::{put_leg, put_legs};
-use money_core::Text;
-use sqlite::types::{ToSql, ValueRef};
+use crate::tables::branch::{put_branch, set_lock};
+use crate::tables::claim::{put_claim, put_claims};
+use crate::tables::entry::{put_entries, put_entry};
+use crate::tables::leg::{put_leg, put_legs};
+use crate::tables::receipt::put_part;
+use crate::tables::transfer::{put_transfer, set_receipt};
+use crate::tables::unit::put_unit;
 use sqlite::{Alter, Connection, Error, ErrorCode, Transaction};
-use treasury_core::{BranchRow, PartRow, TransferRow, UnitRow};
-
-/// A text as a value; NULL where there is none.
-fn text_or_null(text: &Option<Text>) -> ValueRef<'_>
-    ensures { owned result ≡ or_null Words text.now }
-{
-    match text {
-        Some(text) => text.as_str().to_sql(),
-        None => ValueRef::Null,
-    }
-}
-
-/// Inserts a commodity.
-fn put_unit<S: Alter>(tx: &mut Transaction<'_, S>, row: &UnitRow) -> Result<usize, Error>
-    ensures same_reference { tx.new.conn.ghost_name ≡ tx.old.conn.ghost_name }
-    ensures writes { Writes S.Store tx.old.conn.now tx.new.conn.now result (with_unit row.now) }
-{
-    let nr = row.nr.to_sql();
-    let symbol = row.symbol.as_str().to_sql();
-    let decimals = row.decimals.to_sql();
-    let mark = row.mark.as_str().to_sql();
-    let grouped = row.grouped.to_sql();
-    let leftside = row.leftside.to_sql();
-    let spaced = row.spaced.to_sql();
-    tx.execute(
-        "INSERT INTO unit (nr, symbol, decimals, mark, grouped, leftside, spaced) VALUES (?1, ?2, ?3, ?4, ?5, ?6, ?7)",
-        &[nr, symbol, decimals, mark, grouped, leftside, spaced],
-    )
-}
-
-/// Inserts a branch.
-fn put_branch<S: Alter>(tx: &mut Transaction<'_, S>, row: &BranchRow) -> Result<usize, Error>
-    ensures same_reference { tx.new.conn.ghost_name ≡ tx.old.conn.ghost_name }
-    ensures writes { Writes S.Store tx.old.conn.now tx.new.conn.now result (with_branch row.now) }
-{
-    let nr = row.nr.to_sql();
-    let name = row.name.as_str().to_sql();
-    let locked = row.locked.to_sql();
-    tx.execute(
-        "INSERT INTO branch (nr, name, locked) VALUES (?1, ?2, ?3)",
-        &[nr, name, locked],
-    )
-}
-
-/// Inserts a transfer.
-fn put_transfer<S: Alter>(tx: &mut Transaction<'_, S>, row: &TransferRow) -> Result<usize, Error>
-    ensures same_reference { tx.new.conn.ghost_name ≡ tx.old.conn.ghost_name }
-    ensures writes { Writes S.Store tx.old.conn.now tx.new.conn.now result (with_transfer row.now) }
-{
-    let id = row.id.as_str().to_sql();
-    let source = row.source.to_sql();
-    let target = row.target.to_sql();
-    let unit = row.unit.to_sql();
-    let qty = row.qty.to_sql();
-    let dispatched = row.dispatched.to_sql();
-    let payer = row.payer.as_str().to_sql();
-    let received = row.received.to_sql();
-    let payee = text_or_null(&row.payee);
-    tx.execute(
-        "INSERT INTO transfer (id, source, target, unit, qty, dispatched, payer, received, payee) VALUES (?1, ?2, ?3, ?4, ?5, ?6, ?7, ?8, ?9)",
-        &[
-            id, source, target, unit, qty, dispatched, payer, received, payee,
-        ],
-    )
-}
-
-/// Inserts a receipt of a part.
-fn put_part<S: Alter>(tx: &mut Transaction<'_, S>, row: &PartRow) -> Result<usize, Error>
-    ensures same_reference { tx.new.conn.ghost_name ≡ tx.old.conn.ghost_name }
-    ensures writes { Writes S.Store tx.old.conn.now tx.new.conn.now result (with_part row.now) }
-{
-    let transfer = row.transfer.as_str().to_sql();
-    let part = row.part.as_str().to_sql();
-    let qty = row.qty.to_sql();
-    let received = row.received.to_sql();
-    let payee = row.payee.as_str().to_sql();
-    tx.execute(
-        "INSERT INTO receipt (transfer, part, qty, received, payee) VALUES (?1, ?2, ?3, ?4, ?5)",
-        &[transfer, part, qty, received, payee],
-    )
-}
-
-/// Locks the branch of that number through a day.
-fn set_lock<S: Alter>(tx: &mut Transaction<'_, S>, branch: i64, day: i64) -> Result<usize, Error>
-    ensures same_reference { tx.new.conn.ghost_name ≡ tx.old.conn.ghost_name }
-    ensures writes { Writes S.Store tx.old.conn.now tx.new.conn.now result (with_lock branch day) }
-{
-    let nr = branch.to_sql();
-    let locked = day.to_sql();
-    tx.execute("UPDATE branch SET locked = ?2 WHERE nr = ?1", &[nr, locked])
-}
-
-/// Keeps the receipt of what was left of the transfer of that ID.
-fn set_receipt<S: Alter>(
-    tx: &mut Transaction<'_, S>,
-    id: &str,
-    day: i64,
-    payee: &str,
-) -> Result<usize, Error>
-    ensures same_reference { tx.new.conn.ghost_name ≡ tx.old.conn.ghost_name }
-    ensures writes { Writes S.Store tx.old.conn.now tx.new.conn.now result (with_receipt id.now day payee.now) }
-{
-    let key = id.to_sql();
-    let received = day.to_sql();
-    let account = payee.to_sql();
-    tx.execute(
-        "UPDATE transfer SET received = ?2, payee = ?3 WHERE id = ?1",
-        &[key, received, account],
-    )
-}
 
 /// Writes one change.
 fn put<S: Alter>(tx: &mut Transaction<'_, S>, change: &Change) -> Result<usize, Error>
