@@ -22,7 +22,7 @@ use Rattle.sqlite.specs.Files.{file_state, IsOpened, AreFoundIn}
 use Rattle.treasury_state.specs.Federation.{Federation}
 use Rattle.treasury_state.specs.Good.{IsGoodState}
 use Rattle.treasury_state.specs.Rows.{rows}
-use Rattle.treasury_store.specs.Tables.{no_schema}
+use Rattle.treasury_tables.specs.Tables.{no_schema}
 use Rattle.treasury_api.specs.Step.{Standing}
 use Rattle.treasury.specs.Word.{AnswersWord, Told, AreTold}
 use Rattle.treasury_files.specs.declared.left.Left.{Left}

@@ -32,7 +32,7 @@ use Rattle.book_core.specs.declared.refusal.Refusal.TheVariants.{Plain}
 use Rattle.treasury_state.specs.Federation.{Federation}
 use Rattle.treasury_state.specs.Good.{IsGoodState}
 use Rattle.treasury_state.specs.Rows.{rows}
-use Rattle.treasury_store.specs.Rows.{AreTreesOf}
+use Rattle.treasury_tables.specs.Rows.{AreTreesOf}
 use Rattle.treasury_store.specs.Store.{TablesAre}
 use Rattle.treasury_store.specs.Treasury.{Treasury, IsTreasuryOf}
 use Rattle.treasury_api.specs.declared.asking.Asked.{Asked}

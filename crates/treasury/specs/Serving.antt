@@ -21,7 +21,7 @@ use Rattle.money_core.specs.declared.cause.Cause.TheVariants.{ReadFault}
 use Rattle.book_core.specs.declared.refusal.Refusal.{Refusal}
 use Rattle.treasury_state.specs.Federation.{Federation}
 use Rattle.treasury_state.specs.Rows.{rows}
-use Rattle.treasury_store.specs.Rows.{AreTreesOf}
+use Rattle.treasury_tables.specs.Rows.{AreTreesOf}
 use Rattle.treasury_api.specs.declared.asking.Asked.{Asked}
 use Rattle.treasury_api.specs.Step.{Standing}
 use Rattle.treasury_api.specs.Left.{end_state}

@@ -16,7 +16,7 @@ ghost use Rattle.treasury_api.specs.History.{KeepBooksTo};
 ghost use Rattle.treasury_api.specs.Web.{AreServed, turns_of_calls};
 ghost use Rattle.treasury_requests.specs.declared.request.Spelled.{Spelled};
 ghost use Rattle.treasury.specs.Word.{AnswersWord, Told, AreTold, turns_of_words};
-ghost use Rattle.treasury_store.specs.Tables.{no_schema};
+ghost use Rattle.treasury_tables.specs.Tables.{no_schema};
 ghost use Rattle.treasury_store.specs.Store.{empty_state};
 ghost use Rattle.treasury_files.specs.declared.left.Left.{Left};
 ghost use Rattle.treasury_files.specs.Left.{HoldsOf, IsCleanStore, MayBe, MayComeBack};

@@ -22,7 +22,7 @@ use Rattle.treasury_state.specs.Rows.{rows}
 use Rattle.treasury_core.specs.declared.command.Answer.{Answer}
 use Rattle.treasury_core.specs.declared.command.Command.{Command as AnyCommand}
 use Rattle.treasury_core.specs.declared.command.Command.TheVariants as cmd
-use Rattle.treasury_store.specs.Rows.{Tables}
+use Rattle.treasury_tables.specs.Rows.{Tables}
 use Rattle.treasury_store.specs.Store.{TablesAre, AnswersState}
 use Rattle.treasury_store.specs.Treasury.{Treasury, IsTreasuryOf, FailsBy, is_by_rules}
 use Rattle.treasury_store.specs.Left.{LeavesRows, LeavesEither, LeavesSame, LeavesStep}

@@ -11,7 +11,7 @@ use Rattle.treasury_state.specs.Federation.{Federation}
 use Rattle.treasury_state.specs.Rows.{rows}
 use Rattle.treasury_core.specs.Run.{state_after}
 use Rattle.treasury_laws.proofs.HeadlineLemmas.{keeps_books}
-use Rattle.treasury_store.specs.Kept.{ShutsByFault}
+use Rattle.treasury_tables.specs.Kept.{ShutsByFault}
 use Rattle.treasury_store.specs.Treasury.{Treasury, IsTreasuryOf}
 use Rattle.treasury_store.specs.Left.{LeavesRows}
 use Rattle.treasury_store.proofs.LeftLemmas.{shuts_same, shuts_then}

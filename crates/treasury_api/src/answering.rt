@@ -5,7 +5,7 @@ ghost use Rattle.sqlite.specs.State.{HasCleanDisk};
 ghost use Rattle.sqlite.specs.Held.{state};
 ghost use Rattle.book_core.specs.declared.refusal.Refusal.{Refusal as Refused};
 ghost use Rattle.treasury_state.specs.Federation.{Federation};
-ghost use Rattle.treasury_store.specs.Kept.{ShutsByFault, StaysAsIs};
+ghost use Rattle.treasury_tables.specs.Kept.{ShutsByFault, StaysAsIs};
 ghost use Rattle.treasury_store.specs.Shown.{ShowsNoState};
 ghost use Rattle.treasury_store.specs.Left.{LeavesStep};
 ghost use Rattle.treasury_store.specs.Treasury.{IsTreasuryOf, IsListed};

@@ -5,7 +5,7 @@ ghost use Rattle.std.specs.Prelude.{OnErr};
 ghost use Rattle.sqlite.specs.State.{HasCleanDisk};
 ghost use Rattle.sqlite.specs.Held.{state};
 ghost use Rattle.treasury_state.specs.Federation.{Federation};
-ghost use Rattle.treasury_store.specs.Kept.{ShutsByFault};
+ghost use Rattle.treasury_tables.specs.Kept.{ShutsByFault};
 ghost use Rattle.treasury_store.specs.Treasury.{IsTreasuryOf};
 ghost use Rattle.treasury_requests.specs.Request.{HasDayNumbers, is_report, spelled};
 ghost use Rattle.treasury_api.specs.Answer.{IsPrintableRefusal};

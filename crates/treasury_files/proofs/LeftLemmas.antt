@@ -31,16 +31,16 @@ use Rattle.sqlite.specs.declared.file.Leftover.TheVariants as rest
 use Rattle.sqlite.proofs.Theorems.{opens_again}
 use Rattle.money_core.specs.declared.cause.Cause.{Cause}
 use Rattle.money_core.specs.declared.cause.Cause.TheVariants.{OutOfMemory, Store as Failed, Damaged}
-use Rattle.treasury_store.specs.Tables.{store_schema, first_schema}
-use Rattle.treasury_store.specs.Creating.{has_one, has_receipt}
-use Rattle.treasury_store.specs.Opening.{AreOurs, IsFirst, IsSecond, IsEither}
-use Rattle.treasury_store.specs.Judging.{ReadsFirst}
-use Rattle.treasury_store.specs.Upgrading.{KeepsOurs}
-use Rattle.treasury_store.specs.Kept.{KeepsTables, StaysAsIs}
-use Rattle.treasury_store.specs.Rows.{Tables, Holds, HoldsFirst, HoldsEither}
+use Rattle.treasury_tables.specs.Tables.{store_schema, first_schema}
+use Rattle.treasury_tables.specs.Creating.{has_one, has_receipt}
+use Rattle.treasury_tables.specs.Opening.{AreOurs, IsFirst, IsSecond, IsEither}
+use Rattle.treasury_tables.specs.Judging.{ReadsFirst}
+use Rattle.treasury_tables.specs.Upgrading.{KeepsOurs}
+use Rattle.treasury_tables.specs.Kept.{KeepsTables, StaysAsIs}
+use Rattle.treasury_tables.specs.Rows.{Tables, Holds, HoldsFirst, HoldsEither}
+use Rattle.treasury_tables.proofs.OpenLemmas.{ours_first, ours_second, first_bare, second_more}
 use Rattle.treasury_store.specs.Store.{TablesAre}
 use Rattle.treasury_store.specs.Left.{LeavesSame, LeavesEitherVersion}
-use Rattle.treasury_store.proofs.OpenLemmas.{ours_first, ours_second, first_bare, second_more}
 use Rattle.treasury_files.specs.declared.left.Left.{Left}
 use Rattle.treasury_files.specs.declared.left.Left.TheVariants.{Untouched, Closed, Open, Shut, Unopened}
 use Rattle.treasury_files.specs.Left.{HoldsRows, HaveRows, IsLeft, IsImageOf, IsCleanIn, MayBe, MayComeBack, AreSpared}

@@ -18,16 +18,16 @@ use Rattle.sqlite.specs.Closing.{IsCopied, HoldsAlone}
 use Rattle.treasury_state.specs.Federation.{Federation}
 use Rattle.treasury_state.specs.Good.{IsGoodState}
 use Rattle.treasury_state.specs.Rows.{rows}
-use Rattle.treasury_store.specs.Rows.{Tables, Holds, HoldsEither, ShowsTables}
-use Rattle.treasury_store.specs.Kept.{KeepsTables, StaysAsIs}
-use Rattle.treasury_store.specs.Tables.{no_schema, store_schema}
-use Rattle.treasury_store.specs.Creating.{has_one, has_all, has_receipt}
-use Rattle.treasury_store.specs.Opening.{AreOurs, IsFirst, IsFirstNumbered, IsSecond}
-use Rattle.treasury_store.specs.Upgrading.{Upgrades}
+use Rattle.treasury_tables.specs.Rows.{Tables, Holds, HoldsEither, ShowsTables}
+use Rattle.treasury_tables.specs.Kept.{KeepsTables, StaysAsIs}
+use Rattle.treasury_tables.specs.Tables.{no_schema, store_schema}
+use Rattle.treasury_tables.specs.Creating.{has_one, has_all, has_receipt}
+use Rattle.treasury_tables.specs.Opening.{AreOurs, IsFirst, IsFirstNumbered, IsSecond}
+use Rattle.treasury_tables.specs.Upgrading.{Upgrades}
+use Rattle.treasury_tables.proofs.OpenLemmas.{ours_second, not_first, second_more}
 use Rattle.treasury_store.specs.declared.store.Store.{Store}
 use Rattle.treasury_store.specs.Store.{TablesAre, IsOf, empty_state}
 use Rattle.treasury_store.specs.Treasury.{Treasury, IsTreasuryOf}
-use Rattle.treasury_store.proofs.OpenLemmas.{ours_second, not_first, second_more}
 use Rattle.treasury_files.specs.declared.left.Left.{Left}
 use Rattle.treasury_files.specs.declared.left.Left.TheVariants.{Closed, Open, Shut}
 use Rattle.treasury_files.specs.Left.{KeepsFile}

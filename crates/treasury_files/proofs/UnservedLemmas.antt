@@ -11,9 +11,9 @@ use Rattle.money_core.specs.declared.cause.Cause.TheVariants.{Damaged}
 use Rattle.treasury_state.specs.Federation.{Federation}
 use Rattle.treasury_state.specs.Good.{IsGoodState}
 use Rattle.treasury_state.specs.Rows.{rows}
-use Rattle.treasury_store.specs.Opening.{AreOurs, IsFirst, IsSecond}
-use Rattle.treasury_store.specs.Judging.{ReadsFirst}
-use Rattle.treasury_store.specs.Rows.{Tables, HoldsEither}
+use Rattle.treasury_tables.specs.Opening.{AreOurs, IsFirst, IsSecond}
+use Rattle.treasury_tables.specs.Judging.{ReadsFirst}
+use Rattle.treasury_tables.specs.Rows.{Tables, HoldsEither}
 use Rattle.treasury_store.specs.Store.{TablesAre}
 use Rattle.treasury_files.specs.declared.left.Left.{Left}
 use Rattle.treasury_files.specs.Left.{HoldsOf, IsCleanIn, HasNoTreasury}

@@ -15,12 +15,12 @@ use Rattle.sqlite.specs.Closing.{HoldsAlone}
 use Rattle.treasury_state.specs.Federation.{Federation}
 use Rattle.treasury_state.specs.Good.{IsGoodState}
 use Rattle.treasury_state.specs.Rows.{rows}
-use Rattle.treasury_store.specs.Rows.{Holds, HoldsEither, ShowsTables}
+use Rattle.treasury_tables.specs.Rows.{Holds, HoldsEither, ShowsTables}
+use Rattle.treasury_tables.specs.Tables.{no_schema}
+use Rattle.treasury_tables.specs.Creating.{has_one, has_all}
+use Rattle.treasury_tables.specs.Opening.{AreOurs, IsFirst, IsFirstNumbered, IsSecond}
+use Rattle.treasury_tables.specs.Upgrading.{Upgrades}
 use Rattle.treasury_store.specs.Store.{empty_state}
-use Rattle.treasury_store.specs.Tables.{no_schema}
-use Rattle.treasury_store.specs.Creating.{has_one, has_all}
-use Rattle.treasury_store.specs.Opening.{AreOurs, IsFirst, IsFirstNumbered, IsSecond}
-use Rattle.treasury_store.specs.Upgrading.{Upgrades}
 use Rattle.treasury_files.specs.declared.left.Left.{Left}
 use Rattle.treasury_files.specs.declared.left.Left.TheVariants.{Closed}
 use Rattle.treasury_files.specs.Left.{IsImageOf}

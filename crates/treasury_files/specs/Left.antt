@@ -17,7 +17,7 @@ use Rattle.sqlite.specs.declared.file.Leftover.TheVariants as rest
 use Rattle.treasury_state.specs.Federation.{Federation}
 use Rattle.treasury_state.specs.Good.{IsGoodState}
 use Rattle.treasury_state.specs.Rows.{rows}
-use Rattle.treasury_store.specs.Rows.{Tables, HoldsEither, AreTreesOf, AreFirstTreesOf}
+use Rattle.treasury_tables.specs.Rows.{Tables, HoldsEither, AreTreesOf, AreFirstTreesOf}
 use Rattle.treasury_files.specs.declared.left.Left.{Left}
 use Rattle.treasury_files.specs.declared.left.Left.TheVariants.{Untouched, Closed, Open, Shut, Unopened}
 

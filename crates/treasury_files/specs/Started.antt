@@ -16,7 +16,7 @@ use Rattle.sqlite.specs.Closing.{IsCopied}
 use Rattle.money_core.specs.declared.cause.Cause.{Cause}
 use Rattle.money_core.specs.declared.cause.Cause.TheVariants.{OutOfMemory, Store as Failed, Damaged}
 use Rattle.treasury_state.specs.Federation.{Federation}
-use Rattle.treasury_store.specs.Rows.{Tables, HoldsEither}
+use Rattle.treasury_tables.specs.Rows.{Tables, HoldsEither}
 use Rattle.treasury_store.specs.Store.{TablesAre}
 use Rattle.treasury_store.specs.Treasury.{Treasury, IsTreasuryOf}
 use Rattle.treasury_files.specs.declared.file.Unopened.{Unopened as Why}

@@ -1,8 +1,8 @@
 //! What a database has otherwise than a treasury has it: tables that are missing, and tables with other columns.
 
 ghost use Rattle.std.specs.Prelude.{◌≡◌, map, IfErr, IsTrue};
-ghost use Rattle.treasury_store.specs.Creating.{has_receipt};
-ghost use Rattle.treasury_store.specs.Opening.{IsEither};
+ghost use Rattle.treasury_tables.specs.Creating.{has_receipt};
+ghost use Rattle.treasury_tables.specs.Opening.{IsEither};
 ghost use Rattle.treasury_files.specs.Made.{names_in, heading};
 ghost use Rattle.treasury_files.specs.Started.{refusal_of};
 

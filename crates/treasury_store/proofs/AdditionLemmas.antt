@@ -37,15 +37,15 @@ use Rattle.treasury_state.proofs.BackLemmas.{room_back}
 use Rattle.treasury_state.proofs.BytesLemmas.{neither, same_bytes}
 use Rattle.treasury_state.proofs.OrderLemmas.{own_ids}
 use Rattle.treasury_laws.specs.History.{Grows}
-use Rattle.treasury_store.specs.declared.change.Change.TheVariants as change
-use Rattle.treasury_store.specs.Rows.{Tables, locked, received as takes, joined as written}
+use Rattle.treasury_tables.specs.declared.change.Change.TheVariants as change
+use Rattle.treasury_tables.specs.Rows.{Tables, locked, received as takes, joined as written}
+use Rattle.treasury_tables.proofs.SameLemmas.{Same, same_refl, same_trans, same_joined, other_units, joined-append}
+use Rattle.treasury_tables.proofs.SameLemmas.{legs_joined, claims_joined, front_past, second_first}
 use Rattle.treasury_store.specs.Numbers.{records_each, numbers_of}
 use Rattle.treasury_store.specs.Store.{Finds, FindsAll}
 use Rattle.treasury_store.specs.Changes.{Counts, named, place_in, record_changes, receipt_change, changes_by, counted}
 use Rattle.treasury_store.specs.Changes.{changes_from, counted_all, style_with, name_with, styles_with, names_with}
 use Rattle.treasury_store.specs.Changes.{counts_of, changes_of, numbers_with}
-use Rattle.treasury_store.proofs.SameLemmas.{Same, same_refl, same_trans, same_joined, other_units, joined-append}
-use Rattle.treasury_store.proofs.SameLemmas.{legs_joined, claims_joined, front_past, second_first}
 use Rattle.treasury_store.proofs.NumberedLemmas.{place_named, IsFront, front_place, changed_past, one_more, rows_from}
 use Rattle.treasury_store.proofs.NumberedLemmas.{none_more, rows-locked, record_in, branch_rows, branches-entered}
 use Rattle.treasury_store.proofs.NumberedLemmas.{none_locked, branch_locked, each-entered, each-locked, names-changed}

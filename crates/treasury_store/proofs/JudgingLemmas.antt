@@ -1,6 +1,6 @@
 -- Tables of version 1 are read, and are the rows of a state or of none.
 use Rattle.std.proofs.Common.{◌≡◌, ◌∙◌, ◌⊎◌, inl, inr, List, [], ◌∷◌, map, IsTrue, Result, Err, sym}
-use Rattle.std.proofs.Common.{refl, subst, arith, pos, IsPermutation}
+use Rattle.std.proofs.Common.{refl, arith, pos, IsPermutation}
 use Rattle.sqlite.specs.declared.types.Value.TheVariants.{Int}
 use Rattle.sqlite.specs.Order.{Row, column}
 use Rattle.sqlite.proofs.StateLemmas.{survives_weaker}
@@ -14,20 +14,14 @@ use Rattle.treasury_state.specs.declared.rows.Parts.{Parts}
 use Rattle.treasury_state.specs.Federation.{Federation}
 use Rattle.treasury_state.specs.Good.{IsGoodState}
 use Rattle.treasury_state.specs.Rows.{rows}
-use Rattle.treasury_store.specs.Rows.{Tables, HoldsFirst}
-use Rattle.treasury_store.specs.Kept.{ChangesNothing}
-use Rattle.treasury_store.specs.Order.{InOrder}
-use Rattle.treasury_store.specs.Opening.{IsEither}
-use Rattle.treasury_store.specs.Judging.{ReadsFirst, HasReadFirst}
-use Rattle.treasury_store.proofs.OpenLemmas.{shown_versions}
+use Rattle.treasury_tables.specs.Rows.{Tables, HoldsFirst}
+use Rattle.treasury_tables.specs.Kept.{ChangesNothing}
+use Rattle.treasury_tables.specs.Order.{InOrder}
+use Rattle.treasury_tables.specs.Opening.{IsEither}
+use Rattle.treasury_tables.specs.Judging.{ReadsFirst, HasReadFirst}
+use Rattle.treasury_tables.proofs.OpenLemmas.{shown_versions}
+use Rattle.treasury_tables.proofs.FailingLemmas.{survives_behind}
 use Rattle.treasury_store.proofs.OrderedLemmas.{rows_in_order}
-use Rattle.treasury_store.proofs.FailingLemmas.{survives_behind}
-
--- behind queries that changed nothing the tables hold the rows that they held
-pub still_held : {S : Type 0} {g : Ghosts S} {a b : Held S} (t : Tables) → HasReadFirst g a b → HasCleanDisk (state g b)
-    → HoldsFirst (state g a).now t → HoldsFirst (state g b).now t
-still_held {g = g} t one clean holds =
-    subst (λ (db : Database). HoldsFirst db t) (sym (one.same clean holds.schema).0) holds
 
 -- a look at the connection behind a query that failed
 pub reads_behind : {S : Type 0} (g : Ghosts S) (old mid new : Held S) → ReadsFirst g old mid

@@ -10,13 +10,13 @@ use Rattle.treasury_state.specs.Federation.{Federation}
 use Rattle.treasury_state.specs.Joined.{joined}
 use Rattle.treasury_state.specs.Rows.{rows}
 use Rattle.treasury_core.specs.declared.command.Command.{Command}
+use Rattle.treasury_tables.specs.Rows.{Tables, Holds, AreTreesOf}
+use Rattle.treasury_tables.specs.Kept.{KeepsTables, ShutsByFault}
+use Rattle.treasury_tables.specs.Creating.{has_receipt}
+use Rattle.treasury_tables.specs.Upgrading.{KeepsOurs}
+use Rattle.treasury_tables.proofs.OpenLemmas.{ours_first, ours_second, not_first, second_more}
+use Rattle.treasury_tables.proofs.UpgradeLemmas.{upgraded_holds}
 use Rattle.treasury_store.specs.declared.store.Store.{Store}
-use Rattle.treasury_store.specs.Rows.{Tables, Holds, AreTreesOf}
-use Rattle.treasury_store.specs.Kept.{KeepsTables, ShutsByFault}
-use Rattle.treasury_store.specs.Creating.{has_receipt}
-use Rattle.treasury_store.specs.Upgrading.{KeepsOurs}
-use Rattle.treasury_store.proofs.OpenLemmas.{ours_first, ours_second, not_first, second_more}
-use Rattle.treasury_store.proofs.UpgradeLemmas.{upgraded_holds}
 use Rattle.treasury_store.specs.Store.{TablesAre, IsOf, Joins}
 use Rattle.treasury_store.specs.Treasury.{Treasury, SurvivesCommand}
 use Rattle.treasury_store.specs.Left.{LeavesRows, LeavesSame, LeavesEitherVersion, LeavesJoined, LeavesStep}

@@ -14,10 +14,10 @@ use Rattle.treasury_state.specs.declared.rows.BranchRow.{BranchRow}
 use Rattle.treasury_state.specs.Federation.{Branch, name_place, names_of}
 use Rattle.treasury_state.specs.Joined.{new_branch, with_records, with_lock, changed}
 use Rattle.treasury_state.specs.Rows.{branch_row}
-use Rattle.treasury_store.specs.Rows.{locked}
+use Rattle.treasury_tables.specs.Rows.{locked}
+use Rattle.treasury_tables.proofs.SameLemmas.{last_first, front_past}
 use Rattle.treasury_store.specs.Numbers.{records_each}
 use Rattle.treasury_store.specs.Changes.{place_in}
-use Rattle.treasury_store.proofs.SameLemmas.{last_first, front_past}
 
 -- ---- places
 pub place_named : (bs : List Branch) (name : List ℕ) → name_place bs name ≡ place_in (names_of bs) name

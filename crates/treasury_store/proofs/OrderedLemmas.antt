@@ -1,10 +1,10 @@
 -- The rows of a good state are in the order of their keys.
-use Rattle.std.proofs.Common.{◌≡◌, ℕ, ℤ, ◌+◌, ◌<◌, ◌≤◌, pos, true, false, List, [], ◌∷◌, ◌++◌, map, length, refl, sym}
+use Rattle.std.proofs.Common.{◌≡◌, ℕ, ℤ, ◌+◌, ◌<◌, ◌≤◌, pos, List, [], ◌∷◌, ◌++◌, map, length, refl, sym}
 use Rattle.std.proofs.Common.{ap, subst, ◌∙◌, arith, Some, None, Option, Ok}
 use Rattle.std.specs.List.{enumerate_from, flat_map, AllByRecursion}
-use Rattle.std.specs.Ordering.{int_cmp, ordering_then, is_eq}
+use Rattle.std.specs.Ordering.{int_cmp, ordering_then}
 use Rattle.std.specs.declared.cmp.Ordering.{Ordering}
-use Rattle.std.specs.declared.cmp.Ordering.TheVariants.{Less, Equal, Greater}
+use Rattle.std.specs.declared.cmp.Ordering.TheVariants.{Less, Equal}
 use Rattle.std.specs.Cmp.{int_cmp_is}
 use Rattle.std.proofs.lemmas.Int.{ints}
 use Rattle.std.proofs.lemmas.Map.Text.{is_eq-slice_cmp}
@@ -36,7 +36,8 @@ use Rattle.treasury_state.specs.Good.{AreAscending, AreKeyed, IsGoodRecord, IsGo
 use Rattle.treasury_state.specs.Rows.{unit_row, branch_row, leg_row, leg_rows, claim_row, claim_rows, transfer_row}
 use Rattle.treasury_state.specs.Rows.{part_row, part_rows, rows}
 use Rattle.treasury_state.proofs.AllLemmas.{all_weaker, all-append}
-use Rattle.treasury_store.specs.Order.{entry_cmp, leg_cmp, claim_cmp, transfer_cmp, part_cmp, InOrder}
+use Rattle.treasury_tables.specs.Order.{entry_cmp, leg_cmp, claim_cmp, transfer_cmp, part_cmp, InOrder}
+use Rattle.treasury_tables.proofs.KeyedLemmas.{equal_is}
 use Rattle.treasury_store.proofs.NumberedLemmas.{rows_from, rows_in}
 use Rattle.treasury_store.proofs.AdditionLemmas.{entry_alone, alone}
 
@@ -280,13 +281,8 @@ transfers_rise bs (t ∷ ts) h = (behind ts h.0, transfers_rise bs ts h.1)
 abbrev PartLess : PartRow → PartRow → Type 0
 PartLess x y = part_cmp x y ≡ Less
 
-is_equal : (o : Ordering) → is_eq o ≡ true → o ≡ Equal
-is_equal Equal h = refl
-is_equal Less h = absurd (let k : false ≡ true = h in cc)
-is_equal Greater h = absurd (let k : false ≡ true = h in cc)
-
 same_name : (id : List ℕ) → name_cmp id id ≡ Equal
-same_name id = is_equal (name_cmp id id) (is_eq-slice_cmp id id ∙ self_bytes id)
+same_name id = equal_is (name_cmp id id) (is_eq-slice_cmp id id ∙ self_bytes id)
 
 parts_at : (id : List ℕ) (ps : List Part) → AreKeyed ps → IsAscending PartLess (map (part_row id) ps)
 parts_at id [] h = tt

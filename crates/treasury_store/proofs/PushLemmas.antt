@@ -10,8 +10,8 @@ use Rattle.book_core.specs.declared.claim.Placed.{Placed}
 use Rattle.book_core.specs.declared.leg.Leg.{Leg}
 use Rattle.treasury_state.specs.declared.delta.Addition.{Addition}
 use Rattle.treasury_state.specs.Rows.{leg_row, claim_row}
-use Rattle.treasury_store.specs.declared.change.Change.{Change}
-use Rattle.treasury_store.specs.declared.change.Change.TheVariants as change
+use Rattle.treasury_tables.specs.declared.change.Change.{Change}
+use Rattle.treasury_tables.specs.declared.change.Change.TheVariants as change
 use Rattle.treasury_store.specs.Changes.{Counts, changes_by, counted, changes_from, counted_all, CanWrite, CanWriteFrom}
 use Rattle.treasury_store.proofs.ListLemmas.{rest_is, past_end}
 

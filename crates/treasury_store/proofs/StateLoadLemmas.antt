@@ -14,11 +14,11 @@ use Rattle.treasury_state.specs.Federation.{Federation}
 use Rattle.treasury_state.specs.Good.{IsGoodState}
 use Rattle.treasury_state.specs.Rows.{rows}
 use Rattle.treasury_laws.proofs.RowsLawLemmas.{same_state}
+use Rattle.treasury_tables.specs.Tables.{store_schema}
+use Rattle.treasury_tables.specs.Rows.{Tables, Holds, ShowsTables}
+use Rattle.treasury_tables.specs.Kept.{Queries}
+use Rattle.treasury_tables.specs.Order.{InOrder}
 use Rattle.treasury_store.specs.declared.store.Store.{Store}
-use Rattle.treasury_store.specs.Tables.{store_schema}
-use Rattle.treasury_store.specs.Rows.{Tables, Holds, ShowsTables}
-use Rattle.treasury_store.specs.Kept.{Queries}
-use Rattle.treasury_store.specs.Order.{InOrder}
 use Rattle.treasury_store.specs.Store.{TablesAre, Knows, IsOf}
 use Rattle.treasury_store.proofs.OrderedLemmas.{rows_in_order}
 

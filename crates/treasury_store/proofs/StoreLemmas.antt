@@ -1,5 +1,5 @@
 -- What a store is of, once its changes are written, and where they are not.
-use Rattle.std.proofs.Common.{◌≡◌, List, Option, Some, refl, sym, ap, subst, ◌∙◌, inl, arith, IsTrue}
+use Rattle.std.proofs.Common.{◌≡◌, List, Option, Some, refl, sym, ap, subst, ◌∙◌, inl, inr, arith, IsTrue}
 use Rattle.sqlite.specs.Store.{Ghosts}
 use Rattle.sqlite.specs.Effect.{Database}
 use Rattle.sqlite.specs.Tree.{Trees}
@@ -12,13 +12,18 @@ use Rattle.treasury_state.specs.Good.{IsGoodState}
 use Rattle.treasury_state.specs.Joined.{joined}
 use Rattle.treasury_state.specs.Rows.{rows}
 use Rattle.treasury_state.proofs.BackLemmas.{good_room}
-use Rattle.treasury_store.specs.declared.change.Change.{Change}
+use Rattle.treasury_tables.specs.declared.change.Change.{Change}
+use Rattle.treasury_tables.specs.Rows.{Tables, Holds, HoldsEither, joined as written}
+use Rattle.treasury_tables.specs.Creating.{has_receipt}
+use Rattle.treasury_tables.specs.Opening.{AreOurs, IsFirst, IsFirstNumbered}
+use Rattle.treasury_tables.specs.Upgrading.{Upgrades}
+use Rattle.treasury_tables.proofs.SameLemmas.{Same, holds_same}
+use Rattle.treasury_tables.proofs.OpenLemmas.{not_first, ours_second, second_more}
+use Rattle.treasury_tables.proofs.UpgradeLemmas.{upgraded_holds}
 use Rattle.treasury_store.specs.declared.store.Store.{Store}
-use Rattle.treasury_store.specs.Rows.{Tables, Holds, joined as written}
 use Rattle.treasury_store.specs.Numbers.{Numbering, numbers_of}
 use Rattle.treasury_store.specs.Changes.{changes_of, numbers_with}
-use Rattle.treasury_store.specs.Store.{IsOf, empty_state, Joins}
-use Rattle.treasury_store.proofs.SameLemmas.{Same, holds_same}
+use Rattle.treasury_store.specs.Store.{TablesAre, IsOf, empty_state, Joins}
 use Rattle.treasury_store.proofs.AdditionLemmas.{writes_joined, numbers_joined}
 
 pub survives_same : (s : State) (P : Trees → Type 0) → Survives s s P
@@ -120,3 +125,18 @@ empty_good = record {
   transfers = tt;
   carried = tt;
 }
+
+-- whichever version held these rows, version 2 holds them behind an opening
+pub opened_holds : {S : Type 0} (g : Ghosts S) (old new : Held S)
+    → (HasCleanDisk (state g new) → IsFirstNumbered (state g old).now
+    → Upgrades (state g old).now (state g new).now × ((state g new).committed ≡ (state g new).now))
+    → (HasCleanDisk (state g new) → AreOurs (state g old).now.schema → (IsFirst (state g old).now → ⊥)
+    → ((state g new).now ≡ (state g old).now) × ((state g new).committed ≡ (state g old).committed))
+    → (state g old).committed ≡ (state g old).now → (t : Tables) → HoldsEither (state g old).now t → TablesAre g new t
+opened_holds g old new first same settled t (inr holds) clean is_open =
+    let up = first clean (record { schema = holds.schema; version = holds.format }, holds.numbered) in
+    (upgraded_holds (state g old).now (state g new).now t holds up.0, up.1)
+opened_holds g old new first same settled t (inl holds) clean is_open =
+    let kept = same clean (ours_second (state g old).now.schema holds.shows.schema)
+    (λ is. not_first (state g old).now (ap has_receipt holds.shows.schema ∙ second_more) is) in
+    (subst (λ (d : Database). Holds d t) (sym kept.0) holds, kept.1 ∙ (settled ∙ sym kept.0))

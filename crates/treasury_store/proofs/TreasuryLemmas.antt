@@ -33,9 +33,9 @@ use Rattle.treasury_core.specs.Closing.{closing_in}
 use Rattle.treasury_core.specs.Run.{IsRun, state_after}
 use Rattle.treasury_laws.specs.Headline.{KeepsBooks}
 use Rattle.treasury_laws.proofs.HeadlineLemmas.{keeps_books}
+use Rattle.treasury_tables.specs.Rows.{Holds, AreTreesOf}
+use Rattle.treasury_tables.specs.Kept.{KeepsTables}
 use Rattle.treasury_store.specs.declared.store.Store.{Store}
-use Rattle.treasury_store.specs.Rows.{Holds, AreTreesOf}
-use Rattle.treasury_store.specs.Kept.{KeepsTables}
 use Rattle.treasury_store.specs.Store.{IsOf, AnswersState, FailsAs, Finds, FindsAll, Joins}
 use Rattle.treasury_store.specs.Treasury.{Treasury, IsTreasuryOf, MayReply, Performs, is_failure, turn_if}
 use Rattle.treasury_store.specs.Treasury.{SurvivesCommand, IsUnfit}

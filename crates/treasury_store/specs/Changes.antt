@@ -14,8 +14,8 @@ use Rattle.treasury_state.specs.Federation.{Branch, name_place}
 use Rattle.treasury_state.specs.Joined.{new_branch}
 use Rattle.treasury_state.specs.Rows.{unit_row, branch_row, entry_row, leg_rows, claim_rows, transfer_row, part_row}
 use Rattle.treasury_state.specs.Transfer.{is_all}
-use Rattle.treasury_store.specs.declared.change.Change.{Change}
-use Rattle.treasury_store.specs.declared.change.Change.TheVariants as change
+use Rattle.treasury_tables.specs.declared.change.Change.{Change}
+use Rattle.treasury_tables.specs.declared.change.Change.TheVariants as change
 use Rattle.treasury_store.specs.Numbers.{Numbering}
 
 -- how many commodities there are, and how many records each branch has

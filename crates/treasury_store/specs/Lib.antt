@@ -1,16 +1,8 @@
-pub mod Tables
-pub mod Rows
+-- What a reader has to believe, in reading order
 pub mod Shown
-pub mod Kept
-pub mod Creating
-pub mod Opening
-pub mod Upgrading
-pub mod Judging
-pub mod Order
 pub mod Numbers
 pub mod Store
 pub mod Treasury
 pub mod Left
 -- What mirrors code, for private clauses: nobody has to believe it
 pub mod Changes
-pub mod Kinds

@@ -13,7 +13,7 @@ use Rattle.treasury_state.specs.Transfer.{is_all, has_id}
 use Rattle.treasury_state.specs.Joined.{joined_one, joined}
 use Rattle.treasury_state.specs.Good.{IsGoodState}
 use Rattle.treasury_state.specs.Rows.{rows}
-use Rattle.treasury_store.specs.Rows.{Tables, Holds}
+use Rattle.treasury_tables.specs.Rows.{Tables, Holds}
 use Rattle.treasury_store.specs.Numbers.{numbers_of}
 use Rattle.treasury_store.specs.declared.store.Store.{Store}
 

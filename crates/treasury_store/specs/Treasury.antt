@@ -15,8 +15,8 @@ use Rattle.treasury_core.specs.declared.command.Command.{Command}
 use Rattle.treasury_core.specs.Step.{reply, after, delta, step}
 use Rattle.treasury_core.specs.Fits.{Fits}
 use Rattle.treasury_core.specs.Run.{Turn, Replies}
+use Rattle.treasury_tables.specs.Rows.{Holds, AreTreesOf}
 use Rattle.treasury_store.specs.declared.store.Store.{Store}
-use Rattle.treasury_store.specs.Rows.{Holds, AreTreesOf}
 use Rattle.treasury_store.specs.Store.{IsOf}
 
 -- a treasury: its store, and the state in memory while it is held

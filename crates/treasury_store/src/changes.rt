@@ -14,12 +14,11 @@ ghost use Rattle.treasury_state.specs.Joined.{new_branch};
 ghost use Rattle.treasury_state.specs.Rows.{truth, kind_number, unit_row, branch_row, entry_row, leg_row, leg_rows};
 ghost use Rattle.treasury_state.specs.Rows.{claim_row, transfer_row, part_row};
 ghost use Rattle.treasury_state.specs.Transfer.{is_all};
-ghost use Rattle.treasury_store.specs.declared.change.Change.TheVariants.{Leg as LegChange, Claim as ClaimChange};
+ghost use Rattle.treasury_tables.specs.declared.change.Change.TheVariants.{Leg as LegChange, Claim as ClaimChange};
 ghost use Rattle.treasury_store.specs.Changes.{named, record_changes, receipt_change, changes_by, counted};
 ghost use Rattle.treasury_store.specs.Changes.{changes_from, counted_all, changes_of, numbers_with, styles_with};
 ghost use Rattle.treasury_store.specs.Changes.{names_with, counts_of, IsWritable, CanWrite, CanWriteFrom};
 
-use crate::change::Change;
 use crate::numbers::{Numbers, more_names, more_styles, place_of};
 use book_core::{ClaimKind, Leg, Placed};
 use journal_format::{Txn, body};
@@ -30,6 +29,7 @@ use treasury_core::{
     Addition, BranchRow, ClaimRow, EntryRow, LegRow, Part, PartRow, Receipt, Record, Transfer,
     TransferRow, UnitRow,
 };
+use treasury_tables::Change;
 
 /// How many commodities there are, and how many records each branch has.
 #[derive(Debug, Drop)]

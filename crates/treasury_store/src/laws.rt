@@ -3,8 +3,8 @@
 ghost use Rattle.std.specs.Prelude.{IsTrue};
 ghost use Rattle.sqlite.specs.Held.{Held, state};
 ghost use Rattle.treasury_core.specs.declared.command.Command.{Command};
-ghost use Rattle.treasury_store.specs.Rows.{Tables};
-ghost use Rattle.treasury_store.specs.Kept.{KeepsTables};
+ghost use Rattle.treasury_tables.specs.Rows.{Tables};
+ghost use Rattle.treasury_tables.specs.Kept.{KeepsTables};
 ghost use Rattle.treasury_store.specs.Store.{TablesAre};
 ghost use Rattle.treasury_store.specs.Treasury.{Treasury, SurvivesCommand};
 ghost use Rattle.treasury_store.specs.Left.{LeavesRows, LeavesSame, LeavesStep};

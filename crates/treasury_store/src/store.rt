@@ -10,28 +10,24 @@ ghost use Rattle.treasury_state.specs.Federation.{Federation};
 ghost use Rattle.treasury_state.specs.Good.{IsGoodState};
 ghost use Rattle.treasury_state.specs.Joined.{joined};
 ghost use Rattle.treasury_state.specs.Rows.{rows};
-ghost use Rattle.treasury_store.specs.Rows.{Tables, Holds, HoldsEither, ShowsTables};
-ghost use Rattle.treasury_store.specs.Kept.{ChangesNothing, KeepsTables, StaysAsIs};
-ghost use Rattle.treasury_store.specs.Tables.{no_schema, store_schema};
-ghost use Rattle.treasury_store.specs.Creating.{has_one, has_all, has_counter, Beside, SurvivesMaking};
-ghost use Rattle.treasury_store.specs.Opening.{AreOurs, IsFirst, IsFirstNumbered, IsSecond};
-ghost use Rattle.treasury_store.specs.Upgrading.{Upgrades, KeepsOurs};
+ghost use Rattle.treasury_tables.specs.Rows.{Tables, Holds, HoldsEither, ShowsTables};
+ghost use Rattle.treasury_tables.specs.Kept.{ChangesNothing, KeepsTables, StaysAsIs};
+ghost use Rattle.treasury_tables.specs.Tables.{no_schema, store_schema};
+ghost use Rattle.treasury_tables.specs.Creating.{has_one, has_all, has_counter, Beside, SurvivesMaking};
+ghost use Rattle.treasury_tables.specs.Opening.{AreOurs, IsFirst, IsFirstNumbered, IsSecond};
+ghost use Rattle.treasury_tables.specs.Upgrading.{Upgrades, KeepsOurs};
 ghost use Rattle.treasury_store.specs.Store.{empty_state, TablesAre, Knows, IsOf, Joins, Answers, AnswersState};
 ghost use Rattle.treasury_store.specs.Left.{LeavesSame, LeavesEitherVersion, LeavesJoined};
 
 use crate::changes::changes_of;
-use crate::create::create_tables;
-use crate::failing::cause_of;
-use crate::load::load_parts;
 use crate::numbers::{Numbers, numbers_of};
-use crate::open::open_tables;
-use crate::write::write_all;
 use book_core::Ledger;
 use money_core::Cause;
 use sqlite::{Alter, Connection, Error, ErrorCode};
 use std::alloc::Global;
 use treasury_core::{Delta, State};
 use treasury_rows::Build;
+use treasury_tables::{cause_of, create_tables, load_parts, open_tables, write_all};
 
 /// A connection whose tables are the rows of a state.
 #[derive(Drop)]

@@ -3,7 +3,7 @@
 ghost use Rattle.std.specs.Prelude.{◌≡◌, ◌≤◌, [], Ok, Err, IfOk, OnErr, IsTrue, codes, vec_capacity};
 ghost use Rattle.std.specs.Result.{IsOkUnless};
 ghost use Rattle.book_core.specs.declared.refusal.Refusal.{Refusal as Refused};
-ghost use Rattle.treasury_store.specs.Kept.{ShutsByFault};
+ghost use Rattle.treasury_tables.specs.Kept.{ShutsByFault};
 ghost use Rattle.treasury_requests.specs.Request.{HasDayNumbers, in_earnest};
 ghost use Rattle.treasury_api.specs.Answer.{answer_text};
 ghost use Rattle.treasury_api.specs.Left.{LeavesRequest};

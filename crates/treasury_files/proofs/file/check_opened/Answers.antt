@@ -1,8 +1,8 @@
 use Rattle.std.proofs.Common.{◌≡◌, ◌∙◌, false, Result, Ok, Err, IfErr, OnErr, inr, sym, subst}
 use Rattle.sqlite.specs.Held.{state}
 use Rattle.treasury_state.specs.Rows.{rows}
-use Rattle.treasury_store.specs.Creating.{has_receipt}
-use Rattle.treasury_store.specs.Opening.{IsEither}
+use Rattle.treasury_tables.specs.Creating.{has_receipt}
+use Rattle.treasury_tables.specs.Opening.{IsEither}
 use Rattle.treasury_files.proofs.LeftLemmas.{in_either, only_first}
 use Rattle.treasury_files.proofs.file.check_opened.Goals as goal
 

@@ -1,6 +1,6 @@
 use Rattle.std.proofs.Common.{◌≡◌, ◌⊎◌, ◌∙◌, Bool, true, false, not, ap, sym, subst, inl, inr, arith}
 use Rattle.sqlite.specs.Held.{Held}
-use Rattle.treasury_store.specs.Creating.{has_receipt}
+use Rattle.treasury_tables.specs.Creating.{has_receipt}
 use Rattle.treasury_files.specs.Leaving.{IsLeftOpen, IsLeftClosed}
 use Rattle.treasury_files.specs.Started.{IsOpenedOn, StartsOn}
 use Rattle.treasury_files.proofs.LeftLemmas.{keeps_unasked, keeps_judged, keeps_refused, keeps_unstarted}

@@ -2,7 +2,7 @@ use Rattle.std.proofs.Common.{◌≡◌, ◌≤◌, ◌++◌, map, drop, length}
 use Rattle.std.specs.List.{AllByRecursion}
 use Rattle.book_core.specs.declared.claim.Placed.{Placed}
 use Rattle.treasury_state.specs.Rows.{claim_row}
-use Rattle.treasury_store.specs.declared.change.Change.TheVariants.{Claim as ClaimChange}
+use Rattle.treasury_tables.specs.declared.change.Change.TheVariants.{Claim as ClaimChange}
 use Rattle.treasury_store.proofs.changes.push_claims.Given as goal
 
 -- so far, and with the rest they are all

@@ -2,7 +2,7 @@ use Rattle.std.proofs.Common.{◌≡◌, ◌+◌, ◌++◌, ℕ, map, drop}
 use Rattle.std.specs.List.{enumerate_from}
 use Rattle.book_core.specs.declared.leg.Leg.{Leg}
 use Rattle.treasury_state.specs.Rows.{leg_row, leg_rows}
-use Rattle.treasury_store.specs.declared.change.Change.TheVariants.{Leg as LegChange}
+use Rattle.treasury_tables.specs.declared.change.Change.TheVariants.{Leg as LegChange}
 use Rattle.treasury_store.proofs.changes.push_legs.Given as goal
 
 -- so far, and with the rest they are all

@@ -5,9 +5,9 @@ use Rattle.sqlite.specs.Order.{column}
 use Rattle.sqlite.specs.State.{HasCleanDisk}
 use Rattle.sqlite.specs.Held.{state}
 use Rattle.treasury_state.specs.Rows.{rows}
-use Rattle.treasury_store.proofs.QueriesLemmas.{then_reads, reads_if_read}
+use Rattle.treasury_tables.proofs.QueriesLemmas.{then_reads, reads_if_read}
+use Rattle.treasury_tables.proofs.QueriesLemmas.{still_held}
 use Rattle.treasury_store.proofs.JudgingLemmas.{reads_undone, format_has_read, other_version, reads_behind, none_held}
-use Rattle.treasury_store.proofs.JudgingLemmas.{still_held}
 use Rattle.treasury_store.proofs.judging.judge_first.Goals as goal
 
 -- `format` could not be read

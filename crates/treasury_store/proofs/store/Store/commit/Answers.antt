@@ -1,9 +1,9 @@
 use Rattle.std.proofs.Common.{◌≡◌, ◌∙◌, List, Some, sym, ap, subst₂, arith}
 use Rattle.treasury_state.specs.declared.delta.Addition.{Addition}
+use Rattle.treasury_tables.proofs.FailingLemmas.{survives_behind}
 use Rattle.treasury_store.specs.Numbers.{Numbering, numbers_of}
 use Rattle.treasury_store.specs.Changes.{changes_of, numbers_with}
 use Rattle.treasury_store.proofs.StoreLemmas.{becomes_of, crash_joined, knows_joined, some_numbers}
-use Rattle.treasury_store.proofs.FailingLemmas.{survives_behind}
 use Rattle.treasury_store.proofs.LeftLemmas.{leaves_joined}
 use Rattle.treasury_store.proofs.WritableLemmas.{AreWritable, additions_fit}
 use Rattle.treasury_store.proofs.store.Store.commit.Goals as goal

@@ -1,7 +1,7 @@
 use Rattle.std.proofs.Common.{Some, ap, rules}
+use Rattle.treasury_tables.proofs.FailingLemmas.{survives_behind, same_behind}
 use Rattle.treasury_store.specs.Numbers.{Numbering}
 use Rattle.treasury_store.proofs.StoreLemmas.{empty_good}
-use Rattle.treasury_store.proofs.FailingLemmas.{survives_behind, same_behind}
 use Rattle.treasury_store.proofs.store.Store.create.Goals as goal
 
 pub returns-in-Ok-true-clause-made : goal.returns-in-Ok-true-clause-made

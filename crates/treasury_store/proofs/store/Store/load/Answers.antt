@@ -1,8 +1,8 @@
 use Rattle.std.proofs.Common.{Some, refl, ap, sym, subst, arith}
 use Rattle.sqlite.specs.Held.{state}
-use Rattle.treasury_store.specs.Rows.{ShowsTables}
+use Rattle.treasury_tables.specs.Rows.{ShowsTables}
+use Rattle.treasury_tables.proofs.FailingLemmas.{survives_behind, queries_behind}
 use Rattle.treasury_store.specs.Numbers.{Numbering}
-use Rattle.treasury_store.proofs.FailingLemmas.{survives_behind, queries_behind}
 use Rattle.treasury_store.proofs.LeftLemmas.{leaves_same}
 use Rattle.treasury_store.proofs.StateLoadLemmas.{any_err, failed_of, read_of, read_tables_stay, loaded_of}
 use Rattle.treasury_store.proofs.StateLoadLemmas.{none_damaged, none_shown}

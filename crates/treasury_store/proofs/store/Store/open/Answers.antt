@@ -1,7 +1,7 @@
 use Rattle.std.proofs.Common.{◌≡◌, ◌∙◌, ◌↔◌, Bool, false, IsTrue, sym, rules, true≢false}
-use Rattle.treasury_store.proofs.FailingLemmas.{survives_behind, same_behind}
+use Rattle.treasury_tables.proofs.FailingLemmas.{survives_behind, same_behind}
 use Rattle.treasury_store.proofs.LeftLemmas.{leaves_opened, leaves_either_version}
-use Rattle.treasury_store.proofs.UpgradeLemmas.{opened_holds}
+use Rattle.treasury_store.proofs.StoreLemmas.{opened_holds}
 use Rattle.treasury_store.proofs.store.Store.open.Goals as goal
 
 pub returns-in-Ok-true-clause-opened : goal.returns-in-Ok-true-clause-opened

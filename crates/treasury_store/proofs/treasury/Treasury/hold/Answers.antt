@@ -1,9 +1,9 @@
 use Rattle.std.proofs.Common.{◌≡◌, refl, sym, ap, subst}
 use Rattle.sqlite.specs.Held.{state}
 use Rattle.treasury_state.specs.Rows.{rows}
+use Rattle.treasury_tables.specs.Tables.{store_schema}
+use Rattle.treasury_tables.specs.Rows.{ShowsTables}
 use Rattle.treasury_store.specs.declared.store.Store.{Store}
-use Rattle.treasury_store.specs.Tables.{store_schema}
-use Rattle.treasury_store.specs.Rows.{ShowsTables}
 use Rattle.treasury_store.specs.Treasury.{Treasury, IsTreasuryOf}
 use Rattle.treasury_store.proofs.TreasuryLemmas.{held_again, rows_loaded}
 use Rattle.treasury_store.proofs.treasury.Treasury.hold.Goals as goal

@@ -1,0 +1,37 @@
+use Rattle.std.proofs.Common.{◌≡◌, [], ◌∷◌, Ok, subst, ap, ◌∙◌}
+use Rattle.sqlite.specs.Values.{bound}
+use Rattle.sqlite.specs.State.{Executes}
+use Rattle.sqlite.specs.Held.{state}
+use Rattle.treasury_tables.specs.declared.change.Change.TheVariants.{Leg}
+use Rattle.treasury_tables.specs.Rows.{joined}
+use Rattle.treasury_tables.specs.Kinds.{all_of}
+use Rattle.treasury_tables.proofs.InsideLemmas.{writes}
+use Rattle.treasury_tables.proofs.BoundLemmas.{bound_rows}
+use Rattle.treasury_tables.proofs.EightTexts.{add_leg_eights_text}
+use Rattle.treasury_tables.proofs.EightLemmas.{adds_leg_eights, leg_eights_params}
+use Rattle.treasury_tables.proofs.tables.leg.put_eight_legs.Goals as goal
+
+pub returns-clause-writes : goal.returns-clause-writes
+returns-clause-writes g c =
+    let old = state g.S.Store c.args.tx.now.conn.now in
+    let new = state g.S.Store c.execute.new.self.conn.now in
+    let x = c.args.eight.now in
+    let rows = c.leg_values.result ∷ c.leg_values-2.result ∷ c.leg_values-3.result ∷ c.leg_values-4.result
+    ∷ c.leg_values-5.result ∷ c.leg_values-6.result ∷ c.leg_values-7.result ∷ c.leg_values-8.result ∷ [] in
+    let is : bound c.as_flattened.result.now
+    ≡ leg_eights_params x.a.now x.b.now x.c.now x.d.now x.e.now x.f.now x.g.now x.h.now =
+    ap bound c.as_flattened.ensures.value ∙
+    (bound_rows rows ∙ rw (
+      c.leg_values.ensures,
+      c.leg_values-2.ensures,
+      c.leg_values-3.ensures,
+      c.leg_values-4.ensures,
+      c.leg_values-5.ensures,
+      c.leg_values-6.ensures,
+      c.leg_values-7.ensures,
+      c.leg_values-8.ensures,
+    )) in
+    writes g.S.Store _ _ _ _ _ _ c.execute.ensures.ended c.execute.ensures.runs c.execute.ensures.survives
+    (joined (all_of Leg x))
+    (λ count t holds h. adds_leg_eights x.a.now x.b.now x.c.now x.d.now x.e.now x.f.now x.g.now x.h.now old new t count
+    holds (subst (λ ps. Executes add_leg_eights_text ps old new (Ok count)) is h))

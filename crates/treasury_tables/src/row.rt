@@ -1,0 +1,73 @@
+//! A row of one of the tables: how it is asked for, and read.
+
+ghost use Rattle.std.specs.Prelude.{◌≡◌, List, [], map, IfOk};
+ghost use Rattle.sqlite.specs.declared.types.Value.{Value};
+ghost use Rattle.sqlite.specs.declared.types.Value.TheVariants.{Text as Words};
+ghost use Rattle.sqlite.specs.Order.{column};
+ghost use Rattle.sqlite.specs.Values.{or_null};
+ghost use Rattle.sqlite.specs.State.{HasCleanDisk, Shown};
+ghost use Rattle.sqlite.specs.Given.{IsPlain};
+ghost use Rattle.sqlite.specs.Listing.{understood};
+ghost use Rattle.sqlite.specs.Held.{state};
+ghost use Rattle.treasury_tables.specs.Tables.{store_schema};
+ghost use Rattle.treasury_tables.specs.Kept.{Queries};
+
+use money_core::{Items, Text};
+use sqlite::{Alter, Connection, Error, Row};
+use std::alloc::Global;
+
+/// A row of one of the tables, read from its columns.
+pub(crate) trait FromRow: Drop {
+    /// The columns.
+    ghost columns: { Self → List Value };
+
+    /// As many columns of any row.
+    ghost front: { List Value → List Value };
+
+    /// The row that has these columns. An error is want of memory, or that no row has them.
+    fn read(row: &Row) -> Result<Self, Error>
+        ensures same { IfOk result (λ x. (y : Self) → row.now ≡ columns y → x ≡ y) }
+        ensures shown { IfOk result (λ x. columns x ≡ front row.now) };
+}
+
+/// The text in a column.
+pub(crate) fn text_at(row: &Row, at: usize) -> Result<Text, Error>
+    ensures { IfOk result (λ text. column row.now at ≡ Words text) }
+{
+    let text: String = row.get(at)?;
+    Ok(Text::from_string(text))
+}
+
+/// The text in a column, if there is one.
+pub(crate) fn maybe_text_at(row: &Row, at: usize) -> Result<Option<Text>, Error>
+    ensures { IfOk result (λ text. column row.now at ≡ or_null Words text) }
+{
+    let text: Option<String> = row.get(at)?;
+    match text {
+        Some(text) => Ok(Some(Text::from_string(text))),
+        None => Ok(None),
+    }
+}
+
+/// The rows, in order.
+pub(crate) fn read_all<T: FromRow>(alloc: Global, rows: &[Row]) -> Result<Items<T>, Error>
+    ensures same { IfOk result (λ xs. (ys : List T) → rows.now ≡ map T.columns ys → xs ≡ ys) }
+    ensures shown { IfOk result (λ xs. map T.columns xs ≡ map T.front rows.now) }
+{
+    let mut list = Vec::new(alloc);
+    'row: for row in rows {
+        let item = T::read(row)?;
+        list.push(item)?;
+    }
+    Ok(Items::from_vec(list))
+}
+
+/// The rows of a query of our tables.
+pub(crate) fn queried<S: Alter>(conn: &mut Connection<S>, sql: &str) -> Result<Vec<Row>, Error>
+    requires { IsPlain (understood store_schema sql.now) }
+    ensures shown { HasCleanDisk (state S.Store conn.new)
+        → IfOk result (λ rows. Shown sql.now [] (state S.Store conn.old) (state S.Store conn.new) rows.items) }
+    ensures queries { Queries S.Store conn.old conn.new result }
+{
+    conn.query_all(sql, &[])
+}
