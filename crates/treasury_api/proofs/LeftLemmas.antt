@@ -2,7 +2,6 @@
 use Rattle.std.proofs.Common.{◌≡◌, ◌⊎◌, ℕ, ℤ, List, Bool, true, false, IfErr, Option, Some, None, Result, Ok, Err}
 use Rattle.std.proofs.Common.{OnOk, IsTrue, refl, ap, ◌∙◌, sym, subst, inl, inr}
 use Rattle.sqlite.specs.Store.{Ghosts}
-use Rattle.sqlite.specs.State.{HasCleanDisk}
 use Rattle.sqlite.specs.Held.{Held, state}
 use Rattle.money_core.specs.declared.style.Style.{Style}
 use Rattle.money_core.specs.declared.unit.Unit.{Unit as Commodity}
@@ -22,6 +21,7 @@ use Rattle.treasury_state.specs.Rows.{rows}
 use Rattle.treasury_core.specs.declared.command.Answer.{Answer}
 use Rattle.treasury_core.specs.declared.command.Command.{Command as AnyCommand}
 use Rattle.treasury_core.specs.declared.command.Command.TheVariants as cmd
+use Rattle.treasury_tables.specs.Kept.{IsFaithful}
 use Rattle.treasury_tables.specs.Rows.{Tables}
 use Rattle.treasury_store.specs.Store.{TablesAre, AnswersState}
 use Rattle.treasury_store.specs.Treasury.{Treasury, IsTreasuryOf, FailsBy, is_by_rules}
@@ -101,10 +101,10 @@ left_same g old new request same clean is_open f of asked asks =
 
 -- a command, behind the loading of the state
 pub left_command : {S : Type 0} (g : Ghosts S) (old mid new : Treasury S) (request : Spelled) (c : AnyCommand)
-    → (HasCleanDisk (state g new.store.conn) → HasCleanDisk (state g mid.store.conn))
-    → (HasCleanDisk (state g mid.store.conn) → IsTrue (state g old.store.conn).is_open
+    → (IsFaithful g new.store.conn → IsFaithful g mid.store.conn)
+    → (IsFaithful g mid.store.conn → IsTrue (state g old.store.conn).is_open
     → IsTrue (state g mid.store.conn).is_open)
-    → (HasCleanDisk (state g mid.store.conn) → (f : Federation) → IsTreasuryOf g old f → IsTreasuryOf g mid f)
+    → (IsFaithful g mid.store.conn → (f : Federation) → IsTreasuryOf g old f → IsTreasuryOf g mid f)
     → old.store.failed ≡ false → IsHeldFor mid c
     → ((f : Federation) → IsTreasuryOf g mid f → SpelledAsks f.styles request (Ok (Command c)))
     → LeavesStep g mid new c → LeavesRequest g old new request

@@ -2,7 +2,6 @@
 use Rattle.std.proofs.Common.{◌≡◌, ◌++◌, ◌⊎◌, ◌||◌, ℕ, List, [], ◌∷◌, Bool, true, false, Result, Ok, Err, MatchResult}
 use Rattle.std.proofs.Common.{if◌then◌else◌, refl, ap, ◌∙◌, sym, subst, inl, inr}
 use Rattle.sqlite.specs.Store.{Ghosts}
-use Rattle.sqlite.specs.State.{HasCleanDisk}
 use Rattle.sqlite.specs.Held.{state}
 use Rattle.money_core.specs.declared.cause.Cause.TheVariants.{OutOfMemory}
 use Rattle.book_core.specs.declared.refusal.Refusal.{Refusal}
@@ -29,6 +28,7 @@ use Rattle.treasury_api.proofs.AskedLemmas.{request_fits}
 use Rattle.treasury_api.proofs.SpelledLemmas.{spelled_command}
 use Rattle.treasury_api.proofs.HistoryLemmas.{command_replied, failure_leaves}
 use Rattle.treasury_api.proofs.ServeLemmas.{after_plain, leads, refused_only, data_line}
+use Rattle.treasury_tables.specs.Kept.{IsFaithful}
 
 -- what is written is the text of the reply
 written_text : (f : Federation) (failed : Bool) (asked : Result Asked Refusal) (answer : Answer) (written : List ℕ)
@@ -52,8 +52,8 @@ pub replied_done : {S : Type 0} (form : Form) (g : Ghosts S) (old new : Treasury
     (request : Spelled) (Says : Federation → Result Asked Refusal → Result Answer Refusal → Type 0)
     (Tells : Result Answer Refusal → Type 0) (made : Result (Unit {0}) Refusal) (x : Unit {0}) → made ≡ Ok x
     → HasDayNumbers request.request
-    → (HasCleanDisk (state g new.store.conn) → HasCleanDisk (state g old.store.conn))
-    → (HasCleanDisk (state g new.store.conn) → (f : Federation) → IsTreasuryOf g old f
+    → (IsFaithful g new.store.conn → IsFaithful g old.store.conn)
+    → (IsFaithful g new.store.conn → (f : Federation) → IsTreasuryOf g old f
     → IsAnsweredIn form g old.store.failed new f request made [] written)
     → ((f : Federation) (asked : Result Asked Refusal) (answer : Answer)
     → AsksOf old.store.failed f.styles request asked
@@ -101,8 +101,8 @@ replied_done form g old new written request Says Tells made x ok days clean answ
 pub said_done : {S : Type 0} (g : Ghosts S) (old new : Treasury S) (written : List ℕ) (request : Spelled)
     (Tells : Result Answer Refusal → Type 0) (made : Result (Unit {0}) Refusal) (x : Unit {0}) → made ≡ Ok x
     → HasDayNumbers request.request
-    → (HasCleanDisk (state g new.store.conn) → HasCleanDisk (state g old.store.conn))
-    → (HasCleanDisk (state g new.store.conn) → (f : Federation) → IsTreasuryOf g old f
+    → (IsFaithful g new.store.conn → IsFaithful g old.store.conn)
+    → (IsFaithful g new.store.conn → (f : Federation) → IsTreasuryOf g old f
     → IsAnswered g old.store.failed new f request made [] written)
     → ((answer : Answer) → Tells (Ok answer)) → RepliesOn g old request written Tells new
 said_done g old new written request Tells made x ok days clean answers tells =
@@ -124,8 +124,8 @@ pub replied_as : {S : Type 0} (form : Form) (g : Ghosts S) (old new : Treasury S
     (request : Spelled) (Says : Federation → Result Asked Refusal → Result Answer Refusal → Type 0)
     (Tells : Result Answer Refusal → Type 0) (made : Result (Unit {0}) Refusal) (refusal : Refusal) → made ≡ Err refusal
     → HasDayNumbers request.request
-    → (HasCleanDisk (state g new.store.conn) → HasCleanDisk (state g old.store.conn))
-    → (HasCleanDisk (state g new.store.conn) → (f : Federation) → IsTreasuryOf g old f
+    → (IsFaithful g new.store.conn → IsFaithful g old.store.conn)
+    → (IsFaithful g new.store.conn → (f : Federation) → IsTreasuryOf g old f
     → IsAnsweredIn form g old.store.failed new f request made [] written)
     → ((f : Federation) → IsTreasuryOf g new f → IsRefusedAs Says Tells f refusal)
     → RepliesAs g old request Says Tells new
@@ -204,8 +204,8 @@ IsToldAs f refusal text Tells =
 pub said_as : {S : Type 0} (g : Ghosts S) (old new : Treasury S) (written text : List ℕ) (request : Spelled)
     (Tells : Result Answer Refusal → Type 0) (made : Result (Unit {0}) Refusal) (refusal : Refusal) → made ≡ Err refusal
     → HasDayNumbers request.request
-    → (HasCleanDisk (state g new.store.conn) → HasCleanDisk (state g old.store.conn))
-    → (HasCleanDisk (state g new.store.conn) → (f : Federation) → IsTreasuryOf g old f
+    → (IsFaithful g new.store.conn → IsFaithful g old.store.conn)
+    → (IsFaithful g new.store.conn → (f : Federation) → IsTreasuryOf g old f
     → IsAnswered g old.store.failed new f request made [] written)
     → ((f : Federation) → IsTreasuryOf g new f → IsToldAs f refusal text Tells) → RepliesOn g old request text Tells new
 said_as g old new written text request Tells made refusal refused days clean answers said =
@@ -224,8 +224,8 @@ said_as g old new written text request Tells made refusal refused days clean ans
 pub said_refusal : {S : Type 0} (g : Ghosts S) (old new : Treasury S) (written text : List ℕ) (request : Spelled)
     (Tells : Result Answer Refusal → Type 0) (made : Result (Unit {0}) Refusal) (refusal : Refusal) → made ≡ Err refusal
     → HasDayNumbers request.request
-    → (HasCleanDisk (state g new.store.conn) → HasCleanDisk (state g old.store.conn))
-    → (HasCleanDisk (state g new.store.conn) → (f : Federation) → IsTreasuryOf g old f
+    → (IsFaithful g new.store.conn → IsFaithful g old.store.conn)
+    → (IsFaithful g new.store.conn → (f : Federation) → IsTreasuryOf g old f
     → IsAnswered g old.store.failed new f request made [] written)
     → IsLineOf new refusal text → Tells (Err refusal) → Tells (Err (Plain OutOfMemory))
     → RepliesOn g old request text Tells new

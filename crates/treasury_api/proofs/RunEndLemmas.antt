@@ -3,7 +3,6 @@
 use Rattle.std.proofs.Common.{◌≡◌, ◌⊎◌, ◌||◌, ℕ, Bool, true, false, IsTrue, List, [], ◌∷◌, ◌++◌, Option, Result}
 use Rattle.std.proofs.Common.{Ok, Err, IfErr, refl, sym, subst, ap, ◌∙◌, inl, inr, append_assoc}
 use Rattle.sqlite.specs.Store.{Ghosts}
-use Rattle.sqlite.specs.State.{HasCleanDisk}
 use Rattle.sqlite.specs.Held.{state}
 use Rattle.money_core.specs.declared.cause.Cause.{Cause}
 use Rattle.money_core.specs.declared.cause.Cause.TheVariants.{OutOfMemory, ReadFault, WriteFault}
@@ -11,7 +10,7 @@ use Rattle.treasury_state.specs.Federation.{Federation}
 use Rattle.treasury_state.specs.Rows.{rows}
 use Rattle.treasury_core.specs.Run.{state_after}
 use Rattle.treasury_laws.proofs.HeadlineLemmas.{keeps_books}
-use Rattle.treasury_tables.specs.Kept.{ShutsByFault}
+use Rattle.treasury_tables.specs.Kept.{ShutsByFault, IsFaithful}
 use Rattle.treasury_store.specs.Treasury.{Treasury, IsTreasuryOf}
 use Rattle.treasury_store.specs.Left.{LeavesRows}
 use Rattle.treasury_store.proofs.LeftLemmas.{shuts_same, shuts_then}
@@ -175,7 +174,7 @@ record AreServed {S : Type 0} (g : Ghosts S) (old new : Treasury S) (start : Sta
 
 -- from whichever state the treasury is of
 serve_all : {S : Type 0} (g : Ghosts S) (old new : Treasury S) (requests : List (List ℕ)) (output : List ℕ)
-    → AnswersInTurn (Serves g) old requests output new → HasCleanDisk (state g new.store.conn)
+    → AnswersInTurn (Serves g) old requests output new → IsFaithful g new.store.conn
     → (f : Federation) → IsTreasuryOf g old f
     → (end : Federation) × (IsTreasuryOf g new end
     × ((turns : List Turn) × AreServed g old new (standing old f) requests output end turns))
@@ -273,7 +272,7 @@ record IsLed {S : Type 0} (g : Ghosts S) (cause : Cause) (r0 r1 w0 w1 : Option (
 
 led_where_cut_off : {S : Type 0} (g : Ghosts S) (cause : Cause) (r0 r1 w0 w1 : Option (List ℕ)) (old new : Treasury S)
     → EndsBy cause (Serves g) most_input r0 r1 w0 w1 old new
-    → HasCleanDisk (state g new.store.conn) → (f : Federation) → IsTreasuryOf g old f
+    → IsFaithful g new.store.conn → (f : Federation) → IsTreasuryOf g old f
     → (end : Federation) × (IsTreasuryOf g new end
     × ((turns : List Turn) × IsLed g cause r0 r1 w0 w1 old new (standing old f) end turns))
 led_where_cut_off g OutOfMemory r0 r1 w0 w1 old new ends clean f of =
@@ -413,7 +412,7 @@ leaves_run g shown old new start turns end of leaving is_open unfailed = by_end 
 pub kept : {S T R W : Type 0} (g : Ghosts S) → LeavesShown g
     → (result : Result T Cause) (remaining : R → Option (List ℕ)) (r0 r1 : R) (contents : W → Option (List ℕ))
     (w0 w1 : W) (old new : Treasury S)
-    → Ends result (Serves g) most_input remaining r0 r1 contents w0 w1 old new → HasCleanDisk (state g new.store.conn)
+    → Ends result (Serves g) most_input remaining r0 r1 contents w0 w1 old new → IsFaithful g new.store.conn
     → (f : Federation) → IsTreasuryOf g old f
     → (end : Federation) × (IsTreasuryOf g new end
     × Runs g old new result remaining r0 r1 contents w0 w1 (standing old f) (standing new end))

@@ -3,7 +3,6 @@ use Rattle.std.proofs.Common.{◌≡◌, ◌++◌, ◌⊎◌, ◌||◌, ℕ, ℤ
 use Rattle.std.proofs.Common.{None, Result, Ok, Err, IsSome, IsTrue, MatchResult, refl, ap, ◌∙◌, sym, subst, inl, inr}
 use Rattle.std.proofs.Common.{append-nil}
 use Rattle.sqlite.specs.Store.{Ghosts}
-use Rattle.sqlite.specs.State.{HasCleanDisk}
 use Rattle.sqlite.specs.Held.{Held, state}
 use Rattle.money_core.specs.declared.style.Style.{Style}
 use Rattle.money_core.specs.declared.unit.Unit.{Unit as Commodity}
@@ -20,7 +19,7 @@ use Rattle.treasury_state.specs.Rows.{rows}
 use Rattle.treasury_core.specs.declared.command.Answer.{Answer}
 use Rattle.treasury_core.specs.declared.command.Answer.TheVariants.{Done}
 use Rattle.treasury_core.specs.declared.command.Command.{Command as AnyCommand}
-use Rattle.treasury_tables.specs.Kept.{ShutsByFault}
+use Rattle.treasury_tables.specs.Kept.{ShutsByFault, IsFaithful}
 use Rattle.treasury_store.specs.Treasury.{Treasury, IsTreasuryOf}
 use Rattle.treasury_store.proofs.LeftLemmas.{shuts_same}
 use Rattle.treasury_requests.specs.declared.request.Spelled.{Spelled}
@@ -342,7 +341,7 @@ pub record Beside {S : Type 0} (g : Ghosts S) (old new : Treasury S) (request : 
     (made : Result (Unit {0}) Refusal) : Type 0 where
   pub shuts : ShutsByFault g old.store.conn new.store.conn
   pub closed : IsTrue old.store.failed → (made ≡ Err (Plain Closed)) × (new ≡ old)
-  pub open_but : HasCleanDisk (state g new.store.conn) → IsTrue (state g old.store.conn).is_open
+  pub open_but : IsFaithful g new.store.conn → IsTrue (state g old.store.conn).is_open
       → IsOpenBut g new.store.conn made
   pub left : LeavesRequest g old new request
 
@@ -359,7 +358,7 @@ done_not r x e h k = cc
 pub served : {S : Type 0} (g : Ghosts S) (old new : Treasury S) (line written text : List ℕ) (request : Spelled)
     (made : Result (Unit {0}) Refusal) (x : Unit {0}) → spelled line ≡ Some request → made ≡ Ok x
     → Beside g old new request made
-    → (HasCleanDisk (state g new.store.conn) → (f : Federation) → IsTreasuryOf g old f
+    → (IsFaithful g new.store.conn → (f : Federation) → IsTreasuryOf g old f
     → IsAnswered g old.store.failed new f request made [] written)
     → text ≡ written ++ end_of_report request.request → Serves g old line text new
 served g old new line written text request made x is ok beside answers ended = record {
@@ -368,7 +367,7 @@ served g old new line written text request made x is ok beside answers ended = r
   closed = λ failed. (beside.closed failed).1;
 }
   where
-    by_reply : HasCleanDisk (state g new.store.conn) → (f : Federation) → IsTreasuryOf g old f
+    by_reply : IsFaithful g new.store.conn → (f : Federation) → IsTreasuryOf g old f
         → IsAnswered g old.store.failed new f request made [] written
         → (end : Federation) × (IsTreasuryOf g new end
         × ((a : Answers (standing old f) line text (standing new end)) × LeavesReply g old new f a.asked a.reply))
@@ -405,7 +404,7 @@ served g old new line written text request made x is ok beside answers ended = r
 pub served_memory : {S : Type 0} (g : Ghosts S) (old new : Treasury S) (line written text : List ℕ) (request : Spelled)
     (made : Result (Unit {0}) Refusal) (x : Unit {0}) → spelled line ≡ Some request → made ≡ Ok x
     → Beside g old new request made
-    → (HasCleanDisk (state g new.store.conn) → (f : Federation) → IsTreasuryOf g old f
+    → (IsFaithful g new.store.conn → (f : Federation) → IsTreasuryOf g old f
     → IsAnswered g old.store.failed new f request made [] written)
     → is_report request.request ≡ true → text ≡ answer_text [] (Err (Plain OutOfMemory)) → Serves g old line text new
 served_memory g old new line written text request made x is ok beside answers report said = record {
@@ -447,7 +446,7 @@ served_memory g old new line written text request made x is ok beside answers re
     by_asked f (Err refusal) answer asks replies of left leaves =
         refused_only f old.store.failed refusal answer _ replies
 
-    by_reply : HasCleanDisk (state g new.store.conn) → (f : Federation) → IsTreasuryOf g old f
+    by_reply : IsFaithful g new.store.conn → (f : Federation) → IsTreasuryOf g old f
         → IsAnswered g old.store.failed new f request made [] written → Told f
     by_reply clean f of (asked, (asks, r)) =
         let told = subst (λ (m : Result (Unit {0}) Refusal).
@@ -484,7 +483,7 @@ data_line g new f (ClaimFailed failure) text of (s, (held, inr said)) =
 pub served_refusal : {S : Type 0} (g : Ghosts S) (old new : Treasury S) (line written text : List ℕ) (request : Spelled)
     (made : Result (Unit {0}) Refusal) (refusal : Refusal) → spelled line ≡ Some request → made ≡ Err refusal
     → Beside g old new request made
-    → (HasCleanDisk (state g new.store.conn) → (f : Federation) → IsTreasuryOf g old f
+    → (IsFaithful g new.store.conn → (f : Federation) → IsTreasuryOf g old f
     → IsAnswered g old.store.failed new f request made [] written)
     → IsLineOf new refusal text → Serves g old line text new
 served_refusal g old new line written text request made refusal is refused beside answers said = record {
@@ -500,7 +499,7 @@ served_refusal g old new line written text request made refusal is refused besid
     same_refusal : (other : Refusal) → made ≡ Err other → refusal ≡ other
     same_refusal other e = refusal_is made refusal other refused e
 
-    by_line : HasCleanDisk (state g new.store.conn) → (f : Federation) → IsTreasuryOf g old f
+    by_line : IsFaithful g new.store.conn → (f : Federation) → IsTreasuryOf g old f
         → (asked : Result Asked Refusal) → AsksOf old.store.failed f.styles request asked
         → MayReply (record { now = f; failed = old.store.failed }) asked (Err refusal) → IsTreasuryOf g new f
         → new.store.failed ≡ (old.store.failed || is_failure (Err refusal))
@@ -554,7 +553,7 @@ served_refusal g old new line written text request made refusal is refused besid
       ),
     )
 
-    by_reply : HasCleanDisk (state g new.store.conn) → (f : Federation) → IsTreasuryOf g old f
+    by_reply : IsFaithful g new.store.conn → (f : Federation) → IsTreasuryOf g old f
         → IsAnswered g old.store.failed new f request made [] written → Told f
     by_reply clean f was (asked, (asks, r)) =
         let told = subst (λ (m : Result (Unit {0}) Refusal).

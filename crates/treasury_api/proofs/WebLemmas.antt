@@ -6,7 +6,6 @@ use Rattle.std.proofs.Common.{inl, inr}
 use Rattle.std.proofs.Math.Path.{path_j, subst_refl}
 use Rattle.std.specs.Io.KnownBytes.{Appends}
 use Rattle.sqlite.specs.Store.{Ghosts}
-use Rattle.sqlite.specs.State.{HasCleanDisk}
 use Rattle.sqlite.specs.Held.{Held, state}
 use Rattle.http_request.specs.declared.call.Call.{Call}
 use Rattle.http_request.specs.declared.call.Form.{Form}
@@ -20,7 +19,7 @@ use Rattle.book_core.specs.declared.refusal.Refusal.TheVariants.{Plain, Text, Cl
 use Rattle.treasury_state.specs.Federation.{Federation}
 use Rattle.treasury_core.specs.declared.command.Answer.{Answer}
 use Rattle.treasury_core.specs.Run.{Turn}
-use Rattle.treasury_tables.specs.Kept.{ShutsByFault}
+use Rattle.treasury_tables.specs.Kept.{ShutsByFault, IsFaithful}
 use Rattle.treasury_store.specs.Treasury.{Treasury, IsTreasuryOf}
 use Rattle.treasury_store.proofs.LeftLemmas.{shuts_same}
 use Rattle.treasury_requests.specs.declared.request.Spelled.{Spelled}
@@ -290,7 +289,7 @@ has_served_none g t = record {
 -- one that is answered
 module _ {S : Type 0} (g : Ghosts S) (old new : Treasury S) (form : Form) (call : Call) (status : ℕ) (body : List ℕ)
     (on : AnswersOn g old form call status body new) where
-  call_leaves : (f e : Federation) → HasCleanDisk (state g new.store.conn) → IsTreasuryOf g old f
+  call_leaves : (f e : Federation) → IsFaithful g new.store.conn → IsTreasuryOf g old f
       → (answered : AnswersCall (standing old f) form call status body (standing new e))
       → LeavesCalls g old new (standing old f) (record { form = form; call = call; status = status; body = body } ∷ [])
       (standing new e) (standing new e, answered, refl)

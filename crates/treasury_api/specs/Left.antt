@@ -2,7 +2,6 @@
 -- find, after a crash, a stop, or a failure that shuts it (own rules; docs/RULES.md, "Runs").
 use Rattle.std.specs.Prelude.{◌≡◌, ◌⊎◌, ◌↔◌, Bool, false, List, ◌∷◌, ◌++◌, Result, Err, IsTrue}
 use Rattle.sqlite.specs.Store.{Ghosts}
-use Rattle.sqlite.specs.State.{HasCleanDisk}
 use Rattle.sqlite.specs.Held.{Held, state}
 use Rattle.money_core.specs.declared.cause.Cause.TheVariants.{OutOfMemory, Store as Failed, Damaged}
 use Rattle.book_core.specs.declared.refusal.Refusal.{Refusal}
@@ -17,6 +16,7 @@ use Rattle.treasury_api.specs.declared.asking.Asked.{Asked}
 use Rattle.treasury_api.specs.Asked.{AsksOf}
 use Rattle.treasury_api.specs.Step.{Standing, reply, after}
 use Rattle.treasury_api.specs.History.{Turn, end_of}
+use Rattle.treasury_tables.specs.Kept.{IsFaithful}
 
 -- ---- one request
 
@@ -44,7 +44,7 @@ LeavesAsked g h f asked = LeavesEither g h (rows f) (rows (end_state f asked))
 -- asks leads
 abbrev pub LeavesRequest : {S : Type 0} → Ghosts S → Treasury S → Treasury S → Spelled → Type 0
 LeavesRequest g old new request =
-    HasCleanDisk (state g new.store.conn) → IsTrue (state g old.store.conn).is_open → (f : Federation)
+    IsFaithful g new.store.conn → IsTrue (state g old.store.conn).is_open → (f : Federation)
     → IsTreasuryOf g old f
     → (asked : Result Asked Refusal) → AsksOf old.store.failed f.styles request asked
     → LeavesAsked g new.store.conn f asked

@@ -3,7 +3,6 @@
 -- lines.
 use Rattle.std.specs.Prelude.{◌≡◌, ℕ, Bool, true, false, List, Result, Ok, Err}
 use Rattle.sqlite.specs.Store.{Ghosts}
-use Rattle.sqlite.specs.State.{HasCleanDisk}
 use Rattle.sqlite.specs.Held.{state}
 use Rattle.book_core.specs.declared.refusal.Refusal.{Refusal}
 use Rattle.treasury_state.specs.Federation.{Federation}
@@ -19,6 +18,7 @@ use Rattle.treasury_api.specs.Report.{report_text}
 use Rattle.treasury_api.specs.Step.{Standing, MayReply, next, reply_text}
 use Rattle.treasury_api.specs.History.{command_if}
 use Rattle.treasury_api.specs.Replied.{standing}
+use Rattle.treasury_tables.specs.Kept.{IsFaithful}
 
 -- the text of a reply to one request
 abbrev pub request_text : Federation → Result Asked Refusal → Result Answer Refusal → List ℕ
@@ -65,8 +65,8 @@ command_of {reply = reply} answers = command_if answers.asked reply
 pub record RepliesAs {S : Type 0} (g : Ghosts S) (old : Treasury S) (request : Spelled)
     (Says : Federation → Result Asked Refusal → Result Answer Refusal → Type 0)
     (Tells : Result Answer Refusal → Type 0) (new : Treasury S) : Type 0 where
-  pub clean : HasCleanDisk (state g new.store.conn) → HasCleanDisk (state g old.store.conn)
-  pub answers : HasCleanDisk (state g new.store.conn) → (f : Federation) → IsTreasuryOf g old f
+  pub clean : IsFaithful g new.store.conn → IsFaithful g old.store.conn
+  pub answers : IsFaithful g new.store.conn → (f : Federation) → IsTreasuryOf g old f
       → (end : Federation) × (IsTreasuryOf g new end
       × ((reply : Result Answer Refusal)
       × (AnswersAs (standing old f) request (Says f) reply (standing new end) × Tells reply)))

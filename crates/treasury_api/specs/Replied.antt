@@ -1,7 +1,6 @@
 -- What a treasury answers to what is asked of it (own rules; docs/RULES.md, "Runs").
 use Rattle.std.specs.Prelude.{◌≡◌, ◌⊎◌, ⊤, ℕ, Bool, ◌||◌, List, [], ◌++◌, Some, Result, Ok, Err, IsTrue, MatchResult}
 use Rattle.sqlite.specs.Store.{Ghosts}
-use Rattle.sqlite.specs.State.{HasCleanDisk}
 use Rattle.sqlite.specs.Held.{state}
 use Rattle.money_core.specs.declared.style.Style.{Style}
 use Rattle.money_core.specs.declared.cause.Cause.TheVariants.{OutOfMemory}
@@ -9,7 +8,7 @@ use Rattle.book_core.specs.declared.refusal.Refusal.{Refusal}
 use Rattle.book_core.specs.declared.refusal.Refusal.TheVariants.{Plain}
 use Rattle.treasury_state.specs.Federation.{Federation}
 use Rattle.treasury_core.specs.declared.command.Answer.{Answer}
-use Rattle.treasury_tables.specs.Kept.{ShutsByFault}
+use Rattle.treasury_tables.specs.Kept.{ShutsByFault, IsFaithful}
 use Rattle.treasury_store.specs.Treasury.{Treasury, IsTreasuryOf}
 use Rattle.treasury_api.specs.declared.asking.Asked.{Asked}
 use Rattle.treasury_api.specs.declared.asking.Asked.TheVariants.{Command, DryRun, Report}
@@ -68,7 +67,7 @@ IsLineOf t refusal text = (s : Federation) × ((t.held ≡ Some s) × IsLineIn s
 -- the state where the run then stands; the database stays open, and leaves what it may, as the reply to the line says.
 -- Only a fault of the disk shuts it, and behind a call that failed a line changes nothing.
 pub record Serves {S : Type 0} (g : Ghosts S) (old : Treasury S) (line text : List ℕ) (new : Treasury S) : Type 0 where
-  pub answers : HasCleanDisk (state g new.store.conn) → (f : Federation) → IsTreasuryOf g old f
+  pub answers : IsFaithful g new.store.conn → (f : Federation) → IsTreasuryOf g old f
       → (end : Federation) × (IsTreasuryOf g new end
       × ((a : Answers (standing old f) line text (standing new end)) × LeavesReply g old new f a.asked a.reply))
   pub shuts : ShutsByFault g old.store.conn new.store.conn

@@ -6,7 +6,6 @@ use Rattle.std.specs.Prelude.{option_map, Result, Ok, Err, MatchOption, MatchRes
 use Rattle.std.specs.List.{AllByRecursion}
 use Rattle.std.specs.Io.KnownBytes.{Appends}
 use Rattle.sqlite.specs.Store.{Ghosts}
-use Rattle.sqlite.specs.State.{HasCleanDisk}
 use Rattle.sqlite.specs.Held.{state}
 use Rattle.http_request.specs.declared.call.Call.{Call}
 use Rattle.http_request.specs.declared.call.Call.TheVariants.{Unreadable, Foreign, Nowhere, Command, Balance, Journal}
@@ -25,7 +24,7 @@ use Rattle.book_core.specs.declared.refusal.Refusal.TheVariants.{Plain}
 use Rattle.treasury_state.specs.Federation.{Federation}
 use Rattle.treasury_core.specs.declared.command.Answer.{Answer}
 use Rattle.treasury_core.specs.Run.{Turn}
-use Rattle.treasury_tables.specs.Kept.{ShutsByFault}
+use Rattle.treasury_tables.specs.Kept.{ShutsByFault, IsFaithful}
 use Rattle.treasury_store.specs.Treasury.{Treasury, IsTreasuryOf}
 use Rattle.treasury_requests.specs.declared.request.Spelled.{Spelled}
 use Rattle.treasury_requests.specs.declared.request.Request.TheVariants as asking
@@ -105,7 +104,7 @@ AnswersCall s form call status body t =
 -- a database that was open is open behind each reply, or the reply is 503 and the store has failed
 abbrev pub IsOpenButFailed : {S : Type 0} → Ghosts S → Treasury S → ℕ → Treasury S → Type 0
 IsOpenButFailed g old status new =
-    HasCleanDisk (state g new.store.conn) → IsTrue (state g old.store.conn).is_open
+    IsFaithful g new.store.conn → IsTrue (state g old.store.conn).is_open
     → IsTrue (state g new.store.conn).is_open ⊎ ((status ≡ 503) × IsTrue new.store.failed)
 
 -- What a call makes of a treasury: of whichever state it is, while the disk returns what was written, the call is
@@ -114,8 +113,8 @@ IsOpenButFailed g old status new =
 -- shuts the database, and behind a call of the database that failed nothing changes.
 pub record AnswersOn {S : Type 0} (g : Ghosts S) (old : Treasury S) (form : Form) (call : Call) (status : ℕ)
     (body : List ℕ) (new : Treasury S) : Type 0 where
-  pub clean : HasCleanDisk (state g new.store.conn) → HasCleanDisk (state g old.store.conn)
-  pub answers : HasCleanDisk (state g new.store.conn) → (f : Federation) → IsTreasuryOf g old f
+  pub clean : IsFaithful g new.store.conn → IsFaithful g old.store.conn
+  pub answers : IsFaithful g new.store.conn → (f : Federation) → IsTreasuryOf g old f
       → (end : Federation) × (IsTreasuryOf g new end × AnswersCall (standing old f) form call status body
       (standing new end))
   pub left : MatchOption (asked_by call) (new ≡ old) (LeavesRequest g old new)
@@ -219,8 +218,8 @@ AreCommandsOf name turns = AllByRecursion (λ (turn : Turn). IsCommandOf name tu
 -- database that failed nothing changes.
 pub record HasServed {S : Type 0} (g : Ghosts S) (old new : Treasury S) : Type 0 where
   pub calls : List AnsweredCall
-  pub clean : HasCleanDisk (state g new.store.conn) → HasCleanDisk (state g old.store.conn)
-  pub served : HasCleanDisk (state g new.store.conn) → (f : Federation) → IsTreasuryOf g old f
+  pub clean : IsFaithful g new.store.conn → IsFaithful g old.store.conn
+  pub served : IsFaithful g new.store.conn → (f : Federation) → IsTreasuryOf g old f
       → (end : Federation) × (IsTreasuryOf g new end
       × ((answered : AreServed (standing old f) calls (standing new end))
       × LeavesCalls g old new (standing old f) calls (standing new end) answered))

@@ -1,11 +1,10 @@
 //! Answers to requests, on a treasury.
 
 ghost use Rattle.std.specs.Prelude.{◌≡◌, ◌≤◌, ◌+◌, length, false, None, Ok, Err, IfErr, OnOk, OnErr, IsTrue, Result};
-ghost use Rattle.sqlite.specs.State.{HasCleanDisk};
 ghost use Rattle.sqlite.specs.Held.{state};
 ghost use Rattle.book_core.specs.declared.refusal.Refusal.{Refusal as Refused};
 ghost use Rattle.treasury_state.specs.Federation.{Federation};
-ghost use Rattle.treasury_tables.specs.Kept.{ShutsByFault, StaysAsIs};
+ghost use Rattle.treasury_tables.specs.Kept.{ShutsByFault, StaysAsIs, IsFaithful};
 ghost use Rattle.treasury_store.specs.Shown.{ShowsNoState};
 ghost use Rattle.treasury_store.specs.Left.{LeavesStep};
 ghost use Rattle.treasury_store.specs.Treasury.{IsTreasuryOf, IsListed};
@@ -39,7 +38,7 @@ fn answer_command<S: Alter>(
 ) -> Result<(), Refusal>
     requires held { IsHeldFor treasury.old command }
     requires unfailed { treasury.old.store.failed ≡ false }
-    ensures replies { HasCleanDisk (state S.Store treasury.new.store.conn) → (f : Federation)
+    ensures replies { IsFaithful S.Store treasury.new.store.conn → (f : Federation)
         → IsTreasuryOf S.Store treasury.old f
         → (form : Form) → IsRepliedIn form S.Store false treasury.new f
         (Ok (Asked.Command command)) result out.old.items
@@ -47,11 +46,11 @@ fn answer_command<S: Alter>(
     ensures short { OnOk result (length out.new.items ≤ length out.old.items + MOST_PLAIN) }
     ensures err { OnErr result (out.new.items ≡ out.old.items) }
     ensures printable { IfErr result (IsPrintableIn treasury.new) }
-    ensures clean { HasCleanDisk (state S.Store treasury.new.store.conn)
-        → HasCleanDisk (state S.Store treasury.old.store.conn) }
+    ensures clean { IsFaithful S.Store treasury.new.store.conn
+        → IsFaithful S.Store treasury.old.store.conn }
     ensures listed { IfErr result IsListed }
     ensures fails { FailsWith result treasury.new.store.failed }
-    ensures open_but { HasCleanDisk (state S.Store treasury.new.store.conn)
+    ensures open_but { IsFaithful S.Store treasury.new.store.conn
         → IsTrue (state S.Store treasury.old.store.conn).is_open → IsOpenBut S.Store treasury.new.store.conn result }
     ensures shuts { ShutsByFault S.Store treasury.old.store.conn treasury.new.store.conn }
     ensures left { LeavesStep S.Store treasury.old treasury.new command }
@@ -86,7 +85,7 @@ pub fn answer<S: Alter>(
     out: &mut Vec<u8>,
 ) -> Result<(), Refusal>
     requires { HasDayNumbers request.now.request }
-    ensures replies { HasCleanDisk (state S.Store treasury.new.store.conn) → (f : Federation)
+    ensures replies { IsFaithful S.Store treasury.new.store.conn → (f : Federation)
         → IsTreasuryOf S.Store treasury.old f
         → (asked : Result Meant Refused) × (AsksOf treasury.old.store.failed f.styles request.now asked
         × IsRepliedIn form S.Store treasury.old.store.failed treasury.new f asked result out.old.items
@@ -96,23 +95,23 @@ pub fn answer<S: Alter>(
         → OnOk result (length out.new.items ≤ length out.old.items + MOST_PLAIN) }
     ensures err { OnErr result (out.new.items ≡ out.old.items) }
     ensures printable { IfErr result (IsPrintableIn treasury.new) }
-    ensures clean { HasCleanDisk (state S.Store treasury.new.store.conn)
-        → HasCleanDisk (state S.Store treasury.old.store.conn) }
+    ensures clean { IsFaithful S.Store treasury.new.store.conn
+        → IsFaithful S.Store treasury.old.store.conn }
     // Whatever the disk returned, and whatever the tables are.
     ensures listed { treasury.old.store.failed ≡ false → IfErr result IsListed }
     ensures fails { treasury.old.store.failed ≡ false → FailsWith result treasury.new.store.failed }
     ensures closed { IsTrue treasury.old.store.failed
         → (result ≡ Err (Refusal.Plain Cause.Closed)) × (treasury.new ≡ treasury.old) }
     // On tables that are no good state's: 43, or 40 or 41, and nothing is written.
-    ensures strange { HasCleanDisk (state S.Store treasury.new.store.conn) → treasury.old.store.failed ≡ false
+    ensures strange { IsFaithful S.Store treasury.new.store.conn → treasury.old.store.failed ≡ false
         → treasury.old.held ≡ None → ShowsNoState (state S.Store treasury.old.store.conn).now
         → IsUnread result × (IsTrue (state S.Store treasury.new.store.conn).is_open
         → StaysAsIs (state S.Store treasury.old.store.conn) (state S.Store treasury.new.store.conn)) }
     // A database that was open is open behind each answer but 41. Only a fault of the disk shuts it.
-    ensures still_open { HasCleanDisk (state S.Store treasury.new.store.conn)
+    ensures still_open { IsFaithful S.Store treasury.new.store.conn
         → IsTrue (state S.Store treasury.old.store.conn).is_open
         → OnOk result (IsTrue (state S.Store treasury.new.store.conn).is_open) }
-    ensures open_but { HasCleanDisk (state S.Store treasury.new.store.conn)
+    ensures open_but { IsFaithful S.Store treasury.new.store.conn
         → IsTrue (state S.Store treasury.old.store.conn).is_open → IsOpenBut S.Store treasury.new.store.conn result }
     ensures shuts { ShutsByFault S.Store treasury.old.store.conn treasury.new.store.conn }
     // Whatever is left, also behind 41: the rows of the state before the request, or of the one after it.

@@ -2,10 +2,9 @@
 
 ghost use Rattle.std.specs.Prelude.{◌≡◌, ◌≤◌, ◌⊎◌, ◌++◌, [], None, Some, Err, vec_capacity, IsTrue, IfOk, IfErr, OnOk};
 ghost use Rattle.std.specs.Prelude.{OnErr};
-ghost use Rattle.sqlite.specs.State.{HasCleanDisk};
 ghost use Rattle.sqlite.specs.Held.{state};
 ghost use Rattle.treasury_state.specs.Federation.{Federation};
-ghost use Rattle.treasury_tables.specs.Kept.{ShutsByFault};
+ghost use Rattle.treasury_tables.specs.Kept.{ShutsByFault, IsFaithful};
 ghost use Rattle.treasury_store.specs.Treasury.{IsTreasuryOf};
 ghost use Rattle.treasury_requests.specs.Request.{HasDayNumbers, is_report, spelled};
 ghost use Rattle.treasury_api.specs.Answer.{IsPrintableRefusal};
@@ -197,7 +196,7 @@ pub fn run_heard_lines<R: Read, W: Write, S: Alter, L: Listener>(
 ) -> Result<(), Cause>
     // Of whichever state the treasury is, while the disk returned what was written: a run, and the headline holds of
     // it.
-    ensures runs { HasCleanDisk (state S.Store treasury.new.store.conn) → (f : Federation)
+    ensures runs { IsFaithful S.Store treasury.new.store.conn → (f : Federation)
         → IsTreasuryOf S.Store treasury.old f
         → (end : Federation) × (IsTreasuryOf S.Store treasury.new end
         × Runs S.Store treasury.old treasury.new result R.remaining reader.old reader.new W.contents writer.old
@@ -230,7 +229,7 @@ pub fn run_lines<R: Read, W: Write, S: Alter>(
 ) -> Result<(), Cause>
     // Of whichever state the treasury is, while the disk returned what was written: a run, and the headline holds of
     // it.
-    ensures runs { HasCleanDisk (state S.Store treasury.new.store.conn) → (f : Federation)
+    ensures runs { IsFaithful S.Store treasury.new.store.conn → (f : Federation)
         → IsTreasuryOf S.Store treasury.old f
         → (end : Federation) × (IsTreasuryOf S.Store treasury.new end
         × Runs S.Store treasury.old treasury.new result R.remaining reader.old reader.new W.contents writer.old

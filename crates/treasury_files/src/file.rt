@@ -3,7 +3,6 @@
 ghost use Rattle.std.specs.Prelude.{◌≡◌, ◌≤◌, ◌⊎◌, false, take, IfOk, IfErr, IfSome, OnOk, OnErr, MatchResult};
 ghost use Rattle.sqlite_wal.specs.Recovery.{Image};
 ghost use Rattle.sqlite_wal.specs.Files.{image_at};
-ghost use Rattle.sqlite.specs.State.{HasCleanDisk};
 ghost use Rattle.sqlite.specs.Held.{Held, IsNew, state};
 ghost use Rattle.sqlite.specs.Start.{FindsIn};
 ghost use Rattle.sqlite.specs.Files.{file_state, IsOpened};
@@ -12,6 +11,7 @@ ghost use Rattle.sqlite_store.specs.declared.store.FileStore.{FileStore};
 ghost use Rattle.treasury_state.specs.Federation.{Federation};
 ghost use Rattle.treasury_state.specs.Good.{IsGoodState};
 ghost use Rattle.treasury_state.specs.Rows.{rows};
+ghost use Rattle.treasury_tables.specs.Kept.{IsFaithful};
 ghost use Rattle.treasury_tables.specs.Creating.{has_receipt};
 ghost use Rattle.treasury_tables.specs.Judging.{ReadsFirst};
 ghost use Rattle.treasury_tables.specs.Rows.{HoldsFirst, HoldsEither};
@@ -359,7 +359,7 @@ fn try_first<S: Alter>(
     requires { conn.old.in_transaction ≡ false }
     ensures same { OnOk result (conn.new ≡ conn.old) }
     ensures reads { ReadsFirst S.Store conn.old conn.new }
-    ensures damaged { IfErr result (λ why. refusal_of why ≡ Cause.Damaged → HasCleanDisk (state S.Store conn.new)
+    ensures damaged { IfErr result (λ why. refusal_of why ≡ Cause.Damaged → IsFaithful S.Store conn.new
         → (f : Federation) → IsGoodState f → HoldsFirst (state S.Store conn.old).now (rows f) → ⊥) }
 {
     let why = match rehearse_alone(rt, path) {
@@ -392,7 +392,7 @@ fn check_opened<S: Alter>(
     ensures reads { OnErr result ((conn.new ≡ conn.old) ⊎ ((has_receipt (state S.Store conn.old).now.schema ≡ false)
         × ReadsFirst S.Store conn.old conn.new)) }
     // Those that are the rows of a good state are not refused by 43.
-    ensures damaged { IfErr result (λ why. refusal_of why ≡ Cause.Damaged → HasCleanDisk (state S.Store conn.new)
+    ensures damaged { IfErr result (λ why. refusal_of why ≡ Cause.Damaged → IsFaithful S.Store conn.new
         → (f : Federation) → IsGoodState f → HoldsEither (state S.Store conn.old).now (rows f) → ⊥) }
 {
     match check_tables(rt.alloc(), conn.schema(), is_alone) {

@@ -6,7 +6,7 @@ use Rattle.sqlite.specs.Order.{Row, column}
 use Rattle.sqlite.proofs.StateLemmas.{survives_weaker}
 use Rattle.sqlite.specs.Store.{Ghosts}
 use Rattle.sqlite.specs.Effect.{Database}
-use Rattle.sqlite.specs.State.{HasCleanDisk, IsUnchanged, Survives}
+use Rattle.sqlite.specs.State.{IsUnchanged, Survives}
 use Rattle.sqlite.specs.Held.{Held, state}
 use Rattle.money_core.specs.declared.cause.Cause.{Cause}
 use Rattle.money_core.specs.declared.cause.Cause.TheVariants.{OutOfMemory, Damaged}
@@ -15,7 +15,7 @@ use Rattle.treasury_state.specs.Federation.{Federation}
 use Rattle.treasury_state.specs.Good.{IsGoodState}
 use Rattle.treasury_state.specs.Rows.{rows}
 use Rattle.treasury_tables.specs.Rows.{Tables, HoldsFirst}
-use Rattle.treasury_tables.specs.Kept.{ChangesNothing}
+use Rattle.treasury_tables.specs.Kept.{ChangesNothing, IsFaithful}
 use Rattle.treasury_tables.specs.Order.{InOrder}
 use Rattle.treasury_tables.specs.Opening.{IsEither}
 use Rattle.treasury_tables.specs.Judging.{ReadsFirst, HasReadFirst}
@@ -28,7 +28,7 @@ pub reads_behind : {S : Type 0} (g : Ghosts S) (old mid new : Held S) → ReadsF
     → ChangesNothing g mid new → ReadsFirst g old new
 reads_behind g old mid new reads nothing = record {
   same = λ clean is has all.
-      let before : HasCleanDisk (state g mid) = omega (arith, nothing.survives.clean, clean) in
+      let before : IsFaithful g mid = omega (arith, nothing.survives.clean, clean) in
       let k = nothing.same clean is in
       let first = reads.same before k.0 has all in
       (k.1 ∙ first.0, k.2 ∙ first.1);
@@ -51,7 +51,7 @@ reads_none g c = record {
 
 -- a query that failed, and was undone
 pub reads_undone : {S : Type 0} (g : Ghosts S) (old new : Held S)
-    → (HasCleanDisk (state g new) → IsTrue (state g new).is_open
+    → (IsFaithful g new → IsTrue (state g new).is_open
     → ((state g new).now ≡ (state g old).now) × ((state g new).committed ≡ (state g old).committed))
     → Survives (state g old) (state g new) (λ _. ⊥) → ReadsFirst g old new
 reads_undone g old new undone survives = record {
@@ -61,7 +61,7 @@ reads_undone g old new undone survives = record {
 
 -- the rows of `format` are queried
 pub format_has_read : {S : Type 0} (g : Ghosts S) (old new : Held S)
-    → (HasCleanDisk (state g new) → IsUnchanged (state g old) (state g new))
+    → (IsFaithful g new → IsUnchanged (state g old) (state g new))
     → Survives (state g old) (state g new) (λ _. ⊥) → HasReadFirst g old new
 format_has_read g old new same survives = record {
   same = λ clean has. let kept = (same clean).0 in (kept.now_is, kept.committed_is);

@@ -3,7 +3,7 @@ use Rattle.std.proofs.Common.{◌≡◌, ◌⊎◌, List, IsTrue, ap, ◌∙◌,
 use Rattle.sqlite.specs.Store.{Ghosts}
 use Rattle.sqlite.specs.Tree.{Trees}
 use Rattle.sqlite.specs.Effect.{Database}
-use Rattle.sqlite.specs.State.{HasCleanDisk, Survives}
+use Rattle.sqlite.specs.State.{Survives}
 use Rattle.sqlite.specs.Held.{Held, state}
 use Rattle.treasury_state.specs.declared.delta.Addition.{Addition}
 use Rattle.treasury_state.specs.Federation.{Federation}
@@ -11,7 +11,7 @@ use Rattle.treasury_state.specs.Joined.{joined}
 use Rattle.treasury_state.specs.Rows.{rows}
 use Rattle.treasury_core.specs.declared.command.Command.{Command}
 use Rattle.treasury_tables.specs.Rows.{Tables, Holds, AreTreesOf}
-use Rattle.treasury_tables.specs.Kept.{KeepsTables, ShutsByFault}
+use Rattle.treasury_tables.specs.Kept.{KeepsTables, ShutsByFault, IsFaithful}
 use Rattle.treasury_tables.specs.Creating.{has_receipt}
 use Rattle.treasury_tables.specs.Upgrading.{KeepsOurs}
 use Rattle.treasury_tables.proofs.OpenLemmas.{ours_first, ours_second, not_first, second_more}
@@ -31,10 +31,10 @@ module _ {S : Type 0} (g : Ghosts S)
   -- what a call leaves that commits these trees at most
   pub leaves_more : (old new : Held S) (t : Tables) (Commits : Trees → Type 0)
       → Survives (state g old) (state g new) Commits → IsTrue (state g old).is_open → TablesAre g old t
-      → HasCleanDisk (state g new) → (trees : Trees) → (state g new).may_leave trees
+      → IsFaithful g new → (trees : Trees) → (state g new).may_leave trees
       → AreTreesOf trees t ⊎ (Holds (state g old).now t × Commits trees)
   leaves_more old new t Commits left is_open are clean trees may =
-      let before : HasCleanDisk (state g old) = omega (arith, left.clean, clean) in
+      let before : IsFaithful g old = omega (arith, left.clean, clean) in
       elim (left.crash clean trees may) [
         | inl was ↦ inl (leaves_rows old t are is_open before trees was)
         | inr made ↦ inr ((are before is_open).0, made)
@@ -59,7 +59,7 @@ module _ {S : Type 0} (g : Ghosts S)
   -- and makes those of version 1 into version 2
   pub leaves_either_version : (old new : Held S) → KeepsOurs g old new → LeavesEitherVersion g old new
   leaves_either_version old new left is_open t are clean trees may =
-      let before : HasCleanDisk (state g old) = omega (arith, left.clean, clean) in
+      let before : IsFaithful g old = omega (arith, left.clean, clean) in
       let held = are before is_open in
       elim (left.crash clean trees may) [
         | inl was ↦ inl (

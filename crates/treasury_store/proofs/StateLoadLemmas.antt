@@ -5,7 +5,7 @@ use Rattle.std.proofs.lemmas.Result.{err_from_is_err_and}
 use Rattle.sqlite.specs.Store.{Ghosts}
 use Rattle.sqlite.specs.declared.error.Error.{Error}
 use Rattle.sqlite.specs.Effect.{Database}
-use Rattle.sqlite.specs.State.{HasCleanDisk, IsUnchanged}
+use Rattle.sqlite.specs.State.{IsUnchanged}
 use Rattle.sqlite.specs.Held.{Held, state}
 use Rattle.money_core.specs.declared.cause.Cause.{Cause}
 use Rattle.money_core.specs.declared.cause.Cause.TheVariants.{OutOfMemory, Damaged}
@@ -16,18 +16,18 @@ use Rattle.treasury_state.specs.Rows.{rows}
 use Rattle.treasury_laws.proofs.RowsLawLemmas.{same_state}
 use Rattle.treasury_tables.specs.Tables.{store_schema}
 use Rattle.treasury_tables.specs.Rows.{Tables, Holds, ShowsTables}
-use Rattle.treasury_tables.specs.Kept.{Queries}
+use Rattle.treasury_tables.specs.Kept.{Queries, IsFaithful}
 use Rattle.treasury_tables.specs.Order.{InOrder}
 use Rattle.treasury_store.specs.declared.store.Store.{Store}
 use Rattle.treasury_store.specs.Store.{TablesAre, Knows, IsOf}
 use Rattle.treasury_store.proofs.OrderedLemmas.{rows_in_order}
 
 module _ {S : Type 0} (g : Ghosts S) (old new : Held S)
-    (cleaner : HasCleanDisk (state g new) → HasCleanDisk (state g old)) where
+    (cleaner : IsFaithful g new → IsFaithful g old) where
   -- tables that stay
-  pub tables_stay : (t : Tables) → (HasCleanDisk (state g new) → IsTrue (state g new).is_open
+  pub tables_stay : (t : Tables) → (IsFaithful g new → IsTrue (state g new).is_open
       → IsTrue (state g old).is_open)
-      → (HasCleanDisk (state g new) → IsTrue (state g new).is_open → Holds (state g old).now t
+      → (IsFaithful g new → IsTrue (state g new).is_open → Holds (state g old).now t
       → (state g old).committed ≡ (state g old).now
       → ((state g new).now ≡ (state g old).now) × ((state g new).committed ≡ (state g old).committed))
       → TablesAre g old t → TablesAre g new t
@@ -36,8 +36,8 @@ module _ {S : Type 0} (g : Ghosts S) (old new : Held S)
       let kept = same clean is_open was.0 was.1 in
       (subst (λ (db : Database). Holds db t) (sym kept.0) was.0, kept.1 ∙ (was.1 ∙ sym kept.0))
 
-  module _ (opened : HasCleanDisk (state g new) → IsTrue (state g old).is_open × IsTrue (state g new).is_open)
-      (same : HasCleanDisk (state g new) → (state g old).now.schema ≡ store_schema
+  module _ (opened : IsFaithful g new → IsTrue (state g old).is_open × IsTrue (state g new).is_open)
+      (same : IsFaithful g new → (state g old).now.schema ≡ store_schema
       → IsUnchanged (state g old) (state g new)) where
     pub read_tables_stay : (t : Tables) → TablesAre g old t → TablesAre g new t
     read_tables_stay t are =
@@ -45,15 +45,15 @@ module _ {S : Type 0} (g : Ghosts S) (old new : Held S)
         (λ clean is_open holds all. let kept = (same clean holds.shows.schema).0 in (kept.now_is, kept.committed_is))
         are
 
-    module _ (parts : Parts) (read : HasCleanDisk (state g new) → (t : Tables) → InOrder t
+    module _ (parts : Parts) (read : IsFaithful g new → (t : Tables) → InOrder t
         → ShowsTables (state g old).now t → parts ≡ t) (f : Federation) (good : IsGoodState f)
         (are : TablesAre g old (rows f)) where
       -- the rows that were read are the state's
-      pub parts_are : HasCleanDisk (state g new) → rows f ≡ parts
+      pub parts_are : IsFaithful g new → rows f ≡ parts
       parts_are clean = sym (read clean (rows f) (rows_in_order f good)
           (are (cleaner clean) (opened clean).0).0.shows)
 
-      pub loaded_is : (s : Federation) → IsGoodState s → rows s ≡ parts → HasCleanDisk (state g new) → s ≡ f
+      pub loaded_is : (s : Federation) → IsGoodState s → rows s ≡ parts → IsFaithful g new → s ≡ f
       loaded_is s fine built clean = same_state s f fine good (built ∙ sym (parts_are clean))
 
       pub loaded_tables : (s : Federation) → IsGoodState s → rows s ≡ parts → TablesAre g new (rows s)
@@ -64,7 +64,7 @@ module _ {S : Type 0} (g : Ghosts S) (old new : Held S)
       -- rows that are no state's are not this one's
       pub not_damaged : (e : Cause) → (e ≡ OutOfMemory)
           ⊎ ((e ≡ Damaged) × ((x : Federation) → IsGoodState x → rows x ≡ parts → ⊥)) → e ≡ Damaged
-          → HasCleanDisk (state g new) → ⊥
+          → IsFaithful g new → ⊥
       not_damaged e (inl memory) is clean = absurd cc
       not_damaged e (inr none) is clean = none.1 f good (parts_are clean)
 
@@ -85,9 +85,9 @@ module _ {S X : Type 0} (g : Ghosts S) (old new : Store S) (f : Federation) wher
   }
 
   module _ (x : X) (q : Queries g old.conn new.conn (Ok x))
-      (same : HasCleanDisk (state g new.conn) → (state g old.conn).now.schema ≡ store_schema
+      (same : IsFaithful g new.conn → (state g old.conn).now.schema ≡ store_schema
       → IsUnchanged (state g old.conn) (state g new.conn)) where
-    cleaner : HasCleanDisk (state g new.conn) → HasCleanDisk (state g old.conn)
+    cleaner : IsFaithful g new.conn → IsFaithful g old.conn
     cleaner clean = omega (arith, q.survives.clean, clean)
 
     -- and where they are no state's
@@ -98,12 +98,12 @@ module _ {S X : Type 0} (g : Ghosts S) (old new : Store S) (f : Federation) wher
       numbers = numbers ∙ of.numbers;
     }
 
-    module _ (parts : Parts) (read : HasCleanDisk (state g new.conn) → (t : Tables) → InOrder t
+    module _ (parts : Parts) (read : IsFaithful g new.conn → (t : Tables) → InOrder t
         → ShowsTables (state g old.conn).now t → parts ≡ t) (good : IsGoodState f)
         (are : TablesAre g old.conn (rows f)) where
       -- where they are, it is of the state that they make, which is the one whose rows the tables are
       pub loaded_of : (s : Federation) → IsGoodState s → rows s ≡ parts → Knows new s
-          → IsOf g new s × (HasCleanDisk (state g new.conn) → s ≡ f)
+          → IsOf g new s × (IsFaithful g new.conn → s ≡ f)
       loaded_of s fine built knows = (
         record {
           good = fine;
@@ -117,7 +117,7 @@ module _ {S X : Type 0} (g : Ghosts S) (old new : Store S) (f : Federation) wher
       pub none_damaged : {Y : Type 0} (r : Result Y Cause) (e : Cause) → IsErrAnd r (λ y. y ≡ e)
           → (e ≡ OutOfMemory)
           ⊎ ((e ≡ Damaged) × ((x : Federation) → IsGoodState x → rows x ≡ parts → ⊥))
-          → r ≡ Err Damaged → HasCleanDisk (state g new.conn) → ⊥
+          → r ≡ Err Damaged → IsFaithful g new.conn → ⊥
       none_damaged r e is why damaged clean =
           let p = err_from_is_err_and r is in
           let same_cause : p.0 ≡ Damaged = cause_is p.0 (sym p.1 ∙ damaged) in

@@ -3,7 +3,7 @@ use Rattle.std.proofs.Common.{◌≡◌, List, Option, Some, refl, sym, ap, subs
 use Rattle.sqlite.specs.Store.{Ghosts}
 use Rattle.sqlite.specs.Effect.{Database}
 use Rattle.sqlite.specs.Tree.{Trees}
-use Rattle.sqlite.specs.State.{State, HasCleanDisk, Survives}
+use Rattle.sqlite.specs.State.{State, Survives}
 use Rattle.sqlite.specs.Held.{Held, state}
 use Rattle.sqlite.proofs.StateLemmas.{survives_weaker}
 use Rattle.treasury_state.specs.declared.delta.Addition.{Addition}
@@ -12,6 +12,7 @@ use Rattle.treasury_state.specs.Good.{IsGoodState}
 use Rattle.treasury_state.specs.Joined.{joined}
 use Rattle.treasury_state.specs.Rows.{rows}
 use Rattle.treasury_state.proofs.BackLemmas.{good_room}
+use Rattle.treasury_tables.specs.Kept.{IsFaithful}
 use Rattle.treasury_tables.specs.declared.change.Change.{Change}
 use Rattle.treasury_tables.specs.Rows.{Tables, Holds, HoldsEither, joined as written}
 use Rattle.treasury_tables.specs.Creating.{has_receipt}
@@ -52,9 +53,9 @@ holds_joined f xs n changes db good next e is h =
 module _ {S : Type 0} (g : Ghosts S) (old : Store S) (f : Federation) (of : IsOf g old f) where
   -- while the tables stay, so does the state
   pub stays_of : (new : Store S) → new.numbers ≡ old.numbers
-      → (HasCleanDisk (state g new.conn) → HasCleanDisk (state g old.conn))
-      → (HasCleanDisk (state g new.conn) → IsTrue (state g new.conn).is_open → IsTrue (state g old.conn).is_open)
-      → (HasCleanDisk (state g new.conn) → IsTrue (state g new.conn).is_open
+      → (IsFaithful g new.conn → IsFaithful g old.conn)
+      → (IsFaithful g new.conn → IsTrue (state g new.conn).is_open → IsTrue (state g old.conn).is_open)
+      → (IsFaithful g new.conn → IsTrue (state g new.conn).is_open
       → ((state g new.conn).now ≡ (state g old.conn).now)
       × ((state g new.conn).committed ≡ (state g old.conn).committed)) → IsOf g new f
   stays_of new numbers clean opened same = record {
@@ -76,9 +77,9 @@ module _ {S : Type 0} (g : Ghosts S) (old : Store S) (f : Federation) (of : IsOf
 
     -- once the changes are written, the store is of the joined state
     pub becomes_of : (new : Store S) → new.numbers ≡ Some (numbers_with n xs)
-        → (HasCleanDisk (state g new.conn) → HasCleanDisk (state g old.conn))
-        → (HasCleanDisk (state g new.conn) → IsTrue (state g new.conn).is_open → IsTrue (state g old.conn).is_open)
-        → (HasCleanDisk (state g new.conn) → (t : Tables) → Holds (state g old.conn).now t
+        → (IsFaithful g new.conn → IsFaithful g old.conn)
+        → (IsFaithful g new.conn → IsTrue (state g new.conn).is_open → IsTrue (state g old.conn).is_open)
+        → (IsFaithful g new.conn → (t : Tables) → Holds (state g old.conn).now t
         → Holds (state g new.conn).now (written changes t)
         × ((state g new.conn).committed ≡ (state g new.conn).now))
         → IsOf g new (joined f xs)
@@ -128,9 +129,9 @@ empty_good = record {
 
 -- whichever version held these rows, version 2 holds them behind an opening
 pub opened_holds : {S : Type 0} (g : Ghosts S) (old new : Held S)
-    → (HasCleanDisk (state g new) → IsFirstNumbered (state g old).now
+    → (IsFaithful g new → IsFirstNumbered (state g old).now
     → Upgrades (state g old).now (state g new).now × ((state g new).committed ≡ (state g new).now))
-    → (HasCleanDisk (state g new) → AreOurs (state g old).now.schema → (IsFirst (state g old).now → ⊥)
+    → (IsFaithful g new → AreOurs (state g old).now.schema → (IsFirst (state g old).now → ⊥)
     → ((state g new).now ≡ (state g old).now) × ((state g new).committed ≡ (state g old).committed))
     → (state g old).committed ≡ (state g old).now → (t : Tables) → HoldsEither (state g old).now t → TablesAre g new t
 opened_holds g old new first same settled t (inr holds) clean is_open =

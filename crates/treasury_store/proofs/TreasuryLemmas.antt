@@ -9,7 +9,7 @@ use Rattle.book_core.specs.declared.refusal.Refusal.{Refusal}
 use Rattle.book_core.specs.declared.refusal.Refusal.TheVariants.{Plain}
 use Rattle.sqlite.specs.Store.{Ghosts}
 use Rattle.sqlite.specs.Effect.{Database}
-use Rattle.sqlite.specs.State.{HasCleanDisk, Survives}
+use Rattle.sqlite.specs.State.{Survives}
 use Rattle.sqlite.specs.Held.{Held, state}
 use Rattle.sqlite.proofs.StateLemmas.{survives_weaker, survives_then}
 use Rattle.treasury_state.specs.declared.record.Record.{Record}
@@ -34,7 +34,7 @@ use Rattle.treasury_core.specs.Run.{IsRun, state_after}
 use Rattle.treasury_laws.specs.Headline.{KeepsBooks}
 use Rattle.treasury_laws.proofs.HeadlineLemmas.{keeps_books}
 use Rattle.treasury_tables.specs.Rows.{Holds, AreTreesOf}
-use Rattle.treasury_tables.specs.Kept.{KeepsTables}
+use Rattle.treasury_tables.specs.Kept.{KeepsTables, IsFaithful}
 use Rattle.treasury_store.specs.declared.store.Store.{Store}
 use Rattle.treasury_store.specs.Store.{IsOf, AnswersState, FailsAs, Finds, FindsAll, Joins}
 use Rattle.treasury_store.specs.Treasury.{Treasury, IsTreasuryOf, MayReply, Performs, is_failure, turn_if}
@@ -180,7 +180,7 @@ survives_write g old new now xs good left =
 
 -- the tables of a state that was loaded
 pub rows_loaded : {S : Type 0} (g : Ghosts S) (new : Store S) (s f : Federation) → IsOf g new s → s ≡ f
-    → HasCleanDisk (state g new.conn) → IsTrue (state g new.conn).is_open → Holds (state g new.conn).now (rows f)
+    → IsFaithful g new.conn → IsTrue (state g new.conn).is_open → Holds (state g new.conn).now (rows f)
 rows_loaded g new s f of same clean is_open =
     subst (λ (x : Federation). Holds (state g new.conn).now (rows x)) same (of.tables clean is_open).0
 
@@ -192,10 +192,10 @@ module _ {S : Type 0} (g : Ghosts S) (old new : Treasury S) (c : Command) where
 
   -- a command that is settled on the state in memory, behind that
   pub survives_settle : (mid : Treasury S) (s : Federation)
-      → (HasCleanDisk (state g new.store.conn) → HasCleanDisk (state g mid.store.conn))
+      → (IsFaithful g new.store.conn → IsFaithful g mid.store.conn)
       → KeepsTables g old.store.conn mid.store.conn
-      → (HasCleanDisk (state g mid.store.conn) → (f : Federation) → IsTreasuryOf g old f → IsTreasuryOf g mid f)
-      → (HasCleanDisk (state g mid.store.conn) → (f : Federation) → IsTreasuryOf g old f
+      → (IsFaithful g mid.store.conn → (f : Federation) → IsTreasuryOf g old f → IsTreasuryOf g mid f)
+      → (IsFaithful g mid.store.conn → (f : Federation) → IsTreasuryOf g old f
       → Holds (state g old.store.conn).now (rows f) → Holds (state g mid.store.conn).now (rows f))
       → mid.held ≡ Some s
       → SurvivesChange g mid.store new.store.conn s (step s c).next → SurvivesCommand g old new c

@@ -3,7 +3,6 @@
 use Rattle.std.specs.Prelude.{◌≡◌, ◌⊎◌, List, IsTrue}
 use Rattle.sqlite.specs.Store.{Ghosts}
 use Rattle.sqlite.specs.Tree.{Trees}
-use Rattle.sqlite.specs.State.{HasCleanDisk}
 use Rattle.sqlite.specs.Held.{Held, state}
 use Rattle.treasury_state.specs.declared.delta.Addition.{Addition}
 use Rattle.treasury_state.specs.Federation.{Federation}
@@ -12,6 +11,7 @@ use Rattle.treasury_state.specs.Rows.{rows}
 use Rattle.treasury_core.specs.declared.command.Command.{Command}
 use Rattle.treasury_core.specs.Fits.{Fits}
 use Rattle.treasury_core.specs.Step.{step}
+use Rattle.treasury_tables.specs.Kept.{IsFaithful}
 use Rattle.treasury_tables.specs.Rows.{Tables, HoldsFirst, AreTreesOf, AreFirstTreesOf}
 use Rattle.treasury_store.specs.declared.store.Store.{Store}
 use Rattle.treasury_store.specs.Store.{TablesAre, IsOf, Joins}
@@ -19,12 +19,12 @@ use Rattle.treasury_store.specs.Treasury.{Treasury, IsTreasuryOf}
 
 -- whatever is left are these rows
 abbrev pub LeavesRows : {S : Type 0} → Ghosts S → Held S → Tables → Type 0
-LeavesRows g h t = HasCleanDisk (state g h) → (trees : Trees) → (state g h).may_leave trees → AreTreesOf trees t
+LeavesRows g h t = IsFaithful g h → (trees : Trees) → (state g h).may_leave trees → AreTreesOf trees t
 
 -- whatever is left are the ones or the others
 abbrev pub LeavesEither : {S : Type 0} → Ghosts S → Held S → Tables → Tables → Type 0
 LeavesEither g h t u =
-    HasCleanDisk (state g h) → (trees : Trees) → (state g h).may_leave trees → AreTreesOf trees t ⊎ AreTreesOf trees u
+    IsFaithful g h → (trees : Trees) → (state g h).may_leave trees → AreTreesOf trees t ⊎ AreTreesOf trees u
 
 -- a call on a connection that was open, and whose tables held rows: whatever is left behind it are these
 abbrev pub LeavesSame : {S : Type 0} → Ghosts S → Held S → Held S → Type 0
@@ -33,14 +33,14 @@ LeavesSame g old new = IsTrue (state g old).is_open → (t : Tables) → TablesA
 -- while the disk returned what was written and the connection is open, the tables hold these rows as version 1, and so
 -- does what is committed
 abbrev pub FirstTablesAre : {S : Type 0} → Ghosts S → Held S → Tables → Type 0
-FirstTablesAre g h t = HasCleanDisk (state g h) → IsTrue (state g h).is_open
+FirstTablesAre g h t = IsFaithful g h → IsTrue (state g h).is_open
     → HoldsFirst (state g h).now t × ((state g h).committed ≡ (state g h).now)
 
 -- the opening of version 1 on a connection that was open: whatever is left behind it are the same rows, as version 1 or
 -- as version 2
 abbrev pub LeavesEitherVersion : {S : Type 0} → Ghosts S → Held S → Held S → Type 0
 LeavesEitherVersion g old new =
-    IsTrue (state g old).is_open → (t : Tables) → FirstTablesAre g old t → HasCleanDisk (state g new) → (trees : Trees)
+    IsTrue (state g old).is_open → (t : Tables) → FirstTablesAre g old t → IsFaithful g new → (trees : Trees)
     → (state g new).may_leave trees
     → AreFirstTreesOf trees t ⊎ AreTreesOf trees t
 

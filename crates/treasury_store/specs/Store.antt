@@ -4,7 +4,6 @@ use Rattle.std.specs.List.{list_any}
 use Rattle.money_core.specs.declared.cause.Cause.{Cause}
 use Rattle.money_core.specs.declared.cause.Cause.TheVariants.{OutOfMemory, Store as Failed, Damaged}
 use Rattle.sqlite.specs.Store.{Ghosts}
-use Rattle.sqlite.specs.State.{HasCleanDisk}
 use Rattle.sqlite.specs.Held.{Held, state}
 use Rattle.treasury_state.specs.declared.delta.Addition.{Addition}
 use Rattle.treasury_state.specs.declared.delta.Addition.TheVariants as add
@@ -13,6 +12,7 @@ use Rattle.treasury_state.specs.Transfer.{is_all, has_id}
 use Rattle.treasury_state.specs.Joined.{joined_one, joined}
 use Rattle.treasury_state.specs.Good.{IsGoodState}
 use Rattle.treasury_state.specs.Rows.{rows}
+use Rattle.treasury_tables.specs.Kept.{IsFaithful}
 use Rattle.treasury_tables.specs.Rows.{Tables, Holds}
 use Rattle.treasury_store.specs.Numbers.{numbers_of}
 use Rattle.treasury_store.specs.declared.store.Store.{Store}
@@ -24,7 +24,7 @@ empty_state = record { styles = []; branches = []; transfers = [] }
 -- while the disk returned what was written and the connection is open, the tables hold these rows, and so does what is
 -- committed
 abbrev pub TablesAre : {S : Type 0} → Ghosts S → Held S → Tables → Type 0
-TablesAre g h t = HasCleanDisk (state g h) → IsTrue (state g h).is_open
+TablesAre g h t = IsFaithful g h → IsTrue (state g h).is_open
     → Holds (state g h).now t × ((state g h).committed ≡ (state g h).now)
 
 -- the store knows by which numbers the rows of a state go on

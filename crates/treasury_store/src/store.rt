@@ -2,7 +2,7 @@
 
 ghost use Rattle.std.specs.Prelude.{◌≡◌, ◌≤◌, ◌⊎◌, ◌↔◌, [], false, None, Some, Err, OnOk, OnErr, IfOk, IfErr};
 ghost use Rattle.std.specs.Prelude.{true, MatchResult, IsTrue};
-ghost use Rattle.sqlite.specs.State.{HasCleanDisk, IsLive, Survives};
+ghost use Rattle.sqlite.specs.State.{IsLive, Survives};
 ghost use Rattle.sqlite.specs.Held.{state};
 ghost use Rattle.sqlite.specs.Effect.{Database};
 ghost use Rattle.sqlite_trees.specs.View.{doubt};
@@ -11,7 +11,7 @@ ghost use Rattle.treasury_state.specs.Good.{IsGoodState};
 ghost use Rattle.treasury_state.specs.Joined.{joined};
 ghost use Rattle.treasury_state.specs.Rows.{rows};
 ghost use Rattle.treasury_tables.specs.Rows.{Tables, Holds, HoldsEither, ShowsTables};
-ghost use Rattle.treasury_tables.specs.Kept.{ChangesNothing, KeepsTables, StaysAsIs};
+ghost use Rattle.treasury_tables.specs.Kept.{ChangesNothing, KeepsTables, StaysAsIs, IsFaithful};
 ghost use Rattle.treasury_tables.specs.Tables.{no_schema, store_schema};
 ghost use Rattle.treasury_tables.specs.Creating.{has_one, has_all, has_counter, Beside, SurvivesMaking};
 ghost use Rattle.treasury_tables.specs.Opening.{AreOurs, IsFirst, IsFirstNumbered, IsSecond};
@@ -58,11 +58,11 @@ impl<S: Alter> Store<S> {
         // Into an empty database.
         ensures made { IfOk result (λ s. (state S.Store conn).now.schema ≡ no_schema → IsOf S.Store s empty_state) }
         // Beside other tables, none of which has AUTOINCREMENT.
-        ensures beside { IfOk result (λ s. HasCleanDisk (state S.Store s.conn)
+        ensures beside { IfOk result (λ s. IsFaithful S.Store s.conn
             → has_counter (state S.Store conn).now.schema ≡ false
             → Beside (state S.Store conn).now (state S.Store s.conn).now) }
         ensures still_open { IfOk result
-            (λ s. HasCleanDisk (state S.Store s.conn) → IsTrue (state S.Store s.conn).is_open) }
+            (λ s. IsFaithful S.Store s.conn → IsTrue (state S.Store s.conn).is_open) }
         ensures clean { IfOk result (λ s. doubt (state S.Store conn).is_clean ≤ doubt (state S.Store s.conn).is_clean) }
         ensures fresh { IfOk result (λ s. Knows s empty_state × (s.failed ≡ false)) }
         ensures free { IfOk result (λ s. has_one (state S.Store conn).now.schema ≡ false) }
@@ -72,11 +72,11 @@ impl<S: Alter> Store<S> {
             ((r.cause ≡ Cause.Damaged) × IsTrue (has_one (state S.Store conn).now.schema))
             ⊎ ((r.cause ≡ Cause.OutOfMemory) ⊎ (r.cause ≡ Cause.Store))) }
         ensures unchanged { IfErr result
-            (λ r. HasCleanDisk (state S.Store r.conn) → IsTrue (state S.Store r.conn).is_open
+            (λ r. IsFaithful S.Store r.conn → IsTrue (state S.Store r.conn).is_open
             → ((state S.Store r.conn).now ≡ (state S.Store conn).now)
             × ((state S.Store r.conn).committed ≡ (state S.Store conn).committed)) }
         // 40 leaves the connection open.
-        ensures kept { IfErr result (λ r. r.cause ≡ Cause.OutOfMemory → HasCleanDisk (state S.Store r.conn)
+        ensures kept { IfErr result (λ r. r.cause ≡ Cause.OutOfMemory → IsFaithful S.Store r.conn
             → IsTrue (state S.Store r.conn).is_open) }
         ensures crash { MatchResult result (λ s. SurvivesMaking S.Store conn s.conn)
             (λ r. SurvivesMaking S.Store conn r.conn) }
@@ -106,19 +106,19 @@ impl<S: Alter> Store<S> {
     /// there, nor those of version 1 with theirs and without a table `receipt`, it answers 43.
     pub fn open(alloc: Global, mut conn: Connection<S>) -> Result<Self, Refused<S>>
         requires { conn.in_transaction ≡ false }
-        ensures there { IfOk result (λ s. HasCleanDisk (state S.Store s.conn) → AreOurs (state S.Store conn).now.schema
+        ensures there { IfOk result (λ s. IsFaithful S.Store s.conn → AreOurs (state S.Store conn).now.schema
             → IsFirst (state S.Store conn).now ⊎ IsSecond (state S.Store conn).now) }
         ensures tables { IfOk result (λ s. IsTrue (has_all (state S.Store conn).now.schema)) }
         ensures still_open { IfOk result
-            (λ s. HasCleanDisk (state S.Store s.conn) → IsTrue (state S.Store s.conn).is_open) }
+            (λ s. IsFaithful S.Store s.conn → IsTrue (state S.Store s.conn).is_open) }
         ensures live { IfOk result (λ s. IsLive (state S.Store s.conn)) }
         // Whichever rows the tables held, in either version: they are the store's.
         ensures opened { IfOk result (λ s. (state S.Store conn).committed ≡ (state S.Store conn).now → (t : Tables)
             → HoldsEither (state S.Store conn).now t → TablesAre S.Store s.conn t) }
-        ensures first { IfOk result (λ s. HasCleanDisk (state S.Store s.conn) → IsFirstNumbered (state S.Store conn).now
+        ensures first { IfOk result (λ s. IsFaithful S.Store s.conn → IsFirstNumbered (state S.Store conn).now
             → Upgrades (state S.Store conn).now (state S.Store s.conn).now
             × ((state S.Store s.conn).committed ≡ (state S.Store s.conn).now)) }
-        ensures same { IfOk result (λ s. HasCleanDisk (state S.Store s.conn) → AreOurs (state S.Store conn).now.schema
+        ensures same { IfOk result (λ s. IsFaithful S.Store s.conn → AreOurs (state S.Store conn).now.schema
             → (IsFirst (state S.Store conn).now → ⊥)
             → ((state S.Store s.conn).now ≡ (state S.Store conn).now)
             × ((state S.Store s.conn).committed ≡ (state S.Store conn).committed)) }
@@ -128,19 +128,19 @@ impl<S: Alter> Store<S> {
             → result ≡ Err (record { conn = conn; cause = Cause.Damaged }) }
         ensures refused { IfErr result (λ r.
             (r.cause ≡ Cause.Damaged) ⊎ ((r.cause ≡ Cause.OutOfMemory) ⊎ (r.cause ≡ Cause.Store))) }
-        ensures damaged { IfErr result (λ r. r.cause ≡ Cause.Damaged → HasCleanDisk (state S.Store r.conn)
+        ensures damaged { IfErr result (λ r. r.cause ≡ Cause.Damaged → IsFaithful S.Store r.conn
             → (AreOurs (state S.Store conn).now.schema
             → IsFirst (state S.Store conn).now ⊎ IsSecond (state S.Store conn).now → ⊥)
             × ((state S.Store r.conn).now ≡ (state S.Store conn).now)
             × ((state S.Store r.conn).committed ≡ (state S.Store conn).committed)) }
         // After 40, and while the connection is open after 41, its tables are as they were.
         ensures unchanged { IfErr result
-            (λ r. (r.cause ≡ Cause.Damaged → ⊥) → HasCleanDisk (state S.Store r.conn)
+            (λ r. (r.cause ≡ Cause.Damaged → ⊥) → IsFaithful S.Store r.conn
             → IsTrue (state S.Store r.conn).is_open
             → ((state S.Store r.conn).now ≡ (state S.Store conn).now)
             × ((state S.Store r.conn).committed ≡ (state S.Store conn).committed)) }
         // 40 leaves the connection open.
-        ensures kept { IfErr result (λ r. r.cause ≡ Cause.OutOfMemory → HasCleanDisk (state S.Store r.conn)
+        ensures kept { IfErr result (λ r. r.cause ≡ Cause.OutOfMemory → IsFaithful S.Store r.conn
             → IsTrue (state S.Store r.conn).is_open) }
         ensures crash { MatchResult result (λ s. KeepsOurs S.Store conn s.conn) (λ r. KeepsOurs S.Store conn r.conn) }
         // Whatever is left, also behind 41 where the connection is shut, are the rows that were there.
@@ -196,7 +196,7 @@ impl<S: Alter> Store<S> {
         ensures cause { ((result ≡ Cause.OutOfMemory) × (self.new.failed ≡ self.old.failed))
             ⊎ ((result ≡ Cause.Store) × (self.new.failed ≡ true)) }
         ensures memory { result ≡ Cause.OutOfMemory → error ≡ Error.SqliteFailure ErrorCode.OutOfMemory }
-        ensures open { result ≡ Cause.OutOfMemory → HasCleanDisk (state S.Store self.new.conn)
+        ensures open { result ≡ Cause.OutOfMemory → IsFaithful S.Store self.new.conn
             → IsTrue (state S.Store self.new.conn).is_open }
         ensures numbers { self.new.numbers ≡ self.old.numbers }
         ensures nothing { ChangesNothing S.Store self.old.conn self.new.conn }
@@ -215,28 +215,28 @@ impl<S: Alter> Store<S> {
     pub fn load<L: Ledger>(&mut self) -> Result<State<L>, Cause>
         // Of whichever good state the tables are the rows, also those that were opened.
         ensures ok { IfOk result (λ s. (f : Federation) → IsGoodState f → TablesAre S.Store self.old.conn (rows f)
-            → IsOf S.Store self.new s × (HasCleanDisk (state S.Store self.new.conn) → s ≡ f)) }
+            → IsOf S.Store self.new s × (IsFaithful S.Store self.new.conn → s ≡ f)) }
         ensures known { IfOk result (λ s. Knows self.new s) }
         ensures good { IfOk result IsGoodState }
         ensures still_open { OnOk result
-            (HasCleanDisk (state S.Store self.new.conn) → IsTrue (state S.Store self.new.conn).is_open) }
-        ensures damaged { result ≡ Err Cause.Damaged → HasCleanDisk (state S.Store self.new.conn) → (f : Federation)
+            (IsFaithful S.Store self.new.conn → IsTrue (state S.Store self.new.conn).is_open) }
+        ensures damaged { result ≡ Err Cause.Damaged → IsFaithful S.Store self.new.conn → (f : Federation)
             → IsGoodState f → TablesAre S.Store self.old.conn (rows f) → ⊥ }
         // What is loaded has the rows that our tables show, whatever they are, and 43 says that no such state has them.
-        ensures shown { IfOk result (λ s. HasCleanDisk (state S.Store self.new.conn)
+        ensures shown { IfOk result (λ s. IsFaithful S.Store self.new.conn
             → (state S.Store self.old.conn).now.schema ≡ store_schema
             → ShowsTables (state S.Store self.old.conn).now (rows s)) }
-        ensures unfit { result ≡ Err Cause.Damaged → HasCleanDisk (state S.Store self.new.conn) → (f : Federation)
+        ensures unfit { result ≡ Err Cause.Damaged → IsFaithful S.Store self.new.conn → (f : Federation)
             → IsGoodState f → ShowsTables (state S.Store self.old.conn).now (rows f) → ⊥ }
         ensures err { OnErr result ((f : Federation) → IsOf S.Store self.old f → IsOf S.Store self.new f) }
         ensures tables { OnErr result ((t : Tables) → TablesAre S.Store self.old.conn t
             → TablesAre S.Store self.new.conn t) }
         // Whatever is in our tables.
-        ensures unchanged { HasCleanDisk (state S.Store self.new.conn) → IsTrue (state S.Store self.new.conn).is_open
+        ensures unchanged { IsFaithful S.Store self.new.conn → IsTrue (state S.Store self.new.conn).is_open
             → StaysAsIs (state S.Store self.old.conn) (state S.Store self.new.conn) }
         ensures unknown { OnErr result (self.new.numbers ≡ self.old.numbers) }
         // A connection that was open is open behind each refusal but 41.
-        ensures kept { HasCleanDisk (state S.Store self.new.conn) → IsTrue (state S.Store self.old.conn).is_open
+        ensures kept { IsFaithful S.Store self.new.conn → IsTrue (state S.Store self.old.conn).is_open
             → IsTrue (state S.Store self.new.conn).is_open ⊎ (result ≡ Err Cause.Store) }
         ensures answers { self.old.failed ≡ false → AnswersState result self.new.failed }
         ensures closed { IsTrue self.old.failed → (result ≡ Err Cause.Closed) × (self.new ≡ self.old) }
@@ -269,13 +269,13 @@ impl<S: Alter> Store<S> {
             → IsOf S.Store self.new (joined f delta.now)) }
         ensures knows { OnOk result ((f : Federation) → Knows self.old f → Knows self.new (joined f delta.now)) }
         ensures still_open { OnOk result
-            (HasCleanDisk (state S.Store self.new.conn) → IsTrue (state S.Store self.new.conn).is_open) }
+            (IsFaithful S.Store self.new.conn → IsTrue (state S.Store self.new.conn).is_open) }
         ensures err { OnErr result ((f : Federation) → IsOf S.Store self.old f → IsOf S.Store self.new f) }
         ensures known { OnErr result (self.new.numbers ≡ self.old.numbers) }
         // A connection that was open is open behind 40, and so it may be behind 41; it has committed nothing then.
-        ensures kept { HasCleanDisk (state S.Store self.new.conn) → IsTrue (state S.Store self.old.conn).is_open
+        ensures kept { IsFaithful S.Store self.new.conn → IsTrue (state S.Store self.old.conn).is_open
             → IsTrue (state S.Store self.new.conn).is_open ⊎ (result ≡ Err Cause.Store) }
-        ensures unchanged { HasCleanDisk (state S.Store self.new.conn) → IsTrue (state S.Store self.new.conn).is_open
+        ensures unchanged { IsFaithful S.Store self.new.conn → IsTrue (state S.Store self.new.conn).is_open
             → OnErr result
             (((state S.Store self.new.conn).now ≡ (state S.Store self.old.conn).now)
             × ((state S.Store self.new.conn).committed ≡ (state S.Store self.old.conn).committed)) }

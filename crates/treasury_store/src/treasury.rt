@@ -2,7 +2,7 @@
 
 ghost use Rattle.std.specs.Prelude.{◌≡◌, ◌⊎◌, [], false, Some, None, Err, Ok, OnOk, OnErr, IfOk, IfErr, IfSome, IsSome};
 ghost use Rattle.std.specs.Prelude.{IsOk, IsTrue, MatchOption, MatchResult};
-ghost use Rattle.sqlite.specs.State.{HasCleanDisk, Survives};
+ghost use Rattle.sqlite.specs.State.{Survives};
 ghost use Rattle.sqlite.specs.Held.{state};
 ghost use Rattle.sqlite.specs.Effect.{Database};
 ghost use Rattle.treasury_state.specs.Federation.{Federation};
@@ -15,7 +15,7 @@ ghost use Rattle.treasury_core.specs.Run.{Replies, state_after};
 ghost use Rattle.treasury_laws.specs.Headline.{KeepsBooks};
 ghost use Rattle.treasury_tables.specs.Tables.{store_schema};
 ghost use Rattle.treasury_tables.specs.Rows.{Holds, AreTreesOf, Tables, ShowsTables};
-ghost use Rattle.treasury_tables.specs.Kept.{KeepsTables, ShutsByFault, StaysAsIs};
+ghost use Rattle.treasury_tables.specs.Kept.{KeepsTables, ShutsByFault, StaysAsIs, IsFaithful};
 ghost use Rattle.treasury_store.specs.Shown.{ShowsNoState};
 ghost use Rattle.treasury_store.specs.Store.{TablesAre, Knows, IsOf, Joins, Answers, AnswersState, FailsAs};
 ghost use Rattle.treasury_store.specs.Treasury.{IsTreasuryOf, MayReply, Performs, turn_if, SurvivesCommand, IsUnfit};
@@ -68,11 +68,11 @@ impl<S: Alter> Treasury<S> {
     ///
     /// Where the tables are no state's rows, it answers 43, and 40 to 42 as `Store::load`; the store is handed back.
     pub fn start(alloc: Global, mut store: Store<S>) -> Result<Self, Unstarted<S>>
-        ensures of { IfOk result (λ t. HasCleanDisk (state S.Store t.store.conn) → (f : Federation) → IsGoodState f
+        ensures of { IfOk result (λ t. IsFaithful S.Store t.store.conn → (f : Federation) → IsGoodState f
             → TablesAre S.Store store.conn (rows f) → IsTreasuryOf S.Store t f) }
         ensures held { IfOk result (λ t. IsSome t.held) }
         ensures open { IfOk result (λ t. t.store.failed ≡ false) }
-        ensures damaged { IfErr result (λ r. r.cause ≡ Cause.Damaged → HasCleanDisk (state S.Store r.store.conn)
+        ensures damaged { IfErr result (λ r. r.cause ≡ Cause.Damaged → IsFaithful S.Store r.store.conn
             → (f : Federation) → IsGoodState f → TablesAre S.Store store.conn (rows f) → ⊥) }
         ensures back { IfErr result (λ r. (f : Federation) → IsOf S.Store store f → IsOf S.Store r.store f) }
         ensures closed { IsTrue store.failed → result ≡ Err (record { store = store; cause = Cause.Closed }) }
@@ -82,19 +82,19 @@ impl<S: Alter> Treasury<S> {
         ensures tables { IfErr result (λ r. (t : Tables) → TablesAre S.Store store.conn t
             → TablesAre S.Store r.store.conn t) }
         ensures still_open { IfOk result
-            (λ t. HasCleanDisk (state S.Store t.store.conn) → IsTrue (state S.Store t.store.conn).is_open) }
+            (λ t. IsFaithful S.Store t.store.conn → IsTrue (state S.Store t.store.conn).is_open) }
         // A connection that was open is open behind each refusal but 41.
-        ensures open_but { IfErr result (λ r. HasCleanDisk (state S.Store r.store.conn)
+        ensures open_but { IfErr result (λ r. IsFaithful S.Store r.store.conn
             → IsTrue (state S.Store store.conn).is_open
             → IsTrue (state S.Store r.store.conn).is_open ⊎ (r.cause ≡ Cause.Store)) }
         // Our tables show the rows of the good state that it holds; where they show none, it is refused.
-        ensures shown { IfOk result (λ t. HasCleanDisk (state S.Store t.store.conn)
+        ensures shown { IfOk result (λ t. IsFaithful S.Store t.store.conn
             → (state S.Store store.conn).now.schema ≡ store_schema
             → IfSome t.held (λ s. IsGoodState s × ShowsTables (state S.Store store.conn).now (rows s))) }
         ensures unchanged { IfErr result
-            (λ r. HasCleanDisk (state S.Store r.store.conn) → IsTrue (state S.Store r.store.conn).is_open
+            (λ r. IsFaithful S.Store r.store.conn → IsTrue (state S.Store r.store.conn).is_open
             → StaysAsIs (state S.Store store.conn) (state S.Store r.store.conn)) }
-        ensures kept { IfOk result (λ t. HasCleanDisk (state S.Store t.store.conn)
+        ensures kept { IfOk result (λ t. IsFaithful S.Store t.store.conn
             → StaysAsIs (state S.Store store.conn) (state S.Store t.store.conn)) }
         ensures crash { MatchResult result (λ t. KeepsTables S.Store store.conn t.store.conn)
             (λ r. KeepsTables S.Store store.conn r.store.conn) }
@@ -135,28 +135,28 @@ impl<S: Alter> Treasury<S> {
     /// Where the tables are no state's rows, it answers 43, and 40 to 42 as `Store::load`.
     pub fn hold(&mut self) -> Result<(), Cause>
         ensures held { OnOk result (IsSome self.new.held) }
-        ensures of { HasCleanDisk (state S.Store self.new.store.conn) → (f : Federation)
+        ensures of { IsFaithful S.Store self.new.store.conn → (f : Federation)
             → IsTreasuryOf S.Store self.old f → IsTreasuryOf S.Store self.new f }
         ensures same { IsSome self.old.held → (self.new ≡ self.old) × (self.old.store.failed ≡ false → IsOk result) }
-        ensures damaged { result ≡ Err Cause.Damaged → HasCleanDisk (state S.Store self.new.store.conn)
+        ensures damaged { result ≡ Err Cause.Damaged → IsFaithful S.Store self.new.store.conn
             → (f : Federation) → IsTreasuryOf S.Store self.old f → ⊥ }
         ensures answers { self.old.store.failed ≡ false → AnswersState result self.new.store.failed }
         ensures closed { IsTrue self.old.store.failed → (result ≡ Err Cause.Closed) × (self.new ≡ self.old) }
-        ensures still_open { HasCleanDisk (state S.Store self.new.store.conn)
+        ensures still_open { IsFaithful S.Store self.new.store.conn
             → IsTrue (state S.Store self.old.store.conn).is_open
             → OnOk result (IsTrue (state S.Store self.new.store.conn).is_open) }
         // A connection that was open is open behind each answer but 41.
-        ensures kept { HasCleanDisk (state S.Store self.new.store.conn)
+        ensures kept { IsFaithful S.Store self.new.store.conn
             → IsTrue (state S.Store self.old.store.conn).is_open
             → IsTrue (state S.Store self.new.store.conn).is_open ⊎ (result ≡ Err Cause.Store) }
-        ensures clean { HasCleanDisk (state S.Store self.new.store.conn)
-            → HasCleanDisk (state S.Store self.old.store.conn) }
-        ensures rows { OnOk result (HasCleanDisk (state S.Store self.new.store.conn) → (f : Federation)
+        ensures clean { IsFaithful S.Store self.new.store.conn
+            → IsFaithful S.Store self.old.store.conn }
+        ensures rows { OnOk result (IsFaithful S.Store self.new.store.conn → (f : Federation)
             → IsTreasuryOf S.Store self.old f → Holds (state S.Store self.old.store.conn).now (rows f)
             → Holds (state S.Store self.new.store.conn).now (rows f)) }
-        ensures shown { OnOk result (HasCleanDisk (state S.Store self.new.store.conn) → self.old.held ≡ None
+        ensures shown { OnOk result (IsFaithful S.Store self.new.store.conn → self.old.held ≡ None
             → ShowsNoState (state S.Store self.old.store.conn).now → ⊥) }
-        ensures unchanged { HasCleanDisk (state S.Store self.new.store.conn)
+        ensures unchanged { IsFaithful S.Store self.new.store.conn
             → IsTrue (state S.Store self.new.store.conn).is_open
             → StaysAsIs (state S.Store self.old.store.conn) (state S.Store self.new.store.conn) }
         ensures crash { KeepsTables S.Store self.old.store.conn self.new.store.conn }
@@ -187,14 +187,14 @@ impl<S: Alter> Treasury<S> {
         ensures err_held { OnErr result (self.new.held ≡ Some now) }
         ensures nothing { delta ≡ [] → IsOk result × (self.new ≡ record { store = self.old.store; held = Some now }) }
         ensures answers { self.old.store.failed ≡ false → Answers result self.new.store.failed }
-        ensures still_open { HasCleanDisk (state S.Store self.new.store.conn)
+        ensures still_open { IsFaithful S.Store self.new.store.conn
             → IsTrue (state S.Store self.old.store.conn).is_open
             → OnOk result (IsTrue (state S.Store self.new.store.conn).is_open) }
-        ensures kept { HasCleanDisk (state S.Store self.new.store.conn)
+        ensures kept { IsFaithful S.Store self.new.store.conn
             → IsTrue (state S.Store self.old.store.conn).is_open
             → IsTrue (state S.Store self.new.store.conn).is_open ⊎ (result ≡ Err Cause.Store) }
-        ensures clean { HasCleanDisk (state S.Store self.new.store.conn)
-            → HasCleanDisk (state S.Store self.old.store.conn) }
+        ensures clean { IsFaithful S.Store self.new.store.conn
+            → IsFaithful S.Store self.old.store.conn }
         ensures crash { Survives (state S.Store self.old.store.conn) (state S.Store self.new.store.conn)
             (λ trees. IsOf S.Store self.old.store now → Holds (state S.Store self.old.store.conn).now (rows now)
             → AreTreesOf trees (rows (joined now delta))) }
@@ -225,14 +225,14 @@ impl<S: Alter> Treasury<S> {
         ensures replies { self.old.store.failed ≡ false → MayReply now command.now result }
         ensures nothing { AddsNothing now command.now
             → Replies now command.now result × (self.new ≡ record { store = self.old.store; held = Some now }) }
-        ensures still_open { HasCleanDisk (state S.Store self.new.store.conn)
+        ensures still_open { IsFaithful S.Store self.new.store.conn
             → IsTrue (state S.Store self.old.store.conn).is_open
             → OnOk result (IsTrue (state S.Store self.new.store.conn).is_open) }
-        ensures kept { HasCleanDisk (state S.Store self.new.store.conn)
+        ensures kept { IsFaithful S.Store self.new.store.conn
             → IsTrue (state S.Store self.old.store.conn).is_open
             → IsTrue (state S.Store self.new.store.conn).is_open ⊎ (result ≡ Err (Refusal.Plain Cause.Store)) }
-        ensures clean { HasCleanDisk (state S.Store self.new.store.conn)
-            → HasCleanDisk (state S.Store self.old.store.conn) }
+        ensures clean { IsFaithful S.Store self.new.store.conn
+            → IsFaithful S.Store self.old.store.conn }
         ensures crash { Survives (state S.Store self.old.store.conn) (state S.Store self.new.store.conn)
             (λ trees. IsOf S.Store self.old.store now → Holds (state S.Store self.old.store.conn).now (rows now)
             → AreTreesOf trees (rows (step now command.now).next)) }
@@ -258,15 +258,15 @@ impl<S: Alter> Treasury<S> {
     pub fn perform(&mut self, command: Command) -> Result<Answer, Refusal>
         requires { IfSome self.old.held (λ s. Fits s.styles command) }
         // Of whichever state the treasury is: a turn of a run.
-        ensures performs { HasCleanDisk (state S.Store self.new.store.conn) → self.old.store.failed ≡ false
+        ensures performs { IsFaithful S.Store self.new.store.conn → self.old.store.failed ≡ false
             → (f : Federation) → IsTreasuryOf S.Store self.old f → Fits f.styles command
             → Performs S.Store self.new f command result }
         // A command that does not fit the state of the tables is refused, and the treasury is of that state.
-        ensures unfit { HasCleanDisk (state S.Store self.new.store.conn) → self.old.store.failed ≡ false
+        ensures unfit { IsFaithful S.Store self.new.store.conn → self.old.store.failed ≡ false
             → (f : Federation) → IsTreasuryOf S.Store self.old f → (Fits f.styles command → ⊥)
             → IsUnfit result × IsTreasuryOf S.Store self.new f }
         // The headline, of this one command; one that is answered 41 is none.
-        ensures headline { HasCleanDisk (state S.Store self.new.store.conn) → self.old.store.failed ≡ false
+        ensures headline { IsFaithful S.Store self.new.store.conn → self.old.store.failed ≡ false
             → (f : Federation) → IsTreasuryOf S.Store self.old f → Fits f.styles command
             → KeepsBooks f (turn_if command result)
             × IsTreasuryOf S.Store self.new (state_after f (turn_if command result)) }
@@ -280,22 +280,22 @@ impl<S: Alter> Treasury<S> {
             → (result ≡ Err (Refusal.Plain Cause.Closed)) × (self.new ≡ self.old) }
         // Whatever the disk returned, a command is answered by the state in memory.
         ensures replies { self.old.store.failed ≡ false → IfSome self.old.held (λ s. MayReply s command result) }
-        ensures still_open { HasCleanDisk (state S.Store self.new.store.conn)
+        ensures still_open { IsFaithful S.Store self.new.store.conn
             → IsTrue (state S.Store self.old.store.conn).is_open
             → OnOk result (IsTrue (state S.Store self.new.store.conn).is_open) }
         // A connection that was open is open behind each answer but 41.
-        ensures kept { HasCleanDisk (state S.Store self.new.store.conn)
+        ensures kept { IsFaithful S.Store self.new.store.conn
             → IsTrue (state S.Store self.old.store.conn).is_open
             → IsTrue (state S.Store self.new.store.conn).is_open ⊎ (result ≡ Err (Refusal.Plain Cause.Store)) }
-        ensures clean { HasCleanDisk (state S.Store self.new.store.conn)
-            → HasCleanDisk (state S.Store self.old.store.conn) }
+        ensures clean { IsFaithful S.Store self.new.store.conn
+            → IsFaithful S.Store self.old.store.conn }
         ensures crash { SurvivesCommand S.Store self.old self.new command }
         // Whatever is left, also behind 41 where the connection is shut: the rows of the state before the command or
         // after it.
         ensures left { LeavesStep S.Store self.old self.new command }
         ensures shuts { ShutsByFault S.Store self.old.store.conn self.new.store.conn }
         // On tables that are no good state's: 43, or 40 or 41, and nothing is written.
-        ensures strange { HasCleanDisk (state S.Store self.new.store.conn) → self.old.store.failed ≡ false
+        ensures strange { IsFaithful S.Store self.new.store.conn → self.old.store.failed ≡ false
             → self.old.held ≡ None → ShowsNoState (state S.Store self.old.store.conn).now
             → IsUnfit result × (IsTrue (state S.Store self.new.store.conn).is_open
             → StaysAsIs (state S.Store self.old.store.conn) (state S.Store self.new.store.conn)) }

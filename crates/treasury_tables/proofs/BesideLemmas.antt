@@ -18,9 +18,10 @@ use Rattle.sqlite.specs.Edit.{edit_of, next_rowid}
 use Rattle.sqlite.specs.Rowids.TheVariants.{Chosen}
 use Rattle.sqlite.specs.declared.types.Value.TheVariants.{Int}
 use Rattle.sqlite.specs.Store.{Ghosts}
-use Rattle.sqlite.specs.State.{State, HasCleanDisk, Survives, Executes}
+use Rattle.sqlite.specs.State.{State, Survives, Executes}
 use Rattle.sqlite.specs.Held.{Held, state}
 use Rattle.sqlite.proofs.StateLemmas.{survives_then}
+use Rattle.treasury_tables.specs.Kept.{IsFaithful}
 use Rattle.treasury_tables.specs.Tables.{format, state_tables, made_all, new_tables, no_schema}
 use Rattle.treasury_tables.specs.Rows.{Holds, no_rows, format_row, shown_unit, shown_branch, shown_entry, shown_leg}
 use Rattle.treasury_tables.specs.Rows.{shown_claim, shown_transfer, shown_part}
@@ -175,19 +176,19 @@ holds_none a d none made =
 
 -- the tables, the row of `format` and the tables of the state, one after another inside a transaction
 pub made_beside : {S : Type 0} (g : Ghosts S) (old first mid last : Held S) → has_one (state g old).now.schema ≡ false
-    → (HasCleanDisk (state g first) → has_counter (state g old).now.schema ≡ false
+    → (IsFaithful g first → has_counter (state g old).now.schema ≡ false
     → Makes format (state g old).now (state g first).now)
-    → (HasCleanDisk (state g mid) → (s : Schema) → (state g first).now.schema ≡ created s format
+    → (IsFaithful g mid → (s : Schema) → (state g first).now.schema ≡ created s format
     → list_any (λ t. same_name t.name (codes "format")) s.tables ≡ false
     → (state g first).now.trees (next_tree s) ≡ [] → GivesRow s (state g first).now (state g mid).now)
-    → (HasCleanDisk (state g last) → has_counter (state g mid).now.schema ≡ false
+    → (IsFaithful g last → has_counter (state g mid).now.schema ≡ false
     → MakesAll state_tables (state g mid).now (state g last).now)
     → Survives (state g first) (state g mid) (λ _. ⊥) → Survives (state g mid) (state g last) (λ _. ⊥)
-    → HasCleanDisk (state g last) → has_counter (state g old).now.schema ≡ false
+    → IsFaithful g last → has_counter (state g old).now.schema ≡ false
     → Beside (state g old).now (state g last).now
 made_beside g old first mid last free makes gives rest one two clean_last none =
-    let clean_mid : HasCleanDisk (state g mid) = omega (arith, two.clean, clean_last) in
-    let clean_first : HasCleanDisk (state g first) = omega (arith, one.clean, clean_mid) in
+    let clean_mid : IsFaithful g mid = omega (arith, two.clean, clean_last) in
+    let clean_first : IsFaithful g first = omega (arith, one.clean, clean_mid) in
     let made = makes clean_first none in
     let row =
     gives clean_mid (state g old).now.schema made.schema (no_format_in (state g old).now.schema free) made.empty in

@@ -10,10 +10,10 @@ use Rattle.sqlite_trees.specs.declared.error.StoreError.{StoreError}
 use Rattle.sqlite_trees.specs.declared.error.StoreError.TheVariants.{OutOfMemory, Io, Corrupt, Full, Broken, Unstorable}
 use Rattle.sqlite.specs.declared.error.Error.{Error}
 use Rattle.sqlite.specs.declared.error.Error.TheVariants.{SqlInputError}
-use Rattle.sqlite.specs.State.{State, HasCleanDisk, Survives, IsUnchanged, IsNotRun, FailsToQuery, store_error}
+use Rattle.sqlite.specs.State.{State, Survives, IsUnchanged, IsNotRun, FailsToQuery, store_error}
 use Rattle.sqlite.specs.Held.{Held, state}
 use Rattle.sqlite.proofs.StateLemmas.{survives_then}
-use Rattle.treasury_tables.specs.Kept.{ChangesNothing, Queries}
+use Rattle.treasury_tables.specs.Kept.{ChangesNothing, Queries, IsFaithful}
 use Rattle.treasury_tables.proofs.QueriesLemmas.{failed_back, fails_alone}
 
 -- no failure of the store is a fault of a text
@@ -53,8 +53,8 @@ module _ (sql : List ℕ) (old new : State) where
 
 -- so the look changes nothing
 pub looked : {S : Type 0} (g : Ghosts S) (old new : Held S) (sql : List ℕ) (r : Result Outline Error)
-    → (HasCleanDisk (state g new) → IfOk r (λ s. (s.text ≡ sql) × IsUnchanged (state g old) (state g new)))
-    → (HasCleanDisk (state g new)
+    → (IsFaithful g new → IfOk r (λ s. (s.text ≡ sql) × IsUnchanged (state g old) (state g new)))
+    → (IsFaithful g new
     → IfErr r (λ e. (params : Row) → IsNotRun (state g old) (state g new) sql params e))
     → (IsTrue (state g old).is_open → (state g old).now ≡ (state g old).committed)
     → Survives (state g old) (state g new) (λ _. ⊥) → ChangesNothing g old new
@@ -71,16 +71,16 @@ module _ {S : Type 0} (g : Ghosts S) (old mid new : Held S) (nothing : ChangesNo
       survives_then (state g old) (state g mid) (state g new) P (λ _. ⊥) P (λ clean db h. h)
       (λ clean db none. absurd none) one nothing.survives
 
-  pub clean_behind : HasCleanDisk (state g new) → HasCleanDisk (state g mid)
+  pub clean_behind : IsFaithful g new → IsFaithful g mid
   clean_behind clean = let left = nothing.survives in omega (arith, left.clean, clean)
 
-  pub was_behind : (HasCleanDisk (state g mid) → IsTrue (state g mid).is_open → IsTrue (state g old).is_open)
-      → HasCleanDisk (state g new) → IsTrue (state g new).is_open → IsTrue (state g old).is_open
+  pub was_behind : (IsFaithful g mid → IsTrue (state g mid).is_open → IsTrue (state g old).is_open)
+      → IsFaithful g new → IsTrue (state g new).is_open → IsTrue (state g old).is_open
   was_behind was clean is = was (clean_behind clean) (nothing.same clean is).0
 
-  pub same_behind : (HasCleanDisk (state g mid) → IsTrue (state g mid).is_open
+  pub same_behind : (IsFaithful g mid → IsTrue (state g mid).is_open
       → ((state g mid).now ≡ (state g old).now) × ((state g mid).committed ≡ (state g old).committed))
-      → HasCleanDisk (state g new) → IsTrue (state g new).is_open
+      → IsFaithful g new → IsTrue (state g new).is_open
       → ((state g new).now ≡ (state g old).now) × ((state g new).committed ≡ (state g old).committed)
   same_behind same clean is =
       let kept = nothing.same clean is in

@@ -5,14 +5,14 @@ use Rattle.std.proofs.lemmas.Bool.{cases_Bool}
 use Rattle.sqlite.specs.Order.{Row}
 use Rattle.sqlite.specs.Store.{Ghosts}
 use Rattle.sqlite.specs.declared.error.Error.{Error}
-use Rattle.sqlite.specs.State.{HasCleanDisk, Survives, KeepsCommit, Executes, ExecutesInside}
+use Rattle.sqlite.specs.State.{Survives, KeepsCommit, Executes, ExecutesInside}
 use Rattle.sqlite.specs.Held.{Held, state}
 use Rattle.sqlite.specs.Effect.{Database}
 use Rattle.sqlite.proofs.InsideLemmas.{inside_keeps}
 use Rattle.sqlite.proofs.StateLemmas.{survives_then}
 use Rattle.sqlite.proofs.Callers.{survives_begin}
 use Rattle.treasury_tables.specs.Rows.{Tables, Holds}
-use Rattle.treasury_tables.specs.Kept.{Writes}
+use Rattle.treasury_tables.specs.Kept.{Writes, IsFaithful}
 use Rattle.treasury_tables.specs.Creating.{has_counter, Makes, Creates}
 use Rattle.sqlite.specs.Table.{Table}
 
@@ -51,7 +51,7 @@ module _ {S : Type 0} (g : Ghosts S) (old new : Held S) (sql : List ℕ) (params
 pub writes : {S : Type 0} (g : Ghosts S) (old new : Held S) (sql : List ℕ) (params : Row) (r : Result ℕ Error)
     (e : Error)
     → ((state g old).in_transaction ≡ false → (r ≡ Err e) × (new ≡ old))
-    → (HasCleanDisk (state g new) → IsTrue (state g old).in_transaction
+    → (IsFaithful g new → IsTrue (state g old).in_transaction
     → ExecutesInside 0 sql params (state g old) (state g new) r)
     → Survives (state g old) (state g new) (λ _. ⊥) → (change : Tables → Tables)
     → ((count : ℕ) (t : Tables) → Holds (state g old).now t → Executes sql params (state g old) (state g new) (Ok count)
@@ -67,7 +67,7 @@ writes g old new sql params r e ended runs survives change step = record {
 pub creates : {S : Type 0} (g : Ghosts S) (old new : Held S) (sql : List ℕ) (params : Row) (r : Result ℕ Error)
     (e : Error)
     → ((state g old).in_transaction ≡ false → (r ≡ Err e) × (new ≡ old))
-    → (HasCleanDisk (state g new) → IsTrue (state g old).in_transaction
+    → (IsFaithful g new → IsTrue (state g old).in_transaction
     → ExecutesInside 0 sql params (state g old) (state g new) r)
     → Survives (state g old) (state g new) (λ _. ⊥) → (table : Table)
     → ((count : ℕ) → has_counter (state g old).now.schema ≡ false
@@ -84,7 +84,7 @@ creates g old new sql params r e ended runs survives table step = record {
 pub crashes : {S : Type 0} (g : Ghosts S) (old last end : Held S) (P : Database → Type 0)
     → Survives (state g (record old { in_transaction = true })) (state g last) (λ _. ⊥)
     → Survives (state g last) (state g end) (λ db. db ≡ (state g last).now.trees)
-    → (HasCleanDisk (state g last) → P (state g last).now)
+    → (IsFaithful g last → P (state g last).now)
     → Survives (state g old) (state g end) (λ trees. (db : Database) × (trees ≡ db.trees) × P db)
 crashes g old last end P inside commit is =
     survives_then (state g old) (state g last) (state g end) (λ _. ⊥) (λ db. db ≡ (state g last).now.trees)

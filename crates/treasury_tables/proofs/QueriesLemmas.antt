@@ -9,7 +9,7 @@ use Rattle.sqlite.specs.Effect.{Database}
 use Rattle.sqlite.specs.Schema.{Schema}
 use Rattle.sqlite.specs.Tree.{Trees}
 use Rattle.sqlite.specs.declared.error.Error.{Error}
-use Rattle.sqlite.specs.State.{State, HasCleanDisk, Survives, IsUnchanged, IsRolledBack, Shown, FailsToQuery}
+use Rattle.sqlite.specs.State.{State, Survives, IsUnchanged, IsRolledBack, Shown, FailsToQuery}
 use Rattle.sqlite.specs.State.{FailsToShow, ShowsRows, IsNotRun, CommitsShowing}
 use Rattle.sqlite.specs.Held.{Held, state}
 use Rattle.sqlite.specs.Clock.{timed}
@@ -19,7 +19,7 @@ use Rattle.sqlite.specs.Given.{IsPlain}
 use Rattle.sqlite.proofs.StateLemmas.{survives_then, survives_weaker}
 use Rattle.treasury_tables.specs.Tables.{store_schema, first_schema}
 use Rattle.treasury_tables.specs.Rows.{Tables, HoldsFirst}
-use Rattle.treasury_tables.specs.Kept.{KeepsTables, Queries}
+use Rattle.treasury_tables.specs.Kept.{KeepsTables, Queries, IsFaithful}
 use Rattle.treasury_tables.specs.Judging.{ReadsFirst, HasReadFirst}
 use Rattle.treasury_tables.proofs.QueriedLemmas.{shown_same}
 
@@ -92,8 +92,8 @@ module _ {S : Type 0} (g : Ghosts S) where
   -- one query
   pub one_query : {X : Type 0} (old new : Held S) (sql : List ℕ) (params : Row) (rows : X → List Row)
       (r : Result X Error) → IsPlain (understood store_schema sql)
-      → (HasCleanDisk (state g new) → IfOk r (λ x. Shown sql params (state g old) (state g new) (rows x)))
-      → (HasCleanDisk (state g new) → IfErr r (FailsToQuery sql params (state g old) (state g new)))
+      → (IsFaithful g new → IfOk r (λ x. Shown sql params (state g old) (state g new) (rows x)))
+      → (IsFaithful g new → IfErr r (FailsToQuery sql params (state g old) (state g new)))
       → Survives (state g old) (state g new) (CommitsShowing sql params (state g old)) → Queries g old new r
   one_query old new sql params rows (Ok x) plain ok err left = record {
     opened = λ clean. shown_open sql params (state g old) (state g new) (rows x) (ok clean);
@@ -114,7 +114,7 @@ module _ {S : Type 0} (g : Ghosts S) where
 
   -- what is made of the rows of a query that changed nothing
   pub then_made : {X Y : Type 0} (old new : Held S) (x : X) → Queries g old new (Ok x)
-      → (HasCleanDisk (state g new) → (state g old).now.schema ≡ store_schema → IsUnchanged (state g old) (state g new))
+      → (IsFaithful g new → (state g old).now.schema ≡ store_schema → IsUnchanged (state g old) (state g new))
       → (r : Result Y Error) → Queries g old new r
   then_made old new x q same (Ok y) =
       record { opened = q.opened; was_open = q.was_open; undone = λ clean is. tt; survives = q.survives }
@@ -141,8 +141,8 @@ module _ {S : Type 0} (g : Ghosts S) (old new : Held S) (sql : List ℕ) (params
       (subst (λ (s : Schema). IsPlain (understood s sql)) (sym has) plain) h).0 in (kept.now_is, kept.committed_is)
 
   pub first_reads : {X : Type 0} (rows : X → List Row) (r : Result X Error)
-      → (HasCleanDisk (state g new) → IfOk r (λ x. Shown sql params (state g old) (state g new) (rows x)))
-      → (HasCleanDisk (state g new) → IfErr r (FailsToQuery sql params (state g old) (state g new)))
+      → (IsFaithful g new → IfOk r (λ x. Shown sql params (state g old) (state g new) (rows x)))
+      → (IsFaithful g new → IfErr r (FailsToQuery sql params (state g old) (state g new)))
       → ReadsFirst g old new
   first_reads rows (Ok x) ok err = record {
     same = λ clean is has all. first_same (rows x) (ok clean) has;
@@ -155,7 +155,7 @@ module _ {S : Type 0} (g : Ghosts S) (old new : Held S) (sql : List ℕ) (params
   }
 
   pub first_has_read : {X : Type 0} (rows : X → List Row) (r : Result X Error)
-      → (HasCleanDisk (state g new) → IfOk r (λ x. Shown sql params (state g old) (state g new) (rows x)))
+      → (IsFaithful g new → IfOk r (λ x. Shown sql params (state g old) (state g new) (rows x)))
       → OnOk r (HasReadFirst g old new)
   first_has_read rows (Ok x) ok = record {
     same = λ clean has. first_same (rows x) (ok clean) has;
@@ -166,9 +166,9 @@ module _ {S : Type 0} (g : Ghosts S) (old new : Held S) (sql : List ℕ) (params
 -- one after another
 module _ {S : Type 0} {g : Ghosts S} {a b : Held S} (one : HasReadFirst g a b) where
   first_ours : (c : Held S) → Survives (state g b) (state g c) (λ _. (state g b).now.schema ≡ first_schema → ⊥)
-      → HasCleanDisk (state g c) → (state g a).now.schema ≡ first_schema → (state g b).now.schema ≡ first_schema
+      → IsFaithful g c → (state g a).now.schema ≡ first_schema → (state g b).now.schema ≡ first_schema
   first_ours c two clean has =
-      let before : HasCleanDisk (state g b) = omega (arith, two.clean, clean) in
+      let before : IsFaithful g b = omega (arith, two.clean, clean) in
       ap (λ (d : Database). d.schema) (one.same before has).0 ∙ has
 
   first_left_then : (c : Held S) → Survives (state g b) (state g c) (λ _. (state g b).now.schema ≡ first_schema → ⊥)
@@ -179,7 +179,7 @@ module _ {S : Type 0} {g : Ghosts S} {a b : Held S} (one : HasReadFirst g a b) w
   pub then_reads : {c : Held S} → ReadsFirst g b c → ReadsFirst g a c
   then_reads {c} two = record {
     same = λ clean is has all.
-        let before : HasCleanDisk (state g b) = omega (arith, two.survives.clean, clean) in
+        let before : IsFaithful g b = omega (arith, two.survives.clean, clean) in
         let first = one.same before has in
         let back = two.same clean is (first_ours c two.survives clean has) (first.1 ∙ (all ∙ sym first.0)) in
         (back.0 ∙ first.0, back.1 ∙ first.1);
@@ -189,7 +189,7 @@ module _ {S : Type 0} {g : Ghosts S} {a b : Held S} (one : HasReadFirst g a b) w
   pub then_has_read : {c : Held S} → HasReadFirst g b c → HasReadFirst g a c
   then_has_read {c} two = record {
     same = λ clean has.
-        let before : HasCleanDisk (state g b) = omega (arith, two.survives.clean, clean) in
+        let before : IsFaithful g b = omega (arith, two.survives.clean, clean) in
         let first = one.same before has in
         let second = two.same clean (first_ours c two.survives clean has) in
         (second.0 ∙ first.0, second.1 ∙ first.1);
@@ -204,13 +204,13 @@ reads_if_read one = record {
 
 -- queries that changed nothing, one after another
 pub record Quiet {S : Type 0} (g : Ghosts S) (a b : Held S) : Type 0 where
-  pub opened : HasCleanDisk (state g b) → IsTrue (state g a).is_open × IsTrue (state g b).is_open
-  pub same : HasCleanDisk (state g b) → (state g a).now.schema ≡ store_schema
+  pub opened : IsFaithful g b → IsTrue (state g a).is_open × IsTrue (state g b).is_open
+  pub same : IsFaithful g b → (state g a).now.schema ≡ store_schema
       → ((state g b).now ≡ (state g a).now) × ((state g b).committed ≡ (state g a).committed)
   pub survives : KeepsTables g a b
 
 pub quiet : {S X : Type 0} {g : Ghosts S} {a b : Held S} {x : X} → Queries g a b (Ok x)
-    → (HasCleanDisk (state g b) → (state g a).now.schema ≡ store_schema → IsUnchanged (state g a) (state g b))
+    → (IsFaithful g b → (state g a).now.schema ≡ store_schema → IsUnchanged (state g a) (state g b))
     → Quiet g a b
 quiet q same = record {
   opened = q.opened;
@@ -220,10 +220,10 @@ quiet q same = record {
 }
 
 module _ {S : Type 0} (g : Ghosts S) (a b c : Held S) (one : Quiet g a b) (two : KeepsTables g b c) where
-  cleaner : HasCleanDisk (state g c) → HasCleanDisk (state g b)
+  cleaner : IsFaithful g c → IsFaithful g b
   cleaner clean = omega (arith, two.clean, clean)
 
-  ours : HasCleanDisk (state g c) → (state g a).now.schema ≡ store_schema → (state g b).now.schema ≡ store_schema
+  ours : IsFaithful g c → (state g a).now.schema ≡ store_schema → (state g b).now.schema ≡ store_schema
   ours clean has = ap (λ (d : Database). d.schema) (one.same (cleaner clean) has).0 ∙ has
 
   left : KeepsTables g a c
@@ -231,7 +231,7 @@ module _ {S : Type 0} (g : Ghosts S) (a b c : Held S) (one : Quiet g a b) (two :
       (λ clean trees h has. h (ours clean has)) one.survives two
 
 pub quiet_more : {S X : Type 0} {g : Ghosts S} {a b c : Held S} {x : X} → Quiet g a b → Queries g b c (Ok x)
-    → (HasCleanDisk (state g c) → (state g b).now.schema ≡ store_schema → IsUnchanged (state g b) (state g c))
+    → (IsFaithful g c → (state g b).now.schema ≡ store_schema → IsUnchanged (state g b) (state g c))
     → Quiet g a c
 quiet_more {g = g} {a = a} {b = b} {c = c} one two same = record {
   opened = λ clean. ((one.opened (cleaner g a b c one two.survives clean)).0, (two.opened clean).1);
@@ -267,13 +267,13 @@ quiet_ok one = record {
 -- what a query answers of the tables, it answers of those before the queries ahead of it
 pub seen_before : {S : Type 0} {g : Ghosts S} {a b : Held S} (c : Held S) (P : Database → Type 0) → Quiet g a b
     → KeepsTables g b c
-    → (HasCleanDisk (state g c) → (state g b).now.schema ≡ store_schema → P (state g b).now) → HasCleanDisk (state g c)
+    → (IsFaithful g c → (state g b).now.schema ≡ store_schema → P (state g b).now) → IsFaithful g c
     → (state g a).now.schema ≡ store_schema → P (state g a).now
 seen_before {g = g} {a = a} {b = b} c P one two shown clean has =
     subst P (one.same (cleaner g a b c one two clean) has).0 (shown clean (ours g a b c one two clean has))
 
 -- behind queries that changed nothing the tables hold the rows that they held
-pub still_held : {S : Type 0} {g : Ghosts S} {a b : Held S} (t : Tables) → HasReadFirst g a b → HasCleanDisk (state g b)
+pub still_held : {S : Type 0} {g : Ghosts S} {a b : Held S} (t : Tables) → HasReadFirst g a b → IsFaithful g b
     → HoldsFirst (state g a).now t → HoldsFirst (state g b).now t
 still_held {g = g} t one clean holds =
     subst (λ (db : Database). HoldsFirst db t) (sym (one.same clean holds.schema).0) holds

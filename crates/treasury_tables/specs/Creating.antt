@@ -9,11 +9,12 @@ use Rattle.sqlite.specs.Schema.{Schema}
 use Rattle.sqlite.specs.Change.{created, next_tree, KeepsRows}
 use Rattle.sqlite.specs.Effect.{Database}
 use Rattle.sqlite.specs.Store.{Ghosts}
-use Rattle.sqlite.specs.State.{HasCleanDisk, KeepsCommit, Survives}
+use Rattle.sqlite.specs.State.{KeepsCommit, Survives}
 use Rattle.sqlite.specs.Held.{Held, state}
 use Rattle.sqlite_schema.specs.Names.{same_name}
 use Rattle.sqlite_trees.specs.View.{IsShaped}
 use Rattle.sqlite_trees.specs.declared.store.Shape.TheVariants as shape
+use Rattle.treasury_tables.specs.Kept.{IsFaithful}
 use Rattle.treasury_tables.specs.Tables.{format, state_tables, made_all, new_tables}
 
 abbrev pub our_names : List (List ℕ)
@@ -85,8 +86,8 @@ SurvivesMaking g old new =
 
 -- one CREATE inside a transaction, where no table has AUTOINCREMENT
 pub record Creates {S : Type 0} (g : Ghosts S) (old new : Held S) (r : Result ℕ Error) (table : Table) : Type 0 where
-  pub makes : HasCleanDisk (state g new)
+  pub makes : IsFaithful g new
       → OnOk r (has_counter (state g old).now.schema ≡ false → Makes table (state g old).now (state g new).now)
-  pub inside : HasCleanDisk (state g new) → OnOk r (IsTrue (state g new).in_transaction)
-  pub kept : HasCleanDisk (state g new) → KeepsCommit (state g old) (state g new)
+  pub inside : IsFaithful g new → OnOk r (IsTrue (state g new).in_transaction)
+  pub kept : IsFaithful g new → KeepsCommit (state g old) (state g new)
   pub survives : Survives (state g old) (state g new) (λ _. ⊥)

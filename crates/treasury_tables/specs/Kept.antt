@@ -8,13 +8,17 @@ use Rattle.sqlite.specs.Held.{Held, state}
 use Rattle.treasury_tables.specs.Tables.{store_schema}
 use Rattle.treasury_tables.specs.Rows.{Tables, Holds}
 
+-- the disk under a connection has returned what was written to it
+abbrev pub IsFaithful : {S : Type 0} → Ghosts S → Held S → Type 0
+IsFaithful g h = HasCleanDisk (state g h)
+
 -- one statement inside a transaction: where it succeeds, the tables are the changed ones; it commits nothing
 pub record Writes {S : Type 0} (g : Ghosts S) (old new : Held S) (r : Result ℕ Error)
     (change : Tables → Tables) : Type 0 where
-  pub rows : HasCleanDisk (state g new)
+  pub rows : IsFaithful g new
       → OnOk r ((t : Tables) → Holds (state g old).now t → Holds (state g new).now (change t))
-  pub inside : HasCleanDisk (state g new) → OnOk r (IsTrue (state g new).in_transaction)
-  pub kept : HasCleanDisk (state g new) → KeepsCommit (state g old) (state g new)
+  pub inside : IsFaithful g new → OnOk r (IsTrue (state g new).in_transaction)
+  pub kept : IsFaithful g new → KeepsCommit (state g old) (state g new)
   pub survives : Survives (state g old) (state g new) (λ _. ⊥)
 
 -- where the database is our tables, whatever is in them, a crash leaves what it could leave before
@@ -24,15 +28,15 @@ KeepsTables g old new = Survives (state g old) (state g new) (λ _. (state g old
 -- no fault of the disk is forgotten, and only a fault shuts the connection: one that was open is open, or its disk has
 -- failed once more
 pub record ShutsByFault {S : Type 0} (g : Ghosts S) (old new : Held S) : Type 0 where
-  pub clean : HasCleanDisk (state g new) → HasCleanDisk (state g old)
+  pub clean : IsFaithful g new → IsFaithful g old
   pub counts : (state g old).faults ≤ (state g new).faults
-  pub closes : HasCleanDisk (state g new) → IsTrue (state g old).is_open
+  pub closes : IsFaithful g new → IsTrue (state g old).is_open
       → IsTrue (state g new).is_open ⊎ MoreFaults (state g old).faults (state g new).faults
 
 -- A call that changes nothing: a connection that is open behind it was open, shows what it showed, and has committed
 -- what it had; and a crash leaves what it could leave before.
 pub record ChangesNothing {S : Type 0} (g : Ghosts S) (old new : Held S) : Type 0 where
-  pub same : HasCleanDisk (state g new) → IsTrue (state g new).is_open
+  pub same : IsFaithful g new → IsTrue (state g new).is_open
       → IsTrue (state g old).is_open
       × ((state g new).now ≡ (state g old).now) × ((state g new).committed ≡ (state g old).committed)
   pub survives : Survives (state g old) (state g new) (λ _. ⊥)
@@ -45,8 +49,8 @@ StaysAsIs old new =
 -- Queries of our tables: those that succeed are of a connection that is open, and one that is open was so; where the
 -- tables are committed, they stay as they are also where a query fails; and a crash leaves what it could leave before.
 pub record Queries {S X : Type 0} (g : Ghosts S) (old new : Held S) (r : Result X Error) : Type 0 where
-  pub opened : HasCleanDisk (state g new) → OnOk r (IsTrue (state g old).is_open × IsTrue (state g new).is_open)
-  pub was_open : HasCleanDisk (state g new) → IsTrue (state g new).is_open → IsTrue (state g old).is_open
-  pub undone : HasCleanDisk (state g new) → IsTrue (state g new).is_open
+  pub opened : IsFaithful g new → OnOk r (IsTrue (state g old).is_open × IsTrue (state g new).is_open)
+  pub was_open : IsFaithful g new → IsTrue (state g new).is_open → IsTrue (state g old).is_open
+  pub undone : IsFaithful g new → IsTrue (state g new).is_open
       → OnErr r (StaysAsIs (state g old) (state g new))
   pub survives : KeepsTables g old new

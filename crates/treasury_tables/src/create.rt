@@ -6,8 +6,9 @@ ghost use Rattle.sqlite_schema.specs.Names.{same_name};
 ghost use Rattle.sqlite_trees.specs.View.{doubt};
 ghost use Rattle.sqlite.specs.Schema.{Schema};
 ghost use Rattle.sqlite.specs.Change.{created, next_tree};
-ghost use Rattle.sqlite.specs.State.{HasCleanDisk, KeepsCommit, Survives};
+ghost use Rattle.sqlite.specs.State.{KeepsCommit, Survives};
 ghost use Rattle.sqlite.specs.Held.{state};
+ghost use Rattle.treasury_tables.specs.Kept.{IsFaithful};
 ghost use Rattle.treasury_tables.specs.Rows.{Holds, no_rows};
 ghost use Rattle.treasury_tables.specs.Tables.{no_schema, format, unit, branch, entry, leg, claim, transfer, receipt};
 ghost use Rattle.treasury_tables.specs.Tables.{state_tables};
@@ -28,13 +29,13 @@ use sqlite_schema::names::same_name;
 /// Makes the tables of the state.
 fn create_state<S: Alter>(tx: &mut Transaction<'_, S>) -> Result<usize, Error>
     ensures same_reference { tx.new.conn.ghost_name ≡ tx.old.conn.ghost_name }
-    ensures makes { HasCleanDisk (state S.Store tx.new.conn.now)
+    ensures makes { IsFaithful S.Store tx.new.conn.now
         → OnOk result
         (has_counter (state S.Store tx.old.conn.now).now.schema ≡ false
         → MakesAll state_tables (state S.Store tx.old.conn.now).now (state S.Store tx.new.conn.now).now) }
-    ensures inside { HasCleanDisk (state S.Store tx.new.conn.now)
+    ensures inside { IsFaithful S.Store tx.new.conn.now
         → OnOk result (IsTrue (state S.Store tx.new.conn.now).in_transaction) }
-    ensures kept { HasCleanDisk (state S.Store tx.new.conn.now)
+    ensures kept { IsFaithful S.Store tx.new.conn.now
         → KeepsCommit (state S.Store tx.old.conn.now) (state S.Store tx.new.conn.now) }
     ensures survives { Survives (state S.Store tx.old.conn.now) (state S.Store tx.new.conn.now) (λ _. ⊥) }
 {
@@ -80,17 +81,17 @@ fn has_one<S: Alter>(conn: &Connection<S>) -> bool
 /// An open transaction is an error. After an error of a connection that is still open the database is as it was.
 pub fn create_tables<S: Alter>(conn: &mut Connection<S>) -> Result<bool, Error>
     // Into an empty database.
-    ensures made { HasCleanDisk (state S.Store conn.new)
+    ensures made { IsFaithful S.Store conn.new
         → IfOk result
         (λ made. IsTrue made → (state S.Store conn.old).now.schema ≡ no_schema
         → Holds (state S.Store conn.new).now no_rows
         × ((state S.Store conn.new).committed ≡ (state S.Store conn.new).now)) }
     // Beside other tables, none of which has AUTOINCREMENT.
-    ensures beside { HasCleanDisk (state S.Store conn.new)
+    ensures beside { IsFaithful S.Store conn.new
         → IfOk result
         (λ made. IsTrue made → has_counter (state S.Store conn.old).now.schema ≡ false
         → Beside (state S.Store conn.old).now (state S.Store conn.new).now) }
-    ensures still_open { HasCleanDisk (state S.Store conn.new)
+    ensures still_open { IsFaithful S.Store conn.new
         → IfOk result (λ made. IsTrue made → IsTrue (state S.Store conn.new).is_open) }
     ensures clean { OnOk result (doubt (state S.Store conn.old).is_clean ≤ doubt (state S.Store conn.new).is_clean) }
     ensures crash { SurvivesMaking S.Store conn.old conn.new }
@@ -98,7 +99,7 @@ pub fn create_tables<S: Alter>(conn: &mut Connection<S>) -> Result<bool, Error>
     ensures free { IfOk result (λ made. IsTrue made → has_one (state S.Store conn.old).now.schema ≡ false) }
     ensures refused { IfOk result (λ made. made ≡ false
         → IsTrue (has_one (state S.Store conn.old).now.schema) × (conn.new ≡ conn.old)) }
-    ensures unchanged { HasCleanDisk (state S.Store conn.new) → IsTrue (state S.Store conn.new).is_open
+    ensures unchanged { IsFaithful S.Store conn.new → IsTrue (state S.Store conn.new).is_open
         → OnErr result
         (((state S.Store conn.new).now ≡ (state S.Store conn.old).now)
         × ((state S.Store conn.new).committed ≡ (state S.Store conn.old).committed)) }

@@ -1,9 +1,8 @@
 //! Why a call of the database is refused: for want of memory, or because it failed.
 
 ghost use Rattle.std.specs.Prelude.{◌≡◌, ◌⊎◌, IsTrue};
-ghost use Rattle.sqlite.specs.State.{HasCleanDisk};
 ghost use Rattle.sqlite.specs.Held.{state};
-ghost use Rattle.treasury_tables.specs.Kept.{ChangesNothing};
+ghost use Rattle.treasury_tables.specs.Kept.{ChangesNothing, IsFaithful};
 
 use money_core::Cause;
 use sqlite::{Alter, Connection, Error, ErrorCode};
@@ -13,7 +12,7 @@ use sqlite::{Alter, Connection, Error, ErrorCode};
 /// It asks for a text that is no statement. A connection that a fault has shut refuses every text for that; one that is
 /// open finds what is wrong with this one, for which it takes no memory and looks at no page.
 fn is_open<S: Alter>(conn: &mut Connection<S>) -> bool
-    ensures open { IsTrue result → HasCleanDisk (state S.Store conn.new) → IsTrue (state S.Store conn.new).is_open }
+    ensures open { IsTrue result → IsFaithful S.Store conn.new → IsTrue (state S.Store conn.new).is_open }
     ensures nothing { ChangesNothing S.Store conn.old conn.new }
 {
     // A call that fails undoes a transaction.
@@ -34,7 +33,7 @@ pub fn cause_of<S: Alter>(conn: &mut Connection<S>, error: Error) -> Cause
     ensures either { (result ≡ Cause.OutOfMemory) ⊎ (result ≡ Cause.Store) }
     // No other error is told as want of memory: a full disk is 41.
     ensures memory { result ≡ Cause.OutOfMemory → error ≡ Error.SqliteFailure ErrorCode.OutOfMemory }
-    ensures open { result ≡ Cause.OutOfMemory → HasCleanDisk (state S.Store conn.new)
+    ensures open { result ≡ Cause.OutOfMemory → IsFaithful S.Store conn.new
         → IsTrue (state S.Store conn.new).is_open }
     ensures nothing { ChangesNothing S.Store conn.old conn.new }
 {

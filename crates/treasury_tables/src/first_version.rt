@@ -2,10 +2,11 @@
 
 ghost use Rattle.std.specs.Prelude.{◌≡◌, List, [], map, OnOk, IfOk};
 ghost use Rattle.sqlite.specs.Order.{Row as Columns};
-ghost use Rattle.sqlite.specs.State.{HasCleanDisk, Shown};
+ghost use Rattle.sqlite.specs.State.{Shown};
 ghost use Rattle.sqlite.specs.Given.{IsPlain};
 ghost use Rattle.sqlite.specs.Listing.{understood};
 ghost use Rattle.sqlite.specs.Held.{state};
+ghost use Rattle.treasury_tables.specs.Kept.{IsFaithful};
 ghost use Rattle.treasury_tables.specs.Tables.{first_schema};
 ghost use Rattle.treasury_tables.specs.Rows.{Tables, HoldsFirst};
 ghost use Rattle.treasury_tables.specs.Order.{InOrder};
@@ -20,7 +21,7 @@ use treasury_state::Parts;
 /// The rows of a query of tables of version 1.
 fn first_queried<S: Alter>(conn: &mut Connection<S>, sql: &str) -> Result<Vec<Row>, Error>
     requires { IsPlain (understood first_schema sql.now) }
-    ensures shown { HasCleanDisk (state S.Store conn.new)
+    ensures shown { IsFaithful S.Store conn.new
         → IfOk result (λ rows. Shown sql.now [] (state S.Store conn.old) (state S.Store conn.new) rows.items) }
     ensures reads { ReadsFirst S.Store conn.old conn.new }
     ensures has { OnOk result (HasReadFirst S.Store conn.old conn.new) }
@@ -35,7 +36,7 @@ fn first_rows<T: FromRow, S: Alter>(
     sql: &str,
 ) -> Result<Items<T>, Error>
     requires { IsPlain (understood first_schema sql.now) }
-    ensures shown { HasCleanDisk (state S.Store conn.new)
+    ensures shown { IsFaithful S.Store conn.new
         → IfOk result
         (λ xs. (given : List Columns) × Shown sql.now [] (state S.Store conn.old) (state S.Store conn.new) given
         × ((ys : List T) → given ≡ map T.columns ys → xs ≡ ys)) }
@@ -48,7 +49,7 @@ fn first_rows<T: FromRow, S: Alter>(
 
 /// The rows of the tables of version 1, each list in the order of its key. They have no receipts in parts.
 pub fn first_parts<S: Alter>(alloc: Global, conn: &mut Connection<S>) -> Result<Parts, Error>
-    ensures parts { HasCleanDisk (state S.Store conn.new)
+    ensures parts { IsFaithful S.Store conn.new
         → IfOk result (λ parts. (t : Tables) → InOrder t → HoldsFirst (state S.Store conn.old).now t → parts ≡ t) }
     ensures reads { ReadsFirst S.Store conn.old conn.new }
 {

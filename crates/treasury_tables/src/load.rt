@@ -1,11 +1,11 @@
 //! The rows of the tables, in order.
 
 ghost use Rattle.std.specs.Prelude.{◌≡◌, OnOk, IfOk};
-ghost use Rattle.sqlite.specs.State.{HasCleanDisk, IsUnchanged};
+ghost use Rattle.sqlite.specs.State.{IsUnchanged};
 ghost use Rattle.sqlite.specs.Held.{state};
 ghost use Rattle.treasury_tables.specs.Tables.{store_schema};
 ghost use Rattle.treasury_tables.specs.Rows.{Tables, ShowsTables};
-ghost use Rattle.treasury_tables.specs.Kept.{Queries};
+ghost use Rattle.treasury_tables.specs.Kept.{Queries, IsFaithful};
 ghost use Rattle.treasury_tables.specs.Order.{InOrder};
 
 use crate::tables::branch::load_branches;
@@ -24,12 +24,12 @@ use treasury_state::Parts;
 /// Where the tables are ours, a success answers just the rows that they show, and changes nothing; where they are
 /// committed, nor does an error of a connection that is still open.
 pub fn load_parts<S: Alter>(alloc: Global, conn: &mut Connection<S>) -> Result<Parts, Error>
-    ensures parts { HasCleanDisk (state S.Store conn.new)
+    ensures parts { IsFaithful S.Store conn.new
         → IfOk result (λ parts. (t : Tables) → InOrder t → ShowsTables (state S.Store conn.old).now t → parts ≡ t) }
-    ensures shown { HasCleanDisk (state S.Store conn.new)
+    ensures shown { IsFaithful S.Store conn.new
         → IfOk result
         (λ parts. (state S.Store conn.old).now.schema ≡ store_schema → ShowsTables (state S.Store conn.old).now parts) }
-    ensures same { HasCleanDisk (state S.Store conn.new)
+    ensures same { IsFaithful S.Store conn.new
         → OnOk result
         ((state S.Store conn.old).now.schema ≡ store_schema
         → IsUnchanged (state S.Store conn.old) (state S.Store conn.new)) }

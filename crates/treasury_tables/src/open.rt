@@ -5,10 +5,11 @@ ghost use Rattle.std.specs.Prelude.{OnSome, IsTrue, IsPermutation, ◌↔◌, �
 ghost use Rattle.std.specs.List.{list_any};
 ghost use Rattle.sqlite.specs.Order.{column};
 ghost use Rattle.sqlite.specs.declared.types.Value.TheVariants.{Int};
-ghost use Rattle.sqlite.specs.State.{HasCleanDisk, IsUnchanged, Survives};
+ghost use Rattle.sqlite.specs.State.{IsUnchanged, Survives};
 ghost use Rattle.sqlite.specs.Held.{state};
 ghost use Rattle.sqlite_trees.specs.View.{doubt};
 ghost use Rattle.sqlite_schema.specs.Names.{same_name};
+ghost use Rattle.treasury_tables.specs.Kept.{IsFaithful};
 ghost use Rattle.treasury_tables.specs.Rows.{versions};
 ghost use Rattle.treasury_tables.specs.Creating.{has_all};
 ghost use Rattle.treasury_tables.specs.Opening.{AreOurs, IsFirst, IsFirstNumbered, IsSecond, IsEither};
@@ -59,13 +60,13 @@ fn has_all<S: Alter>(conn: &Connection<S>) -> bool
 
 /// The rows of `format`. A query of it changes nothing, whatever table or view has that name.
 pub fn format_rows<S: Alter>(conn: &mut Connection<S>) -> Result<Vec<Row>, Error>
-    ensures rows { HasCleanDisk (state S.Store conn.new)
+    ensures rows { IsFaithful S.Store conn.new
         → IfOk result
         (λ rows. IsEither (state S.Store conn.old).now.schema
         → IsPermutation (map (λ r. column r 1 ∷ []) ((state S.Store conn.old).now.trees 0)) rows.items) }
-    ensures same { HasCleanDisk (state S.Store conn.new)
+    ensures same { IsFaithful S.Store conn.new
         → OnOk result (IsUnchanged (state S.Store conn.old) (state S.Store conn.new)) }
-    ensures undone { HasCleanDisk (state S.Store conn.new) → IsTrue (state S.Store conn.new).is_open
+    ensures undone { IsFaithful S.Store conn.new → IsTrue (state S.Store conn.new).is_open
         → conn.old.in_transaction ≡ false
         → OnErr result
         (((state S.Store conn.new).now ≡ (state S.Store conn.old).now)
@@ -111,12 +112,12 @@ pub fn is_version(rows: &[Row], number: i64) -> bool
 ///
 /// None where a table of version 1 is missing, where `format` has no such row, and where that cannot be read.
 pub fn found_version<S: Alter>(conn: &mut Connection<S>) -> Option<i64>
-    ensures version { HasCleanDisk (state S.Store conn.new)
+    ensures version { IsFaithful S.Store conn.new
         → IfSome result
         (λ version. IsEither (state S.Store conn.old).now.schema
         → versions (state S.Store conn.old).now ≡ Int version ∷ []) }
     ensures none { has_all (state S.Store conn.old).now.schema ≡ false → (result ≡ None) × (conn.new ≡ conn.old) }
-    ensures same { HasCleanDisk (state S.Store conn.new)
+    ensures same { IsFaithful S.Store conn.new
         → OnSome result (IsUnchanged (state S.Store conn.old) (state S.Store conn.new)) }
     ensures crash { Survives (state S.Store conn.old) (state S.Store conn.new) (λ _. ⊥) }
 {
@@ -134,28 +135,28 @@ pub fn found_version<S: Alter>(conn: &mut Connection<S>) -> Option<i64>
 /// Where it answers that they are not there, nothing changes. If tables of our names were made by our statements, nor
 /// does anything where they are version 2.
 pub fn open_tables<S: Alter>(conn: &mut Connection<S>) -> Result<bool, Error>
-    ensures there { HasCleanDisk (state S.Store conn.new)
+    ensures there { IsFaithful S.Store conn.new
         → IfOk result
         (λ there. AreOurs (state S.Store conn.old).now.schema
         → IsTrue there ↔ (IsFirst (state S.Store conn.old).now ⊎ IsSecond (state S.Store conn.old).now)) }
     ensures tables { IfOk result (λ there. IsTrue there → IsTrue (has_all (state S.Store conn.old).now.schema)) }
-    ensures opened { HasCleanDisk (state S.Store conn.new)
+    ensures opened { IsFaithful S.Store conn.new
         → IfOk result (λ there. IsTrue there → IsTrue (state S.Store conn.new).is_open) }
     ensures none { has_all (state S.Store conn.old).now.schema ≡ false → (result ≡ Ok false) × (conn.new ≡ conn.old) }
     // Where they are not there, nothing changes, whatever is.
-    ensures untouched { HasCleanDisk (state S.Store conn.new)
+    ensures untouched { IsFaithful S.Store conn.new
         → IfOk result
         (λ there. there ≡ false
         → ((state S.Store conn.new).now ≡ (state S.Store conn.old).now)
         × ((state S.Store conn.new).committed ≡ (state S.Store conn.old).committed)) }
     // Version 1 is made into version 2.
-    ensures first { HasCleanDisk (state S.Store conn.new)
+    ensures first { IsFaithful S.Store conn.new
         → OnOk result
         (IsFirstNumbered (state S.Store conn.old).now
         → Upgrades (state S.Store conn.old).now (state S.Store conn.new).now
         × ((state S.Store conn.new).committed ≡ (state S.Store conn.new).now)) }
     // Whatever else is there stays.
-    ensures same { HasCleanDisk (state S.Store conn.new)
+    ensures same { IsFaithful S.Store conn.new
         → OnOk result
         (AreOurs (state S.Store conn.old).now.schema → (IsFirst (state S.Store conn.old).now → ⊥)
         → ((state S.Store conn.new).now ≡ (state S.Store conn.old).now)
@@ -163,7 +164,7 @@ pub fn open_tables<S: Alter>(conn: &mut Connection<S>) -> Result<bool, Error>
     ensures clean { doubt (state S.Store conn.old).is_clean ≤ doubt (state S.Store conn.new).is_clean }
     ensures crash { KeepsOurs S.Store conn.old conn.new }
     // An error of a connection that is still open changes nothing, where no transaction was open.
-    ensures undone { HasCleanDisk (state S.Store conn.new) → IsTrue (state S.Store conn.new).is_open
+    ensures undone { IsFaithful S.Store conn.new → IsTrue (state S.Store conn.new).is_open
         → conn.old.in_transaction ≡ false
         → OnErr result
         (((state S.Store conn.new).now ≡ (state S.Store conn.old).now)

@@ -5,12 +5,12 @@ ghost use Rattle.sqlite.specs.declared.types.Value.{Value};
 ghost use Rattle.sqlite.specs.declared.types.Value.TheVariants.{Text as Words};
 ghost use Rattle.sqlite.specs.Order.{column};
 ghost use Rattle.sqlite.specs.Values.{or_null};
-ghost use Rattle.sqlite.specs.State.{HasCleanDisk, Shown};
+ghost use Rattle.sqlite.specs.State.{Shown};
 ghost use Rattle.sqlite.specs.Given.{IsPlain};
 ghost use Rattle.sqlite.specs.Listing.{understood};
 ghost use Rattle.sqlite.specs.Held.{state};
 ghost use Rattle.treasury_tables.specs.Tables.{store_schema};
-ghost use Rattle.treasury_tables.specs.Kept.{Queries};
+ghost use Rattle.treasury_tables.specs.Kept.{Queries, IsFaithful};
 
 use money_core::{Items, Text};
 use sqlite::{Alter, Connection, Error, Row};
@@ -65,7 +65,7 @@ pub(crate) fn read_all<T: FromRow>(alloc: Global, rows: &[Row]) -> Result<Items<
 /// The rows of a query of our tables.
 pub(crate) fn queried<S: Alter>(conn: &mut Connection<S>, sql: &str) -> Result<Vec<Row>, Error>
     requires { IsPlain (understood store_schema sql.now) }
-    ensures shown { HasCleanDisk (state S.Store conn.new)
+    ensures shown { IsFaithful S.Store conn.new
         → IfOk result (λ rows. Shown sql.now [] (state S.Store conn.old) (state S.Store conn.new) rows.items) }
     ensures queries { Queries S.Store conn.old conn.new result }
 {

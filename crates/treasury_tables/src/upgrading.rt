@@ -2,11 +2,12 @@
 
 ghost use Rattle.std.specs.Prelude.{◌≡◌, ◌∷◌, [], pos, false, OnOk, OnErr, IsTrue};
 ghost use Rattle.sqlite.specs.declared.types.Value.TheVariants.{Int};
-ghost use Rattle.sqlite.specs.State.{HasCleanDisk, KeepsCommit, Survives};
+ghost use Rattle.sqlite.specs.State.{KeepsCommit, Survives};
 ghost use Rattle.sqlite.specs.Held.{state};
 ghost use Rattle.sqlite.specs.Effect.{Database};
 ghost use Rattle.sqlite_trees.specs.View.{IsShaped};
 ghost use Rattle.sqlite_trees.specs.declared.store.Shape.TheVariants as shape;
+ghost use Rattle.treasury_tables.specs.Kept.{IsFaithful};
 ghost use Rattle.treasury_tables.specs.Tables.{store_schema, format};
 ghost use Rattle.treasury_tables.specs.Rows.{versions};
 ghost use Rattle.treasury_tables.specs.Opening.{IsFirstNumbered};
@@ -18,15 +19,15 @@ use sqlite::{Alter, Connection, Error, ErrorCode, Transaction};
 /// Makes the row of `format` a 2.
 fn set_version<S: Alter>(tx: &mut Transaction<'_, S>) -> Result<usize, Error>
     ensures same_reference { tx.new.conn.ghost_name ≡ tx.old.conn.ghost_name }
-    ensures sets { HasCleanDisk (state S.Store tx.new.conn.now)
+    ensures sets { IsFaithful S.Store tx.new.conn.now
         → OnOk result
         ((state S.Store tx.old.conn.now).now.schema ≡ store_schema
         → versions (state S.Store tx.old.conn.now).now ≡ Int (pos 1) ∷ []
         → IsShaped shape.Table ((state S.Store tx.old.conn.now).now.trees format.tree)
         → SetsVersion (state S.Store tx.old.conn.now).now (state S.Store tx.new.conn.now).now) }
-    ensures inside { HasCleanDisk (state S.Store tx.new.conn.now)
+    ensures inside { IsFaithful S.Store tx.new.conn.now
         → OnOk result (IsTrue (state S.Store tx.new.conn.now).in_transaction) }
-    ensures kept { HasCleanDisk (state S.Store tx.new.conn.now)
+    ensures kept { IsFaithful S.Store tx.new.conn.now
         → KeepsCommit (state S.Store tx.old.conn.now) (state S.Store tx.new.conn.now) }
     ensures survives { Survives (state S.Store tx.old.conn.now) (state S.Store tx.new.conn.now) (λ _. ⊥) }
 {
@@ -36,13 +37,13 @@ fn set_version<S: Alter>(tx: &mut Transaction<'_, S>) -> Result<usize, Error>
 /// Makes version 2 of version 1, inside a transaction.
 fn make_second<S: Alter>(tx: &mut Transaction<'_, S>) -> Result<usize, Error>
     ensures same_reference { tx.new.conn.ghost_name ≡ tx.old.conn.ghost_name }
-    ensures makes { HasCleanDisk (state S.Store tx.new.conn.now)
+    ensures makes { IsFaithful S.Store tx.new.conn.now
         → OnOk result
         (IsFirstNumbered (state S.Store tx.old.conn.now).now
         → Upgrades (state S.Store tx.old.conn.now).now (state S.Store tx.new.conn.now).now) }
-    ensures inside { HasCleanDisk (state S.Store tx.new.conn.now)
+    ensures inside { IsFaithful S.Store tx.new.conn.now
         → OnOk result (IsTrue (state S.Store tx.new.conn.now).in_transaction) }
-    ensures kept { HasCleanDisk (state S.Store tx.new.conn.now)
+    ensures kept { IsFaithful S.Store tx.new.conn.now
         → KeepsCommit (state S.Store tx.old.conn.now) (state S.Store tx.new.conn.now) }
     ensures survives { Survives (state S.Store tx.old.conn.now) (state S.Store tx.new.conn.now) (λ _. ⊥) }
 {
@@ -55,13 +56,13 @@ fn make_second<S: Alter>(tx: &mut Transaction<'_, S>) -> Result<usize, Error>
 /// An open transaction is an error. After an error of a connection that is still open the database is as it was. What a
 /// stop or a crash leaves is version 1 or version 2, whole.
 pub(crate) fn upgrade<S: Alter>(conn: &mut Connection<S>) -> Result<(), Error>
-    ensures made { HasCleanDisk (state S.Store conn.new)
+    ensures made { IsFaithful S.Store conn.new
         → OnOk result
         (IsFirstNumbered (state S.Store conn.old).now
         → Upgrades (state S.Store conn.old).now (state S.Store conn.new).now
         × ((state S.Store conn.new).committed ≡ (state S.Store conn.new).now)) }
-    ensures opened { HasCleanDisk (state S.Store conn.new) → OnOk result (IsTrue (state S.Store conn.new).is_open) }
-    ensures unchanged { HasCleanDisk (state S.Store conn.new) → IsTrue (state S.Store conn.new).is_open
+    ensures opened { IsFaithful S.Store conn.new → OnOk result (IsTrue (state S.Store conn.new).is_open) }
+    ensures unchanged { IsFaithful S.Store conn.new → IsTrue (state S.Store conn.new).is_open
         → OnErr result
         (((state S.Store conn.new).now ≡ (state S.Store conn.old).now)
         × ((state S.Store conn.new).committed ≡ (state S.Store conn.old).committed)) }

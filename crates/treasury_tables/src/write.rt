@@ -4,13 +4,13 @@ ghost use Rattle.std.specs.Prelude.{◌≡◌, ◌<◌, ◌∷◌, [], length, f
 ghost use Rattle.sqlite_value.specs.Value.{owned};
 ghost use Rattle.sqlite.specs.declared.types.Value.TheVariants.{Text as Words};
 ghost use Rattle.sqlite.specs.Values.{or_null};
-ghost use Rattle.sqlite.specs.State.{HasCleanDisk, KeepsCommit, Survives};
+ghost use Rattle.sqlite.specs.State.{KeepsCommit, Survives};
 ghost use Rattle.sqlite.specs.Held.{state};
 ghost use Rattle.sqlite.specs.Effect.{Database};
 ghost use Rattle.treasury_tables.specs.Rows.{Tables, Holds, with_unit, with_branch, with_transfer, with_part};
 ghost use Rattle.treasury_tables.specs.Rows.{with_lock};
 ghost use Rattle.treasury_tables.specs.Rows.{with_receipt, changed, joined};
-ghost use Rattle.treasury_tables.specs.Kept.{Writes};
+ghost use Rattle.treasury_tables.specs.Kept.{Writes, IsFaithful};
 ghost use Rattle.treasury_tables.specs.Kinds.{is_single};
 
 use crate::change::Change;
@@ -65,15 +65,15 @@ fn next_single(changes: &[Change]) -> Option<(&Change, &[Change])>
 /// Writes each other change by a statement of its own.
 fn put_singles<S: Alter>(tx: &mut Transaction<'_, S>, changes: &[Change]) -> Result<(), Error>
     ensures same_reference { tx.new.conn.ghost_name ≡ tx.old.conn.ghost_name }
-    ensures rows { HasCleanDisk (state S.Store tx.new.conn.now)
+    ensures rows { IsFaithful S.Store tx.new.conn.now
         → OnOk result
         ((t : Tables) → Holds (state S.Store tx.old.conn.now).now t
         → Holds (state S.Store tx.new.conn.now).now (joined (filter is_single changes.now) t)) }
-    ensures inside { HasCleanDisk (state S.Store tx.new.conn.now)
+    ensures inside { IsFaithful S.Store tx.new.conn.now
         → OnOk result
         (IsTrue (state S.Store tx.old.conn.now).in_transaction
         → IsTrue (state S.Store tx.new.conn.now).in_transaction) }
-    ensures kept { HasCleanDisk (state S.Store tx.new.conn.now)
+    ensures kept { IsFaithful S.Store tx.new.conn.now
         → KeepsCommit (state S.Store tx.old.conn.now) (state S.Store tx.new.conn.now) }
     ensures survives { Survives (state S.Store tx.old.conn.now) (state S.Store tx.new.conn.now) (λ _. ⊥) }
 {
@@ -88,15 +88,15 @@ fn put_singles<S: Alter>(tx: &mut Transaction<'_, S>, changes: &[Change]) -> Res
 /// Writes the changes: entries, legs and claims by eights, and then the others.
 fn put_all<S: Alter>(tx: &mut Transaction<'_, S>, changes: &[Change]) -> Result<(), Error>
     ensures same_reference { tx.new.conn.ghost_name ≡ tx.old.conn.ghost_name }
-    ensures rows { HasCleanDisk (state S.Store tx.new.conn.now)
+    ensures rows { IsFaithful S.Store tx.new.conn.now
         → OnOk result
         ((t : Tables) → Holds (state S.Store tx.old.conn.now).now t
         → Holds (state S.Store tx.new.conn.now).now (joined changes.now t)) }
-    ensures inside { HasCleanDisk (state S.Store tx.new.conn.now)
+    ensures inside { IsFaithful S.Store tx.new.conn.now
         → OnOk result
         (IsTrue (state S.Store tx.old.conn.now).in_transaction
         → IsTrue (state S.Store tx.new.conn.now).in_transaction) }
-    ensures kept { HasCleanDisk (state S.Store tx.new.conn.now)
+    ensures kept { IsFaithful S.Store tx.new.conn.now
         → KeepsCommit (state S.Store tx.old.conn.now) (state S.Store tx.new.conn.now) }
     ensures survives { Survives (state S.Store tx.old.conn.now) (state S.Store tx.new.conn.now) (λ _. ⊥) }
 {
@@ -111,17 +111,17 @@ fn put_all<S: Alter>(tx: &mut Transaction<'_, S>, changes: &[Change]) -> Result<
 /// After an error of a connection that is still open the tables are as they were. What a stop or a crash leaves is the
 /// tables of before or those with all changes.
 pub fn write_all<S: Alter>(conn: &mut Connection<S>, changes: &[Change]) -> Result<(), Error>
-    ensures rows { HasCleanDisk (state S.Store conn.new)
+    ensures rows { IsFaithful S.Store conn.new
         → OnOk result
         ((t : Tables) → Holds (state S.Store conn.old).now t
         → Holds (state S.Store conn.new).now (joined changes.now t)
         × ((state S.Store conn.new).committed ≡ (state S.Store conn.new).now)) }
-    ensures still_open { HasCleanDisk (state S.Store conn.new) → OnOk result (IsTrue (state S.Store conn.new).is_open) }
-    ensures unchanged { HasCleanDisk (state S.Store conn.new) → IsTrue (state S.Store conn.new).is_open
+    ensures still_open { IsFaithful S.Store conn.new → OnOk result (IsTrue (state S.Store conn.new).is_open) }
+    ensures unchanged { IsFaithful S.Store conn.new → IsTrue (state S.Store conn.new).is_open
         → OnErr result
         (((state S.Store conn.new).now ≡ (state S.Store conn.old).now)
         × ((state S.Store conn.new).committed ≡ (state S.Store conn.old).committed)) }
-    ensures was_open { HasCleanDisk (state S.Store conn.new) → IsTrue (state S.Store conn.new).is_open
+    ensures was_open { IsFaithful S.Store conn.new → IsTrue (state S.Store conn.new).is_open
         → IsTrue (state S.Store conn.old).is_open }
     ensures crash { Survives (state S.Store conn.old) (state S.Store conn.new)
         (λ trees. (db : Database) × (trees ≡ db.trees)

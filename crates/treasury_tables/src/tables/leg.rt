@@ -4,13 +4,13 @@ ghost use Rattle.std.specs.Prelude.{◌≡◌, ◌<◌, ◌∷◌, ◌++◌, [],
 ghost use Rattle.std.specs.Prelude.{OnOk, IsTrue, map, IfOk, IsPermutation};
 ghost use Rattle.sqlite.specs.Order.{column};
 ghost use Rattle.sqlite.specs.Values.{bound};
-ghost use Rattle.sqlite.specs.State.{HasCleanDisk, KeepsCommit, Survives, IsUnchanged};
+ghost use Rattle.sqlite.specs.State.{KeepsCommit, Survives, IsUnchanged};
 ghost use Rattle.sqlite.specs.Held.{state};
 ghost use Rattle.treasury_tables.specs.declared.change.Change.TheVariants.{Leg as LegChange};
 ghost use Rattle.treasury_tables.specs.Rows.{ShowsTables, Tables, Holds, leg_row, shown_leg, with_leg, joined};
 ghost use Rattle.treasury_tables.specs.Tables.{store_schema, leg};
 ghost use Rattle.treasury_tables.specs.Creating.{Creates};
-ghost use Rattle.treasury_tables.specs.Kept.{Queries, Writes};
+ghost use Rattle.treasury_tables.specs.Kept.{Queries, Writes, IsFaithful};
 ghost use Rattle.treasury_tables.specs.Order.{InOrder};
 ghost use Rattle.treasury_tables.specs.Kinds.{is_leg, all_of};
 
@@ -62,13 +62,13 @@ pub(crate) fn load_legs<S: Alter>(
     alloc: Global,
     conn: &mut Connection<S>,
 ) -> Result<Items<LegRow>, Error>
-    ensures rows { HasCleanDisk (state S.Store conn.new)
+    ensures rows { IsFaithful S.Store conn.new
         → IfOk result (λ rows. (t : Tables) → InOrder t → ShowsTables (state S.Store conn.old).now t → rows ≡ t.legs) }
-    ensures shown { HasCleanDisk (state S.Store conn.new)
+    ensures shown { IsFaithful S.Store conn.new
         → IfOk result
         (λ rows. (state S.Store conn.old).now.schema ≡ store_schema
         → IsPermutation (map leg_row rows) (map shown_leg ((state S.Store conn.old).now.trees 8))) }
-    ensures same { HasCleanDisk (state S.Store conn.new)
+    ensures same { IsFaithful S.Store conn.new
         → OnOk result
         ((state S.Store conn.old).now.schema ≡ store_schema
         → IsUnchanged (state S.Store conn.old) (state S.Store conn.new)) }
@@ -175,15 +175,15 @@ fn next_eight_legs(changes: &[Change]) -> Option<Eight<'_, LegRow>>
 /// Inserts the legs among the changes, eight to a statement, and those that are left one by one.
 pub fn put_legs<S: Alter>(tx: &mut Transaction<'_, S>, changes: &[Change]) -> Result<(), Error>
     ensures same_reference { tx.new.conn.ghost_name ≡ tx.old.conn.ghost_name }
-    ensures rows { HasCleanDisk (state S.Store tx.new.conn.now)
+    ensures rows { IsFaithful S.Store tx.new.conn.now
         → OnOk result
         ((t : Tables) → Holds (state S.Store tx.old.conn.now).now t
         → Holds (state S.Store tx.new.conn.now).now (joined (filter is_leg changes.now) t)) }
-    ensures inside { HasCleanDisk (state S.Store tx.new.conn.now)
+    ensures inside { IsFaithful S.Store tx.new.conn.now
         → OnOk result
         (IsTrue (state S.Store tx.old.conn.now).in_transaction
         → IsTrue (state S.Store tx.new.conn.now).in_transaction) }
-    ensures kept { HasCleanDisk (state S.Store tx.new.conn.now)
+    ensures kept { IsFaithful S.Store tx.new.conn.now
         → KeepsCommit (state S.Store tx.old.conn.now) (state S.Store tx.new.conn.now) }
     ensures survives { Survives (state S.Store tx.old.conn.now) (state S.Store tx.new.conn.now) (λ _. ⊥) }
 {

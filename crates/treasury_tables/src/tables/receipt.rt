@@ -2,12 +2,12 @@
 
 ghost use Rattle.std.specs.Prelude.{◌≡◌, ◌∷◌, [], map, IfOk, OnOk, IsPermutation};
 ghost use Rattle.sqlite.specs.Order.{column};
-ghost use Rattle.sqlite.specs.State.{HasCleanDisk, IsUnchanged};
+ghost use Rattle.sqlite.specs.State.{IsUnchanged};
 ghost use Rattle.sqlite.specs.Held.{state};
 ghost use Rattle.treasury_tables.specs.Tables.{store_schema, receipt};
 ghost use Rattle.treasury_tables.specs.Rows.{ShowsTables, Tables, part_row, shown_part, with_part};
 ghost use Rattle.treasury_tables.specs.Creating.{Creates};
-ghost use Rattle.treasury_tables.specs.Kept.{Queries, Writes};
+ghost use Rattle.treasury_tables.specs.Kept.{Queries, Writes, IsFaithful};
 ghost use Rattle.treasury_tables.specs.Order.{InOrder};
 
 use crate::row::{FromRow, queried, read_all, text_at};
@@ -54,14 +54,14 @@ pub(crate) fn load_receipts<S: Alter>(
     alloc: Global,
     conn: &mut Connection<S>,
 ) -> Result<Items<PartRow>, Error>
-    ensures rows { HasCleanDisk (state S.Store conn.new)
+    ensures rows { IsFaithful S.Store conn.new
         → IfOk result
         (λ rows. (t : Tables) → InOrder t → ShowsTables (state S.Store conn.old).now t → rows ≡ t.receipts) }
-    ensures shown { HasCleanDisk (state S.Store conn.new)
+    ensures shown { IsFaithful S.Store conn.new
         → IfOk result
         (λ rows. (state S.Store conn.old).now.schema ≡ store_schema
         → IsPermutation (map part_row rows) (map shown_part ((state S.Store conn.old).now.trees 14))) }
-    ensures same { HasCleanDisk (state S.Store conn.new)
+    ensures same { IsFaithful S.Store conn.new
         → OnOk result
         ((state S.Store conn.old).now.schema ≡ store_schema
         → IsUnchanged (state S.Store conn.old) (state S.Store conn.new)) }

@@ -4,14 +4,14 @@ ghost use Rattle.std.specs.Prelude.{◌≡◌, ◌∷◌, [], map, IfOk, OnOk, I
 ghost use Rattle.sqlite_value.specs.Value.{owned};
 ghost use Rattle.sqlite.specs.declared.types.Value.TheVariants.{Text as Words};
 ghost use Rattle.sqlite.specs.Order.{column};
-ghost use Rattle.sqlite.specs.State.{HasCleanDisk, IsUnchanged};
+ghost use Rattle.sqlite.specs.State.{IsUnchanged};
 ghost use Rattle.sqlite.specs.Held.{state};
 ghost use Rattle.sqlite.specs.Values.{or_null};
 ghost use Rattle.treasury_tables.specs.Tables.{store_schema, transfer};
 ghost use Rattle.treasury_tables.specs.Rows.{ShowsTables, Tables, transfer_row, shown_transfer};
 ghost use Rattle.treasury_tables.specs.Rows.{with_transfer, with_receipt};
 ghost use Rattle.treasury_tables.specs.Creating.{Creates};
-ghost use Rattle.treasury_tables.specs.Kept.{Queries, Writes};
+ghost use Rattle.treasury_tables.specs.Kept.{Queries, Writes, IsFaithful};
 ghost use Rattle.treasury_tables.specs.Order.{InOrder};
 
 use crate::row::{FromRow, maybe_text_at, queried, read_all, text_at};
@@ -67,14 +67,14 @@ pub(crate) fn load_transfers<S: Alter>(
     alloc: Global,
     conn: &mut Connection<S>,
 ) -> Result<Items<TransferRow>, Error>
-    ensures rows { HasCleanDisk (state S.Store conn.new)
+    ensures rows { IsFaithful S.Store conn.new
         → IfOk result
         (λ rows. (t : Tables) → InOrder t → ShowsTables (state S.Store conn.old).now t → rows ≡ t.transfers) }
-    ensures shown { HasCleanDisk (state S.Store conn.new)
+    ensures shown { IsFaithful S.Store conn.new
         → IfOk result
         (λ rows. (state S.Store conn.old).now.schema ≡ store_schema
         → IsPermutation (map transfer_row rows) (map shown_transfer ((state S.Store conn.old).now.trees 12))) }
-    ensures same { HasCleanDisk (state S.Store conn.new)
+    ensures same { IsFaithful S.Store conn.new
         → OnOk result
         ((state S.Store conn.old).now.schema ≡ store_schema
         → IsUnchanged (state S.Store conn.old) (state S.Store conn.new)) }

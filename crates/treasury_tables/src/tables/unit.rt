@@ -2,12 +2,12 @@
 
 ghost use Rattle.std.specs.Prelude.{◌≡◌, ◌∷◌, [], map, IfOk, OnOk, IsPermutation};
 ghost use Rattle.sqlite.specs.Order.{column};
-ghost use Rattle.sqlite.specs.State.{HasCleanDisk, IsUnchanged};
+ghost use Rattle.sqlite.specs.State.{IsUnchanged};
 ghost use Rattle.sqlite.specs.Held.{state};
 ghost use Rattle.treasury_tables.specs.Tables.{store_schema, unit};
 ghost use Rattle.treasury_tables.specs.Rows.{ShowsTables, Tables, unit_row, shown_unit, with_unit};
 ghost use Rattle.treasury_tables.specs.Creating.{Creates};
-ghost use Rattle.treasury_tables.specs.Kept.{Queries, Writes};
+ghost use Rattle.treasury_tables.specs.Kept.{Queries, Writes, IsFaithful};
 ghost use Rattle.treasury_tables.specs.Order.{InOrder};
 
 use crate::row::{FromRow, queried, read_all, text_at};
@@ -59,13 +59,13 @@ pub(crate) fn load_units<S: Alter>(
     alloc: Global,
     conn: &mut Connection<S>,
 ) -> Result<Items<UnitRow>, Error>
-    ensures rows { HasCleanDisk (state S.Store conn.new)
+    ensures rows { IsFaithful S.Store conn.new
         → IfOk result (λ rows. (t : Tables) → InOrder t → ShowsTables (state S.Store conn.old).now t → rows ≡ t.units) }
-    ensures shown { HasCleanDisk (state S.Store conn.new)
+    ensures shown { IsFaithful S.Store conn.new
         → IfOk result
         (λ rows. (state S.Store conn.old).now.schema ≡ store_schema
         → IsPermutation (map unit_row rows) (map shown_unit ((state S.Store conn.old).now.trees 1))) }
-    ensures same { HasCleanDisk (state S.Store conn.new)
+    ensures same { IsFaithful S.Store conn.new
         → OnOk result
         ((state S.Store conn.old).now.schema ≡ store_schema
         → IsUnchanged (state S.Store conn.old) (state S.Store conn.new)) }

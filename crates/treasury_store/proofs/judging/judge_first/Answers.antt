@@ -2,13 +2,13 @@ use Rattle.std.proofs.Common.{◌≡◌, ◌∙◌, inl, inr, [], ◌∷◌, pos
 use Rattle.std.proofs.lemmas.Result.{IfOk-at_ok, IfErr-at_err}
 use Rattle.sqlite.specs.declared.types.Value.TheVariants.{Int}
 use Rattle.sqlite.specs.Order.{column}
-use Rattle.sqlite.specs.State.{HasCleanDisk}
 use Rattle.sqlite.specs.Held.{state}
 use Rattle.treasury_state.specs.Rows.{rows}
 use Rattle.treasury_tables.proofs.QueriesLemmas.{then_reads, reads_if_read}
 use Rattle.treasury_tables.proofs.QueriesLemmas.{still_held}
 use Rattle.treasury_store.proofs.JudgingLemmas.{reads_undone, format_has_read, other_version, reads_behind, none_held}
 use Rattle.treasury_store.proofs.judging.judge_first.Goals as goal
+use Rattle.treasury_tables.specs.Kept.{IsFaithful}
 
 -- `format` could not be read
 pub returns-in-Err-clause-reads : goal.returns-in-Err-clause-reads
@@ -55,7 +55,7 @@ pub returns-in-Ok-built-clause-ok : goal.returns-in-Ok-built-clause-ok
 returns-in-Ok-built-clause-ok g c clean t up holds =
     let past = format_has_read g.S.Store c.args.conn.now c.format_rows.new.conn c.in-Ok.ensures.same
     c.format_rows.ensures.crash in
-    let before : HasCleanDisk (state g.S.Store c.format_rows.new.conn) =
+    let before : IsFaithful g.S.Store c.format_rows.new.conn =
     omega (arith, c.first_parts.ensures.reads.survives.clean, clean) in (
       c.in-Ok-built.state,
       c.is_good.ensures,
@@ -84,7 +84,7 @@ pub returns-clause-damaged : goal.returns-clause-damaged
 returns-clause-damaged g c is clean f good holds =
     let past = format_has_read g.S.Store c.args.conn.now c.format_rows.new.conn c.in-Ok.ensures.same
     c.format_rows.ensures.crash in
-    let before : HasCleanDisk (state g.S.Store c.format_rows.new.conn) =
+    let before : IsFaithful g.S.Store c.format_rows.new.conn =
     omega (arith, c.first_parts.ensures.reads.survives.clean, clean) in
     none_held (state g.S.Store c.args.conn.now).now c.in-Ok-first_parts.parts
     (λ t up first. c.in-Ok-first_parts.ensures.parts clean t up (still_held t past before first))

@@ -1,7 +1,7 @@
 use Rattle.std.proofs.Common.{◌≡◌, ◌≤◌, ◌∙◌, sym, ap, subst, false, refl, arith, rules}
 use Rattle.sqlite_trees.specs.View.{doubt}
-use Rattle.sqlite.specs.State.{HasCleanDisk}
 use Rattle.sqlite.specs.Held.{state}
+use Rattle.treasury_tables.specs.Kept.{IsFaithful}
 use Rattle.treasury_tables.specs.Tables.{format}
 use Rattle.treasury_tables.specs.Creating.{has_one, has_counter, Makes, Beside, SurvivesMaking}
 use Rattle.treasury_tables.proofs.InsideLemmas.{crashes}
@@ -19,11 +19,11 @@ returns-clause-beside g c clean is_made none =
     let begun = c.transaction-tx.ensures.begun in
     let end = c.commit.new.self.0 in
     let same : end ≡ c.conn-2-1.given.0 = search rules in
-    let clean_end : HasCleanDisk (state g.S.Store end) = search rules in
-    let clean_last : HasCleanDisk (state g.S.Store last) = omega (arith, c.commit.ensures.survives.clean) in
-    let clean_mid : HasCleanDisk (state g.S.Store mid) =
+    let clean_end : IsFaithful g.S.Store end = search rules in
+    let clean_last : IsFaithful g.S.Store last = omega (arith, c.commit.ensures.survives.clean) in
+    let clean_mid : IsFaithful g.S.Store mid =
     omega (arith, c.create_state.ensures.survives.clean, clean_last) in
-    let clean_first : HasCleanDisk (state g.S.Store first) =
+    let clean_first : IsFaithful g.S.Store first =
     omega (arith, c.put_format.ensures.survives.clean, clean_mid) in
     let free : has_one old.schema ≡ false = search rules in
     let made = subst (λ h. has_counter h.schema ≡ false
@@ -41,7 +41,7 @@ pub returns-clause-made : goal.returns-clause-made
 returns-clause-made g c clean is_made empty =
     let end = c.commit.new.self.0 in
     let same : end ≡ c.conn-2-1.given.0 = search rules in
-    let clean_end : HasCleanDisk (state g.S.Store end) = search rules in
+    let clean_end : IsFaithful g.S.Store end = search rules in
     let done = (c.in_ok-commit.ensures.ok clean_end).1 in (
       holds_none _ _ empty (returns-clause-beside g c clean is_made (ap has_counter empty)),
       subst (λ h. (state g.S.Store h).committed ≡ (state g.S.Store h).now) same (done.committed_is ∙ sym done.now_is),
@@ -79,7 +79,7 @@ returns-clause-crash g c =
     c.put_format.ensures.survives c.create_state.ensures.survives in
     let whole = crashes g.S.Store old last c.commit.new.self.0 P inside c.commit.ensures.survives
     (made_beside g.S.Store old first mid last (search rules)
-    (subst (λ h. HasCleanDisk (state g.S.Store first) → has_counter (state g.S.Store h).now.schema ≡ false
+    (subst (λ h. IsFaithful g.S.Store first → has_counter (state g.S.Store h).now.schema ≡ false
     → Makes format (state g.S.Store h).now (state g.S.Store first).now) begun makes)
     c.in_ok-put_format.ensures.gives c.in_ok-create_state.ensures.makes c.put_format.ensures.survives
     c.create_state.ensures.survives) in
@@ -100,7 +100,7 @@ returns-in_err-commit-clause-crash g c =
     c.put_format.ensures.survives c.create_state.ensures.survives in
     let whole = crashes g.S.Store old last c.commit.new.self.0 P inside c.commit.ensures.survives
     (made_beside g.S.Store old first mid last (search rules)
-    (subst (λ h. HasCleanDisk (state g.S.Store first) → has_counter (state g.S.Store h).now.schema ≡ false
+    (subst (λ h. IsFaithful g.S.Store first → has_counter (state g.S.Store h).now.schema ≡ false
     → Makes format (state g.S.Store h).now (state g.S.Store first).now) begun makes)
     c.in_ok-put_format.ensures.gives c.in_ok-create_state.ensures.makes c.put_format.ensures.survives
     c.create_state.ensures.survives) in

@@ -1,5 +1,4 @@
 use Rattle.std.proofs.Common.{◌∙◌, sym, arith}
-use Rattle.sqlite.specs.State.{HasCleanDisk}
 use Rattle.sqlite.specs.Held.{state}
 use Rattle.treasury_tables.proofs.Texts.{first_unit_rows_is, first_branch_rows_is, first_entry_rows_is}
 use Rattle.treasury_tables.proofs.Texts.{first_leg_rows_is}
@@ -8,6 +7,7 @@ use Rattle.treasury_tables.proofs.LoadLemmas.{first_units_are, first_branches_ar
 use Rattle.treasury_tables.proofs.LoadLemmas.{first_claims_are, first_transfers_are}
 use Rattle.treasury_tables.proofs.QueriesLemmas.{then_reads, then_has_read, reads_if_read, still_held}
 use Rattle.treasury_tables.proofs.first_version.first_parts.Goals as goal
+use Rattle.treasury_tables.specs.Kept.{IsFaithful}
 
 pub first_rows-requires : goal.first_rows-requires
 first_rows-requires g c = first_unit_rows_is.2
@@ -74,16 +74,16 @@ returns-clause-reads g c =
 
 pub returns-clause-parts : goal.returns-clause-parts
 returns-clause-parts g c clean t up holds =
-    let clean6 : HasCleanDisk (state g.S.Store c.first_rows-6.new.conn) = clean in
-    let clean5 : HasCleanDisk (state g.S.Store c.first_rows-5.new.conn) =
+    let clean6 : IsFaithful g.S.Store c.first_rows-6.new.conn = clean in
+    let clean5 : IsFaithful g.S.Store c.first_rows-5.new.conn =
     omega (arith, c.in_ok-transfers.ensures.reads.survives.clean, clean6) in
-    let clean4 : HasCleanDisk (state g.S.Store c.first_rows-4.new.conn) =
+    let clean4 : IsFaithful g.S.Store c.first_rows-4.new.conn =
     omega (arith, c.in_ok-claims.ensures.reads.survives.clean, clean5) in
-    let clean3 : HasCleanDisk (state g.S.Store c.first_rows-3.new.conn) =
+    let clean3 : IsFaithful g.S.Store c.first_rows-3.new.conn =
     omega (arith, c.in_ok-legs.ensures.reads.survives.clean, clean4) in
-    let clean2 : HasCleanDisk (state g.S.Store c.first_rows-2.new.conn) =
+    let clean2 : IsFaithful g.S.Store c.first_rows-2.new.conn =
     omega (arith, c.in_ok-entries.ensures.reads.survives.clean, clean3) in
-    let clean1 : HasCleanDisk (state g.S.Store c.first_rows.new.conn) =
+    let clean1 : IsFaithful g.S.Store c.first_rows.new.conn =
     omega (arith, c.in_ok-branches.ensures.reads.survives.clean, clean2) in
     let past1 = c.in_ok-units.ensures.has in
     let past2 = then_has_read past1 c.in_ok-branches.ensures.has in

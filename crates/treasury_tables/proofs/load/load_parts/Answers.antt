@@ -1,7 +1,6 @@
 use Rattle.std.proofs.Common.{map, arith, IsPermutation}
-use Rattle.sqlite.specs.State.{HasCleanDisk}
-use Rattle.sqlite.specs.Held.{state}
 use Rattle.sqlite.specs.Effect.{Database}
+use Rattle.treasury_tables.specs.Kept.{IsFaithful}
 use Rattle.treasury_tables.specs.Rows.{branch_row, entry_row, leg_row, claim_row, transfer_row, part_row}
 use Rattle.treasury_tables.specs.Rows.{shown_branch, shown_entry, shown_leg, shown_claim, shown_transfer, shown_part}
 use Rattle.treasury_tables.proofs.QueriesLemmas.{same_error, quiet, quiet_more, quiet_error, quiet_ok, seen_before}
@@ -75,17 +74,17 @@ returns-clause-queries g c =
 
 pub returns-clause-shown : goal.returns-clause-shown
 returns-clause-shown g c clean has =
-    let clean6 : HasCleanDisk (state g.S.Store c.load_transfers.new.conn) =
+    let clean6 : IsFaithful g.S.Store c.load_transfers.new.conn =
     omega (arith, c.in_ok-receipts.ensures.queries.survives.clean, clean) in
-    let clean5 : HasCleanDisk (state g.S.Store c.load_claims.new.conn) =
+    let clean5 : IsFaithful g.S.Store c.load_claims.new.conn =
     omega (arith, c.in_ok-transfers.ensures.queries.survives.clean, clean6) in
-    let clean4 : HasCleanDisk (state g.S.Store c.load_legs.new.conn) =
+    let clean4 : IsFaithful g.S.Store c.load_legs.new.conn =
     omega (arith, c.in_ok-claims.ensures.queries.survives.clean, clean5) in
-    let clean3 : HasCleanDisk (state g.S.Store c.load_entries.new.conn) =
+    let clean3 : IsFaithful g.S.Store c.load_entries.new.conn =
     omega (arith, c.in_ok-legs.ensures.queries.survives.clean, clean4) in
-    let clean2 : HasCleanDisk (state g.S.Store c.load_branches.new.conn) =
+    let clean2 : IsFaithful g.S.Store c.load_branches.new.conn =
     omega (arith, c.in_ok-entries.ensures.queries.survives.clean, clean3) in
-    let clean1 : HasCleanDisk (state g.S.Store c.load_units.new.conn) =
+    let clean1 : IsFaithful g.S.Store c.load_units.new.conn =
     omega (arith, c.in_ok-branches.ensures.queries.survives.clean, clean2) in
     let past1 = quiet c.in_ok-units.ensures.queries c.in_ok-units.ensures.same in
     let past2 = quiet_more past1 c.in_ok-branches.ensures.queries c.in_ok-branches.ensures.same in

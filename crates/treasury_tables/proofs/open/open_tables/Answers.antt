@@ -3,8 +3,8 @@ use Rattle.std.proofs.Common.{◌≡◌, ◌∙◌, ◌∷◌, [], inl, inr, pos
 use Rattle.std.proofs.Common.{arith}
 use Rattle.sqlite.specs.declared.types.Value.TheVariants.{Int}
 use Rattle.sqlite.specs.Order.{column}
-use Rattle.sqlite.specs.State.{HasCleanDisk}
 use Rattle.sqlite.specs.Held.{state}
+use Rattle.treasury_tables.specs.Kept.{IsFaithful}
 use Rattle.treasury_tables.specs.Creating.{has_all, has_receipt}
 use Rattle.treasury_tables.specs.Opening.{AreOurs, IsFirst}
 use Rattle.treasury_tables.proofs.OpenLemmas.{none_there, not_first, not_second, receipt_is_there, shown_versions}
@@ -104,7 +104,7 @@ returns-in_err-upgrade-clause-crash g c =
     let one : c.is_version-2.result ≡ true = search rules in
     let bare : has_receipt c.args.conn.now.schema ≡ false =
     receipt_is_there _ c.args.conn.now.schema _ c.has_table-has_receipt.ensures c.as_slice.ensures ∙ got in
-    let is_first = λ (clean : HasCleanDisk (state g.S.Store c.format_rows.new.conn))
+    let is_first = λ (clean : IsFaithful g.S.Store c.format_rows.new.conn)
     (ours : AreOurs (state g.S.Store c.args.conn.now).now.schema).
     let has = ours.first all bare in
     let same = shown_versions ((state g.S.Store c.args.conn.now).now.trees 0) _ (Int (pos 1))
@@ -134,7 +134,7 @@ returns-clause-crash g c =
     let one : c.is_version-2.result ≡ true = search rules in
     let bare : has_receipt c.args.conn.now.schema ≡ false =
     receipt_is_there _ c.args.conn.now.schema _ c.has_table-has_receipt.ensures c.as_slice.ensures ∙ got in
-    let is_first = λ (clean : HasCleanDisk (state g.S.Store c.format_rows.new.conn))
+    let is_first = λ (clean : IsFaithful g.S.Store c.format_rows.new.conn)
     (ours : AreOurs (state g.S.Store c.args.conn.now).now.schema).
     let has = ours.first all bare in
     let same = shown_versions ((state g.S.Store c.args.conn.now).now.trees 0) _ (Int (pos 1))
@@ -158,7 +158,7 @@ returns-clause-there g c clean ours =
     let bare : has_receipt c.args.conn.now.schema ≡ false =
     receipt_is_there _ c.args.conn.now.schema _ c.has_table-has_receipt.ensures c.as_slice.ensures ∙ got in
     let has = ours.first all bare in
-    let clean_mid : HasCleanDisk (state g.S.Store c.format_rows.new.conn) =
+    let clean_mid : IsFaithful g.S.Store c.format_rows.new.conn =
     omega (arith, c.upgrade.ensures.crash.clean, clean) in
     let same = shown_versions ((state g.S.Store c.args.conn.now).now.trees 0) _ (Int (pos 1))
     (c.in_ok-rows.ensures.rows clean_mid (inl has)) in (
@@ -179,7 +179,7 @@ returns-clause-same g c clean ours never =
     let bare : has_receipt c.args.conn.now.schema ≡ false =
     receipt_is_there _ c.args.conn.now.schema _ c.has_table-has_receipt.ensures c.as_slice.ensures ∙ got in
     let has = ours.first all bare in
-    let clean_mid : HasCleanDisk (state g.S.Store c.format_rows.new.conn) =
+    let clean_mid : IsFaithful g.S.Store c.format_rows.new.conn =
     omega (arith, c.upgrade.ensures.crash.clean, clean) in
     let same = shown_versions ((state g.S.Store c.args.conn.now).now.trees 0) _ (Int (pos 1))
     (c.in_ok-rows.ensures.rows clean_mid (inl has)) in

@@ -1,7 +1,8 @@
 use Rattle.std.proofs.Common.{◌≡◌, ◌∙◌, IsTrue, sym, subst, arith, rules}
 use Rattle.sqlite.specs.Effect.{Database}
-use Rattle.sqlite.specs.State.{HasCleanDisk, Survives}
+use Rattle.sqlite.specs.State.{Survives}
 use Rattle.sqlite.specs.Held.{state}
+use Rattle.treasury_tables.specs.Kept.{IsFaithful}
 use Rattle.treasury_tables.specs.Opening.{IsFirstNumbered}
 use Rattle.treasury_tables.specs.Upgrading.{Upgrades}
 use Rattle.treasury_tables.proofs.InsideLemmas.{crashes}
@@ -14,8 +15,8 @@ returns-clause-made g c clean first =
     let begun = c.transaction-tx.ensures.begun in
     let end = c.commit.new.self.0 in
     let same : end ≡ c.conn-2-1.given.0 = search rules in
-    let late : HasCleanDisk (state g.S.Store end) = search rules in
-    let early : HasCleanDisk (state g.S.Store last) = omega (arith, c.commit.ensures.survives.clean) in
+    let late : IsFaithful g.S.Store end = search rules in
+    let early : IsFaithful g.S.Store last = omega (arith, c.commit.ensures.survives.clean) in
     let made = subst (λ h. IsFirstNumbered (state g.S.Store h).now
     → Upgrades (state g.S.Store h).now (state g.S.Store last).now) begun (c.in_ok-make_second.ensures.makes early)
     first in
@@ -58,6 +59,6 @@ pub returns-clause-opened : goal.returns-clause-opened
 returns-clause-opened g c clean =
     let end = c.commit.new.self.0 in
     let same : end ≡ c.conn-2-1.given.0 = search rules in
-    let late : HasCleanDisk (state g.S.Store end) = search rules in
+    let late : IsFaithful g.S.Store end = search rules in
     let done = (c.in_ok-commit.ensures.ok late).1 in
     subst (λ h. IsTrue (state g.S.Store h).is_open) same done.is_open

@@ -1,8 +1,9 @@
 use Rattle.std.proofs.Common.{◌≡◌, ◌∙◌, sym, subst, arith, rules}
 use Rattle.sqlite.specs.Effect.{Database}
-use Rattle.sqlite.specs.State.{HasCleanDisk, Survives}
+use Rattle.sqlite.specs.State.{Survives}
 use Rattle.sqlite.specs.Held.{state}
 use Rattle.treasury_tables.proofs.InsideLemmas.{crashes}
+use Rattle.treasury_tables.specs.Kept.{IsFaithful}
 use Rattle.treasury_tables.specs.Rows.{Tables, Holds, joined}
 use Rattle.treasury_tables.proofs.write.write_all.Goals as goal
 
@@ -13,8 +14,8 @@ returns-clause-rows g c clean t holds =
     let begun = c.transaction-tx.ensures.begun in
     let end = c.commit.new.self.0 in
     let same : end ≡ c.conn-2-1.given.0 = search rules in
-    let late : HasCleanDisk (state g.S.Store end) = search rules in
-    let early : HasCleanDisk (state g.S.Store last) = omega (arith, c.commit.ensures.survives.clean) in
+    let late : IsFaithful g.S.Store end = search rules in
+    let early : IsFaithful g.S.Store last = omega (arith, c.commit.ensures.survives.clean) in
     let put = c.in_ok-put_all.ensures.rows early t (subst (λ h. Holds (state g.S.Store h).now t) (sym begun) holds) in
     let done = (c.in_ok-commit.ensures.ok late).1 in
     subst (λ h. Holds (state g.S.Store h).now (joined c.args.changes.now t)

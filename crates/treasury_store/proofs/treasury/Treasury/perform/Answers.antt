@@ -1,5 +1,4 @@
 use Rattle.std.proofs.Common.{◌≡◌, false, List, Some, Err, IsSome, rules, ap, ◌∙◌, sym, subst}
-use Rattle.sqlite.specs.State.{HasCleanDisk}
 use Rattle.sqlite.specs.Held.{state}
 use Rattle.money_core.specs.declared.style.Style.{Style}
 use Rattle.book_core.specs.declared.refusal.Refusal.TheVariants.{Plain}
@@ -8,7 +7,7 @@ use Rattle.treasury_state.specs.Rows.{rows}
 use Rattle.treasury_core.specs.Fits.{Fits}
 use Rattle.treasury_core.specs.Step.{step}
 use Rattle.treasury_tables.specs.Rows.{Holds}
-use Rattle.treasury_tables.specs.Kept.{KeepsTables}
+use Rattle.treasury_tables.specs.Kept.{KeepsTables, IsFaithful}
 use Rattle.treasury_store.specs.declared.store.Store.{Store}
 use Rattle.treasury_store.specs.Store.{IsOf}
 use Rattle.treasury_store.specs.Treasury.{Treasury, IsTreasuryOf}
@@ -41,8 +40,8 @@ returns-clause-performs g c clean unfailed f was fits =
     ] in
     let back = sym c.self-2.view_is in
     let clean_there =
-    subst (λ (s : Store _). HasCleanDisk (state g.S.Store s.conn)) here (c.settle.ensures.clean clean) in
-    let of = subst (λ (t : Treasury _). HasCleanDisk (state g.S.Store t.store.conn) → IsTreasuryOf g.S.Store t f) back
+    subst (λ (s : Store _). IsFaithful g.S.Store s.conn) here (c.settle.ensures.clean clean) in
+    let of = subst (λ (t : Treasury _). IsFaithful g.S.Store t.store.conn → IsTreasuryOf g.S.Store t f) back
     (λ k. c.in-Ok.ensures.of k f was) clean_there in
     let still = subst (λ (t : Treasury _). t.store.failed ≡ false) back
     (ok_unfailed c.in-Ok.field-0 _ (c.in-Ok.ensures.answers unfailed)) in
@@ -58,8 +57,8 @@ returns-clause-unfit g c clean unfailed f was unfit =
       | else-not-was_held-via-else-not-was_held w ↦ ap (λ (t : Treasury _). t.store) w.self-is
     ] in
     let clean_there =
-    subst (λ (s : Store _). HasCleanDisk (state g.S.Store s.conn)) here (c.settle.ensures.clean clean) in
-    let of = subst (λ (t : Treasury _). HasCleanDisk (state g.S.Store t.store.conn) → IsTreasuryOf g.S.Store t f)
+    subst (λ (s : Store _). IsFaithful g.S.Store s.conn) here (c.settle.ensures.clean clean) in
+    let of = subst (λ (t : Treasury _). IsFaithful g.S.Store t.store.conn → IsTreasuryOf g.S.Store t f)
     (sym c.self-2.view_is) (λ k. c.in-Ok.ensures.of k f was) clean_there in
     absurd (unfit (fits_of g.S.Store (record { store = c.self-2.inside.store; held = c.self-2.inside.held })
     c.in-Some.now f c.args.command (search rules) of (settle-requires-clause-fits g c.before.before)))
@@ -88,12 +87,12 @@ returns-clause-crash g c =
     let back = sym c.self-2.view_is in
     survives_settle g.S.Store c.args.self.now c.settle.new.self c.args.command
     (record { store = c.self-2.inside.store; held = c.self-2.inside.held }) c.in-Some.now
-    (λ clean. subst (λ (s : Store _). HasCleanDisk (state g.S.Store s.conn)) here (c.settle.ensures.clean clean))
+    (λ clean. subst (λ (s : Store _). IsFaithful g.S.Store s.conn) here (c.settle.ensures.clean clean))
     (subst (λ (t : Treasury _). KeepsTables g.S.Store c.args.self.now.store.conn t.store.conn) back
     c.hold.ensures.crash)
-    (subst (λ (t : Treasury _). HasCleanDisk (state g.S.Store t.store.conn) → (f : Federation)
+    (subst (λ (t : Treasury _). IsFaithful g.S.Store t.store.conn → (f : Federation)
     → IsTreasuryOf g.S.Store c.args.self.now f → IsTreasuryOf g.S.Store t f) back c.in-Ok.ensures.of)
-    (subst (λ (t : Treasury _). HasCleanDisk (state g.S.Store t.store.conn) → (f : Federation)
+    (subst (λ (t : Treasury _). IsFaithful g.S.Store t.store.conn → (f : Federation)
     → IsTreasuryOf g.S.Store c.args.self.now f → Holds (state g.S.Store c.args.self.now.store.conn).now (rows f)
     → Holds (state g.S.Store t.store.conn).now (rows f)) back c.in-Ok.ensures.rows)
     (search rules)
@@ -141,6 +140,6 @@ returns-clause-strange g c clean unfailed unheld none =
       | else-not-was_held-via-then-not-was_held+else-not-fits w ↦ ap (λ (t : Treasury _). t.store) w.self-is
       | else-not-was_held-via-else-not-was_held w ↦ ap (λ (t : Treasury _). t.store) w.self-is
     ] in
-    let at_hold = subst (λ (t : Treasury _). HasCleanDisk (state g.S.Store t.store.conn)) c.self-2.view_is
-    (subst (λ (s : Store _). HasCleanDisk (state g.S.Store s.conn)) here (c.settle.ensures.clean clean)) in
+    let at_hold = subst (λ (t : Treasury _). IsFaithful g.S.Store t.store.conn) c.self-2.view_is
+    (subst (λ (s : Store _). IsFaithful g.S.Store s.conn) here (c.settle.ensures.clean clean)) in
     absurd (c.in-Ok.ensures.shown at_hold unheld none)
