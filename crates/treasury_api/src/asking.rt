@@ -1,8 +1,7 @@
 //! What a request asks, once its texts are read: a command, or a report.
 
-ghost use Rattle.std.specs.Prelude.{◌≡◌, List, Ok, IfOk, option_map};
+ghost use Rattle.std.specs.Prelude.{◌≡◌, Ok, IfOk, option_map};
 ghost use Rattle.std.specs.Result.{IsOkUnless};
-ghost use Rattle.money_core.specs.declared.style.Style.{Style};
 ghost use Rattle.money_core.specs.Sampling.{style_of};
 ghost use Rattle.money_core.specs.Reading.{amount};
 ghost use Rattle.journal_lines.specs.Date.{IsDayNumber};
@@ -31,6 +30,31 @@ pub enum Asked {
 /// Want of memory.
 const NO_MEMORY: Refusal = Refusal::Plain(Cause::OutOfMemory);
 
+/// An equal text.
+fn own(text: &Text) -> Result<Text, Refusal>
+    ensures equal { IfOk result (λ copy. copy ≡ text.now) }
+    ensures memory { IsOkUnless result (Refusal.Plain Cause.OutOfMemory) }
+{
+    match text.copy() {
+        Ok(copy) => Ok(copy),
+        Err(_) => Err(NO_MEMORY),
+    }
+}
+
+/// An equal text, if there is one.
+fn own_if_given(text: &Option<Text>) -> Result<Option<Text>, Refusal>
+    ensures equal { IfOk result (λ copy. copy ≡ text.now) }
+    ensures memory { IsOkUnless result (Refusal.Plain Cause.OutOfMemory) }
+{
+    match text {
+        Some(text) => {
+            let copy = own(text)?;
+            Ok(Some(copy))
+        }
+        None => Ok(None),
+    }
+}
+
 /// Asks for a commodity in the style that the sample spells.
 fn asked_by_sample(alloc: Global, styles: &Styles, sample: &str) -> Result<Asked, Refusal>
     ensures asks { OrMemory (λ asked. asked ≡ asked_by_sample (style_of sample.now)) result }
@@ -43,16 +67,18 @@ fn asked_by_sample(alloc: Global, styles: &Styles, sample: &str) -> Result<Asked
     }
 }
 
-/// Asks to enter the transactions that the journal's text has.
+/// Asks to enter the transactions that the journal's text has. It is read where it stands, since it may be most of what
+/// memory holds.
 fn asked_by_journal(
     alloc: Global,
     styles: &Styles,
-    name: Text,
+    name: &Text,
     journal: &[u8],
 ) -> Result<Asked, Refusal>
-    ensures asks { OrMemory (JournalAsks styles.now name journal.now) result }
+    ensures asks { OrMemory (JournalAsks styles.now name.now journal.now) result }
     ensures ready { IsReady styles.now result }
 {
+    let name = own(name)?;
     match read_journal(alloc, journal, styles) {
         Ok(list) => Ok(Asked::Command(Command::Enter(name, Items::from_vec(list)))),
         Err(fault) => match fault.cause {
@@ -65,22 +91,27 @@ fn asked_by_journal(
 /// Asks for a dispatch of the amount that the text is.
 fn asked_by_amount(
     styles: &Styles,
-    id: Text,
-    from: Text,
-    to: Text,
+    id: &Text,
+    from: &Text,
+    to: &Text,
     day: Day,
     text: &str,
-    account: Text,
+    account: &Text,
 ) -> Result<Asked, Refusal>
     requires { IsDayNumber day }
-    ensures asks { result ≡ asked_by_amount id from to day account (amount styles.now text.now) }
+    ensures asks { OrMemory (λ asked. asked ≡ asked_by_amount id.now from.now to.now day account.now
+        (amount styles.now text.now)) result }
     ensures ready { IsReady styles.now result }
 {
+    let id = own(id)?;
+    let source = own(from)?;
+    let target = own(to)?;
+    let account = own(account)?;
     match read_amount(text, styles) {
         Ok((unit, qty)) => Ok(Asked::Command(Command::Dispatch(Dispatch {
             id,
-            source: from,
-            target: to,
+            source,
+            target,
             day,
             unit,
             qty,
@@ -90,21 +121,22 @@ fn asked_by_amount(
     }
 }
 
-/// Asks for a receipt of a part, of the amount that the text is.
+/// Asks for a receipt of a part, of the amount that its text is.
 fn asked_by_part(
     styles: &Styles,
     id: Text,
     branch: Text,
     day: Day,
     account: Text,
-    key: Text,
-    text: &str,
+    part: &WrittenPart,
 ) -> Result<Asked, Refusal>
     requires { IsDayNumber day }
-    ensures asks { result ≡ asked_by_part id branch day account key (amount styles.now text.now) }
+    ensures asks { OrMemory (λ asked. asked ≡ asked_by_part id branch day account part.now.key
+        (amount styles.now part.now.amount)) result }
     ensures ready { IsReady styles.now result }
 {
-    match read_amount(text, styles) {
+    let key = own(&part.key)?;
+    match read_amount(part.amount.as_str(), styles) {
         Ok((unit, qty)) => Ok(Asked::Command(Command::Receive(Receive {
             id,
             branch,
@@ -119,20 +151,22 @@ fn asked_by_part(
 /// Asks for a receipt of all that is left, or of a part.
 fn asked_by_receipt(
     styles: &Styles,
-    id: Text,
-    branch: Text,
+    id: &Text,
+    branch: &Text,
     day: Day,
-    account: Text,
-    part: Option<WrittenPart>,
+    account: &Text,
+    part: &Option<WrittenPart>,
 ) -> Result<Asked, Refusal>
     requires { IsDayNumber day }
-    ensures asks { result ≡ asked_by_receipt styles.now id branch day account part }
+    ensures asks { OrMemory (λ asked. asked ≡ asked_by_receipt styles.now id.now branch.now day account.now part.now)
+        result }
     ensures ready { IsReady styles.now result }
 {
+    let id = own(id)?;
+    let branch = own(branch)?;
+    let account = own(account)?;
     match part {
-        Some(WrittenPart { key, amount }) => {
-            asked_by_part(styles, id, branch, day, account, key, amount.as_str())
-        }
+        Some(part) => asked_by_part(styles, id, branch, day, account, part),
         None => Ok(Asked::Command(Command::Receive(Receive {
             id,
             branch,
@@ -161,8 +195,8 @@ fn cut_list(alloc: Global, text: &str) -> Result<Items<Text>, Cause>
 }
 
 /// A list that is given, cut at each `;`.
-fn cut_if_given(alloc: Global, text: Option<Text>) -> Result<Option<Items<Text>>, Cause>
-    ensures value { IfOk result (λ names. names ≡ option_map cut_list text) }
+fn cut_if_given(alloc: Global, text: &Option<Text>) -> Result<Option<Items<Text>>, Cause>
+    ensures value { IfOk result (λ names. names ≡ option_map cut_list text.now) }
     ensures memory { IsOkUnless result Cause.OutOfMemory }
 {
     match text {
@@ -174,38 +208,30 @@ fn cut_if_given(alloc: Global, text: Option<Text>) -> Result<Option<Items<Text>>
     }
 }
 
-/// Asks for a closing of the accounts that are listed, into that one, each where it is given.
-fn asked_by_choice(
-    alloc: Global,
-    branch: Text,
-    day: Day,
-    accounts: Option<Text>,
-    into: Option<Text>,
-) -> Result<Asked, Refusal>
-    requires { IsDayNumber day }
-    ensures asks { OrMemory (λ asked. asked ≡ Ok (Asked.Command (Command.Close
-        (record { branch = branch; day = day; choice = record { accounts = option_map cut_list accounts; into = into } }
-        )))) result }
-    ensures ready { (styles : List Style) → IsReady styles result }
+/// What a closing is of: the accounts that are listed, and the one that it goes into, each where it is given.
+fn choice_of(alloc: Global, accounts: &Option<Text>, into: &Option<Text>) -> Result<Choice, Refusal>
+    ensures value { IfOk result
+        (λ choice. choice ≡ record { accounts = option_map cut_list accounts.now; into = into.now }) }
+    ensures memory { IsOkUnless result (Refusal.Plain Cause.OutOfMemory) }
 {
+    let into = own_if_given(into)?;
     match cut_if_given(alloc, accounts) {
-        Ok(accounts) => Ok(Asked::Command(Command::Close(Close {
-            branch,
-            day,
-            choice: Choice { accounts, into },
-        }))),
+        Ok(accounts) => Ok(Choice { accounts, into }),
         Err(_) => Err(NO_MEMORY),
     }
 }
 
-/// What the request asks, or the first fault of its texts; 40 for want of memory.
-fn asked_by_request(alloc: Global, styles: &Styles, request: Request) -> Result<Asked, Refusal>
-    requires { HasDayNumbers request }
-    ensures asks { OrMemory (RequestAsks styles.now request) result }
+/// What the request asks, if it is no dry run; or the first fault of its texts; 40 for want of memory.
+fn asked_by_request(alloc: Global, styles: &Styles, request: &Request) -> Result<Asked, Refusal>
+    requires { HasDayNumbers request.now }
+    ensures asks { OrMemory (RequestAsks styles.now request.now) result }
     ensures ready { IsReady styles.now result }
 {
     match request {
-        Request::Branch { name } => Ok(Asked::Command(Command::Branch(name))),
+        Request::Branch { name } => {
+            let name = own(name)?;
+            Ok(Asked::Command(Command::Branch(name)))
+        }
         Request::Commodity { sample } => asked_by_sample(alloc, styles, sample.as_str()),
         Request::Import { branch, journal } => {
             asked_by_journal(alloc, styles, branch, journal.as_bytes())
@@ -217,56 +243,63 @@ fn asked_by_request(alloc: Global, styles: &Styles, request: Request) -> Result<
             day,
             amount,
             account,
-        } => asked_by_amount(styles, id, from, to, day, amount.as_str(), account),
+        } => asked_by_amount(styles, id, from, to, *day, amount.as_str(), account),
         Request::Receive {
             id,
             branch,
             day,
             account,
             part,
-        } => asked_by_receipt(styles, id, branch, day, account, part),
-        Request::Lock { branch, day } => Ok(Asked::Command(Command::Lock(branch, day))),
+        } => asked_by_receipt(styles, id, branch, *day, account, part),
+        Request::Lock { branch, day } => {
+            let branch = own(branch)?;
+            Ok(Asked::Command(Command::Lock(branch, *day)))
+        }
         Request::Close {
             branch,
             day,
             accounts,
             into,
-        } => asked_by_choice(alloc, branch, day, accounts, into),
-        Request::Balance { branch, day } => Ok(Asked::Report(Report::Balance { branch, day })),
+        } => {
+            let branch = own(branch)?;
+            let choice = choice_of(alloc, accounts, into)?;
+            let close = Close {
+                branch,
+                day: *day,
+                choice,
+            };
+            Ok(Asked::Command(Command::Close(close)))
+        }
+        Request::Balance { branch, day } => {
+            let branch = own(branch)?;
+            Ok(Asked::Report(Report::Balance { branch, day: *day }))
+        }
         Request::Register {
             branch,
             account,
             tag,
-        } => Ok(Asked::Report(Report::Register {
-            branch,
-            account,
-            tag,
-        })),
-        Request::Transit { day } => Ok(Asked::Report(Report::Transit { day })),
-        Request::Journal { branch } => Ok(Asked::Report(Report::Journal { branch })),
+        } => {
+            let branch = own(branch)?;
+            let account = own(account)?;
+            let tag = own_if_given(tag)?;
+            Ok(Asked::Report(Report::Register {
+                branch,
+                account,
+                tag,
+            }))
+        }
+        Request::Transit { day } => Ok(Asked::Report(Report::Transit { day: *day })),
+        Request::Journal { branch } => {
+            let branch = own(branch)?;
+            Ok(Asked::Report(Report::Journal { branch }))
+        }
         Request::Branches => Ok(Asked::Report(Report::Branches)),
         Request::Commodities => Ok(Asked::Report(Report::Commodities)),
-        Request::Accounts { branch } => Ok(Asked::Report(Report::Accounts { branch })),
-        Request::Transfers { day } => Ok(Asked::Report(Report::Transfers { day })),
-    }
-}
-
-/// What the request asks, if it is no dry run; it is read where it stands.
-fn meant_by(alloc: Global, styles: &Styles, request: &Request) -> Result<Asked, Refusal>
-    requires { HasDayNumbers request.now }
-    ensures asks { OrMemory (RequestAsks styles.now request.now) result }
-    ensures ready { IsReady styles.now result }
-{
-    match request {
-        // A journal is read where it stands, since its text may be most of what memory holds.
-        Request::Import { branch, journal } => match branch.copy() {
-            Ok(branch) => asked_by_journal(alloc, styles, branch, journal.as_bytes()),
-            Err(_) => Err(NO_MEMORY),
-        },
-        _ => match request.copy() {
-            Ok(request) => asked_by_request(alloc, styles, request),
-            Err(_) => Err(NO_MEMORY),
-        },
+        Request::Accounts { branch } => {
+            let branch = own(branch)?;
+            Ok(Asked::Report(Report::Accounts { branch }))
+        }
+        Request::Transfers { day } => Ok(Asked::Report(Report::Transfers { day: *day })),
     }
 }
 
@@ -291,7 +324,7 @@ pub fn asked_by(alloc: Global, styles: &Styles, request: &Spelled) -> Result<Ask
     ensures asks { OrMemory (SpelledAsks styles.now request.now) result }
     ensures ready { IsReady styles.now result }
 {
-    match meant_by(alloc, styles, &request.request) {
+    match asked_by_request(alloc, styles, &request.request) {
         Ok(asked) => Ok(or_dry_run(request.is_dry_run, asked)),
         Err(refusal) => Err(refusal),
     }

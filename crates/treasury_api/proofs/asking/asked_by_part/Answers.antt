@@ -8,5 +8,5 @@ returns-in-Ok-clause-ready c =
     let same = to_z-of_z w64 c.in-Ok.qty (search rules) in
     rw same (record {
       day = c.requires;
-      part = amounts_bound c.args.styles.now c.args.text.now c.in-Ok.unit c.in-Ok.qty (sym c.in-Ok.ensures.answer);
+      part = amounts_bound c.args.styles.now c.as_str.result.now c.in-Ok.unit c.in-Ok.qty (sym c.in-Ok.ensures.answer);
     })
