@@ -15,7 +15,7 @@ use Rattle.treasury_tables.specs.Kept.{IsFaithful}
 use Rattle.treasury_tables.specs.Rows.{Tables, HoldsFirst, AreTreesOf, AreFirstTreesOf}
 use Rattle.treasury_store.specs.declared.store.Store.{Store}
 use Rattle.treasury_store.specs.Store.{TablesAre, IsOf, Joins}
-use Rattle.treasury_store.specs.Treasury.{Treasury, IsTreasuryOf}
+use Rattle.treasury_store.specs.Treasury.{Treasury, IsTreasuryOf, SurvivesCommand}
 
 -- whatever is left are these rows
 abbrev pub LeavesRows : {S : Type 0} → Ghosts S → Held S → Tables → Type 0
@@ -57,3 +57,9 @@ abbrev pub LeavesStep : {S : Type 0} → Ghosts S → Treasury S → Treasury S 
 LeavesStep g old new c =
     IsTrue (state g old.store.conn).is_open → (f : Federation) → IsTreasuryOf g old f → Fits f.styles c
     → LeavesEither g new.store.conn (rows f) (rows (step f c).next)
+
+-- What a command leaves: at a crash, what could be left before, or the rows of the state after the command; and behind
+-- it, also where 41 shuts the connection, the rows of the state before it or after it.
+pub record LeavesCommand {S : Type 0} (g : Ghosts S) (old new : Treasury S) (c : Command) : Type 0 where
+  pub crash : SurvivesCommand g old new c
+  pub left : LeavesStep g old new c

@@ -1,13 +1,13 @@
 -- What a treasury is of, and what a command makes of it.
 use Rattle.std.specs.Prelude.{◌≡◌, ◌⊎◌, ◌↔◌, Bool, true, false, if◌then◌else◌, List, [], ◌∷◌, Option, Result, Err}
-use Rattle.std.specs.Prelude.{IfSome, IsTrue}
+use Rattle.std.specs.Prelude.{IfSome, IfErr, OnOk, IsTrue}
 use Rattle.money_core.specs.declared.cause.Cause.TheVariants.{Damaged, OutOfMemory, Store as Failed, Closed, Request}
 use Rattle.money_core.specs.declared.cause.Cause.TheVariants.{ReadFault, WriteFault}
 use Rattle.book_core.specs.declared.refusal.Refusal.{Refusal}
 use Rattle.book_core.specs.declared.refusal.Refusal.TheVariants.{Plain}
 use Rattle.sqlite.specs.Store.{Ghosts}
 use Rattle.sqlite.specs.State.{Survives}
-use Rattle.sqlite.specs.Held.{state}
+use Rattle.sqlite.specs.Held.{Held, state}
 use Rattle.treasury_state.specs.Federation.{Federation}
 use Rattle.treasury_state.specs.Rows.{rows}
 use Rattle.treasury_core.specs.declared.command.Answer.{Answer}
@@ -16,6 +16,7 @@ use Rattle.treasury_core.specs.Step.{reply, after, delta, step}
 use Rattle.treasury_core.specs.Fits.{Fits}
 use Rattle.treasury_core.specs.Run.{Turn, Replies}
 use Rattle.treasury_tables.specs.Rows.{Holds, AreTreesOf}
+use Rattle.treasury_tables.specs.Kept.{ShutsByFault, IsFaithful}
 use Rattle.treasury_store.specs.declared.store.Store.{Store}
 use Rattle.treasury_store.specs.Store.{IsOf}
 
@@ -28,6 +29,12 @@ pub record Treasury (S : Type 0) : Type 0 where
 pub record IsTreasuryOf {S : Type 0} (g : Ghosts S) (t : Treasury S) (f : Federation) : Type 0 where
   pub store : IsOf g t.store f
   pub held : IfSome t.held (λ s. s ≡ f)
+
+-- said of whichever state the treasury was of before a call, as long as the disk returned what was written and no call
+-- had failed before
+abbrev pub WhileOf : {S : Type 0} → Ghosts S → Treasury S → Treasury S → (Federation → Type 0) → Type 0
+WhileOf g old new Says =
+    IsFaithful g new.store.conn → old.store.failed ≡ false → (f : Federation) → IsTreasuryOf g old f → Says f
 
 -- the reply is the step's, or 40 or 41
 abbrev pub MayReply : Federation → Command → Result Answer Refusal → Type 0
@@ -42,6 +49,13 @@ pub record Performs {S : Type 0} (g : Ghosts S) (new : Treasury S) (f : Federati
     (r : Result Answer Refusal) : Type 0 where
   pub replies : MayReply f c r
   pub next : IsTreasuryOf g new (after f c r)
+
+-- A command on a treasury of a state: if it fits that state, it is a turn of a run; if not, it is refused, and the
+-- treasury is still of that state.
+pub record PerformsIfFits {S : Type 0} (g : Ghosts S) (new : Treasury S) (f : Federation) (c : Command)
+    (r : Result Answer Refusal) : Type 0 where
+  pub performs : Fits f.styles c → Performs g new f c r
+  pub unfit : (Fits f.styles c → ⊥) → IsUnfit r × IsTreasuryOf g new f
 
 -- 41: a call of the database has failed, and the tables are as before
 abbrev pub is_failure : Result Answer Refusal → Bool
@@ -82,3 +96,18 @@ is_by_rules _ = true
 -- why a command is refused on a treasury on which no call has failed: by the rules or want of memory, by 41, or by 43
 abbrev pub IsListed : Refusal → Type 0
 IsListed e = IsTrue (is_by_rules e) ⊎ ((e ≡ Plain Failed) ⊎ (e ≡ Plain Damaged))
+
+-- What is said of a reply whatever the disk returned, and whatever the tables are: a call has failed just where it is
+-- 41; a refusal is one of those that are listed; and while memory holds a state, the reply is by that state.
+pub record RepliesInAnyCase {S : Type 0} (old new : Treasury S) (c : Command) (r : Result Answer Refusal) : Type 0 where
+  pub fails : FailsBy r new.store.failed
+  pub listed : IfErr r IsListed
+  pub held : IfSome old.held (λ s. MayReply s c r)
+
+-- What a command does to a connection: one that was open is open behind an answer, and behind each refusal but 41; no
+-- fault of the disk is forgotten, and only a fault shuts it.
+pub record KeepsConnection {S : Type 0} (g : Ghosts S) (old new : Held S) (r : Result Answer Refusal) : Type 0 where
+  pub still_open : IsFaithful g new → IsTrue (state g old).is_open → OnOk r (IsTrue (state g new).is_open)
+  pub kept : IsFaithful g new → IsTrue (state g old).is_open
+      → IsTrue (state g new).is_open ⊎ (r ≡ Err (Plain Failed))
+  pub shuts : ShutsByFault g old new

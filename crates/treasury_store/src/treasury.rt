@@ -15,12 +15,12 @@ ghost use Rattle.treasury_core.specs.Run.{Replies, state_after};
 ghost use Rattle.treasury_laws.specs.Headline.{KeepsBooks};
 ghost use Rattle.treasury_tables.specs.Tables.{store_schema};
 ghost use Rattle.treasury_tables.specs.Rows.{Holds, AreTreesOf, Tables, ShowsTables};
-ghost use Rattle.treasury_tables.specs.Kept.{KeepsTables, ShutsByFault, StaysAsIs, IsFaithful};
+ghost use Rattle.treasury_tables.specs.Kept.{KeepsTables, StaysAsIs, IsFaithful};
 ghost use Rattle.treasury_store.specs.Shown.{ShowsNoState};
 ghost use Rattle.treasury_store.specs.Store.{TablesAre, Knows, IsOf, Joins, Answers, AnswersState, FailsAs};
-ghost use Rattle.treasury_store.specs.Treasury.{IsTreasuryOf, MayReply, Performs, turn_if, SurvivesCommand, IsUnfit};
-ghost use Rattle.treasury_store.specs.Treasury.{AddsNothing, FailsBy, IsListed};
-ghost use Rattle.treasury_store.specs.Left.{LeavesSame, LeavesStep};
+ghost use Rattle.treasury_store.specs.Treasury.{WhileOf, IsTreasuryOf, MayReply, Performs, PerformsIfFits, turn_if};
+ghost use Rattle.treasury_store.specs.Treasury.{AddsNothing, FailsBy, RepliesInAnyCase, KeepsConnection, IsUnfit};
+ghost use Rattle.treasury_store.specs.Left.{LeavesSame, LeavesCommand};
 
 use crate::store::Store;
 use book_core::{DayLedger, Refusal};
@@ -257,43 +257,21 @@ impl<S: Alter> Treasury<S> {
     /// up, and the next call loads it.
     pub fn perform(&mut self, command: Command) -> Result<Answer, Refusal>
         requires { IfSome self.old.held (λ s. Fits s.styles command) }
-        // Of whichever state the treasury is: a turn of a run.
-        ensures performs { IsFaithful S.Store self.new.store.conn → self.old.store.failed ≡ false
-            → (f : Federation) → IsTreasuryOf S.Store self.old f → Fits f.styles command
-            → Performs S.Store self.new f command result }
-        // A command that does not fit the state of the tables is refused, and the treasury is of that state.
-        ensures unfit { IsFaithful S.Store self.new.store.conn → self.old.store.failed ≡ false
-            → (f : Federation) → IsTreasuryOf S.Store self.old f → (Fits f.styles command → ⊥)
-            → IsUnfit result × IsTreasuryOf S.Store self.new f }
+        // Of whichever state the treasury is: a turn of a run, if the command fits that state.
+        ensures of { WhileOf S.Store self.old self.new (λ f. PerformsIfFits S.Store self.new f command result) }
         // The headline, of this one command; one that is answered 41 is none.
-        ensures headline { IsFaithful S.Store self.new.store.conn → self.old.store.failed ≡ false
-            → (f : Federation) → IsTreasuryOf S.Store self.old f → Fits f.styles command
+        ensures headline { WhileOf S.Store self.old self.new (λ f. Fits f.styles command
             → KeepsBooks f (turn_if command result)
-            × IsTreasuryOf S.Store self.new (state_after f (turn_if command result)) }
+            × IsTreasuryOf S.Store self.new (state_after f (turn_if command result))) }
         // A command that adds nothing to the state in memory is answered as the step says, or 40, and nothing changes.
         ensures nothing { self.old.store.failed ≡ false
             → IfSome self.old.held (λ s. AddsNothing s command → Replies s command result × (self.new ≡ self.old)) }
-        ensures fails { self.old.store.failed ≡ false → FailsBy result self.new.store.failed }
         // Whatever the disk returned, and whatever the tables are.
-        ensures listed { self.old.store.failed ≡ false → IfErr result IsListed }
+        ensures replies { self.old.store.failed ≡ false → RepliesInAnyCase self.old self.new command result }
         ensures closed { IsTrue self.old.store.failed
             → (result ≡ Err (Refusal.Plain Cause.Closed)) × (self.new ≡ self.old) }
-        // Whatever the disk returned, a command is answered by the state in memory.
-        ensures replies { self.old.store.failed ≡ false → IfSome self.old.held (λ s. MayReply s command result) }
-        ensures still_open { IsFaithful S.Store self.new.store.conn
-            → IsTrue (state S.Store self.old.store.conn).is_open
-            → OnOk result (IsTrue (state S.Store self.new.store.conn).is_open) }
-        // A connection that was open is open behind each answer but 41.
-        ensures kept { IsFaithful S.Store self.new.store.conn
-            → IsTrue (state S.Store self.old.store.conn).is_open
-            → IsTrue (state S.Store self.new.store.conn).is_open ⊎ (result ≡ Err (Refusal.Plain Cause.Store)) }
-        ensures clean { IsFaithful S.Store self.new.store.conn
-            → IsFaithful S.Store self.old.store.conn }
-        ensures crash { SurvivesCommand S.Store self.old self.new command }
-        // Whatever is left, also behind 41 where the connection is shut: the rows of the state before the command or
-        // after it.
-        ensures left { LeavesStep S.Store self.old self.new command }
-        ensures shuts { ShutsByFault S.Store self.old.store.conn self.new.store.conn }
+        ensures connection { KeepsConnection S.Store self.old.store.conn self.new.store.conn result }
+        ensures leaves { LeavesCommand S.Store self.old self.new command }
         // On tables that are no good state's: 43, or 40 or 41, and nothing is written.
         ensures strange { IsFaithful S.Store self.new.store.conn → self.old.store.failed ≡ false
             → self.old.held ≡ None → ShowsNoState (state S.Store self.old.store.conn).now

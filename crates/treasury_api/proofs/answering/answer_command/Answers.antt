@@ -8,18 +8,18 @@ use Rattle.treasury_api.proofs.answering.answer_command.Goals as goal
 pub returns-in-Err-perform-clause-replies : goal.returns-in-Err-perform-clause-replies
 returns-in-Err-perform-clause-replies g c clean f of form =
     performed g.S.Store c.perform.new.self f c.args.command c.perform.result _ c.args.out.now.items _
-    (c.perform.ensures.performs clean c.requires.unfailed f
-    of (fits_of g.S.Store c.args.treasury.now f c.args.command of c.requires.held))
-    (c.perform.ensures.fails c.requires.unfailed) (c.in-Err-perform.is, c.reserve.ensures.items)
+    ((c.perform.ensures.of clean c.requires.unfailed f of).performs
+    (fits_of g.S.Store c.args.treasury.now f c.args.command of c.requires.held))
+    (c.perform.ensures.replies c.requires.unfailed).fails (c.in-Err-perform.is, c.reserve.ensures.items)
 
 pub returns-in-Err-perform-clause-printable : goal.returns-in-Err-perform-clause-printable
 returns-in-Err-perform-clause-printable g c =
     refusal_held c.args.treasury.now c.perform.new.self c.args.command c.perform.result c.in-Err-perform.refusal
     c.in-Err-perform.is c.requires.held
-    (c.perform.ensures.replies c.requires.unfailed) (c.perform.ensures.nothing c.requires.unfailed)
+    (c.perform.ensures.replies c.requires.unfailed).held (c.perform.ensures.nothing c.requires.unfailed)
 
 pub returns-in-Err-perform-clause-clean : goal.returns-in-Err-perform-clause-clean
-returns-in-Err-perform-clause-clean g c = c.perform.ensures.clean
+returns-in-Err-perform-clause-clean g c = c.perform.ensures.connection.shuts.clean
 
 pub unreachable-requires : goal.unreachable-requires
 unreachable-requires g c =
@@ -28,12 +28,12 @@ unreachable-requires g c =
 pub returns-clause-replies : goal.returns-clause-replies
 returns-clause-replies g c clean f of form =
     performed g.S.Store c.perform.new.self f c.args.command c.perform.result _ c.args.out.now.items _
-    (c.perform.ensures.performs clean c.requires.unfailed f
-    of (fits_of g.S.Store c.args.treasury.now f c.args.command of c.requires.held))
-    (c.perform.ensures.fails c.requires.unfailed) (c.in-Ok-perform.answer, (c.in-Ok-perform.is, search rules))
+    ((c.perform.ensures.of clean c.requires.unfailed f of).performs
+    (fits_of g.S.Store c.args.treasury.now f c.args.command of c.requires.held))
+    (c.perform.ensures.replies c.requires.unfailed).fails (c.in-Ok-perform.answer, (c.in-Ok-perform.is, search rules))
 
 pub returns-clause-clean : goal.returns-clause-clean
-returns-clause-clean g c = c.perform.ensures.clean
+returns-clause-clean g c = c.perform.ensures.connection.shuts.clean
 
 -- ---- where there is no room for the answer
 
@@ -51,33 +51,34 @@ returns-in-Err-clause-left g c is_open f of fits =
 -- ---- where it is refused
 
 pub returns-in-Err-perform-clause-listed : goal.returns-in-Err-perform-clause-listed
-returns-in-Err-perform-clause-listed g c = c.in-Err-perform.ensures.listed c.requires.unfailed
+returns-in-Err-perform-clause-listed g c = (c.in-Err-perform.ensures.replies c.requires.unfailed).listed
 
 pub returns-in-Err-perform-clause-fails : goal.returns-in-Err-perform-clause-fails
 returns-in-Err-perform-clause-fails g c =
-    fails_refused c.in-Err-perform.refusal _ (c.in-Err-perform.ensures.fails c.requires.unfailed)
+    fails_refused c.in-Err-perform.refusal _ (c.in-Err-perform.ensures.replies c.requires.unfailed).fails
 
 pub returns-in-Err-perform-clause-open_but : goal.returns-in-Err-perform-clause-open_but
 returns-in-Err-perform-clause-open_but g c clean is_open =
     open_refused g.S.Store c.perform.new.self.store.conn c.in-Err-perform.refusal
-    (c.in-Err-perform.ensures.kept clean is_open)
+    (c.in-Err-perform.ensures.connection.kept clean is_open)
 
 pub returns-in-Err-perform-clause-shuts : goal.returns-in-Err-perform-clause-shuts
-returns-in-Err-perform-clause-shuts g c = c.perform.ensures.shuts
+returns-in-Err-perform-clause-shuts g c = c.perform.ensures.connection.shuts
 
 pub returns-in-Err-perform-clause-left : goal.returns-in-Err-perform-clause-left
-returns-in-Err-perform-clause-left g c = c.perform.ensures.left
+returns-in-Err-perform-clause-left g c = c.perform.ensures.leaves.left
 
 -- ---- where it is done
 
 pub returns-clause-fails : goal.returns-clause-fails
-returns-clause-fails g c = fails_done c.in-Ok-perform.answer _ _ (c.in-Ok-perform.ensures.fails c.requires.unfailed)
+returns-clause-fails g c =
+    fails_done c.in-Ok-perform.answer _ _ (c.in-Ok-perform.ensures.replies c.requires.unfailed).fails
 
 pub returns-clause-open_but : goal.returns-clause-open_but
-returns-clause-open_but g c clean is_open = inl (c.in-Ok-perform.ensures.still_open clean is_open)
+returns-clause-open_but g c clean is_open = inl (c.in-Ok-perform.ensures.connection.still_open clean is_open)
 
 pub returns-clause-shuts : goal.returns-clause-shuts
-returns-clause-shuts g c = c.perform.ensures.shuts
+returns-clause-shuts g c = c.perform.ensures.connection.shuts
 
 pub returns-clause-left : goal.returns-clause-left
-returns-clause-left g c = c.perform.ensures.left
+returns-clause-left g c = c.perform.ensures.leaves.left

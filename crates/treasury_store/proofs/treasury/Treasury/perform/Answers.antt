@@ -10,7 +10,7 @@ use Rattle.treasury_tables.specs.Rows.{Holds}
 use Rattle.treasury_tables.specs.Kept.{KeepsTables, IsFaithful}
 use Rattle.treasury_store.specs.declared.store.Store.{Store}
 use Rattle.treasury_store.specs.Store.{IsOf}
-use Rattle.treasury_store.specs.Treasury.{Treasury, IsTreasuryOf}
+use Rattle.treasury_store.specs.Treasury.{Treasury, IsTreasuryOf, SurvivesCommand}
 use Rattle.treasury_store.proofs.TreasuryLemmas.{fits_held, fits_of, performs_held, ok_unfailed, performs_unheld}
 use Rattle.treasury_store.proofs.TreasuryLemmas.{headline_of, SurvivesChange, survives_load, survives_settle}
 use Rattle.treasury_store.proofs.TreasuryLemmas.{unfit_unheld}
@@ -32,59 +32,65 @@ settle-requires-clause-fits g c = elim c.else-not-was_held.branch [
       (sym (ap (λ (t : Treasury _). t.held) kept) ∙ (sym (ap (λ (t : Treasury _). t.held) c.self-2.view_is) ∙ inside))
 ]
 
-pub returns-clause-performs : goal.returns-clause-performs
-returns-clause-performs g c clean unfailed f was fits =
+pub returns-clause-of : goal.returns-clause-of
+returns-clause-of g c clean unfailed f was =
     let here : c.else-not-was_held.self.store ≡ c.self-2.inside.store = elim c.else-not-was_held.branch [
       | else-not-was_held-via-then-not-was_held+else-not-fits w ↦ ap (λ (t : Treasury _). t.store) w.self-is
       | else-not-was_held-via-else-not-was_held w ↦ ap (λ (t : Treasury _). t.store) w.self-is
     ] in
     let back = sym c.self-2.view_is in
+    let inside : Treasury _ = record { store = c.self-2.inside.store; held = c.self-2.inside.held } in
     let clean_there =
     subst (λ (s : Store _). IsFaithful g.S.Store s.conn) here (c.settle.ensures.clean clean) in
     let of = subst (λ (t : Treasury _). IsFaithful g.S.Store t.store.conn → IsTreasuryOf g.S.Store t f) back
     (λ k. c.in-Ok.ensures.of k f was) clean_there in
     let still = subst (λ (t : Treasury _). t.store.failed ≡ false) back
     (ok_unfailed c.in-Ok.field-0 _ (c.in-Ok.ensures.answers unfailed)) in
-    performs_held g.S.Store (record { store = c.self-2.inside.store; held = c.self-2.inside.held }) c.settle.new.self
-    c.in-Some.now f c.args.command c.settle.result (search rules) of
-    (λ store. c.settle.ensures.performs (subst (λ (s : Store _). IsOf g.S.Store s c.in-Some.now) (sym here) store)
-    (ap (λ (s : Store _). s.failed) here ∙ still))
-
-pub returns-clause-unfit : goal.returns-clause-unfit
-returns-clause-unfit g c clean unfailed f was unfit =
-    let here : c.else-not-was_held.self.store ≡ c.self-2.inside.store = elim c.else-not-was_held.branch [
-      | else-not-was_held-via-then-not-was_held+else-not-fits w ↦ ap (λ (t : Treasury _). t.store) w.self-is
-      | else-not-was_held-via-else-not-was_held w ↦ ap (λ (t : Treasury _). t.store) w.self-is
-    ] in
-    let clean_there =
-    subst (λ (s : Store _). IsFaithful g.S.Store s.conn) here (c.settle.ensures.clean clean) in
-    let of = subst (λ (t : Treasury _). IsFaithful g.S.Store t.store.conn → IsTreasuryOf g.S.Store t f)
-    (sym c.self-2.view_is) (λ k. c.in-Ok.ensures.of k f was) clean_there in
-    absurd (unfit (fits_of g.S.Store (record { store = c.self-2.inside.store; held = c.self-2.inside.held })
-    c.in-Some.now f c.args.command (search rules) of (settle-requires-clause-fits g c.before.before)))
+    record {
+      performs = λ fits. performs_held g.S.Store inside c.settle.new.self c.in-Some.now f c.args.command c.settle.result
+          (search rules) of
+          (λ store. c.settle.ensures.performs (subst (λ (s : Store _). IsOf g.S.Store s c.in-Some.now) (sym here) store)
+          (ap (λ (s : Store _). s.failed) here ∙ still));
+      unfit = λ unfit. absurd (unfit (fits_of g.S.Store inside c.in-Some.now f c.args.command (search rules) of
+          (settle-requires-clause-fits g c.before.before)));
+    }
 
 pub returns-clause-headline : goal.returns-clause-headline
 returns-clause-headline g c clean unfailed f was fits =
     headline_of g.S.Store c.settle.new.self f c.args.command c.settle.result was.store.good fits
-    (returns-clause-performs g c clean unfailed f was fits)
+    ((returns-clause-of g c clean unfailed f was).performs fits)
+
+pub returns-in-Err-clause-of : goal.returns-in-Err-clause-of
+returns-in-Err-clause-of g c clean unfailed f was =
+    let next = c.in-Err.ensures.of clean f was in
+    record {
+      performs = λ fits. performs_unheld g.S.Store c.hold.new.self f c.args.command c.in-Err.cause _
+          (c.in-Err.ensures.answers unfailed) (λ damaged. c.in-Err.ensures.damaged damaged clean f was) next;
+      unfit = λ unfit. (unfit_unheld c.in-Err.cause _ (c.in-Err.ensures.answers unfailed), next);
+    }
 
 pub returns-in-Err-clause-headline : goal.returns-in-Err-clause-headline
 returns-in-Err-clause-headline g c clean unfailed f was fits =
     headline_of g.S.Store c.hold.new.self f c.args.command (Err (Plain c.in-Err.cause)) was.store.good fits
-    (performs_unheld g.S.Store c.hold.new.self f c.args.command c.in-Err.cause _ (c.in-Err.ensures.answers unfailed)
-    (λ damaged. c.in-Err.ensures.damaged damaged clean f was) (c.in-Err.ensures.of clean f was))
+    ((returns-in-Err-clause-of g c clean unfailed f was).performs fits)
 
-pub returns-in-Err-clause-crash : goal.returns-in-Err-clause-crash
-returns-in-Err-clause-crash g c =
-    survives_load g.S.Store c.args.self.now c.hold.new.self c.args.command c.hold.ensures.crash
+pub returns-in-Err-clause-leaves : goal.returns-in-Err-clause-leaves
+returns-in-Err-clause-leaves g c =
+    let crash : SurvivesCommand g.S.Store c.args.self.now c.hold.new.self c.args.command =
+    survives_load g.S.Store c.args.self.now c.hold.new.self c.args.command c.hold.ensures.crash in
+    record {
+      crash = crash;
+      left = leaves_step g.S.Store g.met.S.Store.settled c.args.self.now c.hold.new.self c.args.command crash;
+    }
 
-pub returns-clause-crash : goal.returns-clause-crash
-returns-clause-crash g c =
+pub returns-clause-leaves : goal.returns-clause-leaves
+returns-clause-leaves g c =
     let here : c.else-not-was_held.self.store ≡ c.self-2.inside.store = elim c.else-not-was_held.branch [
       | else-not-was_held-via-then-not-was_held+else-not-fits w ↦ ap (λ (t : Treasury _). t.store) w.self-is
       | else-not-was_held-via-else-not-was_held w ↦ ap (λ (t : Treasury _). t.store) w.self-is
     ] in
     let back = sym c.self-2.view_is in
+    let crash : SurvivesCommand g.S.Store c.args.self.now c.settle.new.self c.args.command =
     survives_settle g.S.Store c.args.self.now c.settle.new.self c.args.command
     (record { store = c.self-2.inside.store; held = c.self-2.inside.held }) c.in-Some.now
     (λ clean. subst (λ (s : Store _). IsFaithful g.S.Store s.conn) here (c.settle.ensures.clean clean))
@@ -97,38 +103,11 @@ returns-clause-crash g c =
     → Holds (state g.S.Store t.store.conn).now (rows f)) back c.in-Ok.ensures.rows)
     (search rules)
     (subst (λ (s : Store _). SurvivesChange g.S.Store s c.settle.new.self.store.conn c.in-Some.now
-    (step c.in-Some.now c.args.command).next) here c.settle.ensures.crash)
-
-pub returns-in-Err-clause-left : goal.returns-in-Err-clause-left
-returns-in-Err-clause-left g c =
-    leaves_step g.S.Store g.met.S.Store.settled c.args.self.now c.hold.new.self c.args.command
-    (returns-in-Err-clause-crash g c)
-
-pub returns-clause-left : goal.returns-clause-left
-returns-clause-left g c = leaves_step g.S.Store g.met.S.Store.settled c.args.self.now c.settle.new.self c.args.command
-    (returns-clause-crash g c)
-
-pub returns-in-Err-clause-shuts : goal.returns-in-Err-clause-shuts
-returns-in-Err-clause-shuts g c =
-    shuts_by g.S.Store c.args.self.now.store.conn c.hold.new.self.store.conn _ c.hold.ensures.crash
-
-pub returns-clause-shuts : goal.returns-clause-shuts
-returns-clause-shuts g c =
-    shuts_by g.S.Store c.args.self.now.store.conn c.settle.new.self.store.conn _ (returns-clause-crash g c)
-
-pub returns-in-Err-clause-listed : goal.returns-in-Err-clause-listed
-returns-in-Err-clause-listed g c unfailed = listed_unheld c.in-Err.cause _ (c.in-Err.ensures.answers unfailed)
-
-pub returns-clause-listed : goal.returns-clause-listed
-returns-clause-listed g c unfailed =
-    let here : c.else-not-was_held.self.store ≡ c.self-2.inside.store = elim c.else-not-was_held.branch [
-      | else-not-was_held-via-then-not-was_held+else-not-fits w ↦ ap (λ (t : Treasury _). t.store) w.self-is
-      | else-not-was_held-via-else-not-was_held w ↦ ap (λ (t : Treasury _). t.store) w.self-is
-    ] in
-    let still = subst (λ (t : Treasury _). t.store.failed ≡ false) (sym c.self-2.view_is)
-    (ok_unfailed c.in-Ok.field-0 _ (c.in-Ok.ensures.answers unfailed)) in
-    listed_reply c.in-Some.now c.args.command c.settle.result
-    (c.settle.ensures.replies (ap (λ (s : Store _). s.failed) here ∙ still))
+    (step c.in-Some.now c.args.command).next) here c.settle.ensures.crash) in
+    record {
+      crash = crash;
+      left = leaves_step g.S.Store g.met.S.Store.settled c.args.self.now c.settle.new.self c.args.command crash;
+    }
 
 pub returns-in-Err-clause-strange : goal.returns-in-Err-clause-strange
 returns-in-Err-clause-strange g c clean unfailed unheld none =
