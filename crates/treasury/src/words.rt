@@ -33,7 +33,7 @@ use crate::words::explaining::Explainer;
 use crate::words::looks::looks_of;
 use crate::words::over_file::{Answered, answer_over_file};
 use crate::words::pipe::is_unread;
-use crate::words::said::{Said, room_for_line};
+use crate::words::said::Said;
 use crate::words::serving::{Serving, is_unwritten, serve_over_file};
 use clap::error::ErrorKind;
 use clap::{ArgMatches, Error};
@@ -45,8 +45,8 @@ use std::fs::File;
 use std::io::{Read, Write};
 use std::mem::ManuallyDrop;
 use treasury_api::{
-    Listener, NOTHING_ENTERED, NoListener, commands_law, refusal_law, run_heard_lines, run_law,
-    write_whole,
+    Listener, NOTHING_ENTERED, NoListener, commands_law, refusal_law, room_for_line,
+    run_heard_lines, run_law, write_whole,
 };
 use treasury_files::{Left, wait_for};
 use treasury_laws::{

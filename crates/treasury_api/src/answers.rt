@@ -1,6 +1,6 @@
 //! The line of an answer.
 
-ghost use Rattle.std.specs.Prelude.{◌≡◌, ◌++◌, codes, OnOk, OnErr};
+ghost use Rattle.std.specs.Prelude.{◌≡◌, [], ◌++◌, codes, IfOk, OnOk, OnErr};
 ghost use Rattle.std.specs.Prelude.{◌+◌, ◌≤◌, length, IsOk, vec_capacity};
 ghost use Rattle.std.specs.List.{flat_map};
 ghost use Rattle.std.specs.Result.{IsOkUnless};
@@ -19,6 +19,14 @@ use treasury_core::Answer;
 
 /// The line of an answer that is no text fault and no failed assertion has at most that many bytes.
 pub const MOST_PLAIN: usize = 64;
+
+/// Room for such a line. It is taken before anything is done, so that what is done can be answered.
+pub fn room_for_line(alloc: Global) -> Result<Vec<u8>, AllocError>
+    ensures empty { IfOk result (λ room. room.items ≡ []) }
+    ensures room { IfOk result (λ room. MOST_PLAIN ≤ vec_capacity room) }
+{
+    Vec::with_capacity(alloc, MOST_PLAIN)
+}
 
 /// Appends the pieces. Where memory is refused, the line is as it was; where there is room, it is not.
 pub fn push_pieces(pieces: &[&[u8]], line: &mut Vec<u8>) -> Result<(), AllocError>

@@ -14,7 +14,7 @@ mod telling;
 mod web;
 
 pub use answering::answer;
-pub use answers::{MOST_PLAIN, answer_line};
+pub use answers::{MOST_PLAIN, answer_line, room_for_line};
 pub use asking::Asked;
 pub use foreseeing::additions_ahead;
 pub use http_request::Form;

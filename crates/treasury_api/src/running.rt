@@ -15,7 +15,7 @@ ghost use Rattle.treasury_api.specs.WebReply.{cause_of};
 ghost use Rattle.treasury_api.specs.WebServing.{IsLineBy, IsToldBy};
 
 use crate::answering::answer;
-use crate::answers::{MOST_PLAIN, answer_line};
+use crate::answers::{MOST_PLAIN, answer_line, room_for_line};
 use crate::lines::{Machine, run_machine};
 use crate::listener::{Listener, NoListener};
 use book_core::Refusal;
@@ -156,7 +156,7 @@ impl<S: Alter> Machine for Treasury<S> {
     ) -> Result<Vec<u8>, AllocError> {
         reading_law();
         left_law::<S>();
-        let room = match Vec::with_capacity(alloc, MOST_PLAIN) {
+        let room = match room_for_line(alloc) {
             Ok(room) => room,
             Err(error) => return Err(error),
         };

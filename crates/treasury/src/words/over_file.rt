@@ -18,7 +18,7 @@ ghost use Rattle.treasury.specs.OverFileParts.{spoken, IsRoom, IsClosedOrShut};
 ghost use Rattle.treasury_files.specs.Started.{IsStarted, refusal_of};
 
 use crate::words::at::answer_at;
-use crate::words::said::{Said, done, refused, room_for_line};
+use crate::words::said::{Said, done, refused};
 use clap::ArgMatches;
 use money_core::{Cause, Text};
 use sqlite::{Alter, FileFrom, FileStore, Start};
@@ -26,7 +26,7 @@ use sqlite_disk::Disk;
 use std::alloc::Global;
 use std::fs;
 use std::io::Read;
-use treasury_api::{Form, answer, notes_on, reason_of, refuse};
+use treasury_api::{Form, answer, notes_on, reason_of, refuse, room_for_line};
 use treasury_files::{
     Left, UNCLOSED, Unopened, Unserved, close_treasury, make_tables, open_treasury, read_journal,
 };

@@ -1,6 +1,6 @@
 //! What is said to a word: the answer, and the reason of a refusal.
 
-ghost use Rattle.std.specs.Prelude.{◌≡◌, [], false, Ok, IfOk};
+ghost use Rattle.std.specs.Prelude.{◌≡◌, [], false, Ok};
 ghost use Rattle.treasury_core.specs.declared.command.Answer.{Answer as Answered};
 ghost use Rattle.treasury_api.specs.Answer.{answer_text};
 ghost use Rattle.treasury.specs.OverFile.{IsRefusedBy};
@@ -8,8 +8,8 @@ ghost use Rattle.treasury.specs.OverFileParts.{spoken, IsRoom};
 
 use book_core::Refusal;
 use money_core::{Cause, Styles};
-use std::alloc::{AllocError, Global};
-use treasury_api::{MOST_PLAIN, answer_line};
+use std::alloc::Global;
+use treasury_api::answer_line;
 use treasury_core::Answer;
 use treasury_told::explain::push_reason;
 
@@ -21,13 +21,6 @@ pub struct Said {
     /// For standard error: why it is refused, as far as there was memory for it.
     pub reason: Vec<u8>,
     pub is_refused: bool,
-}
-
-/// Room for the line of an answer. It is taken before anything is done, so that what is done can be answered.
-pub fn room_for_line(alloc: Global) -> Result<Vec<u8>, AllocError>
-    ensures { IfOk result IsRoom }
-{
-    Vec::with_capacity(alloc, MOST_PLAIN)
 }
 
 /// Said where the word is refused by a cause alone, with the reason of what it comes from.

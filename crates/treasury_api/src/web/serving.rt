@@ -2,7 +2,7 @@
 
 ghost use Rattle.treasury_api.specs.Web.{ServesOne};
 
-use crate::answers::MOST_PLAIN;
+use crate::answers::room_for_line;
 use crate::web::answering::answer_call;
 use crate::web::reply::{MAX_REPLY_HEAD, write_reply};
 use http_request::read_call;
@@ -32,7 +32,7 @@ pub fn serve_one<R: Read, W: Write, S: Alter>(
         Ok(head) => head,
         Err(_) => return Err(Cause::OutOfMemory),
     };
-    let line = match Vec::with_capacity(alloc, MOST_PLAIN) {
+    let line = match room_for_line(alloc) {
         Ok(line) => line,
         Err(_) => return Err(Cause::OutOfMemory),
     };
