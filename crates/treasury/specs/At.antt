@@ -13,7 +13,7 @@ use Rattle.treasury_requests.specs.Request.{is_report, spelled}
 use Rattle.treasury_client.specs.declared.call.Form.{Form}
 use Rattle.treasury_client.specs.Sending.{IsSendable, call_text}
 use Rattle.treasury_client.specs.Reply.{SaysToCommand, SaysToReport}
-use Rattle.treasury_spelling.specs.Spelling.{request_in, is_dry_run, given, LacksPort}
+use Rattle.treasury_spelling.specs.Spelling.{request_in, is_dry_run, given, HasPort, LacksPort}
 use Rattle.treasury.specs.declared.words.at.Unheard.{Unheard}
 use Rattle.treasury.specs.declared.words.at.Unheard.TheVariants.{NoMemory}
 use Rattle.treasury.specs.Spoken.{Spoken, IsRefusedBy, IsJournalRefused}
@@ -76,9 +76,10 @@ SaysToFormAt word values said =
     ⊎ ((request : Request) × (request_in word values ≡ Some request)
     × SaysFrom (given (is_dry_run values) request) said)
 
--- any word, by its values
+-- any word, by its values: without a port it is refused, and only with one is it sent
 abbrev pub SaysAt : List ℕ → List Row → Spoken → Type 0
 SaysAt word values said =
     (LacksPort values × IsRefusedBy NoRequest said)
-    ⊎ (((word ≡ codes "import") × SaysToImportAt values said)
-    ⊎ ((word ≢ codes "import") × SaysToFormAt word values said))
+    ⊎ ((port : ℕ) × HasPort port values
+    × (((word ≡ codes "import") × SaysToImportAt values said)
+    ⊎ ((word ≢ codes "import") × SaysToFormAt word values said)))
