@@ -1,7 +1,7 @@
 -- what a command makes of a treasury
 use Rattle.std.proofs.Common.{◌≡◌, ℕ, IsTrue, Bool, true, false, ◌||◌, cond, List, [], ◌∷◌, map, refl, ap, ◌∙◌, sym}
 use Rattle.std.proofs.Common.{subst, inl, inr, Some, None, Ok, Err}
-use Rattle.std.specs.Prelude.{if◌then◌else◌, find, Result, Option, IfSome, ⊤}
+use Rattle.std.specs.Prelude.{if◌then◌else◌, find, Result, Option, IfSome, IsSome, ⊤}
 use Rattle.std.specs.List.{list_any, AllByRecursion}
 use Rattle.money_core.specs.declared.cause.Cause.{Cause}
 use Rattle.money_core.specs.declared.cause.Cause.TheVariants.{Damaged}
@@ -87,6 +87,13 @@ performs_held g old new s f c r is of performs =
     let same : s ≡ f = subst (λ (o : Option Federation). IfSome o (λ x. x ≡ f)) is of.held in
     subst (λ (x : Federation). Performs g new x c r) same
     (performs (subst (λ (x : Federation). IsOf g old.store x) (sym same) of.store))
+
+-- while memory holds a state, a reply on the state that was had is one on it
+pub replies_held : (held : Option Federation) (s : Federation) (c : Command) (r : Result Answer Refusal)
+    → (IsSome held → held ≡ Some s) → MayReply s c r → IfSome held (λ (x : Federation). MayReply x c r)
+replies_held None s c r same replies = tt
+replies_held (Some x) s c r same replies =
+    subst (λ (o : Option Federation). IfSome o (λ (y : Federation). MayReply y c r)) (sym (same refl)) replies
 
 -- a call that succeeded has not failed
 pub ok_unfailed : {T : Type 0} (x : T) (failed : Bool) → AnswersState (Ok x) failed → failed ≡ false

@@ -270,7 +270,10 @@ impl<S: Alter> Treasury<S> {
         ensures replies { self.old.store.failed ≡ false → RepliesInAnyCase self.old self.new command result }
         ensures closed { IsTrue self.old.store.failed
             → (result ≡ Err (Refusal.Plain Cause.Closed)) × (self.new ≡ self.old) }
+        // A connection that was open is open behind each answer but 41, and only a fault of the disk shuts it.
         ensures connection { KeepsConnection S.Store self.old.store.conn self.new.store.conn result }
+        // Whatever is left, also behind 41 where the connection is shut: the rows of the state before the command or
+        // after it.
         ensures leaves { LeavesCommand S.Store self.old self.new command }
         // On tables that are no good state's: 43, or 40 or 41, and nothing is written.
         ensures strange { IsFaithful S.Store self.new.store.conn → self.old.store.failed ≡ false

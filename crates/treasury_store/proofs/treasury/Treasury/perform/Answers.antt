@@ -6,16 +6,16 @@ use Rattle.treasury_state.specs.Federation.{Federation}
 use Rattle.treasury_state.specs.Rows.{rows}
 use Rattle.treasury_core.specs.Fits.{Fits}
 use Rattle.treasury_core.specs.Step.{step}
+use Rattle.treasury_store.specs.declared.store.Store.{Store}
 use Rattle.treasury_tables.specs.Rows.{Holds}
 use Rattle.treasury_tables.specs.Kept.{KeepsTables, IsFaithful}
-use Rattle.treasury_store.specs.declared.store.Store.{Store}
 use Rattle.treasury_store.specs.Store.{IsOf}
 use Rattle.treasury_store.specs.Treasury.{Treasury, IsTreasuryOf, SurvivesCommand}
 use Rattle.treasury_store.proofs.TreasuryLemmas.{fits_held, fits_of, performs_held, ok_unfailed, performs_unheld}
 use Rattle.treasury_store.proofs.TreasuryLemmas.{headline_of, SurvivesChange, survives_load, survives_settle}
-use Rattle.treasury_store.proofs.TreasuryLemmas.{unfit_unheld}
-use Rattle.treasury_store.proofs.LeftLemmas.{leaves_step, shuts_by}
-use Rattle.treasury_store.proofs.OwnRefusalLemmas.{listed_reply, listed_unheld}
+use Rattle.treasury_store.proofs.TreasuryLemmas.{unfit_unheld, replies_held}
+use Rattle.treasury_store.proofs.LeftLemmas.{leaves_step}
+use Rattle.treasury_store.proofs.OwnRefusalLemmas.{listed_reply}
 use Rattle.treasury_store.proofs.treasury.Treasury.perform.Goals.{else-not-was_held-via-then-not-was_held+else-not-fits}
 use Rattle.treasury_store.proofs.treasury.Treasury.perform.Goals.{else-not-was_held-via-else-not-was_held}
 use Rattle.treasury_store.proofs.treasury.Treasury.perform.Goals as goal
@@ -107,6 +107,25 @@ returns-clause-leaves g c =
     record {
       crash = crash;
       left = leaves_step g.S.Store g.met.S.Store.settled c.args.self.now c.settle.new.self c.args.command crash;
+    }
+
+pub returns-clause-replies : goal.returns-clause-replies
+returns-clause-replies g c unfailed =
+    let here : c.else-not-was_held.self.store ≡ c.self-2.inside.store = elim c.else-not-was_held.branch [
+      | else-not-was_held-via-then-not-was_held+else-not-fits w ↦ ap (λ (t : Treasury _). t.store) w.self-is
+      | else-not-was_held-via-else-not-was_held w ↦ ap (λ (t : Treasury _). t.store) w.self-is
+    ] in
+    let back = sym c.self-2.view_is in
+    let still = subst (λ (t : Treasury _). t.store.failed ≡ false) back
+    (ok_unfailed c.in-Ok.field-0 _ (c.in-Ok.ensures.answers unfailed)) in
+    let unfailed_there = ap (λ (s : Store _). s.failed) here ∙ still in
+    let replies = c.settle.ensures.replies unfailed_there in
+    let inside : c.self-2.inside.held ≡ Some c.in-Some.now = search rules in
+    record {
+      fails = c.settle.ensures.fails unfailed_there;
+      listed = listed_reply c.in-Some.now c.args.command c.settle.result replies;
+      held = replies_held c.args.self.now.held c.in-Some.now c.args.command c.settle.result
+          (λ was. ap (λ (t : Treasury _). t.held) (sym (c.in-Ok.ensures.same was).0 ∙ back) ∙ inside) replies;
     }
 
 pub returns-in-Err-clause-strange : goal.returns-in-Err-clause-strange
