@@ -1,10 +1,12 @@
 -- branches, read from their rows and those of their entries
 use Rattle.std.proofs.Common.{◌≡◌, ◌<◌, ◌≤◌, ◌+◌, ℕ, zero, suc, pos, List, [], ◌∷◌, ◌++◌, length, take, drop, get_or}
 use Rattle.std.proofs.Common.{refl, ap, ◌∙◌, sym, subst, arith, append_assoc, append-nil, inr, Option, Some, None, ℤ}
-use Rattle.std.proofs.Common.{FitsSigned, IfSome, w64, to_z, of_z}
+use Rattle.std.proofs.Common.{FitsSigned, IfSome, w64, to_z, of_z, Bool, true}
+use Rattle.std.specs.Prelude.{◌==◌}
 use Rattle.std.specs.List.{AllByRecursion}
 use Rattle.std.specs.Option.{option_map}
-use Rattle.std.proofs.lemmas.List.{drop_all, take_more}
+use Rattle.std.proofs.lemmas.Bool.{eqb-true}
+use Rattle.std.proofs.lemmas.List.{drop_all, take_more, take-append-drop, nil_from_length}
 use Rattle.std.proofs.lemmas.Int.{to_z-of_z}
 use Rattle.money_core.specs.declared.cause.Cause.{Cause}
 use Rattle.money_core.specs.declared.cause.Cause.TheVariants.{Damaged}
@@ -215,3 +217,40 @@ pub rest_damaged : (styles : List Style) (rows : List BranchRow) (entries : List
     → (left ≡ [] → ⊥) → IsFault (HaveRows styles rows entries) Damaged
 rest_damaged styles rows entries n i done left h front some =
     inr (refl, λ bs p. some (branch_end styles rows entries n i done left h front bs p).1)
+
+-- the entries of the branches so far, and those that are left, are all
+rows-append : (styles : List Style) (b : ℕ) (bs : List Branch) (x : Branch)
+    → entry_rows_in styles b (bs ++ x ∷ [])
+    ≡ entry_rows_in styles b bs ++ entry_rows_from styles (b + length bs) 1 x.records
+rows-append styles b [] x =
+    append-nil (entry_rows_from styles b 1 x.records)
+    ∙ ap (λ (k : ℕ). entry_rows_from styles k 1 x.records) (let e : b ≡ b + 0 = omega arith in e)
+rows-append styles b (y ∷ bs) x =
+    let own = entry_rows_from styles b 1 y.records in
+    let others = entry_rows_in styles (b + 1) bs in
+    ap (λ ys. own ++ ys)
+    (rows-append styles (b + 1) bs x
+    ∙ ap (λ (k : ℕ). others ++ entry_rows_from styles k 1 x.records)
+    (let e : b + 1 + length bs ≡ b + suc (length bs) = omega arith in e))
+    ∙ sym (append_assoc own others (entry_rows_from styles (b + suc (length bs)) 1 x.records))
+
+pub entered_next : (styles : List Style) (i nr count : ℕ) (done new : List Branch) (x : Branch)
+    (entries left : List EntryRow) → length done ≡ i → nr ≡ i → new ≡ done ++ x ∷ []
+    → entry_rows_from styles nr 1 x.records ≡ take count left
+    → entry_rows_in styles 0 done ++ left ≡ entries → entry_rows_in styles 0 new ++ drop count left ≡ entries
+entered_next styles i nr count done new x entries left len at pushed own whole =
+    let before = entry_rows_in styles 0 done in
+    let rest = drop count left in
+    ap (λ ys. entry_rows_in styles 0 ys ++ rest) pushed
+    ∙ (ap (λ ys. ys ++ rest) (rows-append styles 0 done x)
+    ∙ (append_assoc before (entry_rows_from styles (0 + length done) 1 x.records) rest
+    ∙ (ap (λ (k : ℕ). before ++ (entry_rows_from styles k 1 x.records ++ rest))
+    (let e : 0 + length done ≡ nr = omega (arith, len, at) in e)
+    ∙ (ap (λ ys. before ++ (ys ++ rest)) own
+    ∙ (ap (λ ys. before ++ ys) (take-append-drop count left) ∙ whole)))))
+
+pub entered_end : (own left entries : List EntryRow) (t : Bool) → t ≡ (length left == 0) → t ≡ true
+    → own ++ left ≡ entries → own ≡ entries
+entered_end own left entries t is empty whole =
+    let none : left ≡ [] = nil_from_length left (eqb-true (length left) 0 (sym is ∙ empty)) in
+    sym (append-nil own) ∙ (ap (λ ys. own ++ ys) (sym none) ∙ whole)

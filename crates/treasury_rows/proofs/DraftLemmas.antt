@@ -1,10 +1,10 @@
 -- lists that are read row by row: what is read so far is the front of any list with these rows
-use Rattle.std.proofs.Common.{◌≡◌, ◌<◌, ◌≤◌, ◌+◌, ℕ, List, [], ◌∷◌, ◌++◌, length, drop, get_or, refl, ap, ◌∙◌, sym}
-use Rattle.std.proofs.Common.{subst, append_assoc, append-nil, inl, inr}
+use Rattle.std.proofs.Common.{◌≡◌, ◌<◌, ◌≤◌, ◌+◌, ℕ, List, [], ◌∷◌, ◌++◌, length, take, drop, get_or, refl, ap, ◌∙◌}
+use Rattle.std.proofs.Common.{sym, subst, suc, arith, append_assoc, append-nil, inl, inr}
 use Rattle.std.specs.Prelude.{Result, MatchResult, IsErrAnd}
 use Rattle.std.proofs.lemmas.Result.{err_from_is_err_and}
 use Rattle.std.specs.List.{AllByRecursion}
-use Rattle.std.proofs.lemmas.List.{drop_all, length_push}
+use Rattle.std.proofs.lemmas.List.{drop_all, length_push, take_more}
 use Rattle.money_core.specs.declared.cause.Cause.{Cause}
 use Rattle.treasury_state.proofs.RestLemmas.{numbered, heads, tails, less}
 use Rattle.treasury_rows.specs.Drafted.{IsFault}
@@ -115,3 +115,23 @@ all_middle {X = X} P done xs rest y h e = at done (subst (AllByRecursion P) e h)
 pub pushed_length : {X : Type 0} (done new : List X) (x : X) (i : ℕ) → new ≡ done ++ x ∷ [] → length done ≡ i
     → length new ≡ i + 1
 pushed_length done new x i e h = ap (λ ys. length ys) e ∙ length_push done x ∙ ap (λ (k : ℕ). k + 1) h
+
+-- what was read has the rows so far
+numbered-append : {X Y : Type 0} (g : ℕ → X → Y) (n : ℕ) (xs : List X) (x : X)
+    → numbered g n (xs ++ x ∷ []) ≡ numbered g n xs ++ g (n + length xs) x ∷ []
+numbered-append g n [] x = ap (λ (k : ℕ). g k x ∷ []) (let e : n ≡ n + 0 = omega arith in e)
+numbered-append g n (y ∷ xs) x =
+    ap (λ zs. g n y ∷ zs)
+    (numbered-append g (n + 1) xs x
+    ∙ ap (λ (k : ℕ). numbered g (n + 1) xs ++ g k x ∷ [])
+    (let e : n + 1 + length xs ≡ n + suc (length xs) = omega arith in e))
+
+pub same_next : {X Y : Type 0} (g : ℕ → X → Y) (first i nr : ℕ) (rows : List Y) (done new : List X) (row : Y) (x : X)
+    → i < length rows → row ≡ get_or rows i row → length done ≡ i → nr ≡ first + i → new ≡ done ++ x ∷ []
+    → g nr x ≡ row → numbered g first done ≡ take i rows → numbered g first new ≡ take (i + 1) rows
+same_next g first i nr rows done new row x h is len at pushed here same =
+    let place : first + length done ≡ nr = omega (arith, len, at) in
+    ap (numbered g first) pushed
+    ∙ (numbered-append g first done x
+    ∙ (ap (λ ys. ys ++ g (first + length done) x ∷ []) same
+    ∙ (ap (λ y. take i rows ++ y ∷ []) (ap (λ (k : ℕ). g k x) place ∙ (here ∙ is)) ∙ sym (take_more rows i row h))))

@@ -17,9 +17,8 @@ use Rattle.treasury_state.specs.declared.rows.TransferRow.{TransferRow}
 use Rattle.treasury_state.specs.declared.rows.PartRow.{PartRow}
 use Rattle.treasury_state.specs.declared.rows.Parts.{Parts}
 use Rattle.treasury_state.specs.Federation.{Branch, Federation, name_place}
-use Rattle.treasury_state.specs.Rows.{unit_rows, branch_rows_from, entry_row, entry_rows_from, entry_rows_in}
+use Rattle.treasury_state.specs.Rows.{unit_rows, branch_rows_from, entry_rows_in}
 use Rattle.treasury_state.specs.Rows.{leg_rows_in, claim_rows_in, transfer_row, part_rows, rows}
-use Rattle.treasury_state.proofs.BranchRowLemmas.{AreGood}
 use Rattle.treasury_state.proofs.BytesLemmas.{same_bytes, self_bytes}
 use Rattle.treasury_state.proofs.RestLemmas.{numbered, heads, tails, less}
 use Rattle.treasury_rows.specs.Drafted.{record_rows_from, record_rows_in}
@@ -102,19 +101,6 @@ whole_next g b i bs list left rest x h is split whole =
       λ e. append_same own others rest (sym front ∙ (whole.1 e ∙ split)),
     )
 
--- each record has one row of an entry
-single_from : (styles : List Style) (b n : ℕ) (rs : List Record)
-    → record_rows_from (λ k r. entry_row styles b k r ∷ []) n rs ≡ entry_rows_from styles b n rs
-single_from styles b n [] = refl
-single_from styles b n (r ∷ rs) = ap (λ xs. entry_row styles b n r ∷ xs) (single_from styles b (n + 1) rs)
-
-pub single_in : (styles : List Style) (b : ℕ) (bs : List Branch)
-    → record_rows_in (λ k n r. entry_row styles k n r ∷ []) b bs ≡ entry_rows_in styles b bs
-single_in styles b [] = refl
-single_in styles b (x ∷ bs) =
-    ap (λ xs. xs ++ record_rows_in (λ k n r. entry_row styles k n r ∷ []) (b + 1) bs) (single_from styles b 1 x.records)
-    ∙ ap (λ xs. entry_rows_from styles b 1 x.records ++ xs) (single_in styles (b + 1) bs)
-
 pub same_parts : (p q : Parts) → p.units ≡ q.units → p.branches ≡ q.branches → p.entries ≡ q.entries → p.legs ≡ q.legs
     → p.claims ≡ q.claims → p.transfers ≡ q.transfers → p.receipts ≡ q.receipts → p ≡ q
 same_parts p q a b c d e f g =
@@ -179,26 +165,10 @@ place_end bs name i all h k e =
     let z : name_place (drop i bs) name ≡ 0 = ap (λ xs. name_place xs name) (drop_all i bs h) in omega (arith, z, e)
 
 -- a draft as it is held, and as it is seen
-pub good_inside : (f : Federation) (styles : List Style) (bs xs : List Branch) (ts : List Transfer)
-    → record { styles = styles; branches = bs; transfers = ts } ≡ f → xs ≡ bs → AreGood f.styles f.branches
-    → AreGood styles xs
-good_inside f styles bs xs ts e x good =
-    subst (λ (ys : List Branch). AreGood styles ys) (sym x)
-    (subst (λ (d : Federation). AreGood d.styles d.branches) (sym e) good)
-
 pub record Seen (f : Federation) (styles : List Style) (xs : List Branch) (ts : List Transfer) : Type 0 where
   pub styled : styles ≡ f.styles
   pub branched : xs ≡ f.branches
   pub sent : ts ≡ f.transfers
-
-abbrev pub rows_of_entries : List Style → List Branch → List EntryRow
-rows_of_entries styles xs = record_rows_in (λ k n r. entry_row styles k n r ∷ []) 0 xs
-
-pub entries_of : (f : Federation) (parts : Parts) (styles : List Style) (xs : List Branch) (ts : List Transfer)
-    → Seen f styles xs ts → rows f ≡ parts → rows_of_entries styles xs ≡ parts.entries
-entries_of f parts styles xs ts h e =
-    single_in styles 0 xs ∙ (ap (λ (ss : List Style). entry_rows_in ss 0 xs) h.styled ∙
-    (ap (entry_rows_in f.styles 0) h.branched ∙ ap (λ (p : Parts). p.entries) e))
 
 pub legs_of_rows : (f : Federation) (parts : Parts) (styles : List Style) (xs : List Branch) (ts : List Transfer)
     → Seen f styles xs ts → rows f ≡ parts → leg_rows_in 0 xs ≡ parts.legs
@@ -210,13 +180,12 @@ claims_of_rows f parts styles xs ts h e = ap (claim_rows_in 0) h.branched ∙ ap
 
 pub all_rows : (f : Federation) (parts : Parts) (styles : List Style) (xs : List Branch) (ts : List Transfer)
     → Seen f styles xs ts → unit_rows styles ≡ parts.units → branch_rows_from 0 xs ≡ parts.branches
-    → rows_of_entries styles xs ≡ parts.entries → leg_rows_in 0 xs ≡ parts.legs → claim_rows_in 0 xs ≡ parts.claims
+    → entry_rows_in f.styles 0 f.branches ≡ parts.entries → leg_rows_in 0 xs ≡ parts.legs
+    → claim_rows_in 0 xs ≡ parts.claims
     → map (transfer_row xs) ts ≡ parts.transfers → part_rows ts ≡ parts.receipts → rows f ≡ parts
 all_rows f parts styles xs ts h u b e l c t p =
     same_parts (rows f) parts (ap unit_rows (sym h.styled) ∙ u) (ap (branch_rows_from 0) (sym h.branched) ∙ b)
-    (ap (λ (ss : List Style). entry_rows_in ss 0 f.branches) (sym h.styled) ∙
-    (ap (entry_rows_in styles 0) (sym h.branched) ∙ (sym (single_in styles 0 xs) ∙ e)))
-    (ap (leg_rows_in 0) (sym h.branched) ∙ l) (ap (claim_rows_in 0) (sym h.branched) ∙ c)
+    e (ap (leg_rows_in 0) (sym h.branched) ∙ l) (ap (claim_rows_in 0) (sym h.branched) ∙ c)
     (ap (λ (us : List Transfer). map (transfer_row f.branches) us) (sym h.sent) ∙
     (ap (λ (ys : List Branch). map (transfer_row ys) ts) (sym h.branched) ∙ t))
     (ap part_rows (sym h.sent) ∙ p)

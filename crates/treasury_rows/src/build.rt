@@ -20,18 +20,22 @@ pub trait Build: Sized {
 }
 
 impl<L: Ledger> Build for State<L> {
-    /// The state that has these rows: they are read, what they spell is judged, and its own rows are compared with
-    /// them.
+    /// The state that has these rows: they are read, the rows of what they spell are compared with them, and it is
+    /// judged.
     ///
     /// It answers 43 where they are no good state's, and 40 for want of memory. It costs what the rows have, and one
-    /// check of each book.
+    /// check of each book. The rows are given up before it is judged.
     fn build(alloc: Global, parts: Parts) -> Result<Self, Cause>
         ensures built { IfOk result (λ f. rows f ≡ parts) }
         ensures err { IfErr result (λ e. (e ≡ Cause.OutOfMemory)
             ⊎ ((e ≡ Cause.Damaged) × ((f : Federation) → IsGoodState f → rows f ≡ parts → ⊥))) }
     {
         let draft = drafted(alloc, &parts)?;
-        if !is_good::<L>(alloc, &draft)? || !has_rows(alloc, &draft, &parts)? {
+        if !has_rows(&draft, &parts) {
+            return Err(Cause::Damaged);
+        }
+        drop(parts);
+        if !is_good::<L>(alloc, &draft)? {
             return Err(Cause::Damaged);
         }
         state_of(alloc, draft)

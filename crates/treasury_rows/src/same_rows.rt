@@ -1,28 +1,23 @@
 //! Whether rows are those of a draft.
 
-ghost use Rattle.std.specs.Prelude.{◌≡◌, ◌↔◌, ◌++◌, ◌∷◌, [], ℕ, List, map, length, pos, Option, IfOk, IsTrue};
-ghost use Rattle.std.specs.Prelude.{MatchOption};
-ghost use Rattle.std.specs.List.{enumerate_from, AllByRecursion};
+ghost use Rattle.std.specs.Prelude.{◌≡◌, ◌↔◌, ◌++◌, ◌∷◌, [], ℕ, List, map, length, pos, Option, IsTrue, MatchOption};
+ghost use Rattle.std.specs.List.{enumerate_from};
 ghost use Rattle.std.specs.Option.{option_map};
-ghost use Rattle.std.specs.Result.{IsOkUnless};
 ghost use Rattle.money_core.specs.declared.day.Day.{Day as DayNumber};
-ghost use Rattle.money_core.specs.declared.style.Style.{Style as UnitStyle};
 ghost use Rattle.treasury_state.specs.declared.record.Record.{Record as BranchRecord};
 ghost use Rattle.treasury_state.specs.declared.transfer.Receipt.{Receipt as TransferReceipt};
-ghost use Rattle.treasury_state.specs.Federation.{Branch as FederationBranch, name_place};
-ghost use Rattle.treasury_state.specs.Good.{IsGoodRecord};
+ghost use Rattle.treasury_state.specs.Federation.{name_place};
 ghost use Rattle.treasury_state.specs.Rows.{truth, kind_number, unit_row, unit_rows, branch_row, branch_rows_from};
-ghost use Rattle.treasury_state.specs.Rows.{entry_row, leg_row, claim_row, leg_rows, claim_rows, transfer_row};
+ghost use Rattle.treasury_state.specs.Rows.{entry_rows_in, leg_row, claim_row, leg_rows, claim_rows, transfer_row};
 ghost use Rattle.treasury_state.specs.Rows.{part_row, part_rows, rows};
 ghost use Rattle.treasury_rows.specs.Drafted.{record_rows_from, record_rows_in};
 
-use crate::drafting::{are_equal, is_number, rows_before, rows_from};
+use crate::drafting::{are_equal, is_day, is_number, rows_before, rows_from};
 use book_core::{ClaimKind, Leg, Placed};
-use money_core::{Cause, Day, Same, Style, Styles, Text, Unit};
-use std::alloc::Global;
+use money_core::{Day, Same, Style, Styles, Text, Unit};
 use treasury_state::{
-    BranchRow, ClaimRow, Draft, DraftBranch, EntryRow, LegRow, Part, PartRow, Parts, Receipt,
-    Record, Transfer, TransferRow, UnitRow, text_of,
+    BranchRow, ClaimRow, Draft, DraftBranch, LegRow, Part, PartRow, Parts, Receipt, Record,
+    Transfer, TransferRow, UnitRow,
 };
 
 /// Whether a column has that truth value.
@@ -64,13 +59,6 @@ fn are_unit_rows(styles: &Styles, list: &[UnitRow]) -> bool
         }
     }
     true
-}
-
-/// Whether a column has that day.
-fn is_day(value: i64, day: Day) -> bool
-    ensures { IsTrue result ↔ (day.0 ≡ value) }
-{
-    value == i64::from(day.0)
 }
 
 /// Whether a column has that day, or none.
@@ -281,190 +269,102 @@ fn are_claim_rows(branch: usize, entry: usize, claims: &[Placed], list: &[ClaimR
     true
 }
 
-/// Whether the row is that of the entry.
-fn is_entry_row(
-    alloc: Global,
-    styles: &Styles,
-    branch: usize,
-    nr: usize,
-    held: &Record,
-    row: &EntryRow,
-) -> Result<bool, Cause>
-    requires { IsGoodRecord styles.now held.now }
-    ensures value { IfOk result (λ is. IsTrue is ↔ (entry_row styles.now branch nr held.now ≡ row.now)) }
-    ensures memory { IsOkUnless result Cause.OutOfMemory }
-{
-    let body = text_of(alloc, &held.txn, styles)?;
-    Ok(
-        is_number(row.branch, branch)
-            && is_number(row.nr, nr)
-            && is_day(row.day, held.entry.day)
-            && held.mark.is_same(&row.mark)
-            && are_equal(body.as_slice(), row.body.as_str().as_bytes()),
-    )
-}
-
 /// Rows of a table that has some for each record.
 trait RecordRow: Drop {
     /// Those of the n-th record of the b-th branch.
-    ghost rows: { List UnitStyle → ℕ → ℕ → BranchRecord → List Self };
+    ghost rows: { ℕ → ℕ → BranchRecord → List Self };
 
     /// How many a record has.
     fn count(held: &Record) -> usize
-        ensures { (styles : List UnitStyle) (b n : ℕ) → length (rows styles b n held.now) ≡ result };
+        ensures { (b n : ℕ) → length (rows b n held.now) ≡ result };
 
     /// Whether the list is the rows of the record.
-    fn are_rows(
-        alloc: Global,
-        styles: &Styles,
-        branch: usize,
-        nr: usize,
-        held: &Record,
-        list: &[Self],
-    ) -> Result<bool, Cause>
-        requires { IsGoodRecord styles.now held.now }
-        ensures value { IfOk result (λ is. IsTrue is ↔ (rows styles.now branch nr held.now ≡ list.now)) }
-        ensures memory { IsOkUnless result Cause.OutOfMemory };
-}
-
-impl RecordRow for EntryRow {
-    ghost rows = { λ styles b n r. entry_row styles b n r ∷ [] };
-
-    fn count(_held: &Record) -> usize {
-        1
-    }
-
-    fn are_rows(
-        alloc: Global,
-        styles: &Styles,
-        branch: usize,
-        nr: usize,
-        held: &Record,
-        list: &[Self],
-    ) -> Result<bool, Cause> {
-        if list.len() != 1 {
-            return Ok(false);
-        }
-        is_entry_row(alloc, styles, branch, nr, held, &list[0])
-    }
+    fn are_rows(branch: usize, nr: usize, held: &Record, list: &[Self]) -> bool
+        ensures { IsTrue result ↔ (rows branch nr held.now ≡ list.now) };
 }
 
 impl RecordRow for LegRow {
-    ghost rows = { λ styles b n r. leg_rows b n r };
+    ghost rows = { leg_rows };
 
     fn count(held: &Record) -> usize {
         held.entry.legs.items().len()
     }
 
-    fn are_rows(
-        _alloc: Global,
-        _styles: &Styles,
-        branch: usize,
-        nr: usize,
-        held: &Record,
-        list: &[Self],
-    ) -> Result<bool, Cause> {
-        Ok(are_leg_rows(branch, nr, held.entry.legs.items(), list))
+    fn are_rows(branch: usize, nr: usize, held: &Record, list: &[Self]) -> bool {
+        are_leg_rows(branch, nr, held.entry.legs.items(), list)
     }
 }
 
 impl RecordRow for ClaimRow {
-    ghost rows = { λ styles b n r. claim_rows b n r };
+    ghost rows = { claim_rows };
 
     fn count(held: &Record) -> usize {
         held.entry.claims.items().len()
     }
 
-    fn are_rows(
-        _alloc: Global,
-        _styles: &Styles,
-        branch: usize,
-        nr: usize,
-        held: &Record,
-        list: &[Self],
-    ) -> Result<bool, Cause> {
-        Ok(are_claim_rows(branch, nr, held.entry.claims.items(), list))
+    fn are_rows(branch: usize, nr: usize, held: &Record, list: &[Self]) -> bool {
+        are_claim_rows(branch, nr, held.entry.claims.items(), list)
     }
 }
 
 /// What stands behind the rows of the branch's records, if the list begins with them.
 fn behind_records<'a, T: RecordRow>(
-    alloc: Global,
-    styles: &Styles,
     branch: usize,
     records: &[Record],
     list: &'a [T],
-) -> Result<Option<&'a [T]>, Cause>
-    requires { AllByRecursion (IsGoodRecord styles.now) records.now }
-    ensures value { IfOk result (λ rest. MatchOption rest
-        ((more : List T) → list.now ≡ record_rows_from (T.rows styles.now branch) 1 records.now ++ more → ⊥)
-        (λ left. list.now ≡ record_rows_from (T.rows styles.now branch) 1 records.now ++ left.now)) }
-    ensures memory { IsOkUnless result Cause.OutOfMemory }
+) -> Option<&'a [T]>
+    ensures { MatchOption result
+        ((more : List T) → list.now ≡ record_rows_from (T.rows branch) 1 records.now ++ more → ⊥)
+        (λ left. list.now ≡ record_rows_from (T.rows branch) 1 records.now ++ left.now) }
 {
     let mut left = list;
     'held: for (i, held) in records.iter().enumerate() {
         let count = T::count(held);
         if count > left.len() {
-            return Ok(None);
+            return None;
         }
-        let same = T::are_rows(alloc, styles, branch, i + 1, held, rows_before(left, count))?;
-        if !same {
-            return Ok(None);
+        if !T::are_rows(branch, i + 1, held, rows_before(left, count)) {
+            return None;
         }
         left = rows_from(left, count);
     }
-    Ok(Some(left))
+    Some(left)
 }
 
 /// Whether the rows are those of the records of all branches.
-fn are_record_rows<T: RecordRow>(
-    alloc: Global,
-    styles: &Styles,
-    branches: &[DraftBranch],
-    list: &[T],
-) -> Result<bool, Cause>
-    requires { AllByRecursion (λ (b : FederationBranch). AllByRecursion (IsGoodRecord styles.now) b.records)
-        branches.now }
-    ensures value { IfOk result (λ is. IsTrue is ↔ (record_rows_in (T.rows styles.now) 0 branches.now ≡ list.now)) }
-    ensures memory { IsOkUnless result Cause.OutOfMemory }
+fn are_record_rows<T: RecordRow>(branches: &[DraftBranch], list: &[T]) -> bool
+    ensures { IsTrue result ↔ (record_rows_in T.rows 0 branches.now ≡ list.now) }
 {
     let mut left = list;
     'branch: for (i, branch) in branches.iter().enumerate() {
-        match behind_records(alloc, styles, i, branch.records.items(), left)? {
+        match behind_records(i, branch.records.items(), left) {
             Some(rest) => left = rest,
-            None => return Ok(false),
+            None => return false,
         }
     }
-    Ok(left.is_empty())
+    left.is_empty()
 }
 
-/// Whether the draft has just these rows: it is walked beside them once, and each body is printed.
-pub(crate) fn has_rows(alloc: Global, draft: &Draft, parts: &Parts) -> Result<bool, Cause>
-    requires { AllByRecursion (λ (b : FederationBranch). AllByRecursion (IsGoodRecord draft.now.styles) b.records)
-        draft.now.branches }
-    ensures value { IfOk result (λ is. IsTrue is ↔ (rows draft.now ≡ parts.now)) }
-    ensures memory { IsOkUnless result Cause.OutOfMemory }
+/// Whether a draft that has these rows of entries has just these rows: it is walked beside them once.
+pub(crate) fn has_rows(draft: &Draft, parts: &Parts) -> bool
+    requires { entry_rows_in draft.now.styles 0 draft.now.branches ≡ parts.now.entries }
+    ensures { IsTrue result ↔ (rows draft.now ≡ parts.now) }
 {
     let branches = draft.branches.items();
     if !are_unit_rows(&draft.styles, parts.units.items()) {
-        return Ok(false);
+        return false;
     }
     if !are_branch_rows(branches, parts.branches.items()) {
-        return Ok(false);
+        return false;
     }
     if !are_transfer_rows(branches, draft.transfers.items(), parts.transfers.items()) {
-        return Ok(false);
+        return false;
     }
     if !are_part_rows(draft.transfers.items(), parts.receipts.items()) {
-        return Ok(false);
+        return false;
     }
-    let entries = are_record_rows(alloc, &draft.styles, branches, parts.entries.items())?;
-    if !entries {
-        return Ok(false);
+    if !are_record_rows(branches, parts.legs.items()) {
+        return false;
     }
-    let legs = are_record_rows(alloc, &draft.styles, branches, parts.legs.items())?;
-    if !legs {
-        return Ok(false);
-    }
-    are_record_rows(alloc, &draft.styles, branches, parts.claims.items())
+    are_record_rows(branches, parts.claims.items())
 }

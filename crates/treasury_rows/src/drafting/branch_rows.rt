@@ -58,6 +58,7 @@ fn read_branch(
     ensures reads { IsReading (λ (b : FederationBranch). IsKeepable styles.now b
         × ((branch_row nr b ≡ row.now) × (entry_rows_from styles.now nr 1 b.records ≡ entries.now))) result }
     ensures good { IfOk result (λ b. AllByRecursion (IsGoodRecord styles.now) b.records) }
+    ensures same { IfOk result (λ b. entry_rows_from styles.now nr 1 b.records ≡ entries.now) }
 {
     if !is_number(row.nr, nr) {
         return Err(Cause::Damaged);
@@ -83,6 +84,7 @@ pub(super) fn read_branches(
         × ((branch_rows_from 0 bs ≡ rows.now) × (entry_rows_in styles.now 0 bs ≡ entries.now))) result }
     ensures good { IfOk result (AllByRecursion
         (λ (b : FederationBranch). AllByRecursion (IsGoodRecord styles.now) b.records)) }
+    ensures same { IfOk result (λ bs. entry_rows_in styles.now 0 bs ≡ entries.now) }
 {
     let mut list = Items::empty(alloc);
     let mut left = entries;

@@ -1,11 +1,12 @@
 //! Records, read from the rows of entries.
 
-ghost use Rattle.std.specs.Prelude.{◌≡◌, ◌↔◌, ◌∷◌, [], Ok, Some, None, List, IfOk, IsTrue};
-ghost use Rattle.std.specs.List.{AllByRecursion};
+ghost use Rattle.std.specs.Prelude.{◌≡◌, ◌↔◌, ◌∷◌, [], Ok, Some, None, pos, List, IfOk, IsTrue};
+ghost use Rattle.std.specs.List.{list_all, AllByRecursion};
 ghost use Rattle.std.specs.Result.{IsOkUnless};
 ghost use Rattle.book_core.specs.declared.entry.Entry.{Entry as BookEntry};
 ghost use Rattle.journal_format.specs.declared.txn.Txn.{Txn as Transaction};
-ghost use Rattle.journal_format.specs.CanonicalText.{body_text};
+ghost use Rattle.journal_format.specs.CanonicalText.{body_text, marked};
+ghost use Rattle.journal_format.specs.Mark.{is_mark, is_mark_byte};
 ghost use Rattle.journal_format.specs.Pieces.{located, Reads};
 ghost use Rattle.journal_format.specs.Printable.{IsPrintable};
 ghost use Rattle.journal_balance.specs.Legs.{legs_of};
@@ -14,11 +15,11 @@ ghost use Rattle.treasury_state.specs.Good.{IsGoodRecord};
 ghost use Rattle.treasury_state.specs.Rows.{entry_row, entry_rows_from};
 ghost use Rattle.treasury_rows.specs.Drafted.{IsReading};
 
-use super::number::{are_equal, damage, is_number};
+use super::number::{are_equal, damage, is_day, is_number};
 use book_core::Entry;
 use journal_balance::legs;
-use journal_format::{Txn, is_printable, read_journal};
-use money_core::{Cause, Copied, Items, Styles};
+use journal_format::{Txn, read_journal};
+use money_core::{Cause, Copied, Items, Styles, Text};
 use std::alloc::Global;
 use treasury_state::{EntryRow, Record, text_of};
 
@@ -45,6 +46,7 @@ fn read_body(alloc: Global, styles: &Styles, text: &str) -> Result<Txn, Cause>
     ensures reads { IsReading (λ (t : Transaction).
         IsPrintable styles.now t × ((t.mark ≡ None) × (body_text styles.now t ≡ text.now))) result }
     ensures body { IfOk result (λ t. (t.mark ≡ None) × (body_text styles.now t ≡ text.now)) }
+    ensures printable { IfOk result (IsPrintable styles.now) }
 {
     styles.are_styles();
     let txn = read_txn(alloc, styles, text)?;
@@ -70,6 +72,85 @@ fn read_entry(alloc: Global, styles: &Styles, txn: &Txn) -> Result<Entry, Cause>
     }
 }
 
+/// Whether the byte may stand in a mark.
+fn is_mark_byte(byte: u8) -> bool
+    ensures { result ≡ is_mark_byte byte }
+{
+    byte.is_ascii_alphabetic()
+        || byte.is_ascii_digit()
+        || byte == b'-'
+        || byte == b'.'
+        || byte == b'_'
+        || byte == b':'
+}
+
+/// Whether each byte may stand in a mark.
+fn has_mark_bytes(text: &[u8]) -> bool
+    ensures { result ≡ list_all is_mark_byte text.now }
+{
+    text.iter().all(|b| is_mark_byte(*b))
+}
+
+/// Whether the text is a well-formed mark.
+fn is_mark(text: &[u8]) -> bool
+    ensures { result ≡ is_mark text.now }
+{
+    !text.is_empty() && text.len() < 101 && has_mark_bytes(text)
+}
+
+/// The same items, in no more room than they need.
+fn trimmed<T>(items: Items<T>) -> Items<T>
+    ensures { result ≡ items }
+{
+    let mut list = items.into_vec();
+    list.shrink_to_fit();
+    Items::from_vec(list)
+}
+
+/// The transaction with that mark, its postings in no more room than they need.
+fn with_mark(txn: Txn, mark: Text) -> Txn
+    ensures { result ≡ marked txn (Some mark) }
+{
+    let Txn {
+        day,
+        status,
+        code,
+        description,
+        comments,
+        mark: _,
+        postings,
+    } = txn;
+    Txn {
+        day,
+        status,
+        code,
+        description,
+        comments,
+        mark: Some(mark),
+        postings: trimmed(postings),
+    }
+}
+
+/// The record of that mark, transaction and entry, the legs in no more room than they need.
+fn record_of(mark: Text, txn: Txn, entry: Entry) -> Record
+    ensures { result ≡ record { mark = mark; txn = txn; entry = entry } }
+{
+    let Entry { day, legs, claims } = entry;
+    let entry = Entry {
+        day,
+        legs: trimmed(legs),
+        claims,
+    };
+    Record { mark, txn, entry }
+}
+
+/// Whether the row is that of the n-th entry of the branch.
+fn is_row_of(row: &EntryRow, branch: usize, nr: usize) -> bool
+    ensures { IsTrue result ↔ ((row.now.branch ≡ pos branch) × (row.now.nr ≡ pos nr)) }
+{
+    is_number(row.branch, branch) && is_number(row.nr, nr)
+}
+
 /// The n-th record of the branch.
 fn read_record(
     alloc: Global,
@@ -81,19 +162,23 @@ fn read_record(
     ensures reads { IsReading (λ (r : BranchRecord).
         IsGoodRecord styles.now r × (entry_row styles.now branch nr r ≡ row.now)) result }
     ensures good { IfOk result (IsGoodRecord styles.now) }
+    ensures same { IfOk result (λ r. entry_row styles.now branch nr r ≡ row.now) }
 {
-    if !is_number(row.branch, branch) || !is_number(row.nr, nr) {
+    if !is_row_of(row, branch, nr) {
         return Err(Cause::Damaged);
     }
     let mark = row.mark.copy()?;
     let own = row.mark.copy()?;
-    let mut txn = read_body(alloc, styles, row.body.as_str())?;
-    txn.mark = Some(own);
-    if !is_printable(&txn, styles) {
+    let txn = read_body(alloc, styles, row.body.as_str())?;
+    if !is_mark(own.as_str().as_bytes()) {
         return Err(Cause::Damaged);
     }
+    let txn = with_mark(txn, own);
     let entry = read_entry(alloc, styles, &txn)?;
-    Ok(Record { mark, txn, entry })
+    if !is_day(row.day, entry.day) {
+        return Err(Cause::Damaged);
+    }
+    Ok(record_of(mark, txn, entry))
 }
 
 /// The records of the branch, in order of entry.
@@ -106,6 +191,7 @@ pub(super) fn read_records(
     ensures reads { IsReading (λ (rs : List BranchRecord).
         AllByRecursion (IsGoodRecord styles.now) rs × (entry_rows_from styles.now branch 1 rs ≡ rows.now)) result }
     ensures good { IfOk result (AllByRecursion (IsGoodRecord styles.now)) }
+    ensures same { IfOk result (λ rs. entry_rows_from styles.now branch 1 rs ≡ rows.now) }
 {
     let mut list = Items::empty(alloc);
     'entry: for row in rows {

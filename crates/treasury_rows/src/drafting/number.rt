@@ -30,6 +30,13 @@ pub(crate) fn is_number(value: i64, number: usize) -> bool
     value >= 0 && value as usize == number
 }
 
+/// Whether a column has that day.
+pub(crate) fn is_day(value: i64, day: Day) -> bool
+    ensures { IsTrue result ↔ (day.0 ≡ value) }
+{
+    value == i64::from(day.0)
+}
+
 /// Whether two texts are equal.
 pub(crate) fn are_equal(bytes: &[u8], others: &[u8]) -> bool
     ensures { IsTrue result ↔ (bytes.now ≡ others.now) }

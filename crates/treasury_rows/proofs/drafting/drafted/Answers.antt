@@ -1,3 +1,4 @@
+use Rattle.std.proofs.Common.{◌∙◌}
 use Rattle.treasury_rows.proofs.DraftLemmas.{exit}
 use Rattle.treasury_rows.proofs.DraftedLemmas.{only_styles, only_branches, only_transfers, styles_damage}
 use Rattle.treasury_rows.proofs.DraftedLemmas.{branches_damage, transfers_damage, drafted_only}
@@ -36,3 +37,6 @@ returns-clause-only c =
     c.in_ok-branches.branches c.in_ok-transfers.transfers c.items-4.ensures c.items-5.ensures c.items-6.ensures
     c.in_ok-transfers.ensures in
     drafted_only parts c.in_ok-styles.styles c.in_ok-branches.branches c.in_ok-transfers.transfers s b t
+
+pub returns-clause-entries : goal.returns-clause-entries
+returns-clause-entries c = c.in_ok-branches.ensures.same ∙ c.items-3.ensures

@@ -7,12 +7,12 @@ use Rattle.treasury_rows.proofs.SameRowLemmas.{whole_start, whole_next}
 use Rattle.treasury_rows.proofs.same_rows.are_record_rows.Goals as goal
 
 pub branch-init : goal.branch-init
-branch-init g c = whole_start (g.T.RecordRow.rows c.args.styles.now) c.args.branches.now c.args.list.now
+branch-init g c = whole_start g.T.RecordRow.rows c.args.branches.now c.args.list.now
 
 pub branch-preserved : goal.branch-preserved
 branch-preserved g c =
-    let rows = g.T.RecordRow.rows c.args.styles.now in
-    let split = MatchOption-at_some _ _ c.in-Some.rest c.in-Some.is c.in_ok-rest.ensures.value in
+    let rows = g.T.RecordRow.rows in
+    let split = MatchOption-at_some _ _ c.in-Some.rest c.in-Some.is c.behind_records.ensures in
     whole_next rows c.branch.i c.branch.i c.args.branches.now c.args.list.now c.branch.left.now c.in-Some.rest.now
     c.index-branches-i.result c.branch-test.true c.index-branches-i.is
     (split ∙ ap (λ (rs : List Record). record_rows_from (rows c.branch.i) 1 rs ++ c.in-Some.rest.now) c.items.ensures

@@ -3,4 +3,4 @@ use Rattle.treasury_rows.proofs.same_rows.are_record_rows.Given as goal
 
 -- what is open is whether the rows that are left are those of the branches that are left
 abbrev pub invariant-branch : goal.invariant-branch
-invariant-branch g l = Whole (g.T.RecordRow.rows l.styles) l.i l.i l.branches l.fn.list l.left
+invariant-branch g l = Whole g.T.RecordRow.rows l.i l.i l.branches l.fn.list l.left

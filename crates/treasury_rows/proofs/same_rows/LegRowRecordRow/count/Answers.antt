@@ -5,4 +5,4 @@ use Rattle.treasury_rows.proofs.SameRowLemmas.{length-numbered}
 use Rattle.treasury_rows.proofs.same_rows.LegRowRecordRow.count.Goals as goal
 
 pub returns : goal.returns
-returns c = λ styles b n. length-numbered (leg_row b n) 1 _ ∙ ap (λ (xs : List Leg). length xs) (sym c.items.ensures)
+returns c = λ b n. length-numbered (leg_row b n) 1 _ ∙ ap (λ (xs : List Leg). length xs) (sym c.items.ensures)
