@@ -1,11 +1,11 @@
 //! A row of one of the tables: how it is asked for, and read.
 
-ghost use Rattle.std.specs.Prelude.{◌≡◌, List, [], map, IfOk};
+ghost use Rattle.std.specs.Prelude.{◌≡◌, List, [], map, OnOk, IfOk};
 ghost use Rattle.sqlite.specs.declared.types.Value.{Value};
 ghost use Rattle.sqlite.specs.declared.types.Value.TheVariants.{Text as Words};
-ghost use Rattle.sqlite.specs.Order.{column};
+ghost use Rattle.sqlite.specs.Order.{Row as Columns, column};
 ghost use Rattle.sqlite.specs.Values.{or_null};
-ghost use Rattle.sqlite.specs.State.{Shown};
+ghost use Rattle.sqlite.specs.State.{IsUnchanged, Shown};
 ghost use Rattle.sqlite.specs.Given.{IsPlain};
 ghost use Rattle.sqlite.specs.Listing.{understood};
 ghost use Rattle.sqlite.specs.Held.{state};
@@ -63,11 +63,36 @@ pub(crate) fn read_all<T: FromRow>(alloc: Global, rows: &[Row]) -> Result<Items<
 }
 
 /// The rows of a query of our tables.
-pub(crate) fn queried<S: Alter>(conn: &mut Connection<S>, sql: &str) -> Result<Vec<Row>, Error>
+fn queried<S: Alter>(conn: &mut Connection<S>, sql: &str) -> Result<Vec<Row>, Error>
     requires { IsPlain (understood store_schema sql.now) }
     ensures shown { IsFaithful S.Store conn.new
         → IfOk result (λ rows. Shown sql.now [] (state S.Store conn.old) (state S.Store conn.new) rows.items) }
     ensures queries { Queries S.Store conn.old conn.new result }
 {
     conn.query_all(sql, &[])
+}
+
+/// The rows of a query of our tables, read: in the order in which the query answers them.
+pub(crate) fn load<T: FromRow, S: Alter>(
+    alloc: Global,
+    conn: &mut Connection<S>,
+    sql: &str,
+) -> Result<Items<T>, Error>
+    requires { IsPlain (understood store_schema sql.now) }
+    ensures rows { IsFaithful S.Store conn.new
+        → IfOk result
+        (λ xs. (given : List Columns) × Shown sql.now [] (state S.Store conn.old) (state S.Store conn.new) given
+        × ((ys : List T) → given ≡ map T.columns ys → xs ≡ ys)) }
+    ensures shown { IsFaithful S.Store conn.new
+        → IfOk result
+        (λ xs. (given : List Columns) × Shown sql.now [] (state S.Store conn.old) (state S.Store conn.new) given
+        × (map T.columns xs ≡ map T.front given)) }
+    ensures same { IsFaithful S.Store conn.new
+        → OnOk result
+        ((state S.Store conn.old).now.schema ≡ store_schema
+        → IsUnchanged (state S.Store conn.old) (state S.Store conn.new)) }
+    ensures queries { Queries S.Store conn.old conn.new result }
+{
+    let rows = queried(conn, sql)?;
+    read_all(alloc, &rows)
 }

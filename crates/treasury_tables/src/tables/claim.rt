@@ -15,7 +15,7 @@ ghost use Rattle.treasury_tables.specs.Order.{InOrder};
 ghost use Rattle.treasury_tables.specs.Kinds.{is_claim, all_of};
 
 use crate::change::Change;
-use crate::row::{FromRow, queried, read_all};
+use crate::row::{FromRow, load};
 use crate::tables::eight::Eight;
 use money_core::Items;
 use sqlite::types::{ToSql, ValueRef};
@@ -75,11 +75,11 @@ pub(crate) fn load_claims<S: Alter>(
         → IsUnchanged (state S.Store conn.old) (state S.Store conn.new)) }
     ensures queries { Queries S.Store conn.old conn.new result }
 {
-    let rows = queried(
+    load(
+        alloc,
         conn,
         "SELECT branch, entry, leg, kind, unit, qty FROM claim ORDER BY branch, entry, leg",
-    )?;
-    read_all(alloc, &rows)
+    )
 }
 
 /// The values of a claim's row, in the order of its columns.

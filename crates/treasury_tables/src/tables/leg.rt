@@ -15,7 +15,7 @@ ghost use Rattle.treasury_tables.specs.Order.{InOrder};
 ghost use Rattle.treasury_tables.specs.Kinds.{is_leg, all_of};
 
 use crate::change::Change;
-use crate::row::{FromRow, queried, read_all, text_at};
+use crate::row::{FromRow, load, text_at};
 use crate::tables::eight::Eight;
 use money_core::Items;
 use sqlite::types::{ToSql, ValueRef};
@@ -74,11 +74,11 @@ pub(crate) fn load_legs<S: Alter>(
         → IsUnchanged (state S.Store conn.old) (state S.Store conn.new)) }
     ensures queries { Queries S.Store conn.old conn.new result }
 {
-    let rows = queried(
+    load(
+        alloc,
         conn,
         "SELECT branch, entry, nr, account, unit, qty FROM leg ORDER BY branch, entry, nr",
-    )?;
-    read_all(alloc, &rows)
+    )
 }
 
 /// The values of a leg's row, in the order of its columns.

@@ -14,7 +14,7 @@ ghost use Rattle.treasury_tables.specs.Creating.{Creates};
 ghost use Rattle.treasury_tables.specs.Kept.{Queries, Writes, IsFaithful};
 ghost use Rattle.treasury_tables.specs.Order.{InOrder};
 
-use crate::row::{FromRow, maybe_text_at, queried, read_all, text_at};
+use crate::row::{FromRow, load, maybe_text_at, text_at};
 use money_core::{Items, Text};
 use sqlite::types::{ToSql, ValueRef};
 use sqlite::{Alter, Connection, Error, Row, Transaction};
@@ -80,11 +80,11 @@ pub(crate) fn load_transfers<S: Alter>(
         → IsUnchanged (state S.Store conn.old) (state S.Store conn.new)) }
     ensures queries { Queries S.Store conn.old conn.new result }
 {
-    let rows = queried(
+    load(
+        alloc,
         conn,
         "SELECT id, source, target, unit, qty, dispatched, payer, received, payee FROM transfer ORDER BY id",
-    )?;
-    read_all(alloc, &rows)
+    )
 }
 
 /// A text as a value; NULL where there is none.

@@ -10,7 +10,7 @@ ghost use Rattle.treasury_tables.specs.Creating.{Creates};
 ghost use Rattle.treasury_tables.specs.Kept.{Queries, Writes, IsFaithful};
 ghost use Rattle.treasury_tables.specs.Order.{InOrder};
 
-use crate::row::{FromRow, queried, read_all, text_at};
+use crate::row::{FromRow, load, text_at};
 use money_core::Items;
 use sqlite::types::ToSql;
 use sqlite::{Alter, Connection, Error, Row, Transaction};
@@ -71,11 +71,11 @@ pub(crate) fn load_units<S: Alter>(
         → IsUnchanged (state S.Store conn.old) (state S.Store conn.new)) }
     ensures queries { Queries S.Store conn.old conn.new result }
 {
-    let rows = queried(
+    load(
+        alloc,
         conn,
         "SELECT nr, symbol, decimals, mark, grouped, leftside, spaced FROM unit ORDER BY nr",
-    )?;
-    read_all(alloc, &rows)
+    )
 }
 
 /// Inserts a commodity.

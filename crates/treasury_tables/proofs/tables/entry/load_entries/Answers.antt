@@ -1,45 +1,23 @@
-use Rattle.std.proofs.Common.{◌∙◌, sym, subst}
+use Rattle.std.proofs.Common.{refl}
 use Rattle.sqlite.specs.Held.{state}
-use Rattle.sqlite.specs.Listing.{understood}
-use Rattle.sqlite.proofs.Callers.{IsPlain}
-use Rattle.treasury_tables.proofs.Texts.{entry_rows_text, entry_rows_is}
-use Rattle.treasury_tables.proofs.QueriedLemmas.{shown_same, ok_then}
-use Rattle.treasury_tables.proofs.QueriesLemmas.{same_error, then_made}
-use Rattle.treasury_tables.proofs.LoadLemmas.{entries_are, entries_shown, any_ok}
+use Rattle.treasury_tables.proofs.Texts.{entry_rows_is}
+use Rattle.treasury_tables.proofs.QueriedLemmas.{ok_then}
+use Rattle.treasury_tables.proofs.LoadLemmas.{entries_are, entries_shown}
 use Rattle.treasury_tables.proofs.tables.entry.load_entries.Goals as goal
 
-pub queried-requires : goal.queried-requires
-queried-requires g c = entry_rows_is.2
+pub load-requires : goal.load-requires
+load-requires g c = entry_rows_is.2
 
 pub returns-clause-rows : goal.returns-clause-rows
 returns-clause-rows g c clean =
-    ok_then c.read_all.result _ _
-    (λ xs h t up shows. h t.entries
-    (c.deref.ensures.value ∙ entries_are (state g.S.Store c.args.conn.now) (state g.S.Store c.queried.new.conn) t
-    c.in_ok-rows.rows.items shows up.entries (c.in_ok-rows.ensures.shown clean))) c.read_all.ensures.same
+    ok_then c.load.result _ _
+    (λ xs h t up shows. h.2 t.entries
+    (entries_are (state g.S.Store c.args.conn.now) (state g.S.Store c.load.new.conn) t h.0 shows up.entries h.1))
+    (c.load.ensures.rows clean)
 
 pub returns-clause-shown : goal.returns-clause-shown
 returns-clause-shown g c clean =
-    ok_then c.read_all.result _ _
-    (λ xs h has. entries_shown (state g.S.Store c.args.conn.now) (state g.S.Store c.queried.new.conn) _
-    c.in_ok-rows.rows.items xs c.deref.ensures.value h has (c.in_ok-rows.ensures.shown clean))
-    c.read_all.ensures.shown
-
-pub returns-clause-same : goal.returns-clause-same
-returns-clause-same g c clean =
-    any_ok c.read_all.result _
-    (λ has. shown_same entry_rows_text _ (state g.S.Store c.args.conn.now) (state g.S.Store c.queried.new.conn)
-    c.in_ok-rows.rows.items
-    (subst (λ s. IsPlain (understood s entry_rows_text)) (sym has) entry_rows_is.2) (c.in_ok-rows.ensures.shown clean))
-
-pub returns-clause-queries : goal.returns-clause-queries
-returns-clause-queries g c =
-    then_made g.S.Store c.args.conn.now c.queried.new.conn c.in_ok-rows.rows c.in_ok-rows.ensures.queries
-    (λ clean has. shown_same entry_rows_text _ (state g.S.Store c.args.conn.now) (state g.S.Store c.queried.new.conn)
-    c.in_ok-rows.rows.items
-    (subst (λ s. IsPlain (understood s entry_rows_text)) (sym has) entry_rows_is.2) (c.in_ok-rows.ensures.shown clean))
-    c.read_all.result
-
-pub returns-in_err-rows-clause-queries : goal.returns-in_err-rows-clause-queries
-returns-in_err-rows-clause-queries g c =
-    same_error _ c.from_residual.result c.from_residual.ensures.1 c.in_err-rows.ensures.queries
+    ok_then c.load.result _ _
+    (λ xs h has.
+    entries_shown (state g.S.Store c.args.conn.now) (state g.S.Store c.load.new.conn) h.0 h.0 xs refl h.2 has h.1)
+    (c.load.ensures.shown clean)
