@@ -1,10 +1,13 @@
--- the transaction at which a text is refused, in a state
-use Rattle.std.proofs.Common.{◌≡◌, ◌∙◌, ℕ, Bool, true, false, List, [], ◌∷◌, ap, sym, subst, Option, Some, None}
-use Rattle.std.specs.Prelude.{if◌then◌else◌}
+-- what is said of a failed assertion, put together
+use Rattle.std.proofs.Common.{◌≡◌, ◌∙◌, ℕ, zero, suc, Bool, true, false, List, [], ◌∷◌, ◌++◌, map, refl, ap, sym, subst}
+use Rattle.std.proofs.Common.{append_assoc, Option, Some, None}
+use Rattle.std.specs.Prelude.{⊤, slice_get, IfSome, if◌then◌else◌}
 use Rattle.std.specs.List.{AllByRecursion}
 use Rattle.std.specs.Str.{bytes_eq}
 use Rattle.money_core.specs.declared.day.Day.{Day}
 use Rattle.money_core.specs.declared.style.Style.{Style}
+use Rattle.book_core.specs.declared.entry.Entry.{Entry}
+use Rattle.book_core.specs.declared.refusal.Failure.{Failure}
 use Rattle.book_core.specs.declared.refusal.Refusal.TheVariants.{Plain}
 use Rattle.journal_format.specs.declared.txn.Located.{Located}
 use Rattle.journal_format.specs.Pieces.{Reads}
@@ -19,9 +22,75 @@ use Rattle.treasury_core.proofs.ReplyLemmas.{own_marks_of}
 use Rattle.treasury_told.specs.declared.explain.at_fault.Bar.{Bar}
 use Rattle.treasury_told.specs.declared.explain.standing.Standing.{Standing}
 use Rattle.treasury_told.specs.Standing.{located_of, AreStanding}
+use Rattle.treasury_told.specs.Numbered.{numbered, new_of, EntryOf, held, brought, entries_with}
 use Rattle.treasury_told.specs.AtFault.{cause_of, IsRefusedAt}
 use Rattle.treasury_told.specs.Refused.{IsBarredText, IsFoundAt}
+use Rattle.treasury_requests.specs.declared.request.Request.{Request}
+use Rattle.treasury_told.specs.Failure.{place_text, found_text, own_entry, failure_of, failure_text, judged_branch}
+use Rattle.treasury_told.specs.Failure.{journal_of, text_in, AreFound, TellsFailure}
+use Rattle.treasury_told.proofs.AtFaultLemmas.{all_at}
+use Rattle.treasury_told.proofs.FailureLemmas.{all_new}
 
+-- its place, and what is found there
+pub failure_is : (styles : List Style) (records : List Record) (source text : List ℕ) (found : List Standing)
+    (f : Failure) (one : Option EntryOf) (own : Option Entry) (old first new : List ℕ)
+    → numbered (entries_with records found) f.place.entry ≡ one
+    → first ≡ old ++ place_text styles source text f.place.entry f.place.leg one → own ≡ own_entry styles one
+    → new ≡ first ++ found_text styles records source found own f
+    → new ≡ old ++ failure_text styles records source text found f
+unfolding failure_text
+failure_is styles records source text found f one own old first new is place same rest =
+    rest
+    ∙ ap (λ (xs : List ℕ). xs ++ found_text styles records source found own f) place
+    ∙ append_assoc old (place_text styles source text f.place.entry f.place.leg one)
+    (found_text styles records source found own f)
+    ∙ ap (λ (e : Option Entry). old ++ (place_text styles source text f.place.entry f.place.leg one
+    ++ found_text styles records source found e f)) same
+    ∙ ap (λ (o : Option EntryOf). old ++ failure_of styles records source text found f o) (sym is)
+
+-- in a state
+pub tells : (f : Federation) (request : Request) (source : List ℕ) (failure : Failure) (old new : List ℕ)
+    (styles : List Style) (records : List Record) (found : List Standing) (journal : Option (List ℕ)) (text : List ℕ)
+    → styles ≡ f.styles → records ≡ records_of f (judged_branch request) → journal ≡ journal_of request
+    → text ≡ text_in journal → AreFound styles records journal found
+    → new ≡ old ++ failure_text styles records source text found failure
+    → TellsFailure f request source failure old new
+tells f request source failure old new styles records found journal text s r j t list is = record {
+  found = found;
+  list = subst (λ (x : Option (List ℕ)). AreFound f.styles (records_of f (judged_branch request)) x found) j
+      (subst (λ (x : List Record). AreFound f.styles x journal found) r
+      (subst (λ (x : List Style). AreFound x records journal found) s list));
+  text = is
+      ∙ ap (λ (x : List Style). old ++ failure_text x records source text found failure) s
+      ∙ ap (λ (x : List Record). old ++ failure_text f.styles x source text found failure) r
+      ∙ ap (λ (x : List ℕ). old ++ failure_text f.styles (records_of f (judged_branch request)) source x found failure)
+      (t ∙ ap text_in j);
+}
+
+-- one that a text would bring is of that text
+abbrev HoldsNew : (Standing → Type 0) → EntryOf → Type 0
+HoldsNew P (held r) = ⊤
+HoldsNew P (brought s) = P s
+
+all_brought : (P : Standing → Type 0) (new : List Standing) → AllByRecursion P new
+    → AllByRecursion (HoldsNew P) (map brought new)
+all_brought P [] h = h
+all_brought P (s ∷ rest) h = (h.0, all_brought P rest h.1)
+
+all_held : (P : Standing → Type 0) (records : List Record) (ys : List EntryOf) → AllByRecursion (HoldsNew P) ys
+    → AllByRecursion (HoldsNew P) (map held records ++ ys)
+all_held P [] ys h = h
+all_held P (r ∷ rest) ys h = (tt, all_held P rest ys h)
+
+pub brought_is : (P : Standing → Type 0) (records : List Record) (found : List Standing) (n : ℕ) (s : Standing)
+    → Some (brought s) ≡ numbered (entries_with records found) n → AllByRecursion P found → P s
+brought_is P records found zero s e h = absurd cc
+brought_is P records found (suc n) s e h =
+    let all = all_held P records (map brought (new_of found)) (all_brought P (new_of found) (all_new P found h)) in
+    let one = all_at (HoldsNew P) (entries_with records found) n all in
+    subst (λ (o : Option EntryOf). IfSome o (HoldsNew P)) (sym e) one
+
+-- ---- the transaction at which a text is refused, in a state
 pub barred_found : (f : Federation) (name journal : List ℕ) (bar : Bar) (styles : List Style) (records : List Record)
     (lock : Option Day) (found : List Standing) (o : Option ℕ) → styles ≡ f.styles → records ≡ records_of f name
     → lock ≡ lock_of f name → IsGoodState f → Reads styles journal (located_of found)

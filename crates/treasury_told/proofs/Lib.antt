@@ -6,5 +6,6 @@ pub mod LineLemmas
 pub mod PieceLemmas
 pub mod TransferLemmas
 pub mod LeftOverLemmas
+pub mod FailureLemmas
 pub mod RefusedLemmas
 pub mod ExplainLemmas

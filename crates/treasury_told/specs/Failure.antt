@@ -1,23 +1,259 @@
 -- What is said of an assertion that fails (own rule; docs/RULES.md, "Explanations").
-use Rattle.std.specs.Prelude.{ℕ, ℤ, ◌-ℤ◌, List, [], ◌++◌, codes, Option, Some, None}
+use Rattle.std.specs.Prelude.{ℕ, ℤ, ◌+◌, ◌-◌, ◌-ℤ◌, nat_lt, nat_eq, Bool, true, false, not, ◌&&◌, if◌then◌else◌}
+use Rattle.std.specs.Prelude.{List, [], ◌≡◌, ◌⊎◌, ◌∷◌, ◌++◌, length, take, find, codes, decimal, Option, Some, None}
+use Rattle.std.specs.Prelude.{slice_get}
+use Rattle.std.specs.List.{list_any, flat_map, position_from}
+use Rattle.std.specs.Option.{option_map}
+use Rattle.std.specs.Ordering.{int_eq}
+use Rattle.std.specs.Str.{bytes_eq}
+use Rattle.money_core.specs.declared.cause.Cause.TheVariants.{ClaimFailed}
+use Rattle.money_core.specs.declared.cause.Fault.{Fault}
 use Rattle.money_core.specs.declared.style.Style.{Style}
 use Rattle.money_core.specs.declared.unit.Unit.{Unit as Commodity}
+use Rattle.book_core.specs.declared.account.Reach.{Reach}
+use Rattle.book_core.specs.declared.account.Reach.TheVariants.{Own}
+use Rattle.book_core.specs.declared.claim.Placed.{Placed}
+use Rattle.book_core.specs.declared.entry.Entry.{Entry}
 use Rattle.book_core.specs.declared.leg.Leg.{Leg}
+use Rattle.book_core.specs.declared.place.Place.{Place}
+use Rattle.book_core.specs.declared.refusal.Failure.{Failure}
+use Rattle.book_core.specs.Account.{reaches}
+use Rattle.book_core.specs.Book.{Posted, posted_legs}
+use Rattle.book_core.specs.Claim.{reach_of}
+use Rattle.book_core.specs.Place.{place_le}
+use Rattle.journal_lines.specs.declared.header.Status.{Status}
+use Rattle.journal_lines.specs.declared.header.Status.TheVariants.{Cleared, Pending}
+use Rattle.journal_format.specs.declared.txn.Txn.{Txn}
+use Rattle.journal_format.specs.Fault.{IsFirstFault}
+use Rattle.journal_format.specs.Pieces.{Reads}
+use Rattle.journal_balance.specs.Legs.{legs_of}
+use Rattle.treasury_state.specs.declared.record.Record.{Record}
+use Rattle.treasury_state.specs.Federation.{Federation, records_of}
+use Rattle.treasury_requests.specs.declared.request.Request.{Request}
+use Rattle.treasury_requests.specs.declared.request.Request.TheVariants as req
+use Rattle.treasury_told.specs.declared.explain.standing.Standing.{Standing}
+use Rattle.treasury_told.specs.declared.explain.touching.Watched.{Watched}
 use Rattle.treasury_told.specs.Shown.{named_text}
-use Rattle.treasury_told.specs.Pieces.{named_amount}
+use Rattle.treasury_told.specs.Standing.{entry_in, located_of, AreStanding}
+use Rattle.treasury_told.specs.Pieces.{named_amount, header_text, origin_text, sentence_line, source_line}
+use Rattle.treasury_told.specs.Numbered.{numbered, new_of, EntryOf, held, brought, entries_with}
+
+-- ---- the entry, and what is asserted and found
+
+-- the entry of one that a branch holds or that a text would bring
+abbrev pub own_entry : List Style → Option EntryOf → Option Entry
+own_entry styles None = None
+own_entry styles (Some (held r)) = Some r.entry
+own_entry styles (Some (brought s)) = entry_in (legs_of styles s.txn)
+
+-- the leg of a number of an entry, if there is one
+abbrev pub leg_of : Option Entry → ℕ → Option Leg
+leg_of None k = None
+leg_of (Some e) k = numbered e.legs k
 
 -- the line with the account of a leg
 abbrev pub account_text : Option Leg → List ℕ
 account_text None = []
 account_text (Some x) = named_text (codes "account") x.account
 
+-- the line with the number and the header of an entry
+abbrev pub entry_line : ℕ → Txn → List ℕ → List ℕ
+entry_line n t tail = codes "  entry: " ++ decimal n ++ codes ", " ++ header_text t ++ tail ++ codes "\n"
+
+-- the sentence, and where an assertion stands that a branch holds, or that a text would bring
+unfoldable pub held_text : ℕ → ℕ → Record → List ℕ
+held_text n k r = sentence_line [] ClaimFailed ++ account_text (numbered r.entry.legs k) ++ entry_line n r.txn []
+
+unfoldable pub new_text : List Style → List ℕ → List ℕ → ℕ → ℕ → Standing → List ℕ
+new_text styles source text n k s =
+    sentence_line (origin_text source s.line) ClaimFailed ++ source_line text s.line
+    ++ account_text (leg_of (entry_in (legs_of styles s.txn)) k) ++ entry_line n s.txn (codes ", which is new")
+
+abbrev pub place_text : List Style → List ℕ → List ℕ → ℕ → ℕ → Option EntryOf → List ℕ
+place_text styles source text n k None = sentence_line [] ClaimFailed
+place_text styles source text n k (Some (held r)) = held_text n k r
+place_text styles source text n k (Some (brought s)) = new_text styles source text n k s
+
 -- what is found less what is asserted
 abbrev pub difference : ℤ → ℤ → ℤ
 difference asserted found = found -ℤ asserted
 
 -- what is asserted, what is found, and the difference
-abbrev pub amounts_text : List Style → Commodity → ℤ → ℤ → List ℕ
+unfoldable pub amounts_text : List Style → Commodity → ℤ → ℤ → List ℕ
 amounts_text styles unit asserted found =
     named_amount styles (codes "asserted") unit asserted
     ++ (named_amount styles (codes "found") unit found
     ++ named_amount styles (codes "difference") unit (difference asserted found))
+
+-- ---- the new transactions that may be why
+
+-- which accounts the assertion on a leg looks at
+abbrev pub reach_in : Option Placed → Reach
+reach_in None = Own
+reach_in (Some x) = reach_of x.claim.kind
+
+unfoldable pub reach_on : List Placed → ℕ → Reach
+reach_on claims k = reach_in (find (λ (x : Placed). nat_eq x.leg k) claims)
+
+-- the account of the leg of a number, and which accounts its assertion looks at
+abbrev pub watched_of : Entry → ℕ → Option Watched
+watched_of e k =
+    option_map (λ (x : Leg). record { account = x.account; reach = reach_on e.claims k }) (numbered e.legs k)
+
+abbrev pub watched_in : Option Entry → ℕ → Option Watched
+watched_in None k = None
+watched_in (Some e) k = watched_of e k
+
+-- the leg is on an account that is looked at, before a place
+abbrev pub is_seen : Watched → Place → Posted → Bool
+is_seen w end x = reaches w.reach w.account x.leg.account && not (place_le end x.place)
+
+-- entry n has such a leg
+unfoldable pub touches : Watched → Place → ℕ → Entry → Bool
+touches w end n e = list_any (is_seen w end) (posted_legs e.day n 1 e.legs)
+
+abbrev pub touches_in : Watched → Place → ℕ → Option Entry → Bool
+touches_in w end n None = false
+touches_in w end n (Some e) = touches w end n e
+
+-- those of new transactions, numbered from n, whose entries have
+abbrev pub touching : List Style → Watched → Place → ℕ → List Standing → List Standing
+touching styles w end n [] = []
+touching styles w end n (s ∷ rest) =
+    (if touches_in w end n (entry_in (legs_of styles s.txn)) then s ∷ [] else []) ++ touching styles w end (n + 1) rest
+
+-- ---- the held one that a new transaction may be, edited
+
+abbrev pub same_leg : Leg → Leg → Bool
+same_leg x y = bytes_eq x.account y.account && (nat_eq x.unit.0 y.unit.0 && int_eq x.qty y.qty)
+
+abbrev pub same_legs : List Leg → List Leg → Bool
+same_legs [] [] = true
+same_legs [] (y ∷ ys) = false
+same_legs (x ∷ xs) [] = false
+same_legs (x ∷ xs) (y ∷ ys) = same_leg x y && same_legs xs ys
+
+-- the record has the day and the legs of an entry
+abbrev pub has_legs_of : Entry → Record → Bool
+has_legs_of e r = int_eq r.entry.day.0 e.day.0 && same_legs r.entry.legs e.legs
+
+abbrev pub same_status : Option Status → Option Status → Bool
+same_status None None = true
+same_status None (Some y) = false
+same_status (Some x) None = false
+same_status (Some Cleared) (Some Cleared) = true
+same_status (Some Cleared) (Some Pending) = false
+same_status (Some Pending) (Some Cleared) = false
+same_status (Some Pending) (Some Pending) = true
+
+abbrev pub same_code : Option (List ℕ) → Option (List ℕ) → Bool
+same_code None None = true
+same_code None (Some y) = false
+same_code (Some x) None = false
+same_code (Some x) (Some y) = bytes_eq x y
+
+-- two transactions have the same day, status, code and description
+abbrev pub same_header : Txn → Txn → Bool
+same_header t u =
+    int_eq t.day.0 u.day.0 && same_status t.status u.status && same_code t.code u.code
+    && bytes_eq t.description u.description
+
+-- the places of the first record with an entry's day and legs, and of the first with a transaction's day and header
+abbrev pub legs_place : List Record → Entry → Option ℕ
+legs_place records e = position_from (has_legs_of e) 0 records
+
+abbrev pub header_place : List Record → Txn → Option ℕ
+header_place records t = position_from (λ (r : Record). same_header r.txn t) 0 records
+
+-- that record with its number, and what it shares
+abbrev pub shared_line : List ℕ → ℕ → Record → List ℕ
+shared_line shares n r =
+    codes "; its day and " ++ shares ++ codes " are those of entry " ++ decimal n ++ codes ", " ++ header_text r.txn
+    ++ codes ": was it edited?"
+
+abbrev pub record_text : List ℕ → ℕ → Option Record → List ℕ
+record_text shares i None = []
+record_text shares i (Some r) = shared_line shares (i + 1) r
+
+abbrev pub shared_text : List Record → Option ℕ → Option ℕ → List ℕ
+shared_text records (Some i) header = record_text (codes "legs") i (slice_get records i)
+shared_text records None (Some i) = record_text (codes "header") i (slice_get records i)
+shared_text records None None = []
+
+abbrev pub legs_place_in : List Record → Option Entry → Option ℕ
+legs_place_in records None = None
+legs_place_in records (Some e) = legs_place records e
+
+-- a new transaction with its line and header, and the held one that it may be
+unfoldable pub touching_text : List Style → List Record → List ℕ → Standing → List ℕ
+touching_text styles records source s =
+    codes "  new: " ++ origin_text source s.line ++ header_text s.txn
+    ++ shared_text records (legs_place_in records (entry_in (legs_of styles s.txn))) (header_place records s.txn)
+    ++ codes "\n"
+
+-- ---- all of it
+
+-- so many are listed at most, and then how many more there are
+abbrev pub most_listed : ℕ
+most_listed = 5
+
+abbrev pub more_text : ℕ → List ℕ
+more_text n =
+    if nat_lt most_listed n then (codes "  new: and " ++ decimal (n - most_listed) ++ codes " more\n") else []
+
+unfoldable pub list_text : List Style → List Record → List ℕ → List Standing → List ℕ
+list_text styles records source new =
+    flat_map (touching_text styles records source) (take most_listed new) ++ more_text (length new)
+
+-- the new transactions that touch what the assertion of a leg looks at, before its place
+abbrev pub touching_leg : List Style → List Record → List Standing → Option Watched → Place → List Standing
+touching_leg styles records found None end = []
+touching_leg styles records found (Some w) end = touching styles w end (length records + 1) (new_of found)
+
+-- what is asserted and found, and the new transactions that may be why, by the entry of the assertion
+unfoldable pub found_text : List Style → List Record → List ℕ → List Standing → Option Entry → Failure → List ℕ
+found_text styles records source found own f =
+    amounts_text styles f.unit f.asserted f.found
+    ++ list_text styles records source (touching_leg styles records found (watched_in own f.place.leg) f.place)
+
+-- what is said of a failure in a branch that has these records: of a text with these transactions
+abbrev pub failure_of : List Style → List Record → List ℕ → List ℕ → List Standing → Failure → Option EntryOf → List ℕ
+failure_of styles records source text found f one =
+    place_text styles source text f.place.entry f.place.leg one
+    ++ found_text styles records source found (own_entry styles one) f
+
+unfoldable pub failure_text : List Style → List Record → List ℕ → List ℕ → List Standing → Failure → List ℕ
+failure_text styles records source text found f =
+    failure_of styles records source text found f (numbered (entries_with records found) f.place.entry)
+
+-- the branch whose assertions a request may break
+abbrev pub judged_branch : Request → List ℕ
+judged_branch (req.Import branch journal) = branch
+judged_branch (req.Dispatch id from to day amount account) = from
+judged_branch (req.Receive id branch day account part) = branch
+judged_branch (req.Close branch day accounts into) = branch
+judged_branch _ = []
+
+-- the text of a request, if it has one
+abbrev pub journal_of : Request → Option (List ℕ)
+journal_of (req.Import branch journal) = Some journal
+journal_of _ = None
+
+abbrev pub text_in : Option (List ℕ) → List ℕ
+text_in None = []
+text_in (Some text) = text
+
+-- its transactions, as a branch that has these records takes them; none without a text, or of one with a fault
+abbrev pub AreFound : List Style → List Record → Option (List ℕ) → List Standing → Type 0
+AreFound styles records None found = found ≡ []
+AreFound styles records (Some text) found =
+    (Reads styles text (located_of found) × AreStanding styles records [] found)
+    ⊎ (((first : Fault) × IsFirstFault styles text first) × (found ≡ []))
+
+-- what is appended tells of a failure by which a request is refused
+pub record TellsFailure (f : Federation) (request : Request) (source : List ℕ) (failure : Failure)
+    (old new : List ℕ) : Type 0 where
+  pub found : List Standing
+  pub list : AreFound f.styles (records_of f (judged_branch request)) (journal_of request) found
+  pub text : new ≡ old ++ failure_text f.styles (records_of f (judged_branch request)) source
+      (text_in (journal_of request)) found failure

@@ -21,9 +21,11 @@ pub(crate) mod transfers;
 
 ghost use Rattle.std.specs.Prelude.{◌≡◌, ℕ, List, ◌++◌, OnOk};
 ghost use Rattle.std.specs.Result.{IsOkUnless};
-ghost use Rattle.book_core.specs.declared.refusal.Refusal.TheVariants.{Plain};
+ghost use Rattle.book_core.specs.declared.refusal.Failure.{Failure};
+ghost use Rattle.book_core.specs.declared.refusal.Refusal.TheVariants.{Plain, ClaimFailed};
 ghost use Rattle.treasury_told.specs.declared.explain.at_fault.Bar.{Bar as Hindrance};
 ghost use Rattle.treasury_told.specs.AtFault.{cause_of};
+ghost use Rattle.treasury_told.specs.Failure.{TellsFailure};
 ghost use Rattle.treasury_told.specs.Pieces.{origin_text, sentence_line};
 ghost use Rattle.treasury_told.specs.Refused.{IsBarred, IsBarredText, TellsRefused};
 
@@ -208,6 +210,9 @@ pub fn explain<L: Ledger>(
     refusal: &Refusal,
     out: &mut Vec<u8>,
 ) -> Result<(), Cause>
+    // Of a failed assertion all that is said is told by the failure.
+    ensures failed { (failure : Failure) → refusal.now ≡ ClaimFailed failure → OnOk result
+        (TellsFailure state.now request.now source.now failure out.old.items out.new.items) }
     // Of an import that is refused by one of its transactions, it is that transaction of which all is said.
     ensures barred { (bar : Hindrance) (name journal : List ℕ) → IsBarred state.now request.now name journal bar
         → refusal.now ≡ Plain (cause_of bar) → OnOk result

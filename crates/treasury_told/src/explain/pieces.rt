@@ -132,3 +132,23 @@ pub fn push_named_amount(
     out.extend_from_slice(b"\n")?;
     Ok(())
 }
+
+/// Appends a line that names a sum of amounts, which may be too great for one.
+pub fn push_named_sum(
+    alloc: Global,
+    styles: &Styles,
+    name: &[u8],
+    unit: Unit,
+    sum: i128,
+    out: &mut Vec<u8>,
+) -> Result<(), Cause>
+    ensures value { OnOk result (out.new.items ≡ out.old.items ++ named_amount styles.now name.now unit sum) }
+    ensures memory { IsOkUnless result Cause.OutOfMemory }
+{
+    if let Ok(qty) = i64::try_from(sum) {
+        return push_named_amount(alloc, styles, name, unit, qty, out);
+    }
+    push_name(name, out)?;
+    out.extend_from_slice(b"?\n")?;
+    Ok(())
+}
