@@ -8,4 +8,5 @@ pub mod TransferLemmas
 pub mod LeftOverLemmas
 pub mod FailureLemmas
 pub mod RefusedLemmas
+pub mod PassingLemmas
 pub mod ExplainLemmas

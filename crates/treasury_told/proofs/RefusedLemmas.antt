@@ -274,7 +274,7 @@ follows_new styles records before now s r absent mark body h =
     }
 
 -- ---- one transaction is judged
-abbrev record_of : Standing → Entry → Record
+abbrev pub record_of : Standing → Entry → Record
 record_of s e = record { mark = s.mark; txn = marked s.txn (Some s.mark); entry = e }
 
 abbrev refused_as : Bar → Option Refusal
@@ -465,7 +465,7 @@ record Walked (styles : List Style) (lock : Option Day) (records : List Record) 
       ≡ refused_as bar
 
 -- a file that begins with a transaction that has an entry
-first_record : (styles : List Style) (before : List Standing) (s : Standing) (e : Entry) (xs : List Located)
+pub first_record : (styles : List Style) (before : List Standing) (s : Standing) (e : Entry) (xs : List Located)
     → s.mark ≡ mark_of styles s.txn (number_in styles (txns_of before) s.txn) s.txn.mark
     → legs_of styles s.txn ≡ Ok e
     → records_from styles (txns_of before) (record { line = s.line; txn = s.txn } ∷ xs)
@@ -479,7 +479,7 @@ first_record styles before s e xs mark legs =
     ∙ ap (λ (ts : List Txn). record_of s e ∷ records_from styles ts xs)
     (sym (map-append (λ (x : Standing). x.txn) before (s ∷ [])))
 
-entry_there : (styles : List Style) (line : ℕ) (t : Txn) (more : Option Refusal)
+pub entry_there : (styles : List Style) (line : ℕ) (t : Txn) (more : Option Refusal)
     → option_or (fault_on line (legs_of styles t)) more ≡ None
     → ((e : Entry) × (legs_of styles t ≡ Ok e)) × (more ≡ None)
 entry_there styles line t more h = by_entry (legs_of styles t) refl h

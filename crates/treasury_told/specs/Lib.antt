@@ -10,5 +10,6 @@ pub mod Lock
 pub mod LeftOver
 pub mod AtFault
 pub mod Refused
+pub mod Passing
 pub mod NewAccount
 pub mod RequestFaults

@@ -10,6 +10,7 @@ mod limits;
 pub(crate) mod lines;
 mod nearly;
 mod numbered;
+mod passing;
 pub(crate) mod pieces;
 mod request_fault;
 mod sentences;
@@ -26,17 +27,17 @@ ghost use Rattle.book_core.specs.declared.refusal.Refusal.TheVariants.{Plain, Cl
 ghost use Rattle.treasury_told.specs.declared.explain.at_fault.Bar.{Bar as Hindrance};
 ghost use Rattle.treasury_told.specs.AtFault.{cause_of};
 ghost use Rattle.treasury_told.specs.Failure.{TellsFailure};
+ghost use Rattle.treasury_told.specs.Passing.{IsPassed, IsPassedText, TellsPassed};
 ghost use Rattle.treasury_told.specs.Pieces.{origin_text, sentence_line};
 ghost use Rattle.treasury_told.specs.Refused.{IsBarred, IsBarredText, TellsRefused};
 
-use crate::explain::at_fault::{
-    Bar, bar_of, cause_of, find_barred, find_passing, push_barred, push_turnover,
-};
+use crate::explain::at_fault::{Bar, bar_of, cause_of, find_barred, push_barred};
 use crate::explain::closing::push_closing;
 use crate::explain::failure::explain_failure;
 use crate::explain::held::push_held;
 use crate::explain::hints::push_fault_hint;
 use crate::explain::lines::push_source;
+use crate::explain::passing::{find_passing, push_passing};
 pub use crate::explain::request_fault::{explain_request, push_fault_of, push_request_fault};
 pub use crate::explain::sentences::sentence;
 pub use crate::explain::shown::{push_line, push_named, push_number, push_shown};
@@ -157,19 +158,21 @@ fn explain_limit<L: Ledger>(
     source: &str,
     journal: &[u8],
     out: &mut Vec<u8>,
-) -> Result<(), Cause> {
-    let styles = state.styles();
-    let Ok(Some(passing)) = find_passing(alloc, styles, records_of(state, name), journal) else {
-        return explain_plain(alloc, state, request, Cause::Limit, out);
-    };
-    let Some(standing) = passing.list.as_slice().get(passing.place) else {
-        return explain_plain(alloc, state, request, Cause::Limit, out);
-    };
-    let mut origin = Vec::new(alloc);
-    push_origin(source, standing.line, &mut origin)?;
-    push_sentence(origin.as_slice(), Cause::Limit, out)?;
-    push_source(journal, standing.line, out)?;
-    push_turnover(alloc, styles, name, passing.unit, out)
+) -> Result<(), Cause>
+    ensures told { IsPassedText state.now name.now journal.now → OnOk result
+        (TellsPassed state.now name.now source.now journal.now out.old.items out.new.items) }
+{
+    match find_passing(alloc, state, name, journal) {
+        Ok(Some(passing)) => {
+            let styles = state.styles();
+            push_passing(alloc, styles, name, source, journal, &passing, out)
+        }
+        Ok(None) => explain_plain(alloc, state, request, Cause::Limit, out),
+        Err(cause) => {
+            explain_plain(alloc, state, request, Cause::Limit, out)?;
+            Err(cause)
+        }
+    }
 }
 
 /// Appends what is said of a refusal by a cause alone; of an import, with the transaction that it comes from.
@@ -184,17 +187,19 @@ fn explain_cause<L: Ledger>(
     ensures barred { (bar : Hindrance) (name journal : List ℕ) → IsBarred state.now request.now name journal bar
         → cause ≡ cause_of bar → OnOk result
         (TellsRefused state.now request.now name source.now journal bar out.old.items out.new.items) }
+    ensures passed { (name journal : List ℕ) → IsPassed state.now request.now name journal → cause ≡ Cause.Limit
+        → OnOk result (TellsPassed state.now name source.now journal out.old.items out.new.items) }
 {
     let Request::Import { branch, journal } = request else {
         return explain_plain(alloc, state, request, cause, out);
     };
     let name = branch.as_str();
     let journal = journal.as_bytes();
+    if let Cause::Limit = cause {
+        return explain_limit(alloc, state, request, name, source, journal, out);
+    }
     match bar_of(cause) {
         Some(bar) => explain_barred(alloc, state, request, name, source, journal, bar, out),
-        None if cause == Cause::Limit => {
-            explain_limit(alloc, state, request, name, source, journal, out)
-        }
         None => explain_plain(alloc, state, request, cause, out),
     }
 }
@@ -217,6 +222,10 @@ pub fn explain<L: Ledger>(
     ensures barred { (bar : Hindrance) (name journal : List ℕ) → IsBarred state.now request.now name journal bar
         → refusal.now ≡ Plain (cause_of bar) → OnOk result
         (TellsRefused state.now request.now name source.now journal bar out.old.items out.new.items) }
+    // Of an import that is refused since a turnover exceeds its limit, it is the transaction with which it first does.
+    ensures passed { (name journal : List ℕ) → IsPassed state.now request.now name journal
+        → refusal.now ≡ Plain Cause.Limit → OnOk result
+        (TellsPassed state.now name source.now journal out.old.items out.new.items) }
 {
     match refusal {
         Refusal::Plain(cause) => explain_cause(alloc, state, request, source, *cause, out),

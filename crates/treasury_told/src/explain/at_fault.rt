@@ -1,4 +1,4 @@
-//! Which transaction of a journal is refused by 24 to 28, and for what.
+//! Which transaction of a journal is refused by 24 to 27, and for what.
 
 ghost use Rattle.std.specs.Prelude.{◌≡◌, ℕ, List, [], ◌++◌, Some, None, find, slice_get, codes};
 ghost use Rattle.std.specs.Prelude.{IfOk, IfSome, IsSomeAnd, OnOk};
@@ -23,29 +23,19 @@ ghost use Rattle.treasury_told.specs.Refused.{transit_text, bar_text, place_text
 use crate::explain::held::push_lock;
 use crate::explain::lines::push_source;
 use crate::explain::numbered::record_at;
-use crate::explain::pieces::{push_amount, push_header};
-use crate::explain::shown::{push_named, push_number, push_shown};
+use crate::explain::pieces::push_header;
+use crate::explain::shown::{push_named, push_number};
 use crate::explain::standing::{
     Holder, Standing, entry_of, is_same_text, lock_of, records_of, standings,
 };
 use crate::explain::{push_origin, push_sentence};
-use book_core::{Ledger, Leg, MAX_TURNOVER};
-use journal_balance::legs;
-use journal_format::{Txn, is_printable};
+use book_core::{Ledger, Leg};
+use journal_format::Txn;
 use journal_lines::is_reserved;
-use money_core::{Cause, Copied, Day, Styles, Text, Unit};
+use money_core::{Cause, Copied, Day, Styles, Text};
 use std::alloc::Global;
 use treasury_core::{Record, State};
 use treasury_requests::Request;
-
-/// The transactions of a text, and the new one with which the turnover of a commodity exceeds its limit.
-#[derive(Drop)]
-pub struct Passing {
-    pub list: Vec<Standing>,
-    /// The place in the list, from 0.
-    pub place: usize,
-    pub unit: Unit,
-}
 
 /// The transactions of a text, and which of them is refused.
 #[derive(Drop)]
@@ -240,75 +230,6 @@ pub fn barred_place(
         }
     }
     Ok(None)
-}
-
-/// Adds what legs move to the turnover of each commodity.
-fn add_turnover(turnover: &mut Vec<u64>, legs: &[Leg]) {
-    for leg in legs {
-        if let Some(sum) = turnover.get_mut(usize::from(leg.unit.0)) {
-            *sum = sum.saturating_add(leg.qty.unsigned_abs());
-        }
-    }
-}
-
-/// The first commodity whose turnover is over its limit.
-fn passed(turnover: &[u64]) -> Option<Unit> {
-    for (number, sum) in turnover.iter().enumerate() {
-        if *sum > MAX_TURNOVER {
-            return match u16::try_from(number) {
-                Ok(number) => Some(Unit(number)),
-                Err(_) => None,
-            };
-        }
-    }
-    None
-}
-
-/// The turnover of records in each commodity.
-fn turnover_of(alloc: Global, styles: &Styles, records: &[Record]) -> Result<Vec<u64>, Cause> {
-    let mut turnover = Vec::new(alloc);
-    for _ in 0..styles.len() {
-        turnover.push(0u64)?;
-    }
-    for record in records {
-        add_turnover(&mut turnover, record.entry.legs.items());
-    }
-    Ok(turnover)
-}
-
-/// The place of the new transaction with which the turnover of a commodity exceeds its limit, and that commodity.
-fn passing_place(
-    alloc: Global,
-    styles: &Styles,
-    records: &[Record],
-    list: &[Standing],
-) -> Result<Option<(usize, Unit)>, Cause> {
-    let mut turnover = turnover_of(alloc, styles, records)?;
-    for (place, standing) in list.iter().enumerate() {
-        if standing.is_new() && is_printable(&standing.txn, styles) {
-            let entry = legs(alloc, &standing.txn, styles)?;
-            add_turnover(&mut turnover, entry.legs.items());
-            if let Some(unit) = passed(turnover.as_slice()) {
-                return Ok(Some((place, unit)));
-            }
-        }
-    }
-    Ok(None)
-}
-
-/// The new transaction of a text with which the turnover of a commodity exceeds its limit.
-pub fn find_passing(
-    alloc: Global,
-    styles: &Styles,
-    records: &[Record],
-    text: &[u8],
-) -> Result<Option<Passing>, Cause> {
-    let list = standings(alloc, styles, records, text)?;
-    match passing_place(alloc, styles, records, list.as_slice()) {
-        Ok(Some((place, unit))) => Ok(Some(Passing { list, place, unit })),
-        Ok(None) => Ok(None),
-        Err(cause) => Err(cause),
-    }
 }
 
 /// Appends the record of that number, which holds a mark.
@@ -543,23 +464,4 @@ pub fn find_barred<L: Ledger>(
         Ok(None) => Ok(None),
         Err(cause) => Err(cause),
     }
-}
-
-/// Appends the commodity whose turnover passes its limit.
-pub fn push_turnover(
-    alloc: Global,
-    styles: &Styles,
-    name: &str,
-    unit: Unit,
-    out: &mut Vec<u8>,
-) -> Result<(), Cause> {
-    if let Some(style) = styles.style(unit) {
-        push_named(b"commodity", style.symbol.as_str().as_bytes(), out)?;
-    }
-    out.extend_from_slice(b"  with this transaction the turnover of ")?;
-    push_shown(name.as_bytes(), out)?;
-    out.extend_from_slice(b" exceeds its limit, ")?;
-    push_amount(alloc, styles, unit, MAX_TURNOVER as i64, out)?;
-    out.extend_from_slice(b"\n")?;
-    Ok(())
 }
