@@ -3,6 +3,11 @@ pub mod AccountLemmas
 pub mod NumberedLemmas
 pub mod AtFaultLemmas
 pub mod LineLemmas
+pub mod OddLemmas
+pub mod HeadLemmas
+pub mod BranchLemmas
+pub mod OddNoteLemmas
+pub mod OddValues
 pub mod PieceLemmas
 pub mod TransferLemmas
 pub mod LeftOverLemmas

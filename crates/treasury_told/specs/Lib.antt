@@ -1,6 +1,7 @@
 -- What a reader has to believe, in reading order
 pub mod Shown
 pub mod Sentence
+pub mod Detail
 pub mod Standing
 pub mod Numbered
 pub mod Pieces
@@ -11,5 +12,10 @@ pub mod LeftOver
 pub mod AtFault
 pub mod Refused
 pub mod Passing
+pub mod Heads
+pub mod Listed
+pub mod OddAmount
+pub mod OddNotes
+pub mod Edited
 pub mod NewAccount
 pub mod RequestFaults

@@ -7,24 +7,29 @@ mod amounts;
 mod dated;
 mod days;
 mod edited;
+mod heads;
+mod import;
+mod listed;
+mod odd;
 mod other_branch;
 pub(crate) mod places;
 pub(crate) mod samples;
 
-use crate::explain::shown::push_number;
-use crate::explain::standing::branch_named;
+ghost use Rattle.std.specs.Prelude.{◌≡◌, ◌<◌, ℕ, List, drop, length, OnOk, Some};
+ghost use Rattle.journal_format.specs.declared.txn.Located.{Located};
+ghost use Rattle.treasury_state.specs.Federation.{records_of};
+ghost use Rattle.treasury_told.specs.declared.notes.BranchBefore.{BranchBefore as HeldOfBranch};
+ghost use Rattle.treasury_told.specs.OddNotes.{AreAllNew, IsAllNew, lines_of, odd_notes, HasNotes};
+
+use crate::explain::standing::{branch_named, records_of};
 use crate::explain::transfers::{part_of, transfer_of};
-use crate::notes::accounts::{has_new_account, push_account, push_accounts, push_unknown};
-use crate::notes::again::{Again, find_again, push_again};
-use crate::notes::amounts::{has_odd_amount, push_odd_amount, push_odd_amounts};
-use crate::notes::dated::{find_dated, push_dated};
+use crate::notes::accounts::{find_unknown, push_account, push_unknown};
+use crate::notes::amounts::push_odd_amount;
 use crate::notes::days::{
-    Far, find_far, push_early_closing, push_early_lock, push_far, push_far_transfer,
-    push_late_receipt, push_open_year,
+    push_early_closing, push_early_lock, push_far_transfer, push_late_receipt, push_open_year,
 };
-use crate::notes::edited::{find_candidates, push_edited};
-use crate::notes::other_branch::push_other_branch;
-use crate::notes::places::new_places;
+pub(crate) use crate::notes::import::Import;
+use crate::notes::import::note_import;
 use crate::notes::samples::push_sample_note;
 use book_core::Ledger;
 use money_core::{Cause, Day, Text};
@@ -89,117 +94,6 @@ pub fn held_before<L: Ledger>(state: Option<&State<L>>, request: &Request) -> Op
     }
 }
 
-/// Appends how many notes of a kind there are beside those that were given.
-pub(crate) fn push_more(count: usize, out: &mut Vec<u8>) -> Result<(), Cause> {
-    if count > MOST {
-        out.extend_from_slice(b"note: and ")?;
-        push_number(count.saturating_sub(MOST), out)?;
-        out.extend_from_slice(b" more\n")?;
-    }
-    Ok(())
-}
-
-/// What an import added to the book of a branch, or would add, and the text where it stands.
-#[derive(Clone, Copy)]
-pub(crate) struct Import<'a> {
-    /// The journal's file and its text.
-    pub source: &'a str,
-    pub text: &'a [u8],
-    pub branch: &'a str,
-    /// The records that were held before, and those that are new.
-    pub held: &'a [Record],
-    pub new: &'a [Record],
-    pub is_dry_run: bool,
-}
-
-/// What there is to note of an import.
-#[derive(Drop)]
-struct Noted {
-    far: Option<Far>,
-    has_odd_amount: bool,
-    again: Vec<Again>,
-    /// The places of held records that new ones may be, edited.
-    candidates: Vec<usize>,
-    has_new_account: bool,
-    /// The place of the first new record with a posting that has a date.
-    dated: Option<usize>,
-}
-
-impl Noted {
-    fn is_empty(&self) -> bool {
-        self.far.is_none()
-            && !self.has_odd_amount
-            && self.again.is_empty()
-            && self.candidates.is_empty()
-            && !self.has_new_account
-            && self.dated.is_none()
-    }
-}
-
-/// Appends the notes of an import, kind by kind.
-fn push_noted<L: Ledger>(
-    alloc: Global,
-    state: &State<L>,
-    import: &Import<'_>,
-    noted: &Noted,
-    out: &mut Vec<u8>,
-) -> Result<(), Cause> {
-    let styles = state.styles();
-    let places = new_places(alloc, styles, import, noted.candidates.as_slice())?;
-    let lines: &[usize] = places.lines.as_slice();
-    if let Some(far) = noted.far {
-        push_far(alloc, import, lines, far, out)?;
-    }
-    if noted.has_odd_amount {
-        push_odd_amounts(alloc, styles, import, lines, out)?;
-    }
-    let again = noted.again.as_slice();
-    push_again(alloc, import, lines, again, out)?;
-    push_edited(
-        alloc,
-        import,
-        &places,
-        noted.candidates.as_slice(),
-        again,
-        out,
-    )?;
-    if noted.has_new_account {
-        push_accounts(alloc, import, lines, out)?;
-    }
-    match noted.dated {
-        Some(place) => push_dated(alloc, import, lines, place, out),
-        None => Ok(()),
-    }
-}
-
-/// Appends the notes of an import that added entries to a branch.
-fn note_import<L: Ledger>(
-    alloc: Global,
-    state: &State<L>,
-    branch: &Branch<L>,
-    import: &Import<'_>,
-    before: BranchBefore,
-    out: &mut Vec<u8>,
-) -> Result<(), Cause> {
-    if import.new.is_empty() {
-        return Ok(());
-    }
-    let is_grown = before.is_dry_run || branch.ledger.accounts().len() > before.accounts;
-    push_other_branch(alloc, state, import.branch, import.new, out)?;
-    let noted = Noted {
-        far: find_far(import),
-        has_odd_amount: has_odd_amount(state.styles(), import.text),
-        again: find_again(alloc, state.styles(), import.held, import.new)?,
-        candidates: find_candidates(alloc, import.held, import.new)?,
-        has_new_account: is_grown && has_new_account(alloc, import.held, import.new)?,
-        dated: find_dated(import.new),
-    };
-    if noted.is_empty() {
-        return Ok(());
-    }
-    push_noted(alloc, state, import, &noted, out)
-}
-
 /// Appends the notes of a lock that a branch did not have before.
 fn note_lock<L: Ledger>(
     alloc: Global,
@@ -235,7 +129,8 @@ fn note_close(
     out: &mut Vec<u8>,
 ) -> Result<(), Cause> {
     if let Some(list) = accounts {
-        push_unknown(list.as_str(), branch, held, out)?;
+        let unknown = find_unknown(alloc, list.as_str(), held)?;
+        push_unknown(unknown.as_slice(), branch, out)?;
     }
     let done: &[u8] = if is_dry_run {
         b"; the branch would be closed and locked through "
@@ -312,6 +207,17 @@ fn note_entry<L: Ledger>(
     }
 }
 
+/// The first records, so many, and those behind them.
+fn parted(records: &[Record], count: usize) -> (&[Record], &[Record])
+    ensures { result.1.now ≡ drop count records.now }
+{
+    if count <= records.len() {
+        records.split_at(count)
+    } else {
+        (records, &[])
+    }
+}
+
 /// Appends the notes of a request that was answered, and no refusal, on a branch.
 fn push_notes_on<L: Ledger>(
     alloc: Global,
@@ -322,11 +228,62 @@ fn push_notes_on<L: Ledger>(
     before: BranchBefore,
     out: &mut Vec<u8>,
 ) -> Result<(), Cause> {
-    let records = branch.records.items();
-    let (held, new) = records.split_at(before.entries.min(records.len()));
+    let (held, new) = parted(branch.records.items(), before.entries);
     push_notes_of(
         alloc, state, branch, request, source, before, held, new, out,
     )
+}
+
+/// Appends the notes of an import into a branch that held these records, and got the new ones.
+fn push_import<L: Ledger>(
+    alloc: Global,
+    state: &State<L>,
+    branch: &Branch<L>,
+    journal: &[u8],
+    source: &str,
+    before: BranchBefore,
+    held: &[Record],
+    new: &[Record],
+    out: &mut Vec<u8>,
+) -> Result<(), Cause>
+    ensures odd { (list : List Located) → AreAllNew state.now.styles journal.now new.now list → OnOk result
+        (HasNotes (odd_notes state.now.styles source.now journal.now (lines_of list)) out.old.items out.new.items) }
+{
+    let import = Import {
+        source,
+        text: journal,
+        branch: branch.name.as_str(),
+        held,
+        new,
+        is_dry_run: before.is_dry_run,
+    };
+    note_import(alloc, state, branch, &import, before, out)
+}
+
+/// Appends the notes of an import that was answered, and no refusal.
+fn push_import_notes<L: Ledger>(
+    alloc: Global,
+    state: &State<L>,
+    name: &str,
+    journal: &[u8],
+    source: &str,
+    before: BranchBefore,
+    out: &mut Vec<u8>,
+) -> Result<(), Cause>
+    ensures odd { (list : List Located) → 0 < length list
+        → AreAllNew state.now.styles journal.now (drop before.entries (records_of state.now name.now)) list
+        → OnOk result
+        (HasNotes (odd_notes state.now.styles source.now journal.now (lines_of list)) out.old.items out.new.items) }
+{
+    match branch_named(state, name) {
+        Some(branch) => {
+            let (held, new) = parted(records_of(state, name), before.entries);
+            push_import(
+                alloc, state, branch, journal, source, before, held, new, out,
+            )
+        }
+        None => Ok(()),
+    }
 }
 
 /// Appends the notes of a request on a branch that held these records, and got the new ones.
@@ -344,15 +301,10 @@ fn push_notes_of<L: Ledger>(
     let name = branch.name.as_str();
     match request {
         Request::Import { journal, .. } => {
-            let import = Import {
-                source,
-                text: journal.as_bytes(),
-                branch: name,
-                held,
-                new,
-                is_dry_run: before.is_dry_run,
-            };
-            note_import(alloc, state, branch, &import, before, out)
+            let journal = journal.as_bytes();
+            push_import(
+                alloc, state, branch, journal, source, before, held, new, out,
+            )
         }
         Request::Lock { day, .. } => note_lock(alloc, state, branch, *day, before, out),
         _ if new.is_empty() => Ok(()),
@@ -384,6 +336,29 @@ pub(crate) fn push_notes_ahead<L: Ledger>(
     )
 }
 
+/// Appends the notes of a request that was answered, and no refusal, on a branch that held this before.
+fn push_answered<L: Ledger>(
+    alloc: Global,
+    state: &State<L>,
+    request: &Request,
+    source: &str,
+    before: BranchBefore,
+    out: &mut Vec<u8>,
+) -> Result<(), Cause>
+    ensures odd { (name journal : List ℕ) (list : List Located)
+        → IsAllNew state.now request.now name journal before.entries list → OnOk result
+        (HasNotes (odd_notes state.now.styles source.now journal (lines_of list)) out.old.items out.new.items) }
+{
+    if let Request::Import { branch, journal } = request {
+        let (name, journal) = (branch.as_str(), journal.as_bytes());
+        return push_import_notes(alloc, state, name, journal, source, before, out);
+    }
+    match branch_of(state, request) {
+        Some(branch) => push_notes_on(alloc, state, branch, request, source, before, out),
+        None => Ok(()),
+    }
+}
+
 /// Appends the notes of a request that was answered, and no refusal.
 fn push_notes<L: Ledger>(
     alloc: Global,
@@ -392,17 +367,20 @@ fn push_notes<L: Ledger>(
     source: &str,
     before: HeldBefore,
     out: &mut Vec<u8>,
-) -> Result<(), Cause> {
+) -> Result<(), Cause>
+    // Where each transaction of an import is new, the odd amounts of all of them are noted, and no others.
+    ensures odd { (held : HeldOfBranch) (name journal : List ℕ) (list : List Located) → before.branch ≡ Some held
+        → IsAllNew state.now request.now name journal held.entries list → OnOk result
+        (HasNotes (odd_notes state.now.styles source.now journal (lines_of list)) out.old.items out.new.items) }
+{
     if let Request::Commodity { sample } = request {
         if state.styles().len() > before.commodities {
             return push_sample_note(sample.as_str(), out);
         }
     }
-    match (branch_of(state, request), before.branch) {
-        (Some(branch), Some(before)) => {
-            push_notes_on(alloc, state, branch, request, source, before, out)
-        }
-        _ => Ok(()),
+    match before.branch {
+        Some(before) => push_answered(alloc, state, request, source, before, out),
+        None => Ok(()),
     }
 }
 

@@ -1,5 +1,8 @@
 //! What stands against a closing: an account of its list, its target, or the closing that the branch has of that day.
 
+ghost use Rattle.std.specs.Prelude.{◌≡◌, false, OnOk};
+ghost use Rattle.treasury_told.specs.Detail.{has_closing_detail};
+
 use crate::explain::held::{ACCOUNT_FORM, TRANSFERS_ONLY};
 use crate::explain::pieces::push_header;
 use crate::explain::shown::{push_line, push_named, push_number, push_shown};
@@ -125,7 +128,10 @@ pub fn push_closing<L: Ledger>(
     request: &Request,
     cause: Cause,
     out: &mut Vec<u8>,
-) -> Result<(), Cause> {
+) -> Result<(), Cause>
+    // Of a refusal of which no more is said than its sentence, nothing is appended.
+    ensures bare { has_closing_detail cause ≡ false → OnOk result (out.new.items ≡ out.old.items) }
+{
     let Request::Close {
         branch,
         day,

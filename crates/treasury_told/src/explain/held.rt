@@ -1,8 +1,9 @@
 //! What stands against a request: what is held, and the forms and limits that its texts have to meet.
 
-ghost use Rattle.std.specs.Prelude.{◌≡◌, ◌++◌, OnOk};
+ghost use Rattle.std.specs.Prelude.{◌≡◌, ◌++◌, false, OnOk};
 ghost use Rattle.std.specs.Option.{option_map};
 ghost use Rattle.std.specs.Result.{IsOkUnless};
+ghost use Rattle.treasury_told.specs.Detail.{has_detail};
 ghost use Rattle.treasury_told.specs.Lock.{branch_of, close_hint, locked_line, lock_text};
 
 use crate::explain::hints::{push_amount_form, push_sample, push_sample_form, push_samples};
@@ -209,7 +210,10 @@ pub fn push_held<L: Ledger>(
     request: &Request,
     cause: Cause,
     out: &mut Vec<u8>,
-) -> Result<(), Cause> {
+) -> Result<(), Cause>
+    // Of a refusal of which no more is said than its sentence, nothing is appended.
+    ensures bare { has_detail cause ≡ false → OnOk result (out.new.items ≡ out.old.items) }
+{
     match cause {
         Cause::UnknownBranch => push_branches(state, out),
         Cause::BranchName => push_line(NAME_FORM, out),

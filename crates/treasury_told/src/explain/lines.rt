@@ -1,17 +1,22 @@
 //! The lines of a journal's text, as an explanation shows them.
 
-ghost use Rattle.std.specs.Prelude.{◌≡◌, ◌++◌, OnOk};
+ghost use Rattle.std.specs.Prelude.{◌≡◌, ◌++◌, ◌≤◌, ◌==◌, false, drop, length, OnOk};
 ghost use Rattle.std.specs.Option.{option_map};
 ghost use Rattle.std.specs.Result.{IsOkUnless};
+ghost use Rattle.journal_lines.specs.LineKind.{kind_of};
 ghost use Rattle.journal_lines.specs.Lines.{lines};
+ghost use Rattle.journal_format.specs.PostingForm.{claim_sign};
+ghost use Rattle.journal_format.specs.PostingParts.{outside, before_mark, from_mark, kind_at, name_of, part_of};
+ghost use Rattle.journal_format.specs.PostingParts.{amount_in, price_in, claim_in, asserted_in};
 ghost use Rattle.treasury_told.specs.Numbered.{numbered};
 ghost use Rattle.treasury_told.specs.Pieces.{numbered_line, source_line};
+ghost use Rattle.treasury_told.specs.OddAmount.{is_inner, is_posting_line};
 
 use crate::explain::pieces::push_behind;
 use crate::explain::shown::push_number;
 use journal_lines::{
     LineKind, Lines, behind_status, front_of, is_block_end, is_remark, kind, name_end, trim,
-    trim_start,
+    trim_end, trim_start,
 };
 use money_core::Cause;
 
@@ -59,13 +64,34 @@ pub fn push_source(text: &[u8], line: usize, out: &mut Vec<u8>) -> Result<(), Ca
     }
 }
 
+/// Whether the line is indented.
+pub fn is_inner(line: &[u8]) -> bool
+    ensures { result ≡ is_inner (kind_of line.now) }
+{
+    match kind(line) {
+        LineKind::Indented => true,
+        LineKind::Blank
+        | LineKind::Comment
+        | LineKind::Block
+        | LineKind::Header
+        | LineKind::Commodity
+        | LineKind::Skipped
+        | LineKind::Unknown => false,
+    }
+}
+
 /// Whether the line is that of a posting, inside a transaction.
-pub fn is_posting(line: &[u8]) -> bool {
-    kind(line) == LineKind::Indented && !is_remark(line)
+pub fn is_posting(line: &[u8]) -> bool
+    ensures { result ≡ is_posting_line line.now }
+{
+    is_inner(line) && !is_remark(line)
 }
 
 /// The parts of a posting's line.
-pub fn posting_parts(line: &[u8]) -> PostingParts<'_> {
+pub fn posting_parts(line: &[u8]) -> PostingParts<'_>
+    ensures name { result.name.now ≡ name_of line.now }
+    ensures rest { result.rest.now ≡ part_of line.now }
+{
     let text = behind_status(trim_start(front_of(line)));
     let end = name_end(text);
     PostingParts {
@@ -80,42 +106,89 @@ pub struct Amounts<'a> {
     pub amount: &'a [u8],
     /// From its `@` on.
     pub price: &'a [u8],
-    /// After its sign.
-    pub asserted: &'a [u8],
+    /// From its sign on.
+    pub claim: &'a [u8],
 }
 
-/// What stands before the byte outside quotes, and what stands from there on.
-fn cut_at(text: &[u8], mark: u8) -> (&[u8], &[u8]) {
-    let mut is_quoted = false;
+/// Where the byte first stands outside quotes, or the length.
+#[tactic(auto, unfolding(journal_format::specs::PostingParts::outside))]
+fn outside(text: &[u8], mark: u8) -> usize
+    ensures place { result ≡ outside (λ b. b == mark) false text.now }
+    ensures bound { result ≤ length text.now }
+{
+    let mut quoted = false;
     for (at, byte) in text.iter().enumerate() {
-        if *byte == mark && !is_quoted {
-            return text.split_at(at);
+        if *byte == mark && !quoted {
+            return at;
         }
         if *byte == b'"' {
-            is_quoted = !is_quoted;
+            quoted = !quoted;
         }
     }
-    (text, &[])
+    text.len()
 }
 
-/// What follows the sign of an assertion.
-fn behind_sign(text: &[u8]) -> &[u8] {
-    for (at, byte) in text.iter().enumerate() {
+/// What stands before the first such byte outside quotes, without blanks at its end, and what stands from there on.
+fn cut_at(text: &[u8], mark: u8) -> (&[u8], &[u8])
+    ensures before { result.0.now ≡ before_mark mark text.now }
+    ensures from { result.1.now ≡ from_mark mark text.now }
+{
+    let place = outside(text, mark);
+    (trim_end(&text[..place]), &text[place..])
+}
+
+/// What follows the signs of an assertion, however many there are.
+pub fn behind_signs(claim: &[u8]) -> &[u8] {
+    for (at, byte) in claim.iter().enumerate() {
         if *byte != b'=' && *byte != b'*' {
-            return trim(&text[at..]);
+            return trim(&claim[at..]);
         }
     }
     &[]
 }
 
+/// How long the sign of an assertion is.
+#[tactic(auto, unfolding(journal_format::specs::PostingParts::kind_at))]
+fn sign_len(claim: &[u8]) -> usize
+    ensures { result ≡ length (claim_sign (kind_at claim.now)) }
+{
+    match claim {
+        [_, b'=', b'*', ..] => 3,
+        [_, b'=', ..] | [_, b'*', ..] => 2,
+        _ => 1,
+    }
+}
+
+/// What follows so many bytes, or nothing.
+fn behind(text: &[u8], count: usize) -> &[u8]
+    ensures { result.now ≡ drop count text.now }
+{
+    if count <= text.len() {
+        &text[count..]
+    } else {
+        &[]
+    }
+}
+
+/// The asserted balance behind the sign of an assertion.
+pub fn asserted_in(claim: &[u8]) -> &[u8]
+    ensures { result.now ≡ asserted_in claim.now }
+{
+    trim_start(behind(claim, sign_len(claim)))
+}
+
 /// The amounts of a posting's line, by what follows the account's name.
-pub fn amounts_of(rest: &[u8]) -> Amounts<'_> {
+pub fn amounts_of(rest: &[u8]) -> Amounts<'_>
+    ensures amount { result.amount.now ≡ amount_in rest.now }
+    ensures price { result.price.now ≡ price_in rest.now }
+    ensures claim { result.claim.now ≡ claim_in rest.now }
+{
     let (value, claim) = cut_at(rest, b'=');
     let (amount, price) = cut_at(value, b'@');
     Amounts {
-        amount: trim(amount),
-        price: trim(price),
-        asserted: behind_sign(claim),
+        amount,
+        price,
+        claim,
     }
 }
 

@@ -1,6 +1,6 @@
 //! Lines that hledger takes, or that are nearly a posting: a zero without a commodity, a posting that is not indented.
 
-use crate::explain::lines::{amounts_of, is_posting, line_at, posting_parts};
+use crate::explain::lines::{amounts_of, behind_signs, is_posting, line_at, posting_parts};
 use journal_lines::{LineKind, Lines, first_word, is_account, kind};
 use money_core::{Styles, Unit, find, read_amount};
 
@@ -36,7 +36,7 @@ fn unit_of_line(styles: &Styles, line: &[u8]) -> Option<Unit> {
     let amounts = amounts_of(posting_parts(line).rest);
     match unit_of(styles, amounts.amount) {
         Some(unit) => Some(unit),
-        None => unit_of(styles, amounts.asserted),
+        None => unit_of(styles, behind_signs(amounts.claim)),
     }
 }
 
@@ -61,7 +61,9 @@ fn unit_around(styles: &Styles, text: &[u8], line: usize) -> Option<Unit> {
 pub fn zero_unit(styles: &Styles, text: &[u8], line: usize) -> Option<Unit> {
     let bytes = line_at(text, line)?;
     let amounts = amounts_of(posting_parts(bytes).rest);
-    if styles.len() == 0 || !(is_bare_zero(amounts.amount) || is_bare_zero(amounts.asserted)) {
+    if styles.len() == 0
+        || !(is_bare_zero(amounts.amount) || is_bare_zero(behind_signs(amounts.claim)))
+    {
         return None;
     }
     match unit_of_line(styles, bytes) {

@@ -1,17 +1,20 @@
 //! Accounts that a branch had in no entry before, or does not have: a name may be mistyped.
 
-ghost use Rattle.std.specs.Prelude.{◌≡◌, ◌&&◌, ◌||◌, ◌↔◌, true, not, ℕ, List, IfOk, OnOk, IsTrue, is_some};
+ghost use Rattle.std.specs.Prelude.{◌≡◌, ◌++◌, ◌&&◌, ◌||◌, ◌↔◌, true, not, ℕ, List, IfOk, OnOk, IsTrue, is_some};
 ghost use Rattle.std.specs.HashMap.{get_by_text};
 ghost use Rattle.std.specs.List.{list_any};
 ghost use Rattle.std.specs.Result.{IsOkUnless};
 ghost use Rattle.std.specs.Str.{bytes_eq};
+ghost use Rattle.treasury_told.specs.Listed.{listed};
 ghost use Rattle.treasury_told.specs.NewAccount.{posts_to, has_leg_on, is_new_account, has_imported};
+ghost use Rattle.treasury_told.specs.NewAccount.{between, unknown_text};
 
 use crate::explain::at_fault::is_own_mark;
 use crate::explain::lines::{is_posting, posting_parts};
 use crate::explain::push_origin;
 use crate::explain::shown::{push_number, push_shown};
-use crate::notes::{Import, MOST, push_more};
+use crate::notes::listed::push_more;
+use crate::notes::{Import, MOST};
 use book_core::is_inside;
 use journal_lines::{LineKind, Lines, kind};
 use money_core::Cause;
@@ -293,25 +296,58 @@ pub fn push_account(
     Ok(())
 }
 
-/// Appends the notes of the listed accounts, joined by `;`, that a branch with these records does not have.
-pub fn push_unknown(
-    list: &str,
-    branch: &str,
+/// The listed accounts, joined by `;`, that a branch with these records does not have.
+pub fn find_unknown<'a>(
+    alloc: Global,
+    list: &'a str,
     held: &[Record],
-    out: &mut Vec<u8>,
-) -> Result<(), Cause> {
-    let mut count = 0usize;
+) -> Result<Vec<&'a str>, Cause> {
+    let mut found = Vec::new(alloc);
     for name in list.split(';') {
         if !is_used_inside(name, held) {
-            if count < MOST {
-                out.extend_from_slice(b"note: --accounts: ")?;
-                push_shown(name.as_bytes(), out)?;
-                out.extend_from_slice(b" is no account of ")?;
-                push_shown(branch.as_bytes(), out)?;
-                out.extend_from_slice(b", and closes nothing\n")?;
-            }
-            count = count.saturating_add(1);
+            found.push(name)?;
         }
     }
-    push_more(count, out)
+    Ok(found)
+}
+
+/// Appends a text between two others.
+#[tactic(auto, unfolding(crate::specs::NewAccount::between))]
+fn push_between(before: &[u8], text: &[u8], behind: &[u8], out: &mut Vec<u8>) -> Result<(), Cause>
+    ensures value { OnOk result (out.new.items ≡ out.old.items ++ between before.now text.now behind.now) }
+    ensures memory { IsOkUnless result Cause.OutOfMemory }
+{
+    out.extend_from_slice(before)?;
+    push_shown(text, out)?;
+    out.extend_from_slice(behind)?;
+    Ok(())
+}
+
+/// Appends the note of a listed account that a branch does not have.
+#[tactic(auto, unfolding(crate::specs::NewAccount::unknown_text))]
+fn push_no_account(name: &str, branch: &str, out: &mut Vec<u8>) -> Result<(), Cause>
+    ensures value { OnOk result (out.new.items ≡ out.old.items ++ unknown_text branch.now name.now) }
+    ensures memory { IsOkUnless result Cause.OutOfMemory }
+{
+    push_between(
+        b"note: --accounts: ",
+        name.as_bytes(),
+        b" is no account of ",
+        out,
+    )?;
+    push_between(b"", branch.as_bytes(), b", and closes nothing\n", out)
+}
+
+/// Appends the notes of the first listed accounts that a branch does not have, and how many more there are.
+#[tactic(auto, unfolding(crate::specs::Listed::listed))]
+pub fn push_unknown(found: &[&str], branch: &str, out: &mut Vec<u8>) -> Result<(), Cause>
+    ensures value { OnOk result (out.new.items
+        ≡ out.old.items ++ listed MOST (λ name. unknown_text branch.now name.now) found.now) }
+    ensures memory { IsOkUnless result Cause.OutOfMemory }
+{
+    let first = &found[..found.len().min(MOST)];
+    for name in first {
+        push_no_account(name, branch, out)?;
+    }
+    push_more(found.len(), out)
 }

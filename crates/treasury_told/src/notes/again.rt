@@ -1,11 +1,18 @@
 //! New entries with the day and the legs of a held one that has another text: an edited transaction may have come
 //! again.
 
+ghost use Rattle.std.specs.Prelude.{◌≡◌, ◌++◌, OnOk};
+ghost use Rattle.std.specs.Result.{IsOkUnless};
+ghost use Rattle.treasury_told.specs.Edited.{if_edited, again_note, again_text};
+ghost use Rattle.treasury_told.specs.Listed.{listed};
+
 use crate::explain::pieces::push_header;
 use crate::explain::push_origin;
 use crate::explain::shown::push_number;
 use crate::explain::standing::is_same_text;
-use crate::notes::{Import, MOST, push_more};
+use crate::notes::listed::push_more;
+use crate::notes::{Import, MOST};
+use journal_format::Txn;
 use money_core::{Cause, Styles};
 use std::alloc::Global;
 use std::collections::HashMap;
@@ -120,52 +127,88 @@ pub fn find_again(
 }
 
 /// Appends the note of one of them: both headers, and what keeps an edited transaction one.
+#[tactic(auto, unfolding(crate::specs::Edited::again_note))]
 fn push_note(
     alloc: Global,
     import: &Import<'_>,
     line: usize,
-    again: Again,
+    new: &Txn,
+    number: usize,
+    held: &Txn,
     out: &mut Vec<u8>,
-) -> Result<(), Cause> {
-    let (Some(new), Some(held)) = (import.new.get(again.new), import.held.get(again.held)) else {
-        return Ok(());
-    };
+) -> Result<(), Cause>
+    ensures value { OnOk result (out.new.items
+        ≡ out.old.items ++ again_note import.now line new.now number held.now) }
+    ensures memory { IsOkUnless result Cause.OutOfMemory }
+{
     out.extend_from_slice(b"note: ")?;
     push_origin(import.source, line, out)?;
-    push_header(alloc, &new.txn, out)?;
+    push_header(alloc, new, out)?;
     out.extend_from_slice(b" has the day and the legs of entry ")?;
-    push_number(again.held.saturating_add(1), out)?;
+    push_number(number, out)?;
     out.extend_from_slice(b", ")?;
-    push_header(alloc, &held.txn, out)?;
-    push_if_edited(import, out)
+    push_header(alloc, held, out)?;
+    push_if_edited(import.is_dry_run, out)
 }
 
 /// Appends what holds of a new transaction that is a held one, edited, and what keeps an edited transaction one.
-pub fn push_if_edited(import: &Import<'_>, out: &mut Vec<u8>) -> Result<(), Cause> {
-    out.extend_from_slice(if import.is_dry_run {
-        WOULD_BE_TWO
-    } else {
-        ARE_TWO
-    })?;
+pub fn push_if_edited(is_dry_run: bool, out: &mut Vec<u8>) -> Result<(), Cause>
+    ensures value { OnOk result (out.new.items ≡ out.old.items ++ if_edited is_dry_run) }
+    ensures memory { IsOkUnless result Cause.OutOfMemory }
+{
+    out.extend_from_slice(if is_dry_run { WOULD_BE_TWO } else { ARE_TWO })?;
     Ok(())
 }
 
-/// Appends the notes of such new records; the headers of all new ones stand at these lines.
+/// Appends the note of a new record, whose header stands on one of these lines, and a held one with its day and legs.
+#[tactic(auto, unfolding(crate::specs::Edited::again_text))]
+fn push_one(
+    alloc: Global,
+    import: &Import<'_>,
+    lines: &[usize],
+    again: Again,
+    out: &mut Vec<u8>,
+) -> Result<(), Cause>
+    ensures value { OnOk result (out.new.items ≡ out.old.items ++ again_text import.now lines.now again) }
+    ensures memory { IsOkUnless result Cause.OutOfMemory }
+{
+    let Some(line) = lines.get(again.new) else {
+        return Ok(());
+    };
+    let Some(new) = import.new.get(again.new) else {
+        return Ok(());
+    };
+    let Some(held) = import.held.get(again.held) else {
+        return Ok(());
+    };
+    push_note(
+        alloc,
+        import,
+        *line,
+        &new.txn,
+        again.held + 1,
+        &held.txn,
+        out,
+    )
+}
+
+/// Appends the notes of the first of such new records, and how many more there are; the headers of all new ones stand
+/// at these lines.
+#[tactic(auto, unfolding(crate::specs::Listed::listed))]
 pub fn push_again(
     alloc: Global,
     import: &Import<'_>,
     lines: &[usize],
     found: &[Again],
     out: &mut Vec<u8>,
-) -> Result<(), Cause> {
-    let mut count = 0usize;
-    for again in found {
-        if count < MOST {
-            if let Some(line) = lines.get(again.new) {
-                push_note(alloc, import, *line, *again, out)?;
-            }
-        }
-        count = count.saturating_add(1);
+) -> Result<(), Cause>
+    ensures value { OnOk result (out.new.items
+        ≡ out.old.items ++ listed MOST (again_text import.now lines.now) found.now) }
+    ensures memory { IsOkUnless result Cause.OutOfMemory }
+{
+    let first = &found[..found.len().min(MOST)];
+    for again in first {
+        push_one(alloc, import, lines, *again, out)?;
     }
-    push_more(count, out)
+    push_more(found.len(), out)
 }

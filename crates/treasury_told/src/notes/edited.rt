@@ -1,13 +1,20 @@
 //! New entries that may be a held one that was edited: they have its header and accounts, and either its day and other
 //! amounts, or its amounts and a day near it.
 
+ghost use Rattle.std.specs.Prelude.{◌≡◌, ◌++◌, OnOk};
+ghost use Rattle.std.specs.Result.{IsOkUnless};
+ghost use Rattle.treasury_told.specs.Edited.{likeness_text, edited_note, edited_text};
+ghost use Rattle.treasury_told.specs.Listed.{listed};
+
 use crate::explain::pieces::push_header;
 use crate::explain::push_origin;
 use crate::explain::shown::push_number;
 use crate::notes::again::{Again, is_marked, push_if_edited};
 use crate::notes::days::{Span, span_of};
+use crate::notes::listed::push_more;
 use crate::notes::places::NewPlaces;
-use crate::notes::{Import, MOST, push_more};
+use crate::notes::{Import, MOST};
+use journal_format::Txn;
 use journal_lines::Status;
 use money_core::{Cause, Day};
 use std::alloc::Global;
@@ -269,46 +276,29 @@ fn find_before(held: &[Record], missing: &Places, record: &Record, key: &mut Key
     missing.find_near(key, record.entry.day)
 }
 
-/// Appends the note of a new record, and of the held one that it may have been.
-fn push_note(
-    alloc: Global,
-    import: &Import<'_>,
-    line: usize,
-    new: &Record,
-    place: usize,
-    out: &mut Vec<u8>,
-) -> Result<(), Cause> {
-    let Some(held) = import.held.get(place) else {
-        return Ok(());
-    };
-    out.extend_from_slice(b"note: ")?;
-    push_origin(import.source, line, out)?;
-    push_header(alloc, &new.txn, out)?;
-    out.extend_from_slice(if has_amounts_of(new, held) {
-        b" has the accounts and the amounts of entry "
-    } else {
-        b" has the accounts and not the amounts of entry "
-    })?;
-    push_number(place.saturating_add(1), out)?;
-    out.extend_from_slice(b", ")?;
-    push_header(alloc, &held.txn, out)?;
-    out.extend_from_slice(b", which the file does not have")?;
-    push_if_edited(import, out)
+/// A new record, and the held one that it may have been before it was edited.
+#[derive(Clone, Copy)]
+pub struct Edited {
+    /// The place among the new records, from 0.
+    pub new: usize,
+    /// The place among the held records, from 0.
+    pub held: usize,
+    /// Whether both have the same amounts.
+    pub has_amounts: bool,
 }
 
-/// Appends the notes of the new records that may be a candidate that was edited; those of `again` are noted already.
-pub fn push_edited(
+/// The new records that may be a candidate that was edited; those of `again` are noted already.
+pub fn find_edited(
     alloc: Global,
     import: &Import<'_>,
     new_places: &NewPlaces,
     candidates: &[usize],
     again: &[Again],
-    out: &mut Vec<u8>,
-) -> Result<(), Cause> {
+) -> Result<Vec<Edited>, Cause> {
+    let mut found = Vec::new(alloc);
     let missing = missing_of(alloc, import.held, candidates, new_places)?;
     let mut key = Key::new(alloc);
     let mut next = 0usize;
-    let mut count = 0usize;
     for (at, record) in import.new.iter().enumerate() {
         let is_noted = matches!(again.get(next), Some(noted) if noted.new == at);
         if is_noted {
@@ -316,20 +306,107 @@ pub fn push_edited(
         } else if !missing.by_day.is_empty() && !is_marked(record) {
             key.put(record)?;
             if let Some(place) = find_before(import.held, &missing, record, &mut key) {
-                let line = new_places.lines.as_slice().get(at);
-                if count < MOST {
-                    push_note(
-                        alloc,
-                        import,
-                        line.copied().unwrap_or(0),
-                        record,
-                        place,
-                        out,
-                    )?;
+                if let Some(held) = import.held.get(place) {
+                    found.push(Edited {
+                        new: at,
+                        held: place,
+                        has_amounts: has_amounts_of(record, held),
+                    })?;
                 }
-                count = count.saturating_add(1);
             }
         }
     }
-    push_more(count, out)
+    Ok(found)
+}
+
+/// What stands between the headers.
+fn likeness_text(has_amounts: bool) -> &'static [u8]
+    ensures { result.now ≡ likeness_text has_amounts }
+{
+    if has_amounts {
+        b" has the accounts and the amounts of entry "
+    } else {
+        b" has the accounts and not the amounts of entry "
+    }
+}
+
+/// Appends the note of a new record, and of the held one that it may have been.
+#[tactic(auto, unfolding(crate::specs::Edited::edited_note))]
+fn push_note(
+    alloc: Global,
+    import: &Import<'_>,
+    line: usize,
+    has_amounts: bool,
+    new: &Txn,
+    number: usize,
+    held: &Txn,
+    out: &mut Vec<u8>,
+) -> Result<(), Cause>
+    ensures value { OnOk result (out.new.items
+        ≡ out.old.items ++ edited_note import.now line has_amounts new.now number held.now) }
+    ensures memory { IsOkUnless result Cause.OutOfMemory }
+{
+    out.extend_from_slice(b"note: ")?;
+    push_origin(import.source, line, out)?;
+    push_header(alloc, new, out)?;
+    out.extend_from_slice(likeness_text(has_amounts))?;
+    push_number(number, out)?;
+    out.extend_from_slice(b", ")?;
+    push_header(alloc, held, out)?;
+    out.extend_from_slice(b", which the file does not have")?;
+    push_if_edited(import.is_dry_run, out)
+}
+
+/// Appends the note of one of them, whose header stands on one of these lines.
+#[tactic(auto, unfolding(crate::specs::Edited::edited_text))]
+fn push_one(
+    alloc: Global,
+    import: &Import<'_>,
+    lines: &[usize],
+    edited: Edited,
+    out: &mut Vec<u8>,
+) -> Result<(), Cause>
+    ensures value { OnOk result (out.new.items ≡ out.old.items ++ edited_text import.now lines.now edited) }
+    ensures memory { IsOkUnless result Cause.OutOfMemory }
+{
+    let Some(line) = lines.get(edited.new) else {
+        return Ok(());
+    };
+    let Some(new) = import.new.get(edited.new) else {
+        return Ok(());
+    };
+    let Some(held) = import.held.get(edited.held) else {
+        return Ok(());
+    };
+    push_note(
+        alloc,
+        import,
+        *line,
+        edited.has_amounts,
+        &new.txn,
+        edited.held + 1,
+        &held.txn,
+        out,
+    )
+}
+
+/// Appends the notes of the first of them, and how many more there are; the headers of all new records stand at these
+/// lines.
+#[tactic(auto, unfolding(crate::specs::Listed::listed))]
+pub fn push_edited(
+    alloc: Global,
+    import: &Import<'_>,
+    lines: &[usize],
+    found: &[Edited],
+    out: &mut Vec<u8>,
+) -> Result<(), Cause>
+    ensures value { OnOk result (out.new.items
+        ≡ out.old.items ++ listed MOST (edited_text import.now lines.now) found.now) }
+    ensures memory { IsOkUnless result Cause.OutOfMemory }
+{
+    let first = &found[..found.len().min(MOST)];
+    for edited in first {
+        push_one(alloc, import, lines, *edited, out)?;
+    }
+    push_more(found.len(), out)
 }

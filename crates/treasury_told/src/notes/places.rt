@@ -4,10 +4,16 @@
 //! are read once more, to tell the new ones from repeats; so are those that may be a held one that is asked for.
 //! Transactions of the same text have the same header, so that they are read together, and numbered as in the file.
 
+ghost use Rattle.std.specs.Prelude.{◌≡◌, List, map, IfOk};
+ghost use Rattle.journal_format.specs.declared.txn.Located.{Located};
+ghost use Rattle.treasury_told.specs.declared.notes.heads.HeaderLine.{HeaderLine as HeadLine};
+ghost use Rattle.treasury_told.specs.OddNotes.{AreAllNew};
+
 use crate::explain::standing::{Holder, Standing, standings};
 use crate::notes::Import;
 use crate::notes::days::{Span, span_of};
-use journal_lines::{LineKind, Lines, Status, is_block_end, kind, read_header};
+use crate::notes::heads::{HeaderLine, header_lines, numbers_of};
+use journal_lines::{LineKind, Lines, Status, kind, read_header};
 use money_core::{Cause, Day, Styles};
 use std::alloc::Global;
 use std::collections::HashMap;
@@ -33,40 +39,6 @@ impl NewPlaces {
             None => false,
         }
     }
-}
-
-/// A header line of a text.
-#[derive(Clone, Copy)]
-struct HeaderLine<'a> {
-    number: usize,
-    text: &'a [u8],
-}
-
-/// The header lines of a text, in order.
-fn header_lines<'a>(alloc: Global, text: &'a [u8]) -> Result<Vec<HeaderLine<'a>>, Cause> {
-    let mut lines = Vec::new(alloc);
-    let mut in_block = false;
-    for (number, line) in Lines::new(text) {
-        if in_block {
-            in_block = !is_block_end(line);
-        } else {
-            let kind = kind(line);
-            in_block = kind == LineKind::Block;
-            if kind == LineKind::Header {
-                lines.push(HeaderLine { number, text: line })?;
-            }
-        }
-    }
-    Ok(lines)
-}
-
-/// The numbers of these lines.
-fn numbers_of(alloc: Global, headers: &[HeaderLine<'_>]) -> Result<Vec<usize>, Cause> {
-    let mut numbers = Vec::with_capacity(alloc, headers.len())?;
-    for header in headers {
-        numbers.push(header.number)?;
-    }
-    Ok(numbers)
 }
 
 /// Replaces the key by that of a header.
@@ -308,26 +280,32 @@ fn places_by_heads(
     })
 }
 
-/// Where an import's new transactions stand, and which of the held records at the places that are asked for its text
-/// repeats.
-///
-/// Where none of its transactions is a repeat, these are all headers.
-pub fn new_places(
+/// Where the new transactions stand, if all of the text are: these are all headers.
+fn places_of_all(
+    alloc: Global,
+    import: &Import<'_>,
+    lines: &[HeaderLine<'_>],
+) -> Result<NewPlaces, Cause>
+    ensures { IfOk result (λ places. places.lines.items ≡ map (λ (h : HeadLine). h.number) lines.now) }
+{
+    let numbers = numbers_of(alloc, lines)?;
+    Ok(NewPlaces {
+        lines: numbers,
+        repeated: HashMap::new(alloc),
+        span: span_of(import.new),
+    })
+}
+
+/// Where the new transactions stand, and which of the held records at the places that are asked for the text repeats.
+fn places_among(
     alloc: Global,
     styles: &Styles,
     import: &Import<'_>,
     asked: &[usize],
+    lines: &[HeaderLine<'_>],
 ) -> Result<NewPlaces, Cause> {
-    let lines = header_lines(alloc, import.text)?;
-    if lines.len() == import.new.len() {
-        return Ok(NewPlaces {
-            lines: numbers_of(alloc, lines.as_slice())?,
-            repeated: HashMap::new(alloc),
-            span: span_of(import.new),
-        });
-    }
     let mut groups = groups_of(alloc, import, asked)?;
-    let heads = heads_of(alloc, lines.as_slice(), &mut groups)?;
+    let heads = heads_of(alloc, lines, &mut groups)?;
     let (groups, heads) = (groups.list.as_slice(), heads.as_slice());
     let open = open_text(alloc, import.text, groups, heads)?;
     let read = if open.is_empty() {
@@ -336,4 +314,24 @@ pub fn new_places(
         standings(alloc, styles, import.held, open.as_slice())?
     };
     places_by_heads(alloc, groups, heads, read.as_slice())
+}
+
+/// Where an import's new transactions stand, and which of the held records at the places that are asked for its text
+/// repeats.
+pub fn new_places(
+    alloc: Global,
+    styles: &Styles,
+    import: &Import<'_>,
+    asked: &[usize],
+) -> Result<NewPlaces, Cause>
+    // Where as many transactions are new as the text has, each of them is.
+    ensures whole { (list : List Located) → AreAllNew styles.now import.now.text.now import.now.new.now list
+        → IfOk result (λ places. places.lines.items ≡ map (λ (x : Located). x.line) list) }
+{
+    let lines = header_lines(alloc, import.text)?;
+    if lines.len() == import.new.len() {
+        places_of_all(alloc, import, lines.as_slice())
+    } else {
+        places_among(alloc, styles, import, asked, lines.as_slice())
+    }
 }

@@ -1,0 +1,62 @@
+-- notes of odd amounts between those of other kinds
+use Rattle.std.proofs.Common.{◌≡◌, ◌∙◌, ℕ, List, [], ◌∷◌, ◌++◌, length, refl, ap, sym, arith, append_assoc}
+use Rattle.std.proofs.Common.{append-nil, false}
+use Rattle.std.specs.List.{flat_map}
+use Rattle.money_core.specs.declared.style.Style.{Style}
+use Rattle.journal_format.specs.declared.txn.Located.{Located}
+use Rattle.journal_lines.specs.Lines.{numbered}
+use Rattle.treasury_told.specs.Listed.{listed, most_notes}
+use Rattle.treasury_told.specs.OddAmount.{OddText, odd_text, odd_line, lines_below, odd_amounts}
+use Rattle.treasury_told.specs.OddNotes.{lines_of, odd_notes, HasNotes}
+
+-- ---- texts in which nothing is odd
+pub none_odd : (styles : List Style) (source text heads : List ℕ) → odd_amounts styles heads text ≡ []
+    → odd_notes styles source text heads ≡ []
+unfolding odd_notes listed
+none_odd styles source text heads e = ap (λ (xs : List OddText). listed most_notes (odd_text styles source) xs) e
+
+below_no_head : (ls : List (ℕ × List ℕ)) → lines_below [] false ls ≡ []
+unfolding lines_below
+below_no_head [] = refl
+below_no_head (l ∷ ls) = below_no_head ls
+
+pub no_head : (styles : List Style) (text : List ℕ) → odd_amounts styles [] text ≡ []
+unfolding odd_amounts
+no_head styles text = ap (λ (xs : List (ℕ × List ℕ)). flat_map (odd_line styles) xs) (below_no_head (numbered 1 text))
+
+empty_list : (list : List Located) → length list ≡ 0 → list ≡ []
+empty_list [] e = refl
+empty_list (x ∷ xs) e = absurd (omega (arith, e))
+
+pub nothing_new : (styles : List Style) (source text : List ℕ) (list : List Located) → length list ≡ 0
+    → odd_notes styles source text (lines_of list) ≡ []
+nothing_new styles source text list e =
+    none_odd styles source text (lines_of list)
+    (ap (λ (xs : List Located). odd_amounts styles (lines_of xs) text) (empty_list list e) ∙ no_head styles text)
+
+-- ---- notes that were appended
+pub none_there : (notes old new : List ℕ) → notes ≡ [] → new ≡ old → HasNotes notes old new
+none_there notes old new none e = record {
+  before = [];
+  after = [];
+  text = e ∙ sym (append-nil old) ∙ ap (λ (xs : List ℕ). old ++ (xs ++ [])) (sym none);
+}
+
+pub behind_first : (notes old first now new : List ℕ) → now ≡ old ++ first → HasNotes notes now new
+    → HasNotes notes old new
+behind_first notes old first now new e h = record {
+  before = first ++ h.before;
+  after = h.after;
+  text = h.text
+      ∙ ap (λ (xs : List ℕ). xs ++ (h.before ++ (notes ++ h.after))) e
+      ∙ append_assoc old first (h.before ++ (notes ++ h.after))
+      ∙ ap (λ (xs : List ℕ). old ++ xs) (sym (append_assoc first h.before (notes ++ h.after)));
+}
+
+pub before_further : (notes old further now new : List ℕ) → now ≡ old ++ notes → new ≡ now ++ further
+    → HasNotes notes old new
+before_further notes old further now new e k = record {
+  before = [];
+  after = further;
+  text = k ∙ ap (λ (xs : List ℕ). xs ++ further) e ∙ append_assoc old notes further;
+}

@@ -1,0 +1,195 @@
+//! Amounts whose group mark does not stand before exactly three digits: a decimal mark may have been meant.
+
+ghost use Rattle.std.specs.Prelude.{◌≡◌, false, slice_index};
+ghost use Rattle.std.specs.Char.{is_ascii_digit};
+ghost use Rattle.std.specs.Option.{option_map};
+ghost use Rattle.money_core.specs.Mark.{group_byte};
+ghost use Rattle.money_core.specs.declared.unit.Unit.{Unit as Commodity};
+ghost use Rattle.money_core.specs.PriceReading.{price};
+ghost use Rattle.money_core.specs.Reading.{amount};
+ghost use Rattle.treasury_told.specs.OddAmount.{seen_with, has_three, is_odd_mark, is_odd};
+ghost use Rattle.treasury_told.specs.OddAmount.{is_odd_in, text_in, if_odd, odd_read, odd_amount, odd_cost, odd_price};
+
+use money_core::{Price, Style, Styles, Unit, read_amount, read_price};
+
+/// What stands before a byte.
+#[derive(Clone, Copy)]
+struct Seen {
+    /// Whether the byte stands in quotes.
+    quoted: bool,
+    /// Whether a zero, and another digit, stand outside quotes.
+    zero: bool,
+    other: bool,
+}
+
+/// What an odd text was read as.
+#[derive(Clone, Copy)]
+pub enum ReadAs {
+    Amount(Unit, i64),
+    Cost(Price),
+}
+
+/// An odd text of a posting: its amount, its cost or its asserted balance.
+#[derive(Clone, Copy)]
+pub struct Odd<'a> {
+    /// The number of its line.
+    pub line: usize,
+    pub text: &'a [u8],
+    pub read: ReadAs,
+}
+
+/// What stands before the next byte.
+fn seen_with(seen: Seen, byte: u8) -> Seen
+    ensures { result ≡ seen_with seen byte }
+{
+    Seen {
+        quoted: if byte == b'"' {
+            !seen.quoted
+        } else {
+            seen.quoted
+        },
+        zero: seen.zero || (!seen.quoted && byte == b'0'),
+        other: seen.other || (!seen.quoted && (byte.is_ascii_digit() && byte != b'0')),
+    }
+}
+
+/// Whether a digit stands at that place.
+fn is_digit_at(text: &[u8], place: usize) -> bool
+    ensures { result ≡ is_ascii_digit (slice_index text.now place) }
+{
+    match text.get(place) {
+        Some(byte) => byte.is_ascii_digit(),
+        None => false,
+    }
+}
+
+/// Whether exactly three digits stand at the front.
+fn has_three(rest: &[u8]) -> bool
+    ensures { result ≡ has_three rest.now }
+{
+    is_digit_at(rest, 0) && is_digit_at(rest, 1) && is_digit_at(rest, 2) && !is_digit_at(rest, 3)
+}
+
+/// Whether a group mark that stands between these is odd.
+fn is_odd_mark(seen: Seen, rest: &[u8]) -> bool
+    ensures { result ≡ is_odd_mark seen rest.now }
+{
+    (seen.zero && !seen.other) || !has_three(rest)
+}
+
+/// Whether a group mark stands in a number otherwise than before exactly three digits, or behind nothing but zeros.
+#[tactic(auto, unfolding(crate::specs::OddAmount::is_odd_from))]
+fn is_odd(text: &[u8], group: u8) -> bool
+    ensures { result ≡ is_odd group text.now }
+{
+    let mut seen = Seen {
+        quoted: false,
+        zero: false,
+        other: false,
+    };
+    for (at, byte) in text.iter().enumerate() {
+        if *byte == group && !seen.quoted && is_odd_mark(seen, &text[at + 1..]) {
+            return true;
+        }
+        seen = seen_with(seen, *byte);
+    }
+    false
+}
+
+/// Whether the text is odd in a style.
+fn is_odd_style(style: &Style, text: &[u8]) -> bool
+    ensures { result ≡ is_odd (group_byte style.now.mark) text.now }
+{
+    is_odd(text, style.mark.group())
+}
+
+/// Whether an amount of that commodity is odd.
+fn is_odd_in(styles: &Styles, unit: Unit, text: &[u8]) -> bool
+    ensures { result ≡ is_odd_in styles.now unit text.now }
+{
+    match styles.style(unit) {
+        Some(style) => is_odd_style(style, text),
+        None => false,
+    }
+}
+
+/// Whether an amount would be odd, if it were of one of the commodities.
+fn may_be_odd(styles: &Styles, text: &[u8]) -> bool
+    ensures { (unit : Commodity) → result ≡ false → is_odd_in styles.now unit text.now ≡ false }
+{
+    for number in 0..styles.len() {
+        if is_odd_in(styles, Unit(number as u16), text) {
+            return true;
+        }
+    }
+    false
+}
+
+/// The text, if it is UTF-8.
+fn text_in(text: &[u8]) -> Option<&str>
+    ensures { option_map (λ t. t.now) result ≡ text_in text.now }
+{
+    match str::from_utf8(text) {
+        Ok(text) => Some(text),
+        Err(_) => None,
+    }
+}
+
+/// What a text was read as, if it is odd in the style of that commodity.
+fn if_odd(styles: &Styles, unit: Unit, text: &str, read: ReadAs) -> Option<ReadAs>
+    ensures { result ≡ if_odd styles.now unit text.now read }
+{
+    if is_odd_in(styles, unit, text.as_bytes()) {
+        Some(read)
+    } else {
+        None
+    }
+}
+
+/// What a text is read as, if it is an amount, and odd.
+fn read_odd(styles: &Styles, text: &str) -> Option<ReadAs>
+    ensures { result ≡ odd_read styles.now text.now (amount styles.now text.now) }
+{
+    match read_amount(text, styles) {
+        Ok((unit, qty)) => if_odd(styles, unit, text, ReadAs::Amount(unit, qty)),
+        Err(_) => None,
+    }
+}
+
+/// What a text was read as, if it is an amount, and odd.
+#[tactic(auto, unfolding(crate::specs::OddAmount::odd_amount))]
+pub fn odd_amount(styles: &Styles, text: &[u8]) -> Option<ReadAs>
+    ensures { result ≡ odd_amount styles.now text.now }
+{
+    if !may_be_odd(styles, text) {
+        return None;
+    }
+    match text_in(text) {
+        Some(text) => read_odd(styles, text),
+        None => None,
+    }
+}
+
+/// What a text is read as, if it is a cost, and odd.
+fn read_odd_price(styles: &Styles, text: &str) -> Option<ReadAs>
+    ensures { result ≡ odd_cost styles.now text.now (price styles.now text.now) }
+{
+    match read_price(text, styles) {
+        Ok(price) => if_odd(styles, price.unit(), text, ReadAs::Cost(price)),
+        Err(_) => None,
+    }
+}
+
+/// What a text was read as, if it is a cost, and odd.
+#[tactic(auto, unfolding(crate::specs::OddAmount::odd_price))]
+pub fn odd_price(styles: &Styles, text: &[u8]) -> Option<ReadAs>
+    ensures { result ≡ odd_price styles.now text.now }
+{
+    if !may_be_odd(styles, text) {
+        return None;
+    }
+    match text_in(text) {
+        Some(text) => read_odd_price(styles, text),
+        None => None,
+    }
+}
