@@ -76,7 +76,7 @@ SaysToFormAt word values said =
     ⊎ ((request : Request) × (request_in word values ≡ Some request)
     × SaysFrom (given (is_dry_run values) request) said)
 
--- any word, by its values: without a port it is refused, and only with one is it sent
+-- any word, by its values: without a port it is refused, and only with one may a reply be told
 abbrev pub SaysAt : List ℕ → List Row → Spoken → Type 0
 SaysAt word values said =
     (LacksPort values × IsRefusedBy NoRequest said)
