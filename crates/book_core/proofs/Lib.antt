@@ -3,6 +3,7 @@ pub mod AccountListLemmas
 pub mod SumLemmas
 pub mod BookLemmas
 pub mod AccountsLemmas
+pub mod AccountOrder
 pub mod CommodityLemmas
 pub mod ClaimLemmas
 pub mod HoldLemmas

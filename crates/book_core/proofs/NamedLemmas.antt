@@ -101,7 +101,7 @@ has_leg_unit v (x ∷ xs) h = by_test (nat_eq x.unit.0 v.0) refl h (has_leg_unit
         (Contains-head x.unit (units_of xs))
     by_test false e k more = Contains-tail x.unit v (units_of xs) (more k)
 
-abs_within : (m : ℕ) (z : ℤ) → Within m z → unsigned_abs z ≤ m
+pub abs_within : (m : ℕ) (z : ℤ) → Within m z → unsigned_abs z ≤ m
 abs_within m (pos n) w = let a = w.low in let b = w.high in omega (arith, ints)
 abs_within m (negsuc n) w = let a = w.low in let b = w.high in omega (arith, ints)
 

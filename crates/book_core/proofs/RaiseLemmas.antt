@@ -1,6 +1,6 @@
 -- sums by day of accounts and those above them
 use Rattle.std.proofs.Common.{◌≡◌, ℕ, ◌+◌, ◌-◌, ◌<◌, ◌≤◌, Bool, true, false, ◌||◌, ◌&&◌, List, [], ◌∷◌, ◌++◌, length}
-use Rattle.std.proofs.Common.{take, drop, drop-cons, add-one, get_or, zero, suc, arith, refl, ap, ◌∙◌, sym, subst}
+use Rattle.std.proofs.Common.{take, drop, add-one, get_or, zero, suc, arith, refl, ap, ◌∙◌, sym, subst}
 use Rattle.std.proofs.Common.{nat_eq, nat_lt, ◌⊎◌, inl, inr, ℤ, pos, negsuc, ◌+ℤ◌}
 use Rattle.std.specs.Prelude.{if◌then◌else◌, unsigned_abs}
 use Rattle.std.specs.List.{starts_with}
@@ -11,17 +11,19 @@ use Rattle.std.proofs.lemmas.Bool.Decides.{nat_tests}
 use Rattle.std.proofs.lemmas.Slice.Eq.{bytes_eq-Decides}
 use Rattle.money_core.specs.declared.unit.Unit.{Unit as Commodity}
 use Rattle.money_core.specs.declared.day.Day.{Day}
+use Rattle.money_core.proofs.ListLemmas.{drop_at}
 use Rattle.day_sums.specs.declared.sums.DaySums.{DaySums}
 use Rattle.day_sums.specs.declared.period.Period.{Period}
 use Rattle.day_sums.specs.Period.{is_in}
 use Rattle.day_sums.specs.Sums.{sum_of, is_open, share_of, SameSums, RaisedSums, IsSmall}
+use Rattle.day_sums.specs.Points.{IsUpTo}
 use Rattle.book_core.specs.declared.leg.Leg.{Leg}
 use Rattle.book_core.specs.declared.account.Reach.{Reach}
 use Rattle.book_core.specs.declared.account.Reach.TheVariants.{Own, Inside}
 use Rattle.book_core.specs.Account.{reaches, is_inside, colon}
 use Rattle.book_core.specs.Balance.{moved, sum_in}
 use Rattle.book_core.specs.GoodBook.{most_turnover}
-use Rattle.book_core.specs.DayRows.{FrontsOpen, IsOpen, AreOpen, Raised, AreRaised, IsUpTo, HasRoomFor}
+use Rattle.book_core.specs.DayRows.{FrontsOpen, IsOpen, AreOpen, Raised, AreRaised, HasRoomFor}
 
 -- ---- the same sums, step by step
 pub same_none : (rows : DaySums) → SameSums rows rows
@@ -317,11 +319,6 @@ pub abs_small : (q : ℤ) → unsigned_abs q ≤ most_turnover → IsSmall q
 abs_small (pos x) h = record { low = omega (arith, ints); high = omega (arith, ints) }
 abs_small (negsuc x) h = record { low = omega (arith, ints); high = omega (arith, ints) }
 
-legs_at : (legs : List Leg) (i : ℕ) (x : Leg) → i < length legs → x ≡ get_or legs i x
-    → drop i legs ≡ x ∷ drop (i + 1) legs
-legs_at legs i x h e = drop-cons legs i x h ∙ ap (λ (y : Leg). y ∷ drop (suc i) legs) (sym e) ∙ ap
-    (λ (j : ℕ). x ∷ drop j legs) (sym (add-one i))
-
 pub moved_own : (x : Leg) (rest : List Leg) → moved x.unit (x ∷ rest) ≡ unsigned_abs x.qty + moved x.unit rest
 moved_own x rest = let t : nat_eq x.unit.0 x.unit.0 ≡ true = grind (arith, nat_tests) in rw t refl
 
@@ -347,7 +344,7 @@ adding_qty reach legs day n i x old now h l e =
     (omega (
       arith,
       h.room.legs_small x.unit,
-      ap (moved x.unit) (legs_at legs i x l e) ∙ moved_own x (drop (i + 1) legs),
+      ap (moved x.unit) (drop_at legs i x l e) ∙ moved_own x (drop (i + 1) legs),
     ))
 
 pub adding_more : (reach : Reach) (legs : List Leg) (day : Day) (n : ℕ) (i : ℕ) (x : Leg) (old mid now : DaySums)
@@ -373,7 +370,7 @@ adding_more reach legs day n i x old mid now l e h k = record {
     rest = drop (i + 1) legs
 
     parts : drop i legs ≡ x ∷ rest
-    parts = legs_at legs i x l e
+    parts = drop_at legs i x l e
 
     one_up : (t r on : Bool) (m : ℕ) (z : ℤ) → (if t then unsigned_abs x.qty else 0) + m ≤ most_turnover
         → IsUpTo (most_turnover - ((if t then unsigned_abs x.qty else 0) + m)) z

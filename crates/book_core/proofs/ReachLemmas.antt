@@ -26,7 +26,9 @@ use Rattle.book_core.specs.Claim.{reach_of, is_sole, Asserted, Holds, fault, ear
 use Rattle.book_core.specs.Claim.{asserted_from, failure}
 use Rattle.book_core.specs.Reached.{place_lt, touches, is_touched, is_reached, reached_claims}
 use Rattle.std.proofs.lemmas.List.Elements.{All-contains, All-from_recursion}
+use Rattle.std.proofs.lemmas.Bool.{or_parts}
 use Rattle.std.specs.Prelude.{Contains, ◌↔◌}
+use Rattle.money_core.proofs.ListLemmas.{all-append}
 use Rattle.book_core.proofs.SumLemmas.{total-append}
 use Rattle.book_core.proofs.BookLemmas.{posted_from-append}
 use Rattle.book_core.proofs.ClaimLemmas.{places_total, asserted_from-append, first_fault-append}
@@ -93,11 +95,6 @@ lt_apart p q h e = by_test (place_le q p) refl
 abbrev pub AreAfter : ℕ → List Posted → Type 0
 AreAfter n ys = AllByRecursion (λ (y : Posted). n < y.place.entry) ys
 
-all-append : {X : Type 0} (P : X → Type 0) (xs ys : List X) → AllByRecursion P xs → AllByRecursion P ys
-    → AllByRecursion P (xs ++ ys)
-all-append P [] ys h k = k
-all-append P (x ∷ xs) ys h k = (h.0, all-append P xs ys h.1 k)
-
 after_legs : (m : ℕ) (day : Day) (n k : ℕ) (xs : List Leg) → m < n → AreAfter m (posted_legs day n k xs)
 after_legs m day n k [] h = tt
 after_legs m day n k (x ∷ xs) h = (h, after_legs m day n (k + 1) xs h)
@@ -106,10 +103,6 @@ pub after_entries : (m n : ℕ) (es : List Entry) → m < n → AreAfter m (post
 after_entries m n [] h = tt
 after_entries m n (e ∷ es) h = all-append _ (posted_legs e.day n 1 e.legs) (posted_from (n + 1) es)
     (after_legs m e.day n 1 e.legs h) (after_entries m (n + 1) es (omega arith))
-
-or_parts : (a b : Bool) → (a || b) ≡ false → (a ≡ false) × (b ≡ false)
-or_parts true b e = absurd (cc)
-or_parts false b e = (refl, e)
 
 -- what counts for a claim touches it
 touch_one : (x : Asserted) (unit : Commodity) (y : Posted) → x.place.entry < y.place.entry

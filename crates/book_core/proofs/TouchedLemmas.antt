@@ -11,6 +11,7 @@ use Rattle.std.proofs.lemmas.Bool.Decides.{nat_tests}
 use Rattle.std.proofs.lemmas.List.{take_more}
 use Rattle.std.proofs.lemmas.List.Elements.{Contains-append_left, Contains-append_right, Contains-append_cases}
 use Rattle.std.proofs.lemmas.List.Elements.{Contains-push_cases}
+use Rattle.std.proofs.lemmas.Bool.{and_parts}
 use Rattle.money_core.specs.declared.day.Day.{Day}
 use Rattle.day_sums.specs.declared.named_spots.NamedSpots.{NamedSpots}
 use Rattle.day_sums.specs.declared.spots.Spot.{Spot}
@@ -52,10 +53,6 @@ any_in {X = X} p (y ∷ ys) x h e = by_case (λ k. any_in p ys x k e) (cons_case
     by_case : (Contains ys x → list_any p ys ≡ true) → (y ≡ x) ⊎ Contains ys x → (p y || list_any p ys) ≡ true
     by_case more (inl f) = ap (λ (t : Bool). t || list_any p ys) (ap p f ∙ e)
     by_case more (inr k) = ap (λ (t : Bool). p y || t) (more k) ∙ or_true (p y)
-
-and_parts : (a b : Bool) → (a && b) ≡ true → (a ≡ true) × (b ≡ true)
-and_parts true b h = (refl, h)
-and_parts false b h = absurd (cc)
 
 -- ---- an assertion of an entry is one of the book
 pub claims_in : (n : ℕ) (es : List Entry) (i : ℕ) (e : Entry) (x : Asserted) → i < length es → e ≡ get_or es i e

@@ -1,12 +1,13 @@
 -- Running sums by day that stand for the balances of a book.
 use Rattle.std.specs.Prelude.{◌≡◌, Option, Some, None, ◌<◌, ◌≤◌, ◌-◌, ℕ, true, Bool, ◌&&◌, nat_eq, if◌then◌else◌, ⊤}
-use Rattle.std.specs.Prelude.{List, [], ◌∷◌, length, take, slice_index_or, ℤ, pos, ◌+ℤ◌, ◌≤ℤ◌, neg_ℤ}
+use Rattle.std.specs.Prelude.{List, [], ◌∷◌, length, take, slice_index_or, ℤ, pos, ◌+ℤ◌}
 use Rattle.money_core.specs.declared.unit.Unit.{Unit as Commodity}
 use Rattle.money_core.specs.declared.day.Day.{Day}
 use Rattle.day_sums.specs.declared.sums.DaySums.{DaySums}
 use Rattle.day_sums.specs.declared.period.Period.{Period}
 use Rattle.day_sums.specs.Period.{is_in}
 use Rattle.day_sums.specs.Sums.{sum_of, is_open}
+use Rattle.day_sums.specs.Points.{IsUpTo}
 use Rattle.book_core.specs.declared.leg.Leg.{Leg}
 use Rattle.book_core.specs.declared.entry.Entry.{Entry}
 use Rattle.book_core.specs.declared.account.Reach.{Reach}
@@ -55,11 +56,6 @@ pub record Raised (reach : Reach) (name : List ℕ) (unit : Commodity) (day : Da
 abbrev pub AreRaised : Reach → List Leg → Day → ℕ → DaySums → DaySums → Type 0
 AreRaised reach legs day n old new = (a : List ℕ) (u : Commodity) (p : Period)
     → sum_of new a u p ≡ sum_of old a u p +ℤ (if is_in p day n then sum_in reach a u legs else pos 0)
-
--- m or less, up or down
-pub record IsUpTo (m : ℕ) (z : ℤ) : Type 0 where
-  pub low : neg_ℤ (pos m) ≤ℤ z
-  pub high : z ≤ℤ pos m
 
 -- no sum passes the limit once the legs are added
 pub record HasRoomFor (rows : DaySums) (legs : List Leg) : Type 0 where

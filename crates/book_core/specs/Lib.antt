@@ -2,6 +2,7 @@
 pub mod Place
 pub mod Account
 pub mod Book
+pub mod Accounts
 pub mod Balance
 pub mod Claim
 pub mod GoodBook

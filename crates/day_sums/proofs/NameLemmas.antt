@@ -12,6 +12,7 @@ use Rattle.std.specs.HashMap as hash
 use Rattle.std.specs.Map.{lookup, IsKeyTest, AreApart, KeepsOthers}
 use Rattle.std.proofs.lemmas.Map.Text.{is_eq-slice_cmp}
 use Rattle.std.proofs.lemmas.Slice.Eq.{bytes_eq-Decides}
+use Rattle.money_core.proofs.BytesLemmas.{third_bytes}
 use Rattle.day_sums.specs.Row.{Kept, no_row, SameRow}
 use Rattle.day_sums.specs.Sums.{Names, row_at}
 use Rattle.day_sums.proofs.RowLemmas.{same_none}
@@ -44,8 +45,6 @@ under_other name m n v h a e = other_entries _ _ _ _ h.3 _
     (λ x y. (eq_by_cmp_equiv nat_list_cmp_total).congr a x.items y.items) (λ k. apart name a k.items e)
 
 -- ---- rows by name
-apart_as_text : (bs cs ks : List ℕ) → bytes_eq bs cs ≡ false → bytes_eq bs ks ≡ true → bytes_eq cs ks ≡ false
-apart_as_text bs cs ks n y = nat_list_eq_equiv.symm cs ks ∙ sym (nat_list_eq_equiv.congr bs ks cs y) ∙ n
 
 abbrev pub vec_eq : Vec ℕ Global → Vec ℕ Global → Bool
 vec_eq x y = bytes_eq x.items y.items
@@ -65,7 +64,7 @@ pub row_other : (name : List ℕ) (m n : Names) (r : Kept) → Writes name m n r
     → row_at n a ≡ row_at m a
 row_other name m n r h a e = ap in_row
     (other_entries _ _ _ _ h.3 _ (λ x y. nat_list_eq_equiv.congr a x.items y.items)
-    (λ k. apart_as_text name a k.items e))
+    (λ k. third_bytes name a k.items e))
 
 pub same_rows : (name : List ℕ) (m n : Names) (r : Kept) → Writes name m n r → SameRow (row_at m name) r → (a : List ℕ)
     → SameRow (row_at m a) (row_at n a)

@@ -6,6 +6,7 @@ use Rattle.std.specs.List.{AllByRecursion, prefix_len}
 use Rattle.std.specs.Ordering.{int_eq}
 use Rattle.std.proofs.lemmas.Int.{ints}
 use Rattle.std.proofs.lemmas.Bool.Decides.{Decides-int_eq, nat_tests}
+use Rattle.std.proofs.Math.Bool.{or-true}
 use Rattle.day_sums.specs.declared.points.Point.{Point}
 use Rattle.day_sums.specs.Points.{sum_at, is_before, is_through, Ascends, has, SamePoints, blank_point, base_at}
 use Rattle.day_sums.specs.Points.{is_there}
@@ -134,10 +135,6 @@ opened_absent z d ps n e h = opened_new z d ps n e
     clash : (a b : Bool) → (a && b) ≡ false → a ≡ true → b ≡ true → ⊥
     clash a b f g k = let m : (a && b) ≡ true = rw (g, k) refl in absurd (cc)
 
-or_true : (t : Bool) → (t || true) ≡ true
-or_true true = refl
-or_true false = refl
-
 has-opened : (d day : ℤ) (z : ℤ) (ps : List Point) → has d ps ≡ true → has d (opened z day ps) ≡ true
 has-opened d day z [] h = absurd (cc)
 has-opened d day z (p ∷ ps) h =
@@ -152,7 +149,7 @@ has-opened d day z (p ∷ ps) h =
         one true m n = refl
         one false m n = n m
     by_tests false true w e f = h
-    by_tests false false w e f = ap (λ (s : Bool). int_eq day d || s) h ∙ or_true (int_eq day d)
+    by_tests false false w e f = ap (λ (s : Bool). int_eq day d || s) h ∙ or-true (int_eq day d)
 
 days_opened : (a : ℤ) (day : ℤ) (z : ℤ) (ps : List Point) → AllByRecursion (λ (x : Point). a <ℤ x.at) ps → a <ℤ day
     → AllByRecursion (λ (x : Point). a <ℤ x.at) (opened z day ps)
@@ -200,7 +197,7 @@ has_opened day z (p ∷ ps) = by_tests (is_before day p) (is_through day p) refl
 
     by_tests : (t w : Bool) → is_before day p ≡ t → is_through day p ≡ w → has day (opened p.sum day ps) ≡ true
         → has day (if t then p ∷ opened p.sum day ps else (if w then p ∷ ps else point day z ∷ p ∷ ps)) ≡ true
-    by_tests true w e f g = ap (λ (s : Bool). int_eq p.at day || s) g ∙ or_true (int_eq p.at day)
+    by_tests true w e f g = ap (λ (s : Bool). int_eq p.at day || s) g ∙ or-true (int_eq p.at day)
     by_tests false true e f g = ap (λ (s : Bool). s || has day ps) ((Decides-int_eq p.at day).1 (equal p.at day e f))
     by_tests false false e f g = ap (λ (s : Bool). s || has day (p ∷ ps)) (same_day day)
 

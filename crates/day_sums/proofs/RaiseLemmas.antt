@@ -6,6 +6,7 @@ use Rattle.std.specs.List.{AllByRecursion, prefix_len}
 use Rattle.std.specs.Ordering.{int_eq}
 use Rattle.std.proofs.lemmas.Int.{ints}
 use Rattle.std.proofs.lemmas.Bool.Decides.{Decides-int_eq}
+use Rattle.money_core.proofs.TestLemmas.{int_le-refl}
 use Rattle.day_sums.specs.declared.points.Point.{Point}
 use Rattle.day_sums.specs.Points.{sum_at, is_before, Ascends, has, IsUpTo, RaisedPoints, more, raised_from}
 
@@ -153,9 +154,6 @@ after_day a b c h k = grind (arith, ints)
 own_day : (a b : ℤ) → a <ℤ b → int_le b a ≡ false
 own_day a b h = grind (arith, ints)
 
-self_day : (a : ℤ) → int_le a a ≡ true
-self_day a = grind (arith, ints)
-
 only_before : (z : ℤ) (a : ℤ) (ps : List Point) (d : ℤ) → AllByRecursion (λ (q : Point). a <ℤ q.at) ps
     → ((b : ℤ) → a <ℤ b → int_le b d ≡ false) → sum_at z ps d ≡ z
 only_before z a [] d h k = refl
@@ -167,7 +165,7 @@ small_points m z [] asc small = tt
 small_points m z (p ∷ ps) asc small = (here, small_points m p.sum ps asc.1 rest)
   where
     here : IsUpTo m p.sum
-    here = subst (IsUpTo m) (ap (λ (t : Bool). if t then sum_at p.sum ps p.at else z) (self_day p.at) ∙ only_before
+    here = subst (IsUpTo m) (ap (λ (t : Bool). if t then sum_at p.sum ps p.at else z) (int_le-refl p.at) ∙ only_before
         p.sum p.at ps p.at asc.0 (own_day p.at)) (small p.at)
 
     rest : (d : ℤ) → IsUpTo m (sum_at p.sum ps d)

@@ -77,10 +77,6 @@ is_command method target named (inr (transfers date, leads, is)) = absurd cc
 
 -- ---- heads
 
--- what a slice holds from a place on
-pub whole_rest : (n : ℕ) (xs : List ℕ) → take (length xs - n) (drop n xs) ≡ drop n xs
-whole_rest n xs = grind (arith, common_steps)
-
 -- a head stays one behind which more is read
 head_more : (text : List ℕ) (head : RequestHead) (rest more : List ℕ) → IsHead text head rest
     → IsHead (text ++ more) head (rest ++ more)

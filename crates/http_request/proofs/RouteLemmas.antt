@@ -1,11 +1,12 @@
 -- Which paths have a route.
-use Rattle.std.proofs.Common.{zero, suc, ◌≡◌, ◌<◌, ◌≢◌, ◌+◌, ◌-◌, ◌&&◌, ◌||◌, ℕ, List, [], ◌∷◌, ◌++◌, Some, None}
-use Rattle.std.proofs.Common.{Option, Bool, true, false, not, cond, ◌==◌, length, get_or, arith, refl, sym, subst}
+use Rattle.std.proofs.Common.{zero, suc, ◌≡◌, ◌<◌, ◌≢◌, ◌+◌, ◌-◌, ◌&&◌, ℕ, List, [], ◌∷◌, ◌++◌, Some, None}
+use Rattle.std.proofs.Common.{Option, Bool, true, false, cond, ◌==◌, length, get_or, arith, refl, sym, subst}
 use Rattle.std.proofs.Common.{ap, ◌∙◌, codes, Bor}
 use Rattle.std.specs.Prelude.{MatchOption}
 use Rattle.std.specs.List.{list_any}
 use Rattle.std.proofs.lemmas.List.{append_cancel_left, get_or_at, length-append}
 use Rattle.std.proofs.lemmas.Bool.Decides.{nat_tests}
+use Rattle.std.proofs.lemmas.Bool.{or_parts, and_parts, not-true}
 use Rattle.matchit.specs.Seek.{first, seek, param_step, has_slash, own, step, or_else}
 use Rattle.matchit.specs.Rows.{RowsOf}
 use Rattle.matchit.specs.Router.{RouteOf}
@@ -168,29 +169,13 @@ found_shape method path (balance branch date) bytes (m, is, good, fine) =
     parts_found path (codes "/balance/") (branch ++ 47 ∷ date) bytes is
     (let n = length-append branch (47 ∷ date) in omega arith) behind_balance
 
-pub some_same : {A : Type 0} (a b : A) → Some a ≡ Some b → a ≡ b
-some_same a b e = cc
-
 -- ---- parts that are cut at a slash
-
-both : (x y : Bool) → (x && y) ≡ true → (x ≡ true) × (y ≡ true)
-both true true e = (refl, refl)
-both true false e = absurd cc
-both false y e = absurd cc
-
-either : (x y : Bool) → (x || y) ≡ false → (x ≡ false) × (y ≡ false)
-either true y e = absurd cc
-either false y e = (refl, e)
-
-is_false : (v : Bool) → not v ≡ true → v ≡ false
-is_false true e = absurd cc
-is_false false e = refl
 
 no_slash_at : (part : List ℕ) → list_any (λ b. b == 47) part ≡ false → (i : ℕ) → i < length part → get_or part i 0 ≢ 47
 no_slash_at [] none i l = absurd (omega arith)
 no_slash_at (b ∷ bs) none zero l =
-    λ e. absurd (let t : (b == 47) ≡ true = grind (arith, nat_tests) in let f = either (b == 47) _ none in cc)
-no_slash_at (b ∷ bs) none (suc i) l = no_slash_at bs (either (b == 47) _ none).1 i (omega arith)
+    λ e. absurd (let t : (b == 47) ≡ true = grind (arith, nat_tests) in let f = or_parts (b == 47) _ none in cc)
+no_slash_at (b ∷ bs) none (suc i) l = no_slash_at bs (or_parts (b == 47) _ none).1 i (omega arith)
 
 -- the first slash cuts a text in one way
 cut_once : (x y one two : List ℕ) → ((i : ℕ) → i < length x → get_or x i 0 ≢ 47)
@@ -214,7 +199,7 @@ pub parts_told : (path front rest x y : List ℕ) (o : Option (Bor (List ℕ) ×
 parts_told path front rest x y None whole cut none told = λ one two good fine e.
     let tail : x ++ 47 ∷ y ≡ one ++ 47 ∷ two =
     sym cut ∙ append_cancel_left front rest (one ++ 47 ∷ two) (sym whole ∙ e) in
-    let same = cut_once x y one two none (no_slash_at one (is_false _ (both _ _ good).1)) tail in
+    let same = cut_once x y one two none (no_slash_at one (not-true _ (and_parts _ _ good).1)) tail in
     let first_good : is_part x ≡ true = ap is_part same.0 ∙ good in
     let second_good : is_part y ≡ true = ap is_part same.1 ∙ fine in
     absurd (let t : (is_part x && is_part y) ≡ true =

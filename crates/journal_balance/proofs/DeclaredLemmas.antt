@@ -1,15 +1,16 @@
 -- what the entry of a printable transaction names is declared: the commodities of its legs and of its assertions
-use Rattle.std.proofs.Common.{◌≡◌, ℕ, zero, suc, ◌+◌, ◌<◌, ◌≤◌, Bool, true, false, List, [], ◌∷◌, ◌++◌, length, ℤ, pos}
+use Rattle.std.proofs.Common.{◌≡◌, ℕ, zero, suc, ◌+◌, ◌<◌, ◌≤◌, Bool, true, false, List, [], ◌∷◌, length, ℤ, pos}
 use Rattle.std.proofs.Common.{neg_ℤ, refl, ap, ◌∙◌, sym, arith, subst, Option, Some, None, Ok}
 use Rattle.std.specs.Prelude.{if◌then◌else◌, unsigned_abs}
 use Rattle.std.specs.Ordering.{int_eq}
 use Rattle.std.specs.List.{list_all, flat_map, AllByRecursion}
-use Rattle.std.proofs.lemmas.Bool.{and_parts, leb-true, ltb-true}
+use Rattle.std.proofs.lemmas.Bool.{and_parts}
 use Rattle.money_core.specs.declared.style.Style.{Style}
 use Rattle.money_core.specs.declared.unit.Unit.{Unit as Commodity}
 use Rattle.money_core.specs.declared.price.Price.{Price}
 use Rattle.money_core.specs.Amount.{limit}
 use Rattle.money_core.specs.AmountText.{IsDeclared}
+use Rattle.money_core.proofs.ListLemmas.{all-append}
 use Rattle.book_core.specs.declared.leg.Leg.{Leg}
 use Rattle.book_core.specs.declared.claim.Claim.{Claim}
 use Rattle.book_core.specs.declared.claim.Placed.{Placed}
@@ -17,6 +18,7 @@ use Rattle.book_core.specs.declared.entry.Entry.{Entry}
 use Rattle.journal_format.specs.declared.posting.Posting.{Posting}
 use Rattle.journal_format.specs.declared.txn.Txn.{Txn}
 use Rattle.journal_format.specs.Printable.{is_amount, is_price_or_none, is_claim_or_none, is_value, is_posting}
+use Rattle.journal_format.proofs.MoreStylesLemmas.{declared_amount}
 use Rattle.journal_balance.specs.Legs.{commodities, leg, rest_leg, sum_of, amount_legs, posting_legs, legs_among}
 use Rattle.journal_balance.specs.Legs.{placed, claims_among, legs_of}
 use Rattle.journal_balance.proofs.FaultLemmas.{legs_found}
@@ -32,17 +34,6 @@ IsKnown styles x = x.unit.0 < length styles
 -- an assertion is of a declared commodity, and within the limit
 abbrev pub IsSayable : List Style → Placed → Type 0
 IsSayable styles p = IsDeclared styles p.claim.unit p.claim.qty
-
-all-append : {X : Type 0} (P : X → Type 0) (xs ys : List X) → AllByRecursion P xs → AllByRecursion P ys
-    → AllByRecursion P (xs ++ ys)
-all-append P [] ys h k = k
-all-append P (x ∷ xs) ys h k = (h.0, all-append P xs ys h.1 k)
-
-amount_known : (styles : List Style) (unit : Commodity) (q : ℤ) → is_amount styles unit q ≡ true
-    → IsDeclared styles unit q
-amount_known styles unit q h =
-    let parts = and_parts _ _ h in
-    record { known = ltb-true unit.0 (length styles) parts.0; size = leb-true (unsigned_abs q) limit parts.1 }
 
 -- a leg that takes what is left
 rest_known : (styles : List Style) (account : List ℕ) (f : Commodity → ℤ) (n k : ℕ) → n + k ≤ length styles
@@ -62,9 +53,9 @@ rest_known styles account f n (suc k) h =
 amount_legs_known : (styles : List Style) (account : List ℕ) (a : Commodity × ℤ) (p : Option Price)
     → is_amount styles a.0 a.1 ≡ true → is_price_or_none styles p ≡ true
     → AllByRecursion (IsKnown styles) (amount_legs styles account a p)
-amount_legs_known styles account a None ok priced = ((amount_known styles a.0 a.1 ok).known, tt)
+amount_legs_known styles account a None ok priced = ((declared_amount styles a.0 a.1 ok).known, tt)
 amount_legs_known styles account a (Some p) ok priced =
-    let known = (amount_known styles a.0 a.1 ok).known in
+    let known = (declared_amount styles a.0 a.1 ok).known in
     (known, (known, (price_declared styles p priced, tt)))
 
 legs_known : (styles : List Style) (all xs : List Posting) → list_all (is_posting styles) xs ≡ true
@@ -91,7 +82,7 @@ claim_known styles x claim one e =
     ap (λ (o : Option (Commodity × ℤ)). is_value styles o x.price x.claim) (sym a.1) ∙ value in
     let with_claim : is_value styles (Some a.0) x.price (Some claim) ≡ true =
     ap (λ (k : Option Claim). is_value styles (Some a.0) x.price k) (sym e) ∙ with_amount in
-    amount_known styles claim.unit claim.qty (and_parts _ _ with_claim).1
+    declared_amount styles claim.unit claim.qty (and_parts _ _ with_claim).1
 
 claims_known : (styles : List Style) (all : List Posting) (k : ℕ) (xs : List Posting)
     → list_all (is_posting styles) xs ≡ true

@@ -2,12 +2,12 @@
 use Rattle.std.proofs.Common.{◌≡◌, ℕ, zero, suc, ◌+◌, ◌<◌, ◌≤◌, Bool, true, false, ◌&&◌, List, [], ◌∷◌, ◌++◌, length, ℤ}
 use Rattle.std.proofs.Common.{pos, ◌+ℤ◌, refl, ap, ◌∙◌, sym, arith, append-nil, length-append, Option, Some, None}
 use Rattle.std.proofs.Common.{Result}
-use Rattle.std.specs.Prelude.{unsigned_abs, slice_get}
+use Rattle.std.specs.Prelude.{slice_get}
 use Rattle.std.specs.Ordering.{int_eq}
 use Rattle.std.specs.Option.{option_or}
 use Rattle.std.specs.List.{list_all, flat_map}
 use Rattle.std.proofs.lemmas.Int.{ints}
-use Rattle.std.proofs.lemmas.Bool.{and_parts, leb-true, ltb-true}
+use Rattle.std.proofs.lemmas.Bool.{and_parts}
 use Rattle.std.proofs.lemmas.Bool.Decides.{Decides-int_eq}
 use Rattle.std.proofs.lemmas.Grind.{flat_map-append}
 use Rattle.std.proofs.lemmas.List.Folds.{list_all-append}
@@ -15,8 +15,6 @@ use Rattle.money_core.specs.declared.style.Style.{Style}
 use Rattle.money_core.specs.declared.unit.Unit.{Unit as Commodity}
 use Rattle.money_core.specs.declared.price.Price.{Price}
 use Rattle.money_core.specs.declared.cause.Cause.{Cause}
-use Rattle.money_core.specs.Amount.{limit}
-use Rattle.money_core.specs.AmountText.{IsDeclared}
 use Rattle.money_core.specs.Price.{cost_unit, is_price}
 use Rattle.money_core.specs.Cost.{cost}
 use Rattle.money_core.specs.Growth.{StaysUnderMore}
@@ -26,6 +24,7 @@ use Rattle.book_core.specs.declared.entry.Entry.{Entry}
 use Rattle.journal_format.specs.declared.posting.Posting.{Posting}
 use Rattle.journal_format.specs.declared.txn.Txn.{Txn}
 use Rattle.journal_format.specs.Printable.{is_amount, is_price_or_none, is_posting}
+use Rattle.journal_format.proofs.MoreStylesLemmas.{declared_amount}
 use Rattle.journal_balance.specs.Conversion.{symbol_in, symbol_of, conversion_account}
 use Rattle.journal_balance.specs.Legs.{commodities, declared, cost_value, in_unit, amount_value, value_of, sum_of, leg}
 use Rattle.journal_balance.specs.Legs.{amount_legs, rest_leg, rest_legs, posting_legs, legs_among, placed, claims_among}
@@ -96,12 +95,6 @@ get-append (s ∷ ss) more (suc i) h = get-append ss more i (omega (arith, h))
 symbol-append : (styles more : List Style) (unit : Commodity) → unit.0 < length styles
     → symbol_of (styles ++ more) unit ≡ symbol_of styles unit
 symbol-append styles more unit h = ap symbol_in (get-append styles more unit.0 h)
-
-declared_amount : (styles : List Style) (unit : Commodity) (q : ℤ) → is_amount styles unit q ≡ true
-    → IsDeclared styles unit q
-declared_amount styles unit q h =
-    let parts = and_parts _ _ h in
-    record { known = ltb-true unit.0 (length styles) parts.0; size = leb-true (unsigned_abs q) limit parts.1 }
 
 -- what is said of one posting, by its amount and its cost
 record StaysOne (styles more : List Style) (account : List ℕ) (a : Commodity × ℤ) (o : Option Price) : Type 0 where

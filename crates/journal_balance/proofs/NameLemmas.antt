@@ -2,7 +2,7 @@
 use Rattle.std.proofs.Common.{◌≡◌, ◌∙◌, ◌≤◌, ◌<◌, ◌+◌, ◌-◌, ◌==◌, ◌&&◌, ◌||◌, ℕ, zero, suc, Bool, true, false, not}
 use Rattle.std.proofs.Common.{List, [], ◌∷◌, ◌++◌, length, slice_index, refl, sym, ap, subst, arith, append_assoc}
 use Rattle.std.proofs.Common.{length-append, All}
-use Rattle.std.specs.Prelude.{codes, nat_lt, nat_le, if◌then◌else◌}
+use Rattle.std.specs.Prelude.{codes, nat_lt, nat_le}
 use Rattle.std.specs.Ordering.{is_lt}
 use Rattle.std.specs.List.{list_all, slice_split, AllByRecursion}
 use Rattle.std.specs.Str.{is_utf8}
@@ -15,6 +15,7 @@ use Rattle.std.proofs.lemmas.List.Splits.{slice_split_at, slice_split_none}
 use Rattle.money_core.specs.NamePart.{is_part_byte, IsNamePart}
 use Rattle.money_core.specs.Symbol.{no_double}
 use Rattle.money_core.proofs.Utf8Lemmas.{utf8_joined, utf8_low}
+use Rattle.money_core.proofs.TestLemmas.{if_either}
 use Rattle.book_core.specs.Account.{name_cmp}
 use Rattle.journal_lines.specs.AccountName.{is_name_byte, is_part, is_gap, has_gap, is_account}
 use Rattle.journal_balance.specs.Conversion.{lesser, greater, conversion_account}
@@ -148,17 +149,13 @@ module _ (x y own : List ℕ) (is_x : IsNamePart x) (is_y : IsNamePart y) (is_ow
       (utf8_joined (45 ∷ []) (y ++ 58 ∷ own) (utf8_low (45 ∷ []) refl)
       (utf8_joined y (58 ∷ own) is_y.utf8 (utf8_joined (58 ∷ []) own (utf8_low (58 ∷ []) refl) is_own.utf8))))
 
-pick : (P : List ℕ → Type 0) (t : Bool) (a b : List ℕ) → P a → P b → P (if t then a else b)
-pick P true a b h k = h
-pick P false a b h k = k
-
 -- an account of a conversion is a well-formed name, and a text
 pub conversion_formed : (a b own : List ℕ) → IsNamePart a → IsNamePart b → IsNamePart own
     → (is_account (conversion_account a b own) ≡ true) × (is_utf8 (conversion_account a b own) ≡ true)
 unfolding conversion_account
 conversion_formed a b own h k o =
-    let x = pick IsNamePart (is_lt (name_cmp b a)) b a k h in
-    let y = pick IsNamePart (is_lt (name_cmp b a)) a b h k in
+    let x = if_either IsNamePart (is_lt (name_cmp b a)) b a k h in
+    let y = if_either IsNamePart (is_lt (name_cmp b a)) a b h k in
     (formed (lesser a b) (greater a b) own x y o, text (lesser a b) (greater a b) own x y o)
 
 -- so are both of an exchange
@@ -166,6 +163,6 @@ pub both_formed : (a b : List ℕ) → IsNamePart a → IsNamePart b
     → (is_account (conversion_account a b (lesser a b)) ≡ true)
     × (is_account (conversion_account a b (greater a b)) ≡ true)
 both_formed a b h k =
-    let x = pick IsNamePart (is_lt (name_cmp b a)) b a k h in
-    let y = pick IsNamePart (is_lt (name_cmp b a)) a b h k in
+    let x = if_either IsNamePart (is_lt (name_cmp b a)) b a k h in
+    let y = if_either IsNamePart (is_lt (name_cmp b a)) a b h k in
     ((conversion_formed a b (lesser a b) h k x).0, (conversion_formed a b (greater a b) h k y).0)

@@ -1,12 +1,13 @@
 -- what is left in one commodity, and in those behind it
 use Rattle.std.proofs.Common.{◌≡◌, ℕ, ◌+◌, ◌-◌, ◌<◌, ◌≤◌, Bool, true, false, ◌&&◌, ◌||◌, List, [], ◌∷◌, ◌++◌, length, ℤ}
-use Rattle.std.proofs.Common.{pos, neg_ℤ, refl, ap, ◌∙◌, sym, subst, arith, append_assoc, true≢false}
+use Rattle.std.proofs.Common.{pos, neg_ℤ, refl, ap, ◌∙◌, sym, subst, arith, append_assoc}
 use Rattle.std.specs.Prelude.{nat_lt, unsigned_abs, if◌then◌else◌}
 use Rattle.std.specs.Ordering.{int_eq}
 use Rattle.std.specs.List.{list_all, list_any, flat_map}
 use Rattle.std.proofs.lemmas.Int.{ints}
 use Rattle.std.proofs.lemmas.Bool.Decides.{Decides-int_eq, nat_tests}
 use Rattle.std.proofs.lemmas.List.Folds.{list_any-append}
+use Rattle.std.proofs.lemmas.Bool.{or_parts}
 use Rattle.money_core.specs.declared.style.Style.{Style}
 use Rattle.money_core.specs.declared.unit.Unit.{Unit as Commodity}
 use Rattle.money_core.specs.Amount.{limit}
@@ -55,10 +56,6 @@ rest_large account unit sum = by_test (int_eq sum (pos 0)) refl
         or_false : (b : Bool) → (b || false) ≡ b
         or_false true = refl
         or_false false = refl
-
-or_parts : (a b : Bool) → (a || b) ≡ false → (a ≡ false) × (b ≡ false)
-or_parts true b e = absurd (true≢false e)
-or_parts false b e = (refl, e)
 
 -- where no leg is over the limit, neither is the first rest, nor one behind it
 pub small_first : (account : List ℕ) (f : Commodity → ℤ) (n m : ℕ) → n < m →

@@ -12,6 +12,7 @@ use Rattle.money_core.specs.Sampling.{style_of}
 use Rattle.money_core.specs.Cutting.{symbol_of}
 use Rattle.money_core.proofs.GrammarLemmas.{whole_symbol}
 use Rattle.money_core.proofs.SampleLemmas.{style_spelled, spelled_style}
+use Rattle.money_core.proofs.ListLemmas.{nil_from_empty}
 use Rattle.journal_lines.specs.Comment.{front_of}
 use Rattle.journal_lines.specs.Blank.{trim_start, first_word}
 use Rattle.journal_lines.specs.HeaderReading.{header_of}
@@ -24,7 +25,7 @@ use Rattle.journal_format.specs.Directive.{shows_digit, agrees, sampled, sampled
 use Rattle.journal_format.specs.Directive.{format_at, sample_fault, is_format, format_fault}
 use Rattle.journal_format.specs.DirectiveForm.{IsSampleOf, IsSymbolOf, behind_word}
 use Rattle.journal_format.specs.LineFaults.{LineFault, IsFirst, Names, line_faults, directive_faults, format_faults}
-use Rattle.journal_format.proofs.FirstLemmas.{AreNone, skip, front, refused, one_err, not_both, none_of}
+use Rattle.journal_format.proofs.FirstLemmas.{AreNone, skip, front, refused, one_err, not_both}
 use Rattle.journal_format.proofs.DirectiveFormLemmas.{named_iff, sample_digit, symbol_digit, sample_none, is_format_iff}
 
 pub or_cases : (a b : Bool) → (a || b) ≡ true → (a ≡ true) ⊎ ((a ≡ false) × (b ≡ true))
@@ -98,7 +99,7 @@ unfolding commodity_named
 directive_told styles text c e =
     elim (chosen (length text == 0) (refused {A = Commodity} cause.Directive) _ (Err c) e) [
       | inl bare ↦ inl (
-        none_of text bare.0,
+        nil_from_empty text bare.0,
         sym (one_err (refused {A = Commodity} cause.Directive) cause.Directive c refl bare.1),
       )
       | inr some ↦ inr (

@@ -60,9 +60,6 @@ same_marks : (m n : Mark) → n ≡ m → mark_eq m n ≡ true
 same_marks Point n e = rw e refl
 same_marks Comma n e = rw e refl
 
-some_is : {A : Type 0} (x y : A) → Some x ≡ Some y → x ≡ y
-some_is x y e = cc
-
 -- a sample that agrees, at the place of its symbol
 sample_there : (styles : List Style) (text : List ℕ) (sample : Style) (place : ℕ) → IsSample text sample
     → place_of styles sample.symbol ≡ Some place → agrees (slice_get styles place) sample ≡ true

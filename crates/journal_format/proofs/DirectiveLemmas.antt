@@ -1,15 +1,11 @@
 -- What follows the first word of a text in UTF-8 is UTF-8.
-use Rattle.std.proofs.Common.{◌≡◌, ◌<◌, ℕ, List, true, drop, arith, sym, subst}
-use Rattle.std.proofs.lemmas.Grind.{common_steps}
+use Rattle.std.proofs.Common.{◌≡◌, ℕ, List, true, drop, sym, subst}
 use Rattle.std.proofs.lemmas.List.{length-take-le}
 use Rattle.std.specs.List.{position_or_len}
 use Rattle.std.specs.Str.{is_utf8}
 use Rattle.journal_lines.specs.Blank.{is_blank, first_word}
-use Rattle.journal_lines.proofs.Utf8Lemmas.{IsCut, position_cut, cut_utf8, trim_start_utf8, trim_end_utf8}
+use Rattle.journal_lines.proofs.Utf8Lemmas.{IsCut, position_cut, cut_utf8, trim_start_utf8, trim_end_utf8, blank_low}
 use Rattle.journal_format.specs.DirectiveForm.{behind_word}
-
-blank_low : (b : ℕ) → is_blank b ≡ true → b < 128
-blank_low b h = grind (arith, common_steps)
 
 pub behind_word_utf8 : (text : List ℕ) → is_utf8 text ≡ true → is_utf8 (behind_word text) ≡ true
 unfolding first_word

@@ -1,8 +1,7 @@
 -- The first fault of a list, and answers that are refused.
-use Rattle.std.proofs.Common.{◌≡◌, ◌++◌, ◌==◌, ℕ, List, [], ◌∷◌, true, length, arith, refl, ◌∙◌, sym, Result, Ok, Err}
+use Rattle.std.proofs.Common.{◌≡◌, ◌++◌, List, [], ◌∷◌, ◌∙◌, sym, Result, Ok, Err}
 use Rattle.std.proofs.Common.{inl, inr}
 use Rattle.std.specs.Prelude.{⊤}
-use Rattle.std.proofs.lemmas.Bool.{ne_eqb}
 use Rattle.money_core.specs.declared.cause.Cause.{Cause}
 use Rattle.journal_format.specs.LineFaults.{LineFault, IsFirst}
 
@@ -38,8 +37,3 @@ one_err r c d e f = cc
 
 pub not_both : {A : Type 0} (r : Result A Cause) (x : A) (c : Cause) → r ≡ Ok x → r ≡ Err c → ⊥
 not_both r x c e f = cc
-
--- a text without a byte
-pub none_of : (xs : List ℕ) → (length xs == 0) ≡ true → xs ≡ []
-none_of [] h = refl
-none_of (x ∷ xs) h = absurd (let two = sym h ∙ ne_eqb (length (x ∷ xs)) 0 (λ e. omega (arith, e)) in cc)

@@ -27,21 +27,22 @@ use Rattle.journal_format.specs.Growth.{StaysPrintable}
 stays : (styles more : List Style) → StaysUnderMore styles more
 stays styles more = styles_grow.stays styles more
 
-declared : (styles : List Style) (unit : Commodity) (q : ℤ) → is_amount styles unit q ≡ true → IsDeclared styles unit q
-declared styles unit q h =
+pub declared_amount : (styles : List Style) (unit : Commodity) (q : ℤ) → is_amount styles unit q ≡ true
+    → IsDeclared styles unit q
+declared_amount styles unit q h =
     let parts = and_parts (nat_lt unit.0 (length styles)) (nat_le (unsigned_abs q) limit) h in
     record { known = ltb-true unit.0 (length styles) parts.0; size = leb-true (unsigned_abs q) limit parts.1 }
 
 amount_stays : (styles more : List Style) (unit : Commodity) (q : ℤ) → is_amount styles unit q ≡ true
     → is_amount (styles ++ more) unit q ≡ true
 amount_stays styles more unit q h =
-    let d = (stays styles more).declared unit q (declared styles unit q h) in
+    let d = (stays styles more).declared unit q (declared_amount styles unit q h) in
     and_from (nat_lt unit.0 (length (styles ++ more))) (nat_le (unsigned_abs q) limit)
     (lt-ltb unit.0 (length (styles ++ more)) d.known) (le-leb (unsigned_abs q) limit d.size)
 
 amount_same : (styles more : List Style) (unit : Commodity) (q : ℤ) → is_amount styles unit q ≡ true
     → printed_in (styles ++ more) unit q ≡ printed_in styles unit q
-amount_same styles more unit q h = (stays styles more).printed unit q (declared styles unit q h)
+amount_same styles more unit q h = (stays styles more).printed unit q (declared_amount styles unit q h)
 
 price_stays : (styles more : List Style) (o : Option Price) → is_price_or_none styles o ≡ true
     → is_price_or_none (styles ++ more) o ≡ true

@@ -13,6 +13,7 @@ use Rattle.money_core.specs.Reading.{amount}
 use Rattle.money_core.specs.PriceReading.{price}
 use Rattle.money_core.proofs.ReadingLemmas.{declared_form, malformed_iff, unknown_iff, decimals_iff, one_of_causes}
 use Rattle.money_core.proofs.PriceGrammar.{price_form_iff, price_unknown_iff, price_cost_iff, one_price_cause}
+use Rattle.money_core.proofs.ListLemmas.{nil_from_empty}
 use Rattle.journal_lines.specs.declared.header.Status.{Status}
 use Rattle.journal_lines.specs.Comment.{front_of, comment_of}
 use Rattle.journal_lines.specs.Header.{status_at, length_of}
@@ -27,7 +28,7 @@ use Rattle.journal_format.specs.Posting.{with_amount, without_amount, value_of, 
 use Rattle.book_core.specs.declared.claim.ClaimKind.{ClaimKind}
 use Rattle.journal_format.specs.LineFaults.{LineFault, IsFirst, amount_faults, price_faults, where_there, value_faults}
 use Rattle.journal_format.specs.LineFaults.{posting_part_faults}
-use Rattle.journal_format.proofs.FirstLemmas.{AreNone, refused, one_err, not_both, none_of}
+use Rattle.journal_format.proofs.FirstLemmas.{AreNone, refused, one_err, not_both}
 
 there_first : (text : List ℕ) (fs rest : List LineFault) (c : Cause) → text ≢ [] → IsFirst fs c
     → IsFirst (map (where_there text) fs ++ rest) c
@@ -185,7 +186,7 @@ value_told : (styles : List Style) (status : Option Status) (name part : List �
 unfolding value_of
 value_told styles status name part comment c e =
     elim (chosen (length (amount_in part) == 0) (without_amount (cut_part status name part comment)) _ (Err c) e) [
-      | inl bare ↦ without (none_of (amount_in part) bare.0) bare.1
+      | inl bare ↦ without (nil_from_empty (amount_in part) bare.0) bare.1
       | inr some ↦ inr (
         λ k. some_of (amount_in part) some.0 k.0,
         inr (
@@ -263,7 +264,7 @@ value_told styles status name part comment c e =
         (elim (chosen (length (price_in part) == 0) (claimed styles (claim_in part) a None) _ (Err c) f) [
           | inl bare ↦ not_there (price_in part) (price_faults styles (price_in part))
               (map (where_there (claim_in part)) (amount_faults styles (asserted_in (claim_in part)))) c
-              (none_of (price_in part) bare.0) (claims a None bare.1)
+              (nil_from_empty (price_in part) bare.0) (claims a None bare.1)
           | inr more ↦ priced (some_of (price_in part) more.0) a (price styles (price_in part)) refl more.1
         ])
 
@@ -327,7 +328,7 @@ value_none : (styles : List Style) (status : Option Status) (name part : List �
 unfolding value_of
 value_none styles status name part comment v e =
     elim (chosen (length (amount_in part) == 0) (without_amount (cut_part status name part comment)) _ (Ok v) e) [
-      | inl bare ↦ without (none_of (amount_in part) bare.0) bare.1
+      | inl bare ↦ without (nil_from_empty (amount_in part) bare.0) bare.1
       | inr some ↦ (
         λ k. some_of (amount_in part) some.0 k.0,
         (λ k. some_of (amount_in part) some.0 k.0, amounted (amount styles (amount_in part)) refl some.1),
@@ -370,7 +371,7 @@ value_none styles status name part comment v e =
     claims a p f = elim (chosen (length (claim_in part) == 0) (Ok (record { amount = Some a; price = p; claim = None }))
         _ (Ok v) f) [
           | inl bare ↦ none_absent (claim_in part) (amount_faults styles (asserted_in (claim_in part)))
-              (none_of (claim_in part) bare.0)
+              (nil_from_empty (claim_in part) bare.0)
           | inr some ↦ none_there (claim_in part) (amount_faults styles (asserted_in (claim_in part)))
               (asserted (kind_at (claim_in part)) (amount styles (asserted_in (claim_in part))) refl some.1)
         ]
@@ -403,7 +404,8 @@ value_none styles status name part comment v e =
         (elim (chosen (length (price_in part) == 0) (claimed styles (claim_in part) a None) _ (Ok v) f) [
           | inl bare ↦ both_none (map (where_there (price_in part)) (price_faults styles (price_in part)))
               (map (where_there (claim_in part)) (amount_faults styles (asserted_in (claim_in part))))
-              (none_absent (price_in part) (price_faults styles (price_in part)) (none_of (price_in part) bare.0))
+              (none_absent (price_in part) (price_faults styles (price_in part))
+              (nil_from_empty (price_in part) bare.0))
               (claims a None bare.1)
           | inr more ↦ priced a (price styles (price_in part)) refl more.1
         ])

@@ -23,7 +23,8 @@ use Rattle.money_core.specs.Reading.{amount}
 use Rattle.money_core.specs.PriceReading.{price}
 use Rattle.money_core.proofs.ClassLemmas.{symbol_no_blank, number_no_blank}
 use Rattle.money_core.proofs.ReadingLemmas.{reads_iff}
-use Rattle.money_core.proofs.PriceGrammar.{price_reads_iff}
+use Rattle.money_core.proofs.PriceGrammar.{price_reads_iff, number_no_at}
+use Rattle.money_core.proofs.ListLemmas.{nil_from_empty}
 use Rattle.book_core.specs.declared.claim.Claim.{Claim}
 use Rattle.book_core.specs.declared.claim.ClaimKind.{ClaimKind}
 use Rattle.book_core.specs.declared.claim.ClaimKind.TheVariants.{Exact, Sole, ExactIn, SoleIn}
@@ -77,9 +78,6 @@ at_free = record { quote = refl; signs = (refl, refl); blank = blank_is; symbol 
 
 number_no_equals : (b : ℕ) → has Number b ≡ true → (b == 61) ≡ false
 number_no_equals b h = grind (arith, common_steps)
-
-number_no_at : (b : ℕ) → has Number b ≡ true → (b == 64) ≡ false
-number_no_at b h = grind (arith, common_steps)
 
 number_no_star : (b : ℕ) → has Number b ≡ true → (b == 42) ≡ false
 number_no_star b h = grind (arith, common_steps)
@@ -577,10 +575,6 @@ mark_nothing mark text h none =
     in
     sym (ap trim_end whole ∙ trim_end_same text (not-true _ last.1))
 
-empty : (xs : List ℕ) → (length xs == 0) ≡ true → xs ≡ []
-empty [] h = refl
-empty (x ∷ xs) h = absurd (omega (arith, eqb-true (length (x ∷ xs)) 0 h))
-
 nonempty : (xs : List ℕ) → (length xs == 0) ≡ false → 0 < length xs
 nonempty [] h = absurd cc
 nonempty (x ∷ xs) h = omega arith
@@ -637,7 +631,7 @@ claim_form styles text a p v sign h = elim (chosen (length text == 0) _ _ _ h) [
   | inl nothing ↦ record {
     claim = None;
     is = sym (ok_is _ _ _ refl nothing.1);
-    none = λ e. empty text nothing.0;
+    none = λ e. nil_from_empty text nothing.0;
     some = λ k e. absurd cc;
   }
   | inr something ↦ at (amount styles (trim_start behind)) refl something.1 (sign (nonempty text something.0))
@@ -745,7 +739,7 @@ value_form styles text v status name comment h r = elim (chosen (length inner ==
       let same : record { amount = None; price = None; claim = None } ≡ v = ok_is _ _ _ refl two.1 in
       subst (λ (u : Value). IsAmountPart styles text u.amount u.price u.claim) same (
         mark_nothing 61 text h no_claim ∙
-            (mark_nothing 64 outer (mark_trimmed 61 text h) no_price ∙ empty inner nothing.0),
+            (mark_nothing 64 outer (mark_trimmed 61 text h) no_price ∙ nil_from_empty inner nothing.0),
         refl,
         refl,
       )
@@ -788,7 +782,7 @@ value_form styles text v status name comment h r = elim (chosen (length inner ==
         → IsAmountPart styles text v.amount v.price v.claim
     with_one (Err c) e k = absurd cc
     with_one (Ok a) e k = elim (chosen (length price_text == 0) _ _ _ k) [
-      | inl bare ↦ amount_form styles text v a None h e (λ z. empty price_text bare.0) (λ q z. absurd cc)
+      | inl bare ↦ amount_form styles text v a None h e (λ z. nil_from_empty price_text bare.0) (λ q z. absurd cc)
           (claim_form styles claim_text a None v (outside_mark 61 false text) bare.1)
       | inr costs ↦ with_cost a e (price styles price_text) refl costs.1
     ]

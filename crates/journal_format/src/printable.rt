@@ -7,7 +7,8 @@ ghost use Rattle.journal_lines.specs.AccountName.{is_account};
 ghost use Rattle.journal_lines.specs.Printed.{HeaderOk};
 ghost use Rattle.journal_format.specs.CanonicalText.{body_text};
 ghost use Rattle.journal_format.specs.Printable.{is_remark_text, is_note, is_mark_or_none, is_amount, is_price_or_none};
-ghost use Rattle.journal_format.specs.Printable.{is_claim_or_none, is_value, is_posting, is_text_or_none, IsPrintable};
+ghost use Rattle.journal_lines.specs.Utf8.{is_utf8_or_none};
+ghost use Rattle.journal_format.specs.Printable.{is_claim_or_none, is_value, is_posting, IsPrintable};
 ghost use Rattle.journal_format.specs.Printable.{ReadsBack};
 ghost use Rattle.journal_format.specs.PrintedParts.{header_part, comments_part, posting_part, postings_part};
 ghost use Rattle.journal_format.specs.PrintedParts.{has_good_lines};
@@ -63,7 +64,7 @@ fn is_mark_or_none(mark: &Option<Text>) -> bool
 /// Whether the parts of a header read back; they are UTF-8.
 fn is_header(txn: &Txn) -> bool
     ensures parts { IsTrue result ↔ HeaderOk txn.now.day txn.now.status txn.now.code txn.now.description }
-    ensures code { is_text_or_none txn.now.code ≡ true }
+    ensures code { is_utf8_or_none txn.now.code ≡ true }
     ensures description { is_utf8 txn.now.description ≡ true }
 {
     txn.description.is_text();

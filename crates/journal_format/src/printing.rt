@@ -10,7 +10,8 @@ ghost use Rattle.journal_format.specs.CanonicalText.{posting_status, price_text,
 ghost use Rattle.journal_format.specs.CanonicalText.{txn_text, body_text, journal_text};
 ghost use Rattle.journal_format.specs.Pieces.{Reads};
 ghost use Rattle.journal_format.specs.Printable.{is_value, is_price_or_none, is_claim_or_none, is_posting, IsPrintable};
-ghost use Rattle.journal_format.specs.Printable.{ReadsBack, FitsText, located_from, is_text_or_none};
+ghost use Rattle.journal_lines.specs.Utf8.{is_utf8_or_none};
+ghost use Rattle.journal_format.specs.Printable.{ReadsBack, FitsText, located_from};
 ghost use Rattle.journal_format.specs.PrintedParts.{header_part, mark_part, comment_part, comments_part, posting_part};
 ghost use Rattle.journal_format.specs.PrintedParts.{postings_part, rest_part};
 
@@ -24,7 +25,7 @@ use std::alloc::{AllocError, Global};
 /// The bytes of a text, if there is one.
 pub(crate) fn bytes_of(text: &Option<Text>) -> Option<&[u8]>
     ensures value { text_of result ≡ text.now }
-    ensures utf8 { is_text_or_none text.now ≡ true }
+    ensures utf8 { is_utf8_or_none text.now ≡ true }
 {
     match text {
         Some(text) => {

@@ -2,7 +2,8 @@
 use Rattle.std.proofs.Common.{◌≡◌, ◌≤◌, ◌<◌, ◌↔◌, ◌+◌, ◌-◌, ◌*◌, ◌/◌, ◌%◌, ◌++◌, ◌==◌, ℕ, zero, suc, ℤ, pos, negsuc}
 use Rattle.std.proofs.Common.{neg_ℤ, ◌-ℤ◌, ◌≤ℤ◌, ◌<ℤ◌, int_le, unsigned_abs, List, [], ◌∷◌, true, false, not, ◌&&◌}
 use Rattle.std.proofs.Common.{◌||◌, length, take, drop, min, arith, refl, ap, ◌∙◌, sym, subst, Option, Some, None}
-use Rattle.std.proofs.Common.{nat_lt, nat_le, inl, inr, IfSome, unwrap_or, length-append, take-append-drop}
+use Rattle.std.proofs.Common.{nat_lt, nat_le, inl, inr, Bool, IsTrue, IfSome, unwrap_or, length-append}
+use Rattle.std.proofs.Common.{take-append-drop}
 use Rattle.std.proofs.lemmas.Grind.{common_steps}
 use Rattle.std.proofs.lemmas.Int.{ints, by_lt_z}
 use Rattle.std.proofs.lemmas.Bool.{and_parts, and_from, eq-eqb, cases_lt, cases_Bool, lt-ltb, ltb-true}
@@ -11,7 +12,7 @@ use Rattle.std.specs.List.{list_all, position_or_len, before_first, after_first}
 use Rattle.std.proofs.Math.Seq.{take-append_seam, drop-append-add, drop-cons}
 use Rattle.std.proofs.lemmas.List.{get_or_at, take_at, length-take, length-drop}
 use Rattle.journal_lines.proofs.CutLemmas.{before_mark, at_mark, all_weaker}
-use Rattle.std.specs.Char.{is_ascii_digit, digit_value}
+use Rattle.std.specs.Char.{is_ascii_digit}
 use Rattle.jiff_core.specs.Calendar.{days_from_civil, days_in_month, IsCivilDate, IsYear}
 use Rattle.jiff_core.proofs.SignedLemmas.{signed_arith}
 use Rattle.jiff_core.proofs.CalendarLemmas.{days_from_civil-day_count, day_count-lt_year, day_count-lt_month}
@@ -20,8 +21,11 @@ use Rattle.jiff_core.proofs.MarchLemmas.{day_count-early}
 use Rattle.jiff_core.proofs.DateLemmas.{days_from_civil-max, days_from_civil-day, days_from_civil-next_month}
 use Rattle.jiff_core.proofs.DateLemmas.{days_from_civil-next_year}
 use Rattle.money_core.specs.declared.day.Day.{Day}
+use Rattle.money_core.proofs.RoundTrip.{digit_is_digit, digit_value_is}
+use Rattle.money_core.proofs.TestLemmas.{int_le-true, le_from_int_le}
 use Rattle.journal_lines.specs.Date.{IsDay, IsDate, is_separator, is_short, number_of, IsDayNumber, last_begun, year_of}
 use Rattle.journal_lines.specs.Date.{month_of, day_of_month, two_digits, four_digits, printed_date, IsDateText}
+use Rattle.journal_lines.specs.Date.{is_in_calendar}
 use Rattle.journal_lines.specs.DateReading.{HasDateParts, year_part, behind_year, month_part, day_part, separator}
 use Rattle.journal_lines.specs.DateReading.{day_of, is_day, is_date, date_of}
 
@@ -40,6 +44,25 @@ day_number_bounds day h = (rw (← days_from_civil-first) h.low, rw (← days_fr
 
 pub day_number_from : (day : Day) → neg_ℤ (pos 719_162) ≤ℤ day.0 → day.0 ≤ℤ pos 2_932_896 → IsDayNumber day
 day_number_from day low high = record { low = rw days_from_civil-first low; high = rw days_from_civil-max high }
+
+in_calendar : (day : Day) → IsDayNumber day → is_in_calendar day ≡ true
+in_calendar day h = let bounds = day_number_bounds day h in grind (arith, ints, bounds.0, bounds.1)
+
+from_calendar : (day : Day) → is_in_calendar day ≡ true → IsDayNumber day
+from_calendar day h =
+    let parts = and_parts (int_le (negsuc 719161) day.0) _ h in
+    let low = le_from_int_le (negsuc 719161) day.0 parts.0 in
+    let high = le_from_int_le day.0 (pos 2932896) parts.1 in
+    day_number_from day (omega (arith, ints, low)) (omega (arith, ints, high))
+
+-- a test of it
+pub calendar_test : (day : Day) (b : Bool) → IsTrue b ↔ IsDayNumber day → b ≡ is_in_calendar day
+calendar_test day true h = sym (in_calendar day (h.0 refl))
+calendar_test day false h =
+    elim (cases_Bool (is_in_calendar day)) [
+      | inl has ↦ absurd (let wrong : false ≡ true = h.1 (from_calendar day has) in cc)
+      | inr lacks ↦ sym lacks
+    ]
 
 -- a year begins on or before each of its days
 year_begins : (y : ℤ) (m d : ℕ) → IsCivilDate y m d → days_from_civil y 1 1 ≤ℤ days_from_civil y m d
@@ -83,9 +106,6 @@ month_is_over y m d later h lt =
       days_from_civil-day_count y later 1,
       day_count-lt_month y m d later 1 h (omega arith) lt,
     )
-
-int_le-true : (a b : ℤ) → a ≤ℤ b → int_le a b ≡ true
-int_le-true a b h = grind (arith, ints)
 
 int_le-false : (a b : ℤ) → b <ℤ a → int_le a b ≡ false
 int_le-false a b h = grind (arith, ints)
@@ -234,22 +254,17 @@ read_range text None h = tt
 read_range text (Some x) h = subst IsDayNumber (sym h.1)
     (day_in_range (number_of (year_part text)) (number_of (month_part text)) (number_of (day_part text)) h.0.exists)
 
-digit : (n : ℕ) → n < 10 → is_ascii_digit (48 + n) ≡ true
-digit n h = grind (arith, common_steps)
-
-value : (n : ℕ) → n < 10 → digit_value (48 + n) ≡ n
-value n h = grind (arith, common_steps)
-
 number_two : (a b : ℕ) → a < 10 → b < 10 → number_of ((48 + a) ∷ (48 + b) ∷ []) ≡ 10 * a + b
-number_two a b h k = rw (value a h, value b k) (omega arith)
+number_two a b h k = rw (digit_value_is a h, digit_value_is b k) (omega arith)
 
 number_four : (a b c d : ℕ) → a < 10 → b < 10 → c < 10 → d < 10
     → number_of ((48 + a) ∷ (48 + b) ∷ (48 + c) ∷ (48 + d) ∷ []) ≡ 1000 * a + 100 * b + 10 * c + d
-number_four a b c d h k l m = rw (value a h, value b k, value c l, value d m) (omega arith)
+number_four a b c d h k l m =
+    rw (digit_value_is a h, digit_value_is b k, digit_value_is c l, digit_value_is d m) (omega arith)
 
 -- the bytes of a date
 form_of : (n : ℕ) → n < 10 → (is_ascii_digit (48 + n) || (48 + n == 45)) ≡ true
-form_of n h = rw (digit n h) refl
+form_of n h = rw (digit_is_digit n h) refl
 
 -- a printed date reads as its day
 pub civil_reads : (y m d : ℕ) → IsDay y m d
@@ -281,9 +296,14 @@ civil_reads y m d h =
         separated = refl;
         four = refl;
         year_digits =
-            rw (digit (y / 1000 % 10) a, digit (y / 100 % 10) b, digit (y / 10 % 10) c, digit (y % 10) e) refl;
-        month_digits = rw (digit (m / 10 % 10) f, digit (m % 10) g) refl;
-        place_digits = rw (digit (d / 10 % 10) i, digit (d % 10) j) refl;
+            rw (
+              digit_is_digit (y / 1000 % 10) a,
+              digit_is_digit (y / 100 % 10) b,
+              digit_is_digit (y / 10 % 10) c,
+              digit_is_digit (y % 10) e,
+            ) refl;
+        month_digits = rw (digit_is_digit (m / 10 % 10) f, digit_is_digit (m % 10) g) refl;
+        place_digits = rw (digit_is_digit (d / 10 % 10) i, digit_is_digit (d % 10) j) refl;
         exists = rw (ny, nm, nd) h;
         named = rw (ny, nm, nd) refl;
       };
@@ -297,7 +317,7 @@ civil_reads y m d h =
         form_of (d / 10 % 10) i,
         form_of (d % 10) j,
       ) refl;
-      first = digit (y / 1000 % 10) a;
+      first = digit_is_digit (y / 1000 % 10) a;
       ten = refl;
     }
 

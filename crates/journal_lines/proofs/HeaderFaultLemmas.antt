@@ -4,7 +4,7 @@ use Rattle.std.proofs.Common.{length, take, drop, slice_index, arith, refl, ap, 
 use Rattle.std.proofs.Common.{Some, None, Result, Ok, Err, IfOk, IfErr, inl, inr, nat_lt}
 use Rattle.std.proofs.lemmas.Grind.{common_steps}
 use Rattle.std.proofs.lemmas.Bool.{cases_Bool, and_parts, and_from, or_parts, not-true, not_from_false, lt-ltb, le-ltb}
-use Rattle.std.proofs.lemmas.Bool.{ltb-true, ltb-false, eqb-true}
+use Rattle.std.proofs.lemmas.Bool.{ltb-true, ltb-false, eqb-true, or_left, or_right}
 use Rattle.std.specs.List.{list_all, position_or_len}
 use Rattle.std.proofs.lemmas.List.{drop_at}
 use Rattle.std.proofs.Math.Seq.{take-append_seam}
@@ -231,14 +231,6 @@ open_of (x ∷ xs) h = elim (cases_Bool (x == 40)) [
 or_cases : (a b : Bool) → (a || b) ≡ true → (a ≡ true) ⊎ (b ≡ true)
 or_cases true b h = inl refl
 or_cases false b h = inr h
-
-or_left : (a b : Bool) → a ≡ true → (a || b) ≡ true
-or_left true b h = refl
-or_left false b h = absurd cc
-
-or_right : (a b : Bool) → b ≡ true → (a || b) ≡ true
-or_right true b h = refl
-or_right false b h = h
 
 -- a part with too many bytes
 pub long_of : (line : List ℕ) → is_cut_long (cut_header line) ≡ true → HasLongPart line

@@ -256,7 +256,7 @@ header_utf8 line h u e = at_date (date_of (cut_header line).date)
 
 -- ---- texts that are put together
 
-date_low : (b : ℕ) → (is_ascii_digit b || (b == 45)) ≡ true → is_low b ≡ true
+pub date_low : (b : ℕ) → (is_ascii_digit b || (b == 45)) ≡ true → is_low b ≡ true
 date_low b h = grind (arith, common_steps)
 
 -- a printed header line

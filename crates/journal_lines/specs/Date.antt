@@ -1,7 +1,8 @@
 -- Dates of a journal (hledger manual, "Simple dates"), and which days they name. That the year has four digits,
 -- month and day one digit or two, and that both separators are the same, are own rules. The calendar is the kit's.
-use Rattle.std.specs.Prelude.{ℕ, ℤ, zero, suc, pos, ◌+◌, ◌/◌, ◌%◌, ◌==◌, ◌≡◌, ◌≤◌, ◌-ℤ◌, ◌≤ℤ◌, int_le, unsigned_abs}
+use Rattle.std.specs.Prelude.{ℕ, ℤ, zero, suc, pos, negsuc, ◌+◌, ◌/◌, ◌%◌, ◌==◌, ◌≡◌, ◌≤◌, ◌-ℤ◌, ◌≤ℤ◌, int_le}
 use Rattle.std.specs.Prelude.{◌&&◌, ◌||◌, Bool, true, if◌then◌else◌, List, [], ◌∷◌, ◌++◌, length, slice_index}
+use Rattle.std.specs.Prelude.{unsigned_abs}
 use Rattle.std.specs.Char.{is_ascii_digit}
 use Rattle.std.specs.List.{list_all}
 use Rattle.std.specs.Str.Parse.{digits_value}
@@ -70,6 +71,10 @@ two_digits n = (48 + n / 10 % 10) ∷ (48 + n % 10) ∷ []
 -- a number in four digits
 abbrev pub four_digits : ℕ → List ℕ
 four_digits n = (48 + n / 1000 % 10) ∷ (48 + n / 100 % 10) ∷ two_digits n
+
+-- a text writes the day: it is one from 0001-01-01 to 9999-12-31
+abbrev pub is_in_calendar : Day → Bool
+is_in_calendar day = int_le (negsuc 719161) day.0 && int_le day.0 (pos 2932896)
 
 -- the date of a day as it is printed: `YYYY-MM-DD`
 unfoldable pub printed_date : Day → List ℕ

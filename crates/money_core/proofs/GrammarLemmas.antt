@@ -10,6 +10,7 @@ use Rattle.std.proofs.lemmas.List.{take-append-drop, take_all, drop_at}
 use Rattle.std.proofs.lemmas.List.Folds.{length-prefix_len}
 use Rattle.std.proofs.lemmas.List.Sums.{split_at_first, passes_at_first}
 use Rattle.std.proofs.Math.Seq.{take-append_seam, drop-append-add}
+use Rattle.std.proofs.lemmas.Option.{same_Some}
 use Rattle.std.specs.List.{list_all, slice_split, onto_first, position_or_len, before_first, after_first}
 use Rattle.std.specs.Char.{is_ascii_digit}
 use Rattle.std.specs.Str.{is_utf8}
@@ -33,6 +34,7 @@ use Rattle.money_core.proofs.ClassLemmas.{all_weaker, all_joined, first_passes, 
 use Rattle.money_core.proofs.ClassLemmas.{symbol_no_quote, symbol_no_minus, symbol_no_plus, symbol_no_number}
 use Rattle.money_core.proofs.ClassLemmas.{symbol_no_blank, number_no_symbol, number_no_quote, number_no_minus}
 use Rattle.money_core.proofs.ClassLemmas.{number_no_plus, number_no_blank, blank_no_symbol, blank_no_number}
+use Rattle.money_core.proofs.ListLemmas.{nil_from_empty}
 
 -- the longest front of a class, and what follows it
 pub front_whole : (class : Class) (text : List ℕ)
@@ -138,11 +140,8 @@ pub record SymbolFront (text : List ℕ) (cut : Cut) : Type 0 where
   pub whole : text ≡ written ++ cut.rest
   pub writes : WritesSymbol cut.symbol written
 
-pub some_same : {A : Type 0} (x y : A) → Some x ≡ Some y → x ≡ y
-some_same x y h = cc
-
 pub tested : {A : Type 0} (b : Bool) (x y : A) → cond b (Some x) None ≡ Some y → (b ≡ true) × (x ≡ y)
-tested true x y h = (refl, some_same x y h)
+tested true x y h = (refl, same_Some x y h)
 tested false x y h = absurd cc
 
 bare_front : (text : List ℕ) (cut : Cut) → cut_bare text ≡ Some cut → SymbolFront text cut
@@ -591,12 +590,8 @@ left_back text parts h = go (cut_symbol (unsigned text)) refl h
         let before = sign_front text in
         let whole : text ≡ before.written ++ (front.written ++ cut.rest) =
         before.whole ∙ ap (λ (xs : List ℕ). before.written ++ xs) front.whole in
-        subst (IsLeftAmount text) (some_same (left_number sign cut.symbol cut.rest) parts k)
+        subst (IsLeftAmount text) (same_Some (left_number sign cut.symbol cut.rest) parts k)
         (left_amount text before.written front.written cut.rest cut.symbol sign whole before.writes front.writes)
-
-none_left : (xs : List ℕ) → (length xs == 0) ≡ true → xs ≡ []
-none_left [] h = refl
-none_left (x ∷ xs) h = absurd (omega (arith, eqb-true (length (x ∷ xs)) 0 h))
 
 right_back : (text : List ℕ) (parts : Parts) → right_parts (sign_of (slice_index text 0)) (unsigned text) ≡ Some parts
     → IsRightAmount text parts
@@ -632,7 +627,7 @@ right_back text parts h = go (cut_symbol (skip_blanks rest)) refl h
         let blanks = take (end_of Blank rest) rest in
         let symbol : skip_blanks rest ≡ front.written =
         front.whole ∙
-        (ap (λ (xs : List ℕ). front.written ++ xs) (none_left cut.rest t.0) ∙ append-nil front.written) in
+        (ap (λ (xs : List ℕ). front.written ++ xs) (nil_from_empty cut.rest t.0) ∙ append-nil front.written) in
         let behind : rest ≡ blanks ++ front.written = blanks_front rest ∙ ap (λ (xs : List ℕ). blanks ++ xs) symbol in
         let body : unsigned text ≡ number ++ (blanks ++ front.written) =
         front_whole Number (unsigned text) ∙ ap (λ (xs : List ℕ). number ++ xs) behind in

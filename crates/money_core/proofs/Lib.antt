@@ -1,3 +1,6 @@
+pub mod ListLemmas
+pub mod TestLemmas
+pub mod BytesLemmas
 pub mod ValueLemmas
 pub mod PrintedLemmas
 pub mod RoundTrip

@@ -2,11 +2,9 @@
 use Rattle.std.proofs.Common.{◌≡◌, ◌<◌, ◌++◌, ℕ, zero, suc, List, [], ◌∷◌, Bool, true, false, cond, not, Some, None}
 use Rattle.std.proofs.Common.{length, position, arith, refl, ◌∙◌, inl, inr, ◌⊎◌, length-append, nat_lt}
 use Rattle.std.specs.List.{slice_get, prefix_len, position_or_len}
-use Rattle.std.specs.Str.{bytes_eq}
 use Rattle.std.proofs.lemmas.Bool.{lt-ltb, ltb-true, ltb-false, ne_eqb, eq-eqb}
 use Rattle.std.proofs.lemmas.List.Folds.{prefix_len-append}
 use Rattle.std.proofs.lemmas.List.Sums.{prefix_len-le-length}
-use Rattle.std.proofs.lemmas.Slice.Eq.{bytes_eq-Decides}
 
 -- what a choice between a number and none was
 pub some_chosen : (b : Bool) (n i : ℕ) → cond b (Some n) None ≡ Some i → (b ≡ true) × (n ≡ i)
@@ -60,6 +58,3 @@ slice_get-snoc [] y (suc i) s h = absurd cc
 slice_get-snoc (x ∷ xs) y zero s h = inl h
 slice_get-snoc (x ∷ xs) y (suc i) s h =
     elim (slice_get-snoc xs y i s h) [ inl front ↦ inl front | inr last ↦ inr (omega (arith, last.0), last.1) ]
-
-pub bytes_eq-refl : (xs : List ℕ) → bytes_eq xs xs ≡ true
-bytes_eq-refl xs = (bytes_eq-Decides xs xs).1 refl

@@ -155,7 +155,7 @@ record Begins (text : List ℕ) : Type 0 where
 symbol_no_at : (b : ℕ) → (has Symbol b || (b == 34)) ≡ true → (b == 64) ≡ false
 symbol_no_at b h = grind (arith, common_steps)
 
-number_no_at : (b : ℕ) → has Number b ≡ true → (b == 64) ≡ false
+pub number_no_at : (b : ℕ) → has Number b ≡ true → (b == 64) ≡ false
 number_no_at b h = grind (arith, common_steps)
 
 blank_no_at : (b : ℕ) → has Blank b ≡ true → (b == 64) ≡ false

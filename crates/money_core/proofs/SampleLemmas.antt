@@ -5,6 +5,7 @@ use Rattle.std.proofs.Common.{Err, IfOk, inl, inr, nat_lt, get_or-drop, length-d
 use Rattle.std.proofs.lemmas.Bool.{cases_Bool, and_parts, and_from, le-ltb, le-leb, eqb-true, false_from_ne_true}
 use Rattle.std.proofs.lemmas.Bool.{ltb-false, cases_order}
 use Rattle.std.proofs.lemmas.List.Sums.{passes_at_first, AllPass-from_list_all}
+use Rattle.std.proofs.lemmas.Option.{same_Some}
 use Rattle.std.specs.List.{list_any, position_or_len}
 use Rattle.std.specs.Char.{is_ascii_digit}
 use Rattle.std.specs.Str.{is_utf8}
@@ -24,7 +25,7 @@ use Rattle.money_core.specs.Amount.{Parts, IsAmount, limit}
 use Rattle.money_core.specs.Cutting.{is_signed, amount_parts}
 use Rattle.money_core.specs.Style.{is_style, IsSample}
 use Rattle.money_core.specs.Sampling.{shows, shown_mark, style_with, style_in, style_of_parts, style_of}
-use Rattle.money_core.proofs.GrammarLemmas.{amount_cut, cut_amount, number_parts, some_same}
+use Rattle.money_core.proofs.GrammarLemmas.{amount_cut, cut_amount, number_parts}
 use Rattle.money_core.proofs.SymbolText.{symbol_facts, written_symbol}
 
 -- a byte that stands in a list has a first place
@@ -74,10 +75,10 @@ shown_shows : (mark : Mark) (number : List ℕ) → shown_mark number ≡ Some m
 unfolding shown_mark
 shown_shows mark number h =
     elim (cases_Bool (shows Point number)) [
-      | inl point ↦ let k = rw point at h in subst (λ (m : Mark). shows m number ≡ true) (some_same Point mark k) point
+      | inl point ↦ let k = rw point at h in subst (λ (m : Mark). shows m number ≡ true) (same_Some Point mark k) point
       | inr none ↦ elim (cases_Bool (shows Comma number)) [
         | inl comma ↦ let k =
-            rw (none, comma) at h in subst (λ (m : Mark). shows m number ≡ true) (some_same Comma mark k) comma
+            rw (none, comma) at h in subst (λ (m : Mark). shows m number ≡ true) (same_Some Comma mark k) comma
         | inr neither ↦ let k = rw (none, neither) at h in absurd cc
       ]
     ]
@@ -95,7 +96,7 @@ passed : {A : Type 0} (b c : Bool) (x y : A) → cond b None (cond c None (Some 
     → (b ≡ false) × (c ≡ false) × (x ≡ y)
 passed true c x y h = absurd cc
 passed false true x y h = absurd cc
-passed false false x y h = (refl, refl, some_same x y h)
+passed false false x y h = (refl, refl, same_Some x y h)
 
 unsigned_is : (sign : Sign) → is_signed sign ≡ false → sign ≡ Absent
 unsigned_is Absent h = refl
@@ -163,7 +164,7 @@ spelled_style text style h =
 
 -- A sample has one style.
 pub one_style : (text : List ℕ) (s t : Style) → IsSample text s → IsSample text t → s ≡ t
-one_style text s t h k = some_same s t (sym (spelled_style text s h) ∙ spelled_style text t k)
+one_style text s t h k = same_Some s t (sym (spelled_style text s h) ∙ spelled_style text t k)
 
 pub sample_symbol : (text : List ℕ) (style : Style) → IsSample text style → is_symbol style.symbol ≡ true
 sample_symbol text style h = ap is_symbol h.symbol ∙ amount_symbol style.mark text h.parts h.amount
@@ -192,7 +193,7 @@ module _ (text : List ℕ) (style : Style) (found : style_of text ≡ Some style
   pub found_only : (r : Result Style Cause) → IfOk r (λ s. s ≡ style) → IsOkUnless r OutOfMemory → (other : Style)
       → IsSample text other → (r ≡ Ok other) ⊎ (r ≡ Err OutOfMemory)
   found_only (Ok s) e m other h =
-      inl (ap (λ (x : Style). Ok x) (e ∙ some_same style other (sym found ∙ spelled_style text other h)))
+      inl (ap (λ (x : Style). Ok x) (e ∙ same_Some style other (sym found ∙ spelled_style text other h)))
   found_only (Err cause) e m other h = inr (ap (λ (x : Cause). Err x) m)
 
   pub found_answer : (r : Result Style Cause) → IfOk r (λ s. s ≡ style) → IsOkUnless r OutOfMemory

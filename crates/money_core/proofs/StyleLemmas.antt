@@ -6,7 +6,7 @@ use Rattle.std.specs.Str.{bytes_eq}
 use Rattle.std.proofs.lemmas.Bool.{and_parts, leb-true, ltb-true, lt-leb, cases_lt}
 use Rattle.money_core.specs.Symbol.{is_symbol}
 use Rattle.money_core.proofs.PositionLemmas.{some_chosen, position-append_found, position-append_next, slice_get-snoc}
-use Rattle.money_core.proofs.PositionLemmas.{bytes_eq-refl}
+use Rattle.money_core.proofs.BytesLemmas.{bytes_eq-refl}
 use Rattle.money_core.specs.declared.style.Style.{Style}
 use Rattle.money_core.specs.Amount.{place_of}
 use Rattle.std.proofs.Common.{Ok, Err, le-leb}

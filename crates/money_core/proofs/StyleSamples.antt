@@ -1,9 +1,10 @@
 -- Each style has a sample: a zero in it, with the symbol in quotes.
 use Rattle.std.proofs.Common.{◌≡◌, ◌↔◌, ◌⊎◌, ◌++◌, ◌==◌, ℕ, zero, suc, List, [], ◌∷◌, Bool, true, false, cond, length}
-use Rattle.std.proofs.Common.{replicate, arith, refl, ap, ◌∙◌, sym, inl, inr, lit<, IsTrue}
+use Rattle.std.proofs.Common.{replicate, arith, refl, ◌∙◌, sym, inl, inr, lit<, IsTrue}
 use Rattle.std.proofs.lemmas.Bool.{cases_Bool, and_parts, or_right, eq-eqb, leb-true}
 use Rattle.std.proofs.lemmas.List.Folds.{list_any-append}
 use Rattle.std.proofs.Math.Seq.{drop-append-add}
+use Rattle.std.proofs.lemmas.List.{length-replicate}
 use Rattle.std.specs.List.{list_all, list_any}
 use Rattle.std.specs.Char.{is_ascii_digit}
 use Rattle.std.specs.Str.Parse.{digits_value_after}
@@ -35,19 +36,15 @@ zero_reads Comma true = record { groups = refl; some = lit< tt; unmarked = refl;
 zero_reads Comma false = record { groups = refl; some = lit< tt; unmarked = refl; value = refl }
 
 -- and its decimals
-zeros_digits : (n : ℕ) → list_all is_ascii_digit (replicate n 48) ≡ true
+pub zeros_digits : (n : ℕ) → list_all is_ascii_digit (replicate n 48) ≡ true
 zeros_digits zero = refl
 zeros_digits (suc n) = zeros_digits n
-
-zeros_length : (n : ℕ) → length {A = ℕ} (replicate n 48) ≡ n
-zeros_length zero = refl
-zeros_length (suc n) = ap suc (zeros_length n)
 
 zeros_value : (n : ℕ) → digits_value_after 10 0 (replicate n 48) ≡ 0
 zeros_value zero = refl
 zeros_value (suc n) = zeros_value n
 
-zeros_no_mark : (mark : Mark) (n : ℕ) → list_any (λ b. b == group_byte mark) (replicate n 48) ≡ false
+pub zeros_no_mark : (mark : Mark) (n : ℕ) → list_any (λ b. b == group_byte mark) (replicate n 48) ≡ false
 zeros_no_mark mark zero = refl
 zeros_no_mark Point (suc n) = zeros_no_mark Point n
 zeros_no_mark Comma (suc n) = zeros_no_mark Comma n
@@ -60,7 +57,7 @@ zero_writes : (mark : Mark) (grouped : Bool) (decimals : ℕ)
 unfolding zero_number
 zero_writes mark grouped decimals =
     reads_with_mark mark decimals 0 0 (zero_whole mark grouped) (replicate decimals 48) (zero_reads mark grouped)
-    (zeros_digits decimals) (zeros_length decimals) (zeros_value decimals)
+    (zeros_digits decimals) (length-replicate decimals 48) (zeros_value decimals)
 
 zero_fraction : (mark : Mark) (grouped : Bool) (decimals : ℕ)
     → decimals ≡ length (fraction_part mark (zero_number mark grouped decimals))
@@ -69,7 +66,7 @@ zero_fraction mark grouped decimals =
     let whole = zero_whole mark grouped in
     let at = before_mark (λ b. b == decimal_byte mark) whole (replicate decimals 48) (decimal_byte mark)
     (zero_reads mark grouped).unmarked (eq-eqb (decimal_byte mark) (decimal_byte mark) refl) in
-    rw (at, drop-append-add whole (decimal_byte mark ∷ replicate decimals 48) 1) (sym (zeros_length decimals))
+    rw (at, drop-append-add whole (decimal_byte mark ∷ replicate decimals 48) 1) (sym (length-replicate decimals 48))
 
 zero_shows : (mark : Mark) (grouped : Bool) (decimals : ℕ)
     → list_any (λ b. b == decimal_byte mark) (zero_number mark grouped decimals) ≡ true

@@ -31,7 +31,7 @@ low_ascii (x ∷ xs) h (suc i) = low_ascii xs (and_parts (is_low x) _ h).1 i
 pub utf8_low : (xs : List ℕ) → list_all is_low xs ≡ true → is_utf8 xs ≡ true
 utf8_low xs h = is_utf8-from_IsUtf8 xs (IsUtf8-from_ascii xs (low_ascii xs h))
 
-number_low : (b : ℕ) → has Number b ≡ true → is_low b ≡ true
+pub number_low : (b : ℕ) → has Number b ≡ true → is_low b ≡ true
 number_low b h = grind (arith, common_steps)
 
 -- the bytes of a number

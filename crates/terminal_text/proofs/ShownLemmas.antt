@@ -9,7 +9,7 @@ use Rattle.std.specs.Int.{is_in_range}
 use Rattle.std.specs.List.{list_all, flat_map}
 use Rattle.std.specs.Str.{chars, is_utf8, IsUtf8, encode_utf8_all}
 use Rattle.std.proofs.Math.Utf8.{scalar, scalars, low_scalar}
-use Rattle.std.proofs.lemmas.Bool.{and_parts, and_from, ltb-true, leb-true, lt-ltb, le-ltb, lt-leb, ne_eqb}
+use Rattle.std.proofs.lemmas.Bool.{and_parts, and_from, ltb-true, leb-true, lt-ltb, le-ltb, lt-leb, ne_eqb, or_from}
 use Rattle.std.proofs.lemmas.Bool.Decides.{leb_tells}
 use Rattle.std.proofs.lemmas.List.{append-nil, at_drop_more, at_drop_all, length_push, length-take}
 use Rattle.std.proofs.lemmas.List.{get_or-take, get_or_past}
@@ -17,6 +17,7 @@ use Rattle.std.proofs.lemmas.List.Folds.{list_all-append}
 use Rattle.std.proofs.lemmas.Str.{IsUtf8-nil, IsUtf8-append, IsUtf8-encode, chars-nil, chars-encodes, chars-append}
 use Rattle.std.proofs.lemmas.Str.{encode_ascii, length-encode, len_utf8_bounds, encodes-chars, scalars-chars}
 use Rattle.std.proofs.lemmas.Str.{IsUtf8-from_is_utf8, is_utf8-from_IsUtf8}
+use Rattle.money_core.proofs.TestLemmas.{if_either}
 use Rattle.terminal_text.specs.Shown.{is_shown, IsShown, shown_char, shown_byte, most_shown, shown_from, shown_bytes}
 use Rattle.terminal_text.specs.Shown.{shown_text}
 
@@ -29,11 +30,6 @@ both_shown xs ys h k = record {
   all = ap (list_all is_shown) (chars-append xs ys h.utf8) ∙ list_all-append is_shown (chars xs) (chars ys)
       ∙ and_from (list_all is_shown (chars xs)) (list_all is_shown (chars ys)) h.all k.all;
 }
-
--- one of two texts
-choice : (P : List ℕ → Type 0) (t : Bool) (xs ys : List ℕ) → P xs → P ys → P (if t then xs else ys)
-choice P true xs ys h k = h
-choice P false xs ys h k = k
 
 -- a character as itself
 one_char : (c : ℕ) → IsScalar c → chars (encode_utf8 c) ≡ c ∷ []
@@ -73,13 +69,9 @@ or_not true u e = refl
 or_not false false e = refl
 or_not false true e = absurd cc
 
-no_control : (t u : Bool) → t ≡ false → u ≡ false → (t || u) ≡ false
-no_control false u e f = f
-no_control true u e f = absurd cc
-
 plain_between : (b : ℕ) → 32 ≤ b → b ≤ 126 → is_plain b ≡ true
 plain_between b low high =
-    let control : is_control b ≡ false = no_control (is_in_range 0 0x1f b) (is_in_range 0x7f 0x9f b)
+    let control : is_control b ≡ false = or_from (is_in_range 0 0x1f b) (is_in_range 0x7f 0x9f b)
     (out_of 0 0x1f b (inr (omega arith))) (out_of 0x7f 0x9f b (inl (omega arith))) in
     let hidden = none_of (is_control b) (b == 0x061c) (is_in_range 0x200e 0x200f b) (is_in_range 0x2028 0x202e b)
     (is_in_range 0x2066 0x2069 b) (b == 0xfeff) control (ne_eqb b 0x061c (λ e. absurd (omega arith)))
@@ -113,7 +105,7 @@ onto_plain zero n after h = h
 onto_plain (suc k) n after h =
     let more : list_all is_plain (digit_glyph false (n % 16) ∷ after) ≡ true =
     and_from (is_plain (digit_glyph false (n % 16))) (list_all is_plain after) (glyph_plain (n % 16) (omega arith)) h in
-    choice (λ (xs : List ℕ). list_all is_plain xs ≡ true) (n / 16 == 0) (digit_glyph false (n % 16) ∷ after)
+    if_either (λ (xs : List ℕ). list_all is_plain xs ≡ true) (n / 16 == 0) (digit_glyph false (n % 16) ∷ after)
     (digits_onto k 16 false (n / 16) (digit_glyph false (n % 16) ∷ after)) more
     (onto_plain k (n / 16) (digit_glyph false (n % 16) ∷ after) more)
 
@@ -136,7 +128,7 @@ from_shown : (n : ℕ) (cs : List ℕ) → scalars cs ≡ true → IsShown (show
 from_shown n [] h = nothing_shown
 from_shown n (c ∷ cs) h =
     let parts = and_parts (scalar c) (scalars cs) h in
-    choice IsShown (nat_lt n most_shown) (shown_char c ++ shown_from (n + len_utf8 c) cs) (codes " ..")
+    if_either IsShown (nat_lt n most_shown) (shown_char c ++ shown_from (n + len_utf8 c) cs) (codes " ..")
     (both_shown (shown_char c) (shown_from (n + len_utf8 c) cs) (char_shown c parts.0)
     (from_shown (n + len_utf8 c) cs parts.1))
     (plain_all (codes " ..") refl)
@@ -174,7 +166,7 @@ front_small n bs h i = elim (leb_tells n i) [
 
 bytes_shown : (bs : List ℕ) → ((i : ℕ) → get_or bs i 0 < 256) → IsShown (shown_bytes bs)
 bytes_shown bs h =
-    choice IsShown (nat_le (length bs) most_shown) (flat_map shown_byte bs)
+    if_either IsShown (nat_le (length bs) most_shown) (flat_map shown_byte bs)
     (flat_map shown_byte (take most_shown bs) ++ codes " ..") (all_shown bs h)
     (both_shown (flat_map shown_byte (take most_shown bs)) (codes " ..")
     (all_shown (take most_shown bs) (front_small most_shown bs h)) (plain_all (codes " ..") refl))

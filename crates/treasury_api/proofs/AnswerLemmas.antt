@@ -20,7 +20,7 @@ use Rattle.treasury_core.specs.declared.command.Command.TheVariants as cmd
 use Rattle.treasury_core.specs.declared.command.Answer.TheVariants.{Done}
 use Rattle.treasury_core.specs.Fits.{Fits}
 use Rattle.treasury_store.specs.Store.{AnswersState}
-use Rattle.treasury_store.specs.Treasury.{Treasury, IsTreasuryOf}
+use Rattle.treasury_store.specs.Treasury.{Treasury, IsTreasuryOf, is_failure}
 use Rattle.sqlite.specs.Store.{Ghosts}
 use Rattle.treasury_requests.specs.declared.request.Spelled.{Spelled}
 use Rattle.treasury_requests.specs.declared.request.Request.{Request}
@@ -43,7 +43,6 @@ use Rattle.treasury_api.specs.Asked.{asked_by_sample, asked_by_amount, asked_by_
 use Rattle.treasury_api.specs.Asked.{JournalAsks, RequestAsks, or_dry_run, SpelledAsks, AsksOf}
 use Rattle.treasury_api.specs.declared.report.Report.{Report as AnyReport}
 use Rattle.treasury_api.specs.Report.{report_in, has_its_branch}
-use Rattle.treasury_api.specs.Step.{is_failure}
 use Rattle.treasury_api.specs.Replied.{IsRepliedIn}
 use Rattle.treasury_api.specs.Serving.{IsReady, OrMemory}
 use Rattle.money_core.proofs.ReadingLemmas.{one_of_causes}

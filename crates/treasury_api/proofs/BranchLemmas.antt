@@ -11,13 +11,14 @@ use Rattle.money_core.specs.declared.day.Day.{Day}
 use Rattle.money_core.specs.declared.style.Style.{Style}
 use Rattle.money_core.specs.declared.unit.Unit.{Unit}
 use Rattle.money_core.specs.Reading.{amount}
+use Rattle.money_core.proofs.ListLemmas.{all-append}
+use Rattle.money_core.proofs.BytesLemmas.{same_bytes}
 use Rattle.journal_lines.specs.DateReading.{date_of}
 use Rattle.book_core.specs.declared.refusal.Refusal.{Refusal}
-use Rattle.treasury_state.proofs.BytesLemmas.{same_bytes}
-use Rattle.treasury_state.proofs.AllLemmas.{all-append}
 use Rattle.treasury_core.specs.declared.command.Answer.{Answer}
 use Rattle.treasury_core.specs.declared.command.Command.{Command as AnyCommand}
 use Rattle.treasury_core.specs.Run.{Turn}
+use Rattle.treasury_store.specs.Treasury.{is_failure}
 use Rattle.treasury_requests.specs.declared.request.WrittenPart.{WrittenPart}
 use Rattle.treasury_requests.specs.declared.request.Spelled.{Spelled}
 use Rattle.treasury_requests.specs.declared.request.Request.{Request}
@@ -27,7 +28,7 @@ use Rattle.treasury_api.specs.declared.asking.Asked.{Asked}
 use Rattle.treasury_api.specs.declared.asking.Asked.TheVariants.{Command, DryRun, Report}
 use Rattle.treasury_api.specs.declared.web.answering.Sought.TheVariants as sought
 use Rattle.treasury_api.specs.Asked.{asked_by_amount, asked_by_part, asked_by_receipt, RequestAsks, AsksOf}
-use Rattle.treasury_api.specs.Step.{Standing, is_failure}
+use Rattle.treasury_api.specs.Step.{Standing}
 use Rattle.treasury_api.specs.History.{command_if}
 use Rattle.treasury_api.specs.OneRequest.{AnswersAs, command_of}
 use Rattle.treasury_api.specs.BranchCommand.{is_command_of, IsCommandOf}

@@ -15,12 +15,12 @@ use Rattle.treasury_core.specs.declared.command.Command.{Command as AnyCommand}
 use Rattle.treasury_core.specs.Fits.{Fits}
 use Rattle.treasury_core.specs.Step.{reply as command_reply, delta, Decides}
 use Rattle.treasury_core.specs.Run.{Replies as Steps}
-use Rattle.treasury_store.specs.Treasury.{Treasury, IsTreasuryOf, IsListed}
+use Rattle.treasury_store.specs.Treasury.{Treasury, IsTreasuryOf, IsListed, is_failure}
 use Rattle.treasury_store.proofs.OwnRefusalLemmas.{reply_not_failed, listed_reply}
 use Rattle.http_request.specs.declared.call.Form.{Form}
 use Rattle.treasury_api.specs.declared.asking.Asked.TheVariants.{DryRun}
 use Rattle.treasury_api.specs.Answer.{answer_text}
-use Rattle.treasury_api.specs.Step.{MayReply, is_failure}
+use Rattle.treasury_api.specs.Step.{MayReply}
 use Rattle.treasury_api.specs.Left.{FailsWith}
 use Rattle.treasury_api.specs.Replied.{IsRepliedIn, IsPrintableIn}
 use Rattle.treasury_api.specs.Serving.{IsForeseen}

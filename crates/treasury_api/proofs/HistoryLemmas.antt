@@ -13,11 +13,12 @@ use Rattle.treasury_core.specs.declared.command.Command.{Command as AnyCommand}
 use Rattle.treasury_core.specs.Run.{Replies as CommandReplies, IsRun as IsCommandRun, state_after}
 use Rattle.treasury_core.proofs.ReplyLemmas.{run_good}
 use Rattle.treasury_laws.specs.History.{IsRefusedOrRepeated}
+use Rattle.treasury_store.specs.Treasury.{is_failure}
 use Rattle.treasury_api.specs.declared.asking.Asked.{Asked}
 use Rattle.treasury_api.specs.declared.asking.Asked.TheVariants.{Command, DryRun, Report}
 use Rattle.treasury_api.specs.Asked.{Asks}
 use Rattle.treasury_api.specs.Answer.{answer_text}
-use Rattle.treasury_api.specs.Step.{Standing, after, next, is_failure, reply_text, MayReply, Answers}
+use Rattle.treasury_api.specs.Step.{Standing, after, next, reply_text, MayReply, Answers}
 use Rattle.treasury_api.specs.Transcript.{requests_in, AnswersInTurn, IsTranscript}
 use Rattle.treasury_api.specs.History.{Turn, after_turn, AreTurns, end_of, texts_of, IsRun, command_if, commands_of}
 use Rattle.treasury_api.specs.History.{RefusalsLeave, IsRefusalOrRepeat, RefusedLinesLeave}

@@ -19,14 +19,14 @@ use Rattle.book_core.specs.declared.refusal.Refusal.{Refusal}
 use Rattle.book_core.specs.declared.refusal.Refusal.TheVariants.{Plain, Text, ClaimFailed}
 use Rattle.treasury_state.specs.Federation.{Federation}
 use Rattle.treasury_core.specs.declared.command.Answer.{Answer}
-use Rattle.treasury_store.specs.Treasury.{Treasury, IsTreasuryOf}
+use Rattle.treasury_store.specs.Treasury.{Treasury, IsTreasuryOf, is_failure}
 use Rattle.treasury_requests.specs.declared.request.Spelled.{Spelled}
 use Rattle.treasury_requests.specs.Request.{is_report}
 use Rattle.treasury_api.specs.declared.asking.Asked.{Asked}
 use Rattle.treasury_api.specs.declared.asking.Asked.TheVariants.{Command, DryRun, Report}
 use Rattle.treasury_api.specs.Asked.{AsksOf}
 use Rattle.treasury_api.specs.Answer.{answer_text, done_text, refusal_text}
-use Rattle.treasury_api.specs.Step.{MayReply, is_failure}
+use Rattle.treasury_api.specs.Step.{MayReply}
 use Rattle.treasury_api.specs.Left.{FailsWith, IsOpenBut}
 use Rattle.treasury_api.specs.Replied.{body_of}
 use Rattle.treasury_api.specs.WebReply.{status_of, status_of_number, cause_of, form_of_reply}

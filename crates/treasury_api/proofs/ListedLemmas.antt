@@ -2,7 +2,6 @@
 use Rattle.std.proofs.Common.{◌≡◌, ◌∙◌, ◌==◌, ℕ, Bool, true, false, Some, Result, Ok, Err, ap, refl, sym, arith}
 use Rattle.std.specs.Prelude.{if◌then◌else◌, slice_get}
 use Rattle.std.proofs.lemmas.Bool.Decides.{nat_tests}
-use Rattle.money_core.proofs.PositionLemmas.{bytes_eq-refl}
 use Rattle.money_core.specs.declared.style.Style.{Style}
 use Rattle.money_core.specs.declared.unit.Declared.{Declared}
 use Rattle.money_core.specs.declared.unit.Declared.TheVariants.{Same}
@@ -13,6 +12,7 @@ use Rattle.money_core.specs.declared.mark.Mark.TheVariants.{Point, Comma}
 use Rattle.money_core.specs.Style.{AreStyles, bool_eq, mark_eq, style_eq}
 use Rattle.money_core.proofs.SampleLemmas.{spelled_style}
 use Rattle.money_core.proofs.StyleLemmas.{declared-held}
+use Rattle.money_core.proofs.BytesLemmas.{bytes_eq-refl}
 use Rattle.treasury_state.specs.Federation.{Federation}
 use Rattle.treasury_core.specs.declared.command.Command.TheVariants as cmd
 use Rattle.treasury_core.specs.declared.command.Answer.TheVariants.{Repeated}

@@ -9,7 +9,7 @@ use Rattle.book_core.specs.declared.refusal.Refusal.TheVariants.{Plain}
 use Rattle.treasury_state.specs.Federation.{Federation}
 use Rattle.treasury_core.specs.declared.command.Answer.{Answer}
 use Rattle.treasury_core.specs.Run.{Turn, IsRun, state_after}
-use Rattle.treasury_store.specs.Treasury.{Treasury, IsTreasuryOf}
+use Rattle.treasury_store.specs.Treasury.{Treasury, IsTreasuryOf, is_failure}
 use Rattle.treasury_requests.specs.declared.request.Spelled.{Spelled}
 use Rattle.http_request.specs.declared.call.Form.{Form}
 use Rattle.http_request.specs.declared.call.Form.TheVariants as form
@@ -18,7 +18,7 @@ use Rattle.treasury_api.specs.declared.asking.Asked.TheVariants.{Command, DryRun
 use Rattle.treasury_requests.specs.Request.{HasDayNumbers}
 use Rattle.treasury_api.specs.Asked.{AsksOf, SpelledAsks}
 use Rattle.treasury_api.specs.Answer.{answer_text}
-use Rattle.treasury_api.specs.Step.{Standing, MayReply, after, is_failure}
+use Rattle.treasury_api.specs.Step.{Standing, MayReply, after}
 use Rattle.treasury_api.specs.History.{command_if}
 use Rattle.treasury_api.specs.OneRequest.{AnswersAs, AnswersRequest, RepliesAs, RepliesOn, request_text}
 use Rattle.treasury_api.specs.OneRequest.{is_refusal, command_of}

@@ -17,6 +17,7 @@ use Rattle.money_core.specs.declared.cause.Cause.TheVariants.{NothingToClose, Lo
 use Rattle.money_core.specs.Amount.{limit}
 use Rattle.money_core.specs.AmountText.{IsDeclared}
 use Rattle.money_core.specs.Style.{declared}
+use Rattle.money_core.proofs.ListLemmas.{all-append}
 use Rattle.journal_lines.specs.Date.{IsDayNumber}
 use Rattle.book_core.specs.declared.leg.Leg.{Leg}
 use Rattle.book_core.specs.declared.claim.Placed.{Placed}
@@ -44,7 +45,7 @@ use Rattle.treasury_state.specs.Mark.{held, is_held, is_repeat, is_product_mark,
 use Rattle.treasury_state.specs.Transfer.{is_id, is_account_text, is_reserved, is_transit, dispatch_record}
 use Rattle.treasury_state.specs.Transfer.{receipt_record, receipts_of, transfer_at}
 use Rattle.treasury_state.specs.Good.{IsGoodRecord, IsGoodState}
-use Rattle.treasury_state.proofs.BranchLemmas.{of_branch}
+use Rattle.treasury_state.proofs.OpenLemmas.{good_records}
 use Rattle.treasury_core.specs.declared.command.Answer.{Answer}
 use Rattle.treasury_core.specs.declared.command.Answer.TheVariants.{Repeated}
 use Rattle.treasury_core.specs.declared.command.Command.{Command}
@@ -131,11 +132,6 @@ printable_verdict styles b (Plain cause) all h = tt
 printable_verdict styles b (Text fault) all h = tt
 printable_verdict styles b (ClaimFailed f) all h = printable_failure styles b f all h
 
-all-append : {X : Type 0} (P : X → Type 0) (xs ys : List X) → AllByRecursion P xs → AllByRecursion P ys
-    → AllByRecursion P (xs ++ ys)
-all-append P [] ys h k = k
-all-append P (x ∷ xs) ys h k = (h.0, all-append P xs ys h.1 k)
-
 of_records : (styles : List Style) (rs : List Record) → AllByRecursion (IsGoodRecord styles) rs
     → AllByRecursion (IsOfTransaction styles) (entries rs)
 of_records styles [] h = tt
@@ -208,11 +204,6 @@ refused_printable styles lock held (r ∷ rs) e h =
       | inl here ↦ chosen styles (is_held held r.mark) _ _ e here (λ h. barred_printable styles lock r e h)
       | inr later ↦ new later
     ]
-
-good_records : (f : Federation) (name : List ℕ) → IsGoodState f
-    → AllByRecursion (IsGoodRecord f.styles) (records_of f name)
-good_records f name good =
-    of_branch (AllByRecursion (IsGoodRecord f.styles)) f.styles f.branches name tt (λ b h. h.records) good.branches
 
 file_printable : (f : Federation) (name : List ℕ) (file : List Located) (e : Refusal) → IsGoodState f
     → Fits f.styles (cmd.Enter name file) → enter_refusal f name file ≡ Some e → IsPrintableRefusal f.styles e

@@ -14,13 +14,13 @@ use Rattle.treasury_core.specs.declared.command.Command.{Command as AnyCommand}
 use Rattle.treasury_core.specs.Fits.{Fits}
 use Rattle.treasury_core.specs.Step.{reply as command_reply, delta}
 use Rattle.treasury_core.specs.Run.{Replies as Steps}
-use Rattle.treasury_store.specs.Treasury.{Treasury, IsTreasuryOf, Performs, FailsBy, AddsNothing}
+use Rattle.treasury_store.specs.Treasury.{Treasury, IsTreasuryOf, Performs, FailsBy, AddsNothing, is_failure}
 use Rattle.treasury_store.specs.Treasury.{MayReply as MayPerform}
 use Rattle.http_request.specs.declared.call.Form.{Form}
 use Rattle.treasury_api.specs.declared.asking.Asked.{Asked}
 use Rattle.treasury_api.specs.declared.asking.Asked.TheVariants.{Command, DryRun, Report}
 use Rattle.treasury_api.specs.Answer.{answer_text, IsPrintableRefusal}
-use Rattle.treasury_api.specs.Step.{MayReply, after, is_failure}
+use Rattle.treasury_api.specs.Step.{MayReply, after}
 use Rattle.treasury_api.specs.Replied.{IsRepliedIn, IsPrintableIn, body_of}
 use Rattle.treasury_api.specs.Serving.{IsHeldFor}
 use Rattle.treasury_api.proofs.PrintableLemmas.{decided_printable}

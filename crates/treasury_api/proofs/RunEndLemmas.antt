@@ -11,10 +11,10 @@ use Rattle.treasury_state.specs.Rows.{rows}
 use Rattle.treasury_core.specs.Run.{state_after}
 use Rattle.treasury_laws.proofs.HeadlineLemmas.{keeps_books}
 use Rattle.treasury_tables.specs.Kept.{ShutsByFault, IsFaithful}
-use Rattle.treasury_store.specs.Treasury.{Treasury, IsTreasuryOf}
+use Rattle.treasury_store.specs.Treasury.{Treasury, IsTreasuryOf, is_failure}
 use Rattle.treasury_store.specs.Left.{LeavesRows}
 use Rattle.treasury_store.proofs.LeftLemmas.{shuts_same, shuts_then}
-use Rattle.treasury_api.specs.Step.{Standing, Answers, is_failure}
+use Rattle.treasury_api.specs.Step.{Standing, Answers}
 use Rattle.treasury_api.specs.Transcript.{requests_in, AnswersInTurn, IsTranscript}
 use Rattle.treasury_api.specs.RunEnd.{most_input, EndsBy, Ends}
 use Rattle.treasury_api.specs.History.{Turn, turn_of, after_turn, AreTurns, end_of, texts_of, IsRun, commands_of}

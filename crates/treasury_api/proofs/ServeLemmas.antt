@@ -20,7 +20,7 @@ use Rattle.treasury_core.specs.declared.command.Answer.{Answer}
 use Rattle.treasury_core.specs.declared.command.Answer.TheVariants.{Done}
 use Rattle.treasury_core.specs.declared.command.Command.{Command as AnyCommand}
 use Rattle.treasury_tables.specs.Kept.{ShutsByFault, IsFaithful}
-use Rattle.treasury_store.specs.Treasury.{Treasury, IsTreasuryOf}
+use Rattle.treasury_store.specs.Treasury.{Treasury, IsTreasuryOf, is_failure}
 use Rattle.treasury_store.proofs.LeftLemmas.{shuts_same}
 use Rattle.treasury_requests.specs.declared.request.Spelled.{Spelled}
 use Rattle.treasury_requests.specs.declared.request.Request.{Request}
@@ -43,7 +43,7 @@ use Rattle.treasury_api.specs.Asked.{AsksOf, Asks, RequestAsks, SpelledAsks, ask
 use Rattle.treasury_api.specs.Asked.{asked_by_part}
 use Rattle.treasury_api.specs.Report.{report_text, has_its_branch}
 use Rattle.treasury_api.specs.Answer.{answer_text, IsPlainAnswer}
-use Rattle.treasury_api.specs.Step.{Answers, MayReply, after, next, reply_text, is_failure}
+use Rattle.treasury_api.specs.Step.{Answers, MayReply, after, next, reply_text}
 use Rattle.treasury_api.specs.Left.{IsOpenBut, LeavesRequest, LeavesReply}
 use Rattle.treasury_api.specs.Replied.{standing, body_of, IsLineOf, IsLineIn, Serves}
 use Rattle.treasury_api.specs.Serving.{end_of_report, OrMemory}

@@ -7,10 +7,11 @@ use Rattle.treasury_core.specs.declared.command.Answer.{Answer}
 use Rattle.treasury_core.specs.Run.{Turn as CommandTurn, IsRun as IsCommandRun, state_after}
 use Rattle.treasury_laws.specs.Headline.{KeepsBooks}
 use Rattle.treasury_laws.specs.History.{IsRefusedOrRepeated}
+use Rattle.treasury_store.specs.Treasury.{is_failure}
 use Rattle.treasury_api.specs.declared.asking.Asked.{Asked}
 use Rattle.treasury_api.specs.declared.asking.Asked.TheVariants.{Command, DryRun, Report}
 use Rattle.treasury_api.specs.Asked.{Asks}
-use Rattle.treasury_api.specs.Step.{Standing, Answers, next, is_failure, reply_text, Replies}
+use Rattle.treasury_api.specs.Step.{Standing, Answers, next, reply_text, Replies}
 use Rattle.treasury_api.specs.Transcript.{requests_in}
 
 -- a request: its line, what it asks, and what was replied

@@ -9,14 +9,14 @@ use Rattle.book_core.specs.declared.refusal.Refusal.TheVariants.{Plain}
 use Rattle.treasury_state.specs.Federation.{Federation}
 use Rattle.treasury_core.specs.declared.command.Answer.{Answer}
 use Rattle.treasury_tables.specs.Kept.{ShutsByFault, IsFaithful}
-use Rattle.treasury_store.specs.Treasury.{Treasury, IsTreasuryOf}
+use Rattle.treasury_store.specs.Treasury.{Treasury, IsTreasuryOf, is_failure}
 use Rattle.treasury_api.specs.declared.asking.Asked.{Asked}
 use Rattle.treasury_api.specs.declared.asking.Asked.TheVariants.{Command, DryRun, Report}
 use Rattle.http_request.specs.declared.call.Form.{Form}
 use Rattle.http_request.specs.declared.call.Form.TheVariants as form
 use Rattle.treasury_api.specs.Report.{report_in}
 use Rattle.treasury_api.specs.Answer.{answer_text, IsPrintableRefusal}
-use Rattle.treasury_api.specs.Step.{Standing, MayReply, Answers, after, is_failure}
+use Rattle.treasury_api.specs.Step.{Standing, MayReply, Answers, after}
 use Rattle.treasury_api.specs.Left.{LeavesReply}
 
 -- where a run on a treasury stands

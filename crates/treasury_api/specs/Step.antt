@@ -1,6 +1,6 @@
 -- What is answered to a line, and where a run stands after it (own rules; docs/RULES.md, "Orders"): a command's step is
 -- that of the machine of commands.
-use Rattle.std.specs.Prelude.{◌≡◌, ◌⊎◌, ℕ, Bool, true, false, not, ◌||◌, if◌then◌else◌, List, [], ◌++◌, IsSome, Result}
+use Rattle.std.specs.Prelude.{◌≡◌, ◌⊎◌, ℕ, Bool, false, not, ◌||◌, if◌then◌else◌, List, [], ◌++◌, IsSome, Result}
 use Rattle.std.specs.Prelude.{Ok, Err}
 use Rattle.money_core.specs.declared.cause.Cause.TheVariants.{UnknownBranch, OutOfMemory, Store as Failed}
 use Rattle.book_core.specs.declared.refusal.Refusal.{Refusal}
@@ -10,6 +10,7 @@ use Rattle.treasury_core.specs.declared.command.Answer.{Answer}
 use Rattle.treasury_core.specs.declared.command.Answer.TheVariants.{Done}
 use Rattle.treasury_core.specs.Step.{reply as command_reply, after as after_command}
 use Rattle.treasury_store.specs.Store.{empty_state}
+use Rattle.treasury_store.specs.Treasury.{is_failure}
 use Rattle.treasury_api.specs.declared.asking.Asked.{Asked}
 use Rattle.treasury_api.specs.declared.asking.Asked.TheVariants.{Command, DryRun, Report}
 use Rattle.treasury_requests.specs.Request.{spelled}
@@ -56,11 +57,6 @@ pub record Standing : Type 0 where
 -- the same before the first line, over a federation that has nothing yet
 abbrev pub at_first : Standing
 at_first = record { now = empty_state; failed = false }
-
--- 41: a call of the database has failed, and the tables are as before
-abbrev pub is_failure : Result Answer Refusal → Bool
-is_failure (Err (Plain Failed)) = true
-is_failure _ = false
 
 -- where a run stands after the reply: 41 closes the database for good
 abbrev pub next : Standing → Result Asked Refusal → Result Answer Refusal → Standing

@@ -1,14 +1,15 @@
 -- a change of one branch: what holds of the others stays
 use Rattle.std.proofs.Common.{◌≡◌, ℕ, suc, Bool, true, false, ◌||◌, List, [], ◌∷◌, length, refl, ap, ◌∙◌, sym, Option}
+use Rattle.std.proofs.lemmas.Bool.{or_parts}
 use Rattle.std.specs.Prelude.{if◌then◌else◌}
 use Rattle.std.specs.List.{list_any, AllByRecursion}
 use Rattle.std.specs.Str.{bytes_eq}
 use Rattle.money_core.specs.declared.day.Day.{Day}
+use Rattle.money_core.proofs.BytesLemmas.{same_bytes}
 use Rattle.treasury_state.specs.declared.record.Record.{Record}
 use Rattle.treasury_state.specs.Federation.{Branch, has_name, records_in, lock_in}
 use Rattle.treasury_state.specs.Joined.{changed}
 use Rattle.treasury_state.specs.Good.{HaveOwnNames}
-use Rattle.treasury_state.proofs.BytesLemmas.{same_bytes, neither}
 
 -- a change that leaves names
 abbrev pub KeepsName : (Branch → Branch) → Type 0
@@ -53,7 +54,7 @@ others_keep : (P Q : Branch → Type 0) (name : List ℕ) (bs : List Branch) →
     → ((b : Branch) → bytes_eq b.name name ≡ false → P b → Q b) → AllByRecursion P bs → AllByRecursion Q bs
 others_keep P Q name [] n k h = tt
 others_keep P Q name (b ∷ bs) n k h = let e =
-    neither (bytes_eq b.name name) (list_any (has_name name) bs) n in (k b e.0 h.0, others_keep P Q name bs e.1 k h.1)
+    or_parts (bytes_eq b.name name) (list_any (has_name name) bs) n in (k b e.0 h.0, others_keep P Q name bs e.1 k h.1)
 
 -- what a changed branch is: that of the name, with the records and the lock that are looked up
 abbrev pub Changes : (Branch → Branch) → List ℕ → List Record → Option Day → (Branch → Type 0) → (Branch → Type 0)

@@ -3,17 +3,18 @@ use Rattle.std.proofs.Common.{◌≡◌, ◌∙◌, ◌≤◌, ◌<◌, ◌+◌,
 use Rattle.std.proofs.Common.{not, nat_eq, List, [], ◌∷◌, ◌++◌, length, slice_index, refl, sym, ap, subst, arith}
 use Rattle.std.proofs.Common.{append-nil, length-append, drop, get_or, drop-cons, add-one, true≢false, Option, Some}
 use Rattle.std.proofs.Common.{None}
-use Rattle.std.specs.Prelude.{codes, nat_lt, nat_le, if◌then◌else◌, ⊤}
+use Rattle.std.specs.Prelude.{codes, nat_lt, nat_le, if◌then◌else◌}
 use Rattle.std.specs.Bool.{Decides, one_answer}
 use Rattle.std.specs.Cmp.Lexicographic.{pointwise}
 use Rattle.std.specs.List.{list_all, list_any, flat_map}
 use Rattle.std.specs.Str.{bytes_eq, is_utf8}
-use Rattle.std.proofs.lemmas.Bool.{and_parts, and_from, not-true, not_from_false}
+use Rattle.std.proofs.lemmas.Bool.{and_parts, and_from, not-true, not_from_false, or_right, or_parts}
 use Rattle.std.proofs.lemmas.Bool.Decides.{nat_tests}
 use Rattle.std.proofs.lemmas.Grind.{common_steps}
 use Rattle.std.proofs.lemmas.List.Folds.{list_all-append}
 use Rattle.std.proofs.lemmas.Slice.Eq.{bytes_eq-Decides, slice_eq-Decides}
 use Rattle.money_core.specs.Blank.{is_blank}
+use Rattle.money_core.proofs.Utf8Lemmas.{utf8_joined, utf8_low}
 use Rattle.book_core.specs.Account.{IsInside, is_inside}
 use Rattle.book_core.specs.declared.refusal.Refusal.{Refusal}
 use Rattle.book_core.proofs.AccountLemmas.{is_inside_decides}
@@ -23,9 +24,8 @@ use Rattle.journal_lines.specs.Printed.{is_clean}
 use Rattle.journal_lines.proofs.AccountLemmas.{account_whole}
 use Rattle.journal_format.specs.Mark.{mark_of}
 use Rattle.journal_format.specs.Printable.{is_note}
-use Rattle.journal_format.proofs.Utf8Lemmas.{utf8_joined, utf8_low}
 use Rattle.treasury_state.specs.Transfer.{is_account_text, is_reserved}
-use Rattle.treasury_state.proofs.BytesLemmas.{neither}
+use Rattle.treasury_state.specs.Fair.{HasNoColon}
 use Rattle.treasury_core.specs.declared.choice.Choice.{Choice}
 use Rattle.treasury_core.specs.Choice.{is_revenue_or_expense, retained_earnings, is_among, is_selected, target_in}
 use Rattle.treasury_core.specs.Choice.{listed, list_text, accounts_comment, into_comment, choice_comments}
@@ -72,10 +72,6 @@ allowed c h =
 
 -- ---- nothing that is selected is on transit
 
-abbrev HasNoColon : List ℕ → Type 0
-HasNoColon [] = ⊤
-HasNoColon (c ∷ cs) = (nat_eq c 58 ≡ false) × HasNoColon cs
-
 -- of two texts that go on with a colon to one, one is inside the other
 fronts : (f top r s : List ℕ) → top ++ 58 ∷ s ≡ f ++ 58 ∷ r → IsInside f top ⊎ IsInside top f
 fronts [] [] r s e = inl (inl refl)
@@ -121,27 +117,23 @@ above : (top : List ℕ) → (top ≡ transit) ⊎ (top ≡ codes "assets") → 
 above top (inl e) = ap holds_transit e
 above top (inr e) = ap holds_transit e
 
-or_second : (a b : Bool) → b ≡ true → (a || b) ≡ true
-or_second true b e = refl
-or_second false b e = e
-
 -- an account inside another and on transit: the other is on transit, or it is `assets`
 transit_above : (top account : List ℕ) → IsInside top account → IsInside transit account → holds_transit top ≡ true
 transit_above top account (inl e) on =
-    or_second (bytes_eq top (codes "assets")) (is_reserved top)
+    or_right (bytes_eq top (codes "assets")) (is_reserved top)
     (ap is_reserved (sym e) ∙ (is_inside_decides transit account).1 on)
 transit_above top account (inr p) (inl e) = above top (only_assets top (inr (p.0, sym e ∙ p.1)))
 transit_above top account (inr p) (inr q) = by_case (fronts transit top q.0 p.0 (sym p.1 ∙ q.1))
   where
     by_case : IsInside transit top ⊎ IsInside top transit → holds_transit top ≡ true
-    by_case (inl h) = or_second (bytes_eq top (codes "assets")) (is_reserved top) ((is_inside_decides transit top).1 h)
+    by_case (inl h) = or_right (bytes_eq top (codes "assets")) (is_reserved top) ((is_inside_decides transit top).1 h)
     by_case (inr h) = above top (only_assets top h)
 
 among_apart : (names : List (List ℕ)) (account : List ℕ) → list_any holds_transit names ≡ false
     → is_among names account ≡ true → is_reserved account ≡ true → ⊥
 among_apart [] account off h on = absurd cc
 among_apart (top ∷ names) account off h on =
-    let n = neither (holds_transit top) (list_any holds_transit names) off in
+    let n = or_parts (holds_transit top) (list_any holds_transit names) off in
     by_test (is_inside top account) refl h n.0 (λ k. among_apart names account n.1 k on)
   where
     by_test : (t : Bool) → is_inside top account ≡ t → (t || is_among names account) ≡ true → holds_transit top ≡ false
@@ -197,10 +189,10 @@ solid_byte b h e = grind (arith, common_steps)
 solid_name : (name : List ℕ) → list_all is_name_byte name ≡ true → has_gap name ≡ false → ends_solid name ≡ true
 solid_name [] h g = refl
 solid_name (b ∷ []) h g =
-    not_from_false _ (solid_byte b (and_parts (is_name_byte b) true h).0 (neither (b == 32) false g).0)
+    not_from_false _ (solid_byte b (and_parts (is_name_byte b) true h).0 (or_parts (b == 32) false g).0)
 solid_name (b ∷ (next ∷ rest)) h g =
     solid_name (next ∷ rest) (and_parts (is_name_byte b) (list_all is_name_byte (next ∷ rest)) h).1
-    (neither (is_gap b (next ∷ rest)) (has_gap (next ∷ rest)) g).1
+    (or_parts (is_gap b (next ∷ rest)) (has_gap (next ∷ rest)) g).1
 
 no_gaps : (name : List ℕ) → is_account name ≡ true → has_gap name ≡ false
 unfolding is_account

@@ -3,7 +3,6 @@ use Rattle.std.proofs.Common.{◌≡◌, ◌≤◌, ◌<◌, ◌+◌, ℕ, nat_e
 use Rattle.std.proofs.Common.{length, ℤ, pos, ◌+ℤ◌, ◌-ℤ◌, ◌≤ℤ◌, refl, ap, ◌∙◌, sym, arith, Some, None, ◌⊎◌, inl, inr}
 use Rattle.std.proofs.Common.{Ordering}
 use Rattle.std.specs.Prelude.{if◌then◌else◌, unsigned_abs, filter, cond, int_le}
-use Rattle.std.specs.Ordering.{ordering_reverse}
 use Rattle.std.specs.Cmp.{unsigned_Decides}
 use Rattle.std.specs.List.{list_any, flat_map, AllByRecursion}
 use Rattle.std.specs.List.Sorted.{IsStrictlySortedBy}
@@ -11,11 +10,13 @@ use Rattle.std.specs.Str.{bytes_eq}
 use Rattle.std.specs.declared.cmp.Ordering.TheVariants.{Less, Equal, Greater}
 use Rattle.std.proofs.lemmas.Int.{ints}
 use Rattle.std.proofs.lemmas.Map.Lookups.{exact_bytes}
-use Rattle.std.proofs.lemmas.Bool.{cases_lt}
+use Rattle.std.proofs.lemmas.Bool.{cases_lt, or_parts}
 use Rattle.money_core.specs.declared.style.Style.{Style}
 use Rattle.money_core.specs.declared.unit.Unit.{Unit as Commodity}
 use Rattle.money_core.specs.declared.day.Day.{Day}
 use Rattle.money_core.specs.AmountText.{IsDeclared}
+use Rattle.money_core.proofs.TestLemmas.{int_le-true, if_zero}
+use Rattle.money_core.proofs.BytesLemmas.{bytes_eq-refl, same_bytes, other_bytes}
 use Rattle.book_core.specs.declared.account.Reach.TheVariants.{Own}
 use Rattle.book_core.specs.declared.entry.Entry.{Entry}
 use Rattle.book_core.specs.declared.leg.Leg.{Leg}
@@ -25,9 +26,11 @@ use Rattle.book_core.specs.Account.{name_cmp}
 use Rattle.book_core.specs.Book.{posted_legs, posted_from, legs_of, accounts_of}
 use Rattle.book_core.specs.Place.{is_until}
 use Rattle.book_core.specs.Balance.{counts, total, balance, sum_in, value, moved, turnover}
-use Rattle.book_core.proofs.AccountListLemmas.{names_total}
+use Rattle.book_core.specs.Accounts.{placed_name, with_name, ordered_names, book_accounts}
+use Rattle.book_core.proofs.AccountListLemmas.{name_cmp-irrefl}
 use Rattle.book_core.proofs.BalanceLemmas.{balance-append, balance-entry, balance_within}
 use Rattle.book_core.proofs.SumLemmas.{total-append, moved-append}
+use Rattle.book_core.proofs.AccountOrder.{book_accounts_are}
 use Rattle.journal_format.specs.declared.posting.Posting.{Posting}
 use Rattle.journal_format.specs.declared.txn.Txn.{Txn}
 use Rattle.journal_balance.specs.Legs.{commodities, declared}
@@ -36,26 +39,19 @@ use Rattle.journal_balance.proofs.DeclaredLemmas.{entry_declared}
 use Rattle.treasury_state.specs.declared.record.Record.{Record}
 use Rattle.treasury_state.specs.Federation.{Federation, entries, book_of, records_of}
 use Rattle.treasury_state.specs.Good.{IsGoodRecord, IsGoodState}
-use Rattle.treasury_state.proofs.BytesLemmas.{same_bytes, self_bytes, other_bytes, neither}
 use Rattle.treasury_state.proofs.BranchLemmas.{of_branch}
-use Rattle.treasury_core.specs.Accounts.{placed_name, with_name, ordered_names, book_accounts}
 use Rattle.treasury_core.specs.Closing.{through, selected, closed_account, held_in, gaining_account, closing_postings}
 use Rattle.treasury_core.specs.Closing.{closing_txn, closing_of, closing}
 use Rattle.treasury_core.specs.Closed.{IsClosing, closed_book}
-use Rattle.treasury_core.proofs.AccountOrder.{book_accounts_are}
 use Rattle.treasury_core.proofs.ClosingSums.{picked, picked-append, picked-value, picked-sum, legs-append, picked_known}
 use Rattle.treasury_core.proofs.ClosingSums.{picked_behind, picked_closed, picked_unknown, held_if, held_all, held_none}
 use Rattle.treasury_core.proofs.ClosingSums.{held_own, AreApart}
 
 -- ---- the accounts of a book stand apart
 
-not_less : (a : List ℕ) → name_cmp a a ≡ Less → ⊥
-not_less a e =
-    let back = names_total.antisymm a a in let x : Less ≡ Greater = sym e ∙ (back ∙ ap ordering_reverse e) in cc
-
 apart_at : (a name : List ℕ) (rest : Bool) → name_cmp a name ≡ Less → rest ≡ false → (t : Bool) → bytes_eq a name ≡ t
     → (t || rest) ≡ false
-apart_at a name rest less h true e = absurd (not_less a (ap (name_cmp a) (same_bytes a name e) ∙ less))
+apart_at a name rest less h true e = absurd (name_cmp-irrefl a (ap (name_cmp a) (same_bytes a name e) ∙ less))
 apart_at a name rest less h false e = h
 
 below_apart : (a : List ℕ) (names : List (List ℕ)) → AllByRecursion (λ y. name_cmp a y ≡ Less) names
@@ -73,7 +69,7 @@ filter_none : (p : List ℕ → Bool) (a : List ℕ) (names : List (List ℕ)) �
     → list_any (bytes_eq a) (filter p names) ≡ false
 filter_none p a [] e = refl
 filter_none p a (name ∷ names) e =
-    let both = neither (bytes_eq a name) (list_any (bytes_eq a) names) e in
+    let both = or_parts (bytes_eq a name) (list_any (bytes_eq a) names) e in
     by_test (p name) both.0 (filter_none p a names both.1)
   where
     by_test : (t : Bool) → bytes_eq a name ≡ false → list_any (bytes_eq a) (filter p names) ≡ false
@@ -185,7 +181,7 @@ none_of_both : (a : List ℕ) (xs ys : List Leg) → has_leg a (xs ++ ys) ≡ fa
     → (has_leg a xs ≡ false) × (has_leg a ys ≡ false)
 none_of_both a [] ys e = (refl, e)
 none_of_both a (x ∷ xs) ys e =
-    let both = neither (bytes_eq a x.account) (has_leg a (xs ++ ys)) e in
+    let both = or_parts (bytes_eq a x.account) (has_leg a (xs ++ ys)) e in
     let rest = none_of_both a xs ys both.1 in
     (ap (λ (t : Bool). t || has_leg a xs) both.0 ∙ rest.0, rest.1)
 
@@ -197,7 +193,7 @@ absent_legs : (a : List ℕ) (unit : Commodity) (limit : Until) (day : Day) (n k
     → has_leg a legs ≡ false → total (counts Own a unit limit) (posted_legs day n k legs) ≡ pos 0
 absent_legs a unit limit day n k [] e = refl
 absent_legs a unit limit day n k (x ∷ xs) e =
-    let both = neither (bytes_eq a x.account) (has_leg a xs) e in
+    let both = or_parts (bytes_eq a x.account) (has_leg a xs) e in
     let own = uncounted (nat_eq x.unit.0 unit.0) (bytes_eq x.account a)
     (is_until limit (record { day = day; entry = n; leg = k })) x.qty (other_bytes a x.account both.0) in
     let rest = absent_legs a unit limit day n (k + 1) xs both.1 in
@@ -221,10 +217,6 @@ absent_through b day a unit e =
     (sym (any_accounts a (legs_of b)) ∙ (sym (any_ordered a (accounts_of (legs_of b))) ∙ e))
 
 -- ---- a commodity that is not declared
-
-pub zero_either : (t : Bool) (q : ℤ) → q ≡ pos 0 → (if t then q else pos 0) ≡ pos 0
-zero_either true q e = e
-zero_either false q e = refl
 
 unmoved_at : (n m u q rest : ℕ) → n < m → m ≤ u → rest ≡ 0 → (t : Bool) → nat_eq n u ≡ t
     → (if t then q else 0) + rest ≡ 0
@@ -281,7 +273,7 @@ unknown_held_if : (m : ℕ) (b : List Entry) → IsKnown m b
     → held_if p b day unit names ≡ pos 0
 unknown_held_if m b known p day unit [] past = refl
 unknown_held_if m b known p day unit (name ∷ names) past =
-    let own = zero_either (p name) (through b day name unit) (unknown_through m b known day name unit past) in
+    let own = if_zero (p name) (through b day name unit) (unknown_through m b known day name unit past) in
     let rest = unknown_held_if m b known p day unit names past in
     omega (arith, ints, own, rest)
 
@@ -314,7 +306,7 @@ picked_closing p m b known day into names unit (inr past) =
     let second =
     picked_behind p unit into (λ (u : Commodity). held_in b day u names) (λ (u : Commodity). None) 0 m behind in
     let none = unknown_held_if m b known p day unit names past in
-    let nothing = zero_either (p into) (held_in b day unit names) (unknown_held m b known day unit names past) in
+    let nothing = if_zero (p into) (held_in b day unit names) (unknown_held m b known day unit names past) in
     omega (arith, ints, split, first, second, none, nothing)
 
 -- a closing sums to zero
@@ -379,7 +371,7 @@ moves_target : (m : ℕ) (b : List Entry) → IsKnown m b
 moves_target m b known day into select unit out =
     let all = moves_is m b known day into select into unit in
     let none = held_none into b day unit (selected select b) (unselected select into (book_accounts b) out) in
-    let own = ap (λ (t : Bool). if t then held_in b day unit (selected select b) else pos 0) (self_bytes into) in
+    let own = ap (λ (t : Bool). if t then held_in b day unit (selected select b) else pos 0) (bytes_eq-refl into) in
     omega (arith, ints, all, own, none)
 
 -- ---- the book with the closing
@@ -422,11 +414,8 @@ moved_on select into f name day t a unit later h on past =
     let by = moves_selected (length f.styles) b (book_known f name h.good) day into select a unit h.apart on in
     omega (arith, ints, is, when, by)
 
-int_le_true : (a b : ℤ) → a ≤ℤ b → int_le a b ≡ true
-int_le_true a b h = grind (arith, ints)
-
 day_through : (day : Day) → int_le day.0 day.0 ≡ true
-day_through day = let h : day.0 ≤ℤ day.0 = omega (arith, ints) in int_le_true day.0 day.0 h
+day_through day = let h : day.0 ≤ℤ day.0 = omega (arith, ints) in int_le-true day.0 day.0 h
 
 pub closed : (select : List ℕ → Bool) (into : List ℕ) (f : Federation) (name : List ℕ) (day : Day) (t : Txn)
     (a : List ℕ) (unit : Commodity) → IsClosing select into f name day t → select a ≡ true →

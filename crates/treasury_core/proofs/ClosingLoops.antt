@@ -6,6 +6,7 @@ use Rattle.std.specs.Prelude.{filter, cond, Bool, Result, OnOk, ⊤}
 use Rattle.std.specs.List.{flat_map}
 use Rattle.money_core.specs.declared.unit.Unit.{Unit as Commodity}
 use Rattle.money_core.specs.declared.cause.Cause.{Cause}
+use Rattle.money_core.proofs.ListLemmas.{drop_at}
 use Rattle.book_core.specs.declared.claim.Claim.{Claim}
 use Rattle.book_core.specs.Balance.{value, moved}
 use Rattle.book_core.proofs.SumLemmas.{moved-append}
@@ -60,24 +61,18 @@ pub last_account : (F : List ℕ → List Posting) (p : List ℕ → Bool) (old 
 last_account F p old all names i h e =
     sym (append-nil old) ∙ sym (ap (λ (xs : List (List ℕ)). old ++ flat_map F (filter p xs)) (drop_past names i h)) ∙ e
 
--- one more posting in a sum
-drop_posting : (ps : List Posting) (i : ℕ) (p : Posting) → i < length ps → p ≡ get_or ps i p
-    → drop i ps ≡ p ∷ drop (i + 1) ps
-drop_posting ps i p h e = drop-cons ps i p h ∙ ap (λ (x : Posting). x ∷ drop (suc i) ps) (sym e) ∙ ap
-    (λ (j : ℕ). p ∷ drop j ps) (sym (add-one i))
-
 pub value_next : (unit : Commodity) (ps : List Posting) (i : ℕ) (p : Posting) → i < length ps → p ≡ get_or ps i p →
     value unit (written_legs (drop i ps))
     ≡ value unit (written_leg p.account p.amount) +ℤ value unit (written_legs (drop (i + 1) ps))
 value_next unit ps i p h e =
-    ap (λ (xs : List Posting). value unit (written_legs xs)) (drop_posting ps i p h e) ∙ value-append unit
+    ap (λ (xs : List Posting). value unit (written_legs xs)) (drop_at ps i p h e) ∙ value-append unit
     (written_leg p.account p.amount) (written_legs (drop (i + 1) ps))
 
 pub moved_next : (unit : Commodity) (ps : List Posting) (i : ℕ) (p : Posting) → i < length ps → p ≡ get_or ps i p →
     moved unit (written_legs (drop i ps))
     ≡ moved unit (written_leg p.account p.amount) + moved unit (written_legs (drop (i + 1) ps))
 moved_next unit ps i p h e =
-    ap (λ (xs : List Posting). moved unit (written_legs xs)) (drop_posting ps i p h e) ∙ moved-append unit
+    ap (λ (xs : List Posting). moved unit (written_legs xs)) (drop_at ps i p h e) ∙ moved-append unit
     (written_leg p.account p.amount) (written_legs (drop (i + 1) ps))
 
 -- what is posted, of equal quantities and assertions

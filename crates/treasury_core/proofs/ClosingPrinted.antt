@@ -24,6 +24,8 @@ use Rattle.money_core.specs.Price.{cost_unit, is_cost}
 use Rattle.money_core.specs.Style.{AreStyles}
 use Rattle.money_core.specs.Symbol.{is_symbol}
 use Rattle.money_core.proofs.SymbolText.{name_parts}
+use Rattle.money_core.proofs.ListLemmas.{all-append}
+use Rattle.money_core.proofs.Utf8Lemmas.{utf8_low}
 use Rattle.book_core.specs.declared.claim.Claim.{Claim}
 use Rattle.book_core.specs.declared.entry.Entry.{Entry}
 use Rattle.book_core.specs.declared.leg.Leg.{Leg}
@@ -33,6 +35,7 @@ use Rattle.book_core.specs.Account.{name_cmp}
 use Rattle.book_core.specs.Book.{legs_of as book_legs, accounts_of}
 use Rattle.book_core.specs.Balance.{value}
 use Rattle.book_core.specs.GoodBook.{HasRoom}
+use Rattle.book_core.specs.Accounts.{placed_name, with_name, ordered_names, book_accounts}
 use Rattle.book_core.proofs.BalanceLemmas.{small_within}
 use Rattle.journal_lines.specs.AccountName.{is_account}
 use Rattle.journal_lines.specs.Date.{printed_date, IsDayNumber}
@@ -46,8 +49,7 @@ use Rattle.journal_format.specs.Pieces.{posting_limit}
 use Rattle.journal_format.specs.Printable.{is_remark_text, is_note, is_amount, is_price_or_none, is_claim_or_none}
 use Rattle.journal_format.specs.Printable.{is_value, is_posting, IsPrintable}
 use Rattle.journal_format.proofs.SizeLemmas.{body_size, head_is, header_small, remarks_push, remark_small}
-use Rattle.journal_format.proofs.SizeLemmas.{postings-append, no_remarks}
-use Rattle.journal_format.proofs.Utf8Lemmas.{utf8_low}
+use Rattle.journal_format.proofs.SizeLemmas.{postings-append, no_remarks, no_postings_size}
 use Rattle.journal_balance.specs.Conversion.{symbol_in, symbol_of, conversion_account}
 use Rattle.journal_balance.specs.Legs.{commodities, declared, leg, rest_leg, sum_of, amount_legs, posting_legs}
 use Rattle.journal_balance.specs.Legs.{legs_among, legs_of}
@@ -60,12 +62,10 @@ use Rattle.treasury_state.specs.Federation.{Federation, entries, book_of, record
 use Rattle.treasury_state.specs.Transfer.{is_account_text}
 use Rattle.treasury_state.specs.Good.{IsGoodRecord, IsGoodState}
 use Rattle.treasury_state.specs.Mark.{close_mark}
-use Rattle.treasury_state.proofs.AllLemmas.{all-append}
 use Rattle.treasury_state.proofs.BranchLemmas.{of_branch}
 use Rattle.treasury_state.proofs.OpenLemmas.{good_book}
 use Rattle.treasury_state.proofs.DateLemmas.{all_weaker}
 use Rattle.treasury_core.specs.declared.choice.Choice.{Choice}
-use Rattle.treasury_core.specs.Accounts.{placed_name, with_name, ordered_names, book_accounts}
 use Rattle.treasury_core.specs.Choice.{is_selected, target_in, choice_comments, choice_refusal}
 use Rattle.treasury_core.specs.Closing.{through, zero_claim, posting_of, selected, closed_account, held_in}
 use Rattle.treasury_core.specs.Closing.{gaining_account, closing_postings, closing_txn, closing_in}
@@ -432,13 +432,9 @@ all_fit styles [] h = refl
 all_fit styles (p ∷ ps) h =
     and_from (is_posting styles p) (list_all (is_posting styles) ps) h.0.fits (all_fit styles ps h.1)
 
-no_postings : (styles : List Style) → postings_size styles [] ≡ 0
-unfolding postings_size
-no_postings styles = refl
-
 lines_small : (styles : List Style) → AreStyles styles → (ps : List Posting) → AllByRecursion (IsShort styles) ps
     → postings_size styles ps ≤ 500 * length ps
-lines_small styles are [] h = omega (arith, no_postings styles)
+lines_small styles are [] h = omega (arith, no_postings_size styles)
 lines_small styles are (p ∷ ps) h =
     omega (
       arith,

@@ -1,13 +1,15 @@
 -- the record of a closing: it is good, no transfer's, and within the lock that comes with it
 use Rattle.std.proofs.Common.{◌≡◌, ◌≤◌, ◌+◌, ◌||◌, ℕ, Bool, true, false, cond, List, [], ◌∷◌, ◌++◌, length, ℤ, refl, ap}
 use Rattle.std.proofs.Common.{◌∙◌, sym, arith, Option, Some, None}
-use Rattle.std.specs.Prelude.{filter, int_le}
+use Rattle.std.specs.Prelude.{filter}
 use Rattle.std.specs.List.{list_any, flat_map, AllByRecursion}
-use Rattle.std.proofs.lemmas.Int.{ints}
 use Rattle.money_core.specs.declared.unit.Unit.{Unit as Commodity}
 use Rattle.money_core.specs.declared.day.Day.{Day}
+use Rattle.money_core.proofs.TestLemmas.{int_le-refl}
+use Rattle.money_core.proofs.ListLemmas.{all-append}
 use Rattle.book_core.specs.declared.leg.Leg.{Leg}
 use Rattle.book_core.specs.declared.entry.Entry.{Entry}
+use Rattle.book_core.specs.Accounts.{book_accounts}
 use Rattle.journal_lines.specs.Date.{IsDayNumber}
 use Rattle.journal_format.specs.declared.posting.Posting.{Posting}
 use Rattle.journal_format.specs.declared.txn.Txn.{Txn}
@@ -18,9 +20,7 @@ use Rattle.treasury_state.specs.Federation.{Federation, book_of, is_locked}
 use Rattle.treasury_state.specs.Transfer.{is_reserved, is_transit}
 use Rattle.treasury_state.specs.Mark.{close_mark}
 use Rattle.treasury_state.specs.Good.{IsGoodRecord, IsGoodState}
-use Rattle.treasury_state.proofs.AllLemmas.{all-append}
 use Rattle.treasury_core.specs.declared.choice.Choice.{Choice}
-use Rattle.treasury_core.specs.Accounts.{book_accounts}
 use Rattle.treasury_core.specs.Choice.{is_selected, target_in, choice_comments, choice_refusal}
 use Rattle.treasury_core.specs.Closing.{selected, closed_account, held_in, gaining_account, closing_postings}
 use Rattle.treasury_core.specs.Closing.{closing_txn, closing_in, closing_record}
@@ -99,9 +99,6 @@ closing_record_good f name day c t good number chosen closes few = record {
       (is_closing_of f name day c t good chosen closes);
 }
 
-same_day : (q : ℤ) → int_le q q ≡ true
-same_day q = grind (arith, ints)
-
 pub closing_record_own : (f : Federation) (name : List ℕ) (day : Day) (c : Choice) (t : Txn) → choice_refusal c ≡ None
     → closing_in f name day c ≡ Some t → IsOwnEntry (Some day) (closing_record day t)
 closing_record_own f name day c t chosen closes =
@@ -115,6 +112,6 @@ closing_record_own f name day c t chosen closes =
           (all_selected (is_selected c.accounts) (book_accounts (book_of f name))));
       closed = λ e. record {
         own_day = ap close_mark (sym on);
-        locked = ap (λ (d : Day). is_locked (Some day) d) on ∙ same_day day.0;
+        locked = ap (λ (d : Day). is_locked (Some day) d) on ∙ int_le-refl day.0;
       };
     }

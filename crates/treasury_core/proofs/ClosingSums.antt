@@ -3,13 +3,16 @@ use Rattle.std.proofs.Common.{◌≡◌, ◌≤◌, ◌<◌, ℕ, zero, suc, ◌
 use Rattle.std.proofs.Common.{◌++◌, ℤ, pos, ◌+ℤ◌, ◌-ℤ◌, refl, ap, ◌∙◌, sym, arith, append_assoc, Option, Some, None}
 use Rattle.std.specs.Prelude.{if◌then◌else◌, unsigned_abs, ⊤}
 use Rattle.std.specs.Ordering.{int_eq}
-use Rattle.std.specs.Cmp.{signed_Decides, unsigned_Decides}
+use Rattle.std.specs.Cmp.{unsigned_Decides}
 use Rattle.std.specs.List.{list_any, flat_map}
 use Rattle.std.specs.Str.{bytes_eq}
 use Rattle.std.proofs.lemmas.Bool.Decides.{nat_tests}
 use Rattle.std.proofs.lemmas.Int.{ints}
+use Rattle.std.proofs.lemmas.Bool.{or_parts}
 use Rattle.money_core.specs.declared.unit.Unit.{Unit as Commodity}
 use Rattle.money_core.specs.declared.day.Day.{Day}
+use Rattle.money_core.proofs.TestLemmas.{if_zero, zero_from_int_eq}
+use Rattle.money_core.proofs.BytesLemmas.{same_bytes, other_bytes}
 use Rattle.book_core.specs.declared.account.Reach.TheVariants.{Own}
 use Rattle.book_core.specs.declared.claim.Claim.{Claim}
 use Rattle.book_core.specs.declared.entry.Entry.{Entry}
@@ -21,10 +24,10 @@ use Rattle.book_core.specs.Book.{Posted, posted, posted_legs, posted_from, legs_
 use Rattle.book_core.specs.Balance.{counts, total, balance, value, sum_in, moved, turnover}
 use Rattle.book_core.specs.GoodBook.{HasRoom, most_turnover}
 use Rattle.book_core.proofs.SumLemmas.{moved-append}
+use Rattle.book_core.proofs.BookLemmas.{one_unit}
 use Rattle.journal_format.specs.declared.posting.Posting.{Posting}
 use Rattle.journal_balance.specs.Legs.{commodities}
 use Rattle.journal_balance.specs.Plain.{written_leg, written_legs}
-use Rattle.treasury_state.proofs.BytesLemmas.{same_bytes, other_bytes, neither}
 use Rattle.treasury_core.specs.Closing.{through, zero_claim, posting_of, closed_account, held_in}
 use Rattle.treasury_core.proofs.ProductLemmas.{same_size}
 
@@ -64,16 +67,9 @@ picked-sum a unit (x ∷ xs) = ap
 
 -- ---- one posting
 
-zero_if : (t : Bool) (q : ℤ) → q ≡ pos 0 → (if t then q else pos 0) ≡ pos 0
-zero_if true q e = e
-zero_if false q e = refl
-
 zero_size : (t : Bool) (q : ℤ) → q ≡ pos 0 → (if t then unsigned_abs q else 0) ≡ 0
 zero_size true q e = ap unsigned_abs e
 zero_size false q e = refl
-
-pub is_zero : (q : ℤ) → int_eq q (pos 0) ≡ true → q ≡ pos 0
-is_zero q e = (signed_Decides q (pos 0)).0 e
 
 picked_posting : (p : List ℕ → Bool) (unit v : Commodity) (name : List ℕ) (q : ℤ) (c : Option Claim)
     → picked p unit (written_legs (posting_of name v q c)) ≡ (if nat_eq v.0 unit.0 && p name then q else pos 0)
@@ -85,7 +81,7 @@ picked_posting p unit v name q c = by_test (int_eq q (pos 0)) refl
     by_test : (t : Bool) → int_eq q (pos 0) ≡ t
         → picked p unit (written_legs (if t then [] else posting ∷ []))
         ≡ (if nat_eq v.0 unit.0 && p name then q else pos 0)
-    by_test true e = sym (zero_if (nat_eq v.0 unit.0 && p name) q (is_zero q e))
+    by_test true e = sym (if_zero (nat_eq v.0 unit.0 && p name) q (zero_from_int_eq q e))
     by_test false e = omega (arith, ints)
 
 moved_posting : (unit v : Commodity) (name : List ℕ) (q : ℤ) (c : Option Claim)
@@ -97,16 +93,13 @@ moved_posting unit v name q c = by_test (int_eq q (pos 0)) refl
 
     by_test : (t : Bool) → int_eq q (pos 0) ≡ t
         → moved unit (written_legs (if t then [] else posting ∷ [])) ≡ (if nat_eq v.0 unit.0 then unsigned_abs q else 0)
-    by_test true e = sym (zero_size (nat_eq v.0 unit.0) q (is_zero q e))
+    by_test true e = sym (zero_size (nat_eq v.0 unit.0) q (zero_from_int_eq q e))
     by_test false e = omega arith
 
 -- ---- postings of one account, in commodities one after another
 
 abbrev pub spread : List ℕ → (Commodity → ℤ) → (Commodity → Option Claim) → List Commodity → List Posting
 spread name g c units = flat_map (λ (unit : Commodity). posting_of name unit (g unit) (c unit)) units
-
-same_unit : (v u : Commodity) → nat_eq v.0 u.0 ≡ true → v ≡ u
-same_unit v u e = ap (λ (n : ℕ). let c : Commodity = record { 0 = n } in c) ((unsigned_Decides v.0 u.0).0 e)
 
 picked_step : (p : List ℕ → Bool) (unit : Commodity) (name : List ℕ) (g : Commodity → ℤ) (c : Commodity → Option Claim)
     (v : Commodity) (vs : List Commodity) →
@@ -171,7 +164,7 @@ known_at : (p : List ℕ → Bool) (unit : Commodity) (name : List ℕ) (g : Com
     → (if t && p name then g v else pos 0) +ℤ picked p unit (written_legs (spread name g c (commodities (n + 1) k)))
     ≡ (if p name then g unit else pos 0)
 known_at p unit name g c n k low high more v number true e =
-    let same = same_unit v unit e in
+    let same = one_unit v unit e in
     let past : unit.0 < n + 1 = omega (arith, number, (unsigned_Decides v.0 unit.0).0 e) in
     let rest = picked_before p unit name g c (n + 1) k past in
     let own = ap (λ (u : Commodity). if p name then g u else pos 0) same in
@@ -212,7 +205,7 @@ spread_at : (unit : Commodity) (name : List ℕ) (g : Commodity → ℤ) (c : Co
 spread_at unit name g c n k more v number all true e step =
     let past : unit.0 < n + 1 = omega (arith, number, (unsigned_Decides v.0 unit.0).0 e) in
     let rest = moved_before unit name g c (n + 1) k past in
-    let own = ap (λ (u : Commodity). unsigned_abs (g u)) (same_unit v unit e) in
+    let own = ap (λ (u : Commodity). unsigned_abs (g u)) (one_unit v unit e) in
     omega (arith, step, rest, own)
 spread_at unit name g c n k more v number all false e step = omega (arith, step, more)
 
@@ -299,7 +292,7 @@ pub held_none : (a : List ℕ) (b : List Entry) (day : Day) (unit : Commodity) (
     → list_any (bytes_eq a) names ≡ false → held_if (λ (n : List ℕ). bytes_eq n a) b day unit names ≡ pos 0
 held_none a b day unit [] e = refl
 held_none a b day unit (name ∷ names) e =
-    let both = neither (bytes_eq a name) (list_any (bytes_eq a) names) e in
+    let both = or_parts (bytes_eq a name) (list_any (bytes_eq a) names) e in
     let own = ap (λ (t : Bool). if t then through b day name unit else pos 0) (other_bytes a name both.0) in
     let rest = held_none a b day unit names both.1 in
     omega (arith, ints, own, rest)

@@ -10,10 +10,10 @@ use Rattle.std.specs.declared.hash.FoldHasher.{FoldHasher}
 use Rattle.std.specs.declared.hash.BuildHasherDefault.{BuildHasherDefault}
 use Rattle.std.proofs.lemmas.List.Sums.{sum_by-append}
 use Rattle.money_core.specs.declared.style.Style.{Style}
+use Rattle.money_core.proofs.BytesLemmas.{same_bytes}
 use Rattle.journal_format.specs.declared.txn.Txn.{Txn}
 use Rattle.journal_format.specs.CanonicalText.{body_text}
 use Rattle.treasury_state.specs.Mark.{alike}
-use Rattle.treasury_state.proofs.BytesLemmas.{same_bytes}
 use Rattle.treasury_core.specs.Counted.{count_of, counted_more, AreCounted}
 
 abbrev pub Counts : Type 0

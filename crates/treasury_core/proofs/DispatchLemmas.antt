@@ -4,6 +4,8 @@ use Rattle.std.specs.Prelude.{find}
 use Rattle.std.specs.List.{list_any}
 use Rattle.std.specs.Str.{bytes_eq}
 use Rattle.money_core.specs.declared.style.Style.{Style}
+use Rattle.money_core.proofs.ListLemmas.{all_weaker}
+use Rattle.money_core.proofs.BytesLemmas.{bytes_eq-refl, other_bytes}
 use Rattle.book_core.specs.GoodBook.{verdict}
 use Rattle.treasury_state.specs.declared.record.Record.{Record}
 use Rattle.treasury_state.specs.declared.transfer.Transfer.{Transfer}
@@ -14,12 +16,10 @@ use Rattle.treasury_state.specs.Transfer.{has_id, asked, receipts_of, dispatch_r
 use Rattle.treasury_state.specs.Joined.{with_records, changed, inserted, received, with_receipt, with_entered}
 use Rattle.treasury_state.specs.Joined.{with_dispatched, with_received}
 use Rattle.treasury_state.specs.Good.{IsGoodRecord, IsGoodBranch, IsGoodTransfer, IsCarried, IsGoodState}
-use Rattle.treasury_state.proofs.BytesLemmas.{self_bytes, other_bytes}
 use Rattle.treasury_state.proofs.MarkLemmas.{id_no_colon}
 use Rattle.treasury_state.proofs.AskedLemmas.{no_out}
 use Rattle.treasury_state.proofs.FairLemmas.{in_step, good_marked}
 use Rattle.treasury_state.proofs.OrderLemmas.{own_ids}
-use Rattle.treasury_state.proofs.AllLemmas.{all_weaker}
 use Rattle.treasury_state.proofs.DispatchLemmas.{IsWhole, all_whole}
 use Rattle.treasury_core.proofs.PassLemmas.{inserted_elsewhere, inserted_here, received_elsewhere, received_here}
 use Rattle.treasury_core.proofs.GetsLemmas.{gets, keeps, no_receipt}
@@ -61,7 +61,7 @@ good_dispatched f t good none fair new written passes =
     let whole = all-changed (IsWhole f.styles ts) (IsWhole f.styles (inserted t ts)) g t.source f.branches good.names
     (λ b n e l h. gets_record f.styles ts (inserted t ts) b (dispatch_record t) h written refl refl (rw e passes)
     (no_out ts b.name t.id new)
-    (λ m. inserted_here t ts b.name m none (ap (λ (x : List ℕ). bytes_eq t.source x) n ∙ self_bytes t.source) new))
+    (λ m. inserted_here t ts b.name m none (ap (λ (x : List ℕ). bytes_eq t.source x) n ∙ bytes_eq-refl t.source) new))
     (λ b n h. stays_whole f.styles ts (inserted t ts) b
     (inserted_elsewhere t ts b.name none (other_bytes b.name t.source n)) h)
     (all_whole f.styles ts f.branches good.branches good.carried) in
@@ -94,7 +94,7 @@ good_received f t p good here fair may written passes =
     (λ b n e l h. gets_record f.styles ts ts' b (receipt_record t p) h written refl refl (rw e passes)
     (no_receipt t p.key ts b.name marked plain here may.fresh (own_ids ts good.ids))
     (λ m. received_here p t ts b.name m marked plain here (asks_more t p plain may)
-    (ap (λ (x : List ℕ). bytes_eq t.target x) n ∙ self_bytes t.target)))
+    (ap (λ (x : List ℕ). bytes_eq t.target x) n ∙ bytes_eq-refl t.target)))
     (λ b n h. stays_whole f.styles ts ts' b (received_elsewhere p t ts b.name here (other_bytes b.name t.target n)) h)
     (all_whole f.styles ts f.branches good.branches good.carried) in
     record {

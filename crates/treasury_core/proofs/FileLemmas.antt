@@ -10,6 +10,7 @@ use Rattle.std.proofs.lemmas.List.Sums.{count_by-le-length}
 use Rattle.money_core.specs.declared.style.Style.{Style}
 use Rattle.money_core.specs.declared.day.Day.{Day}
 use Rattle.money_core.specs.declared.cause.Cause.{Cause}
+use Rattle.money_core.proofs.ListLemmas.{all-append, all_weaker}
 use Rattle.book_core.specs.declared.entry.Entry.{Entry}
 use Rattle.book_core.specs.declared.refusal.Refusal.{Refusal}
 use Rattle.journal_format.specs.declared.txn.Txn.{Txn}
@@ -23,7 +24,6 @@ use Rattle.treasury_state.specs.Transfer.{is_transit}
 use Rattle.treasury_state.specs.Federation.{is_locked}
 use Rattle.treasury_state.specs.Good.{IsGoodRecord}
 use Rattle.treasury_state.proofs.HeldLemmas.{own_push, not_held}
-use Rattle.treasury_state.proofs.AllLemmas.{all-append, all_weaker}
 use Rattle.treasury_core.specs.Step.{number_in, recorded, records_from, refusal_of, refused_in, new_in, IsNew}
 use Rattle.treasury_core.proofs.HashLemmas.{printable_marked}
 use Rattle.treasury_core.proofs.HeldLemmas.{fewer_held, repeat_held}

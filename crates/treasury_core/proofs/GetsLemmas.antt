@@ -5,6 +5,7 @@ use Rattle.std.specs.Prelude.{filter, find}
 use Rattle.std.specs.List.{list_any, AllByRecursion}
 use Rattle.std.specs.Str.{bytes_eq}
 use Rattle.std.proofs.lemmas.List.Elements.{filter-append}
+use Rattle.money_core.proofs.BytesLemmas.{same_bytes}
 use Rattle.treasury_state.specs.declared.record.Record.{Record}
 use Rattle.treasury_state.specs.declared.transfer.Part.{Part}
 use Rattle.treasury_state.specs.declared.transfer.Transfer.{Transfer}
@@ -14,7 +15,6 @@ use Rattle.treasury_state.specs.Federation.{Branch}
 use Rattle.treasury_state.specs.Joined.{with_records}
 use Rattle.treasury_state.specs.Fair.{HasNoColon, IsMarked}
 use Rattle.treasury_state.proofs.WayLemmas.{IsClear, IsInStep}
-use Rattle.treasury_state.proofs.BytesLemmas.{same_bytes}
 use Rattle.treasury_state.proofs.HeldLemmas.{held_push, own_push}
 use Rattle.treasury_state.proofs.MarkLemmas.{id_no_colon}
 use Rattle.treasury_state.proofs.AskedLemmas.{HaveOwnIds, none_append, none_out_at, none_of_key, no_in}

@@ -14,12 +14,13 @@ use Rattle.hex.specs.Hex.{encode_lower, encode_with, lower_digits}
 use Rattle.hex.proofs.HexLemmas.{length-encode_with}
 use Rattle.money_core.specs.declared.style.Style.{Style}
 use Rattle.money_core.proofs.RoundTrip.{all_digits_decimal}
+use Rattle.money_core.proofs.ClassLemmas.{all_joined}
+use Rattle.money_core.proofs.ListLemmas.{all-append}
 use Rattle.journal_format.specs.declared.txn.Txn.{Txn}
 use Rattle.journal_format.specs.CanonicalText.{body_text, marked}
 use Rattle.journal_format.specs.Mark.{is_mark, is_mark_byte}
 use Rattle.journal_format.specs.Printable.{IsPrintable, is_mark_or_none}
 use Rattle.treasury_state.specs.Mark.{hash_mark, mark_of}
-use Rattle.treasury_state.proofs.AllLemmas.{all-append}
 
 -- bytes, and their digits
 bytes_of_word : (x : ℕ) → AllByRecursion (λ (b : ℕ). b < 256) (to_be_bytes w32 x)
@@ -49,12 +50,6 @@ unfolding encode_with
 hex_fits [] h = refl
 hex_fits (b ∷ bs) h = and_from _ _ (digit_fits (b / 16) (let l : b < 256 = h.0 in omega arith))
     (and_from _ _ (digit_fits (b % 16) (omega arith)) (hex_fits bs h.1))
-
-list_all-append : (p : ℕ → Bool) (xs ys : List ℕ) → list_all p xs ≡ true → list_all p ys ≡ true
-    → list_all p (xs ++ ys) ≡ true
-list_all-append p [] ys h k = k
-list_all-append p (x ∷ xs) ys h k =
-    let parts = and_parts (p x) (list_all p xs) h in and_from _ _ parts.0 (list_all-append p xs ys parts.1 k)
 
 digit_is : (b : ℕ) → is_ascii_digit b ≡ true → is_mark_byte b ≡ true
 digit_is b h = rw h (by_test (is_ascii_alphabetic b))
@@ -89,7 +84,7 @@ hash_is_mark text n small =
     let tail : length (hex ++ (45 ∷ decimal n)) ≤ 85 =
     omega (arith, length-append hex (45 ∷ decimal n), sized, number) in
     let bytes : list_all is_mark_byte (hex ++ (45 ∷ decimal n)) ≡ true =
-    list_all-append is_mark_byte hex (45 ∷ decimal n) (hex_fits (sha256 text) (hash_bytes text))
+    all_joined is_mark_byte hex (45 ∷ decimal n) (hex_fits (sha256 text) (hash_bytes text))
     (and_from _ _ refl (digits_fit (decimal n) (all_digits_decimal n small))) in
     is_mark_of (hex ++ (45 ∷ decimal n)) tail bytes
 

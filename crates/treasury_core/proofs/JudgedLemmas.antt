@@ -1,20 +1,21 @@
 -- what becomes of a transaction, by the record that holds its mark
 use Rattle.std.proofs.Common.{◌≡◌, Bool, true, false, ◌||◌, ◌&&◌, cond, List, [], ◌∷◌, ◌++◌, refl, ap, ◌∙◌, sym, subst}
 use Rattle.std.proofs.Common.{append_assoc, Option, Some, None, Ok, Err, ◌⊎◌, inl, inr}
+use Rattle.std.proofs.Math.Bool.{or-false}
 use Rattle.std.specs.Prelude.{if◌then◌else◌, Result}
 use Rattle.std.specs.List.{AllByRecursion}
 use Rattle.std.specs.Str.{bytes_eq}
 use Rattle.money_core.specs.declared.style.Style.{Style}
 use Rattle.money_core.specs.declared.day.Day.{Day}
 use Rattle.money_core.specs.declared.cause.Cause.TheVariants.{MarkClash, OutOfMemory}
+use Rattle.money_core.proofs.ListLemmas.{all-append}
+use Rattle.money_core.proofs.BytesLemmas.{same_bytes}
 use Rattle.book_core.specs.declared.refusal.Refusal.{Refusal}
 use Rattle.book_core.specs.declared.refusal.Refusal.TheVariants.{Plain}
 use Rattle.journal_format.specs.CanonicalText.{body_text}
 use Rattle.treasury_state.specs.declared.record.Record.{Record}
 use Rattle.treasury_state.specs.Mark.{held, HaveOwnMarks, is_repeat}
-use Rattle.treasury_state.proofs.BytesLemmas.{same_bytes, or_false}
 use Rattle.treasury_state.proofs.HeldLemmas.{none_tail, own_push}
-use Rattle.treasury_state.proofs.AllLemmas.{all-append}
 use Rattle.treasury_state.proofs.LookupLemmas.{same_some}
 use Rattle.treasury_state.proofs.HolderLemmas.{unheld, holding}
 use Rattle.treasury_core.specs.Step.{barred, refused_in, new_in}
@@ -39,7 +40,7 @@ repeating_at : (styles : List Style) (h x r : Record) (hs : List Record) (t : Bo
 repeating_at styles h x r hs true g n e k =
     let none : held hs r.mark ≡ None = ap (held hs) (sym (same_bytes h.mark r.mark g)) ∙ n in
     ap (λ (u : Bool). bytes_eq (body_text styles h.txn) (body_text styles r.txn) || u) (unrepeated styles hs r none)
-    ∙ or_false (bytes_eq (body_text styles h.txn) (body_text styles r.txn))
+    ∙ or-false (bytes_eq (body_text styles h.txn) (body_text styles r.txn))
     ∙ ap (λ (y : Record). bytes_eq (body_text styles y.txn) (body_text styles r.txn)) (same_some h x e)
 repeating_at styles h x r hs false g n e k = k e
 

@@ -6,6 +6,8 @@ use Rattle.std.specs.List.{list_any, AllByRecursion}
 use Rattle.std.specs.Str.{bytes_eq}
 use Rattle.std.proofs.lemmas.List.Elements.{filter-append}
 use Rattle.std.proofs.lemmas.Int.{ints}
+use Rattle.std.proofs.lemmas.Bool.{or_parts}
+use Rattle.std.proofs.Math.Bool.{or-false}
 use Rattle.money_core.specs.declared.style.Style.{Style}
 use Rattle.money_core.specs.declared.day.Day.{Day}
 use Rattle.money_core.specs.declared.unit.Unit.{Unit as Commodity}
@@ -13,6 +15,8 @@ use Rattle.money_core.specs.declared.unit.Declared.TheVariants.{New}
 use Rattle.money_core.specs.Style.{is_style, declared}
 use Rattle.money_core.proofs.StyleLemmas.{AreStyles-snoc, declared-was_new}
 use Rattle.money_core.proofs.GrowthLemmas.{styles_grow}
+use Rattle.money_core.proofs.ListLemmas.{all-append, all_weaker}
+use Rattle.money_core.proofs.BytesLemmas.{same_bytes, other_bytes}
 use Rattle.book_core.specs.GoodBook.{IsGoodBook, verdict}
 use Rattle.book_core.proofs.GoodBookLemmas.{good_verdict, fit-append, good_nil}
 use Rattle.journal_lines.specs.Date.{IsDayNumber}
@@ -28,9 +32,7 @@ use Rattle.treasury_state.specs.Joined.{new_branch, with_records, with_lock, cha
 use Rattle.treasury_state.specs.Joined.{with_entered, with_locked}
 use Rattle.treasury_state.specs.Good.{IsGoodRecord, IsOffTransit, IsWithinLock, IsGoodBranch, IsGoodTransfer, IsCarried}
 use Rattle.treasury_state.specs.Good.{HaveOwnNames, IsGoodState}
-use Rattle.treasury_state.proofs.BytesLemmas.{same_bytes, other_bytes, neither, or_false}
 use Rattle.treasury_state.proofs.EntriesLemmas.{entries-append}
-use Rattle.treasury_state.proofs.AllLemmas.{all_weaker, all-append}
 use Rattle.treasury_state.proofs.RecordLemmas.{fit_records, short_day}
 use Rattle.treasury_core.specs.Step.{goes_back, IsNew}
 use Rattle.treasury_core.proofs.ChangeLemmas.{length-changed, any-changed, names-changed, all-changed, changed-twice}
@@ -38,7 +40,7 @@ use Rattle.treasury_core.proofs.TransferLemmas.{other_branches}
 
 -- one more branch
 any_push : (p : Branch → Bool) (bs : List Branch) (b : Branch) → list_any p (bs ++ b ∷ []) ≡ (list_any p bs || p b)
-any_push p [] b = or_false (p b)
+any_push p [] b = or-false (p b)
 any_push p (x ∷ xs) b = ap (λ (t : Bool). p x || t) (any_push p xs b) ∙ regroup (p x) (list_any p xs) (p b)
   where
     regroup : (t u v : Bool) → (t || (u || v)) ≡ ((t || u) || v)
@@ -49,7 +51,7 @@ names_push : (bs : List Branch) (name : List ℕ) → list_any (has_name name) b
     → HaveOwnNames (bs ++ new_branch name ∷ [])
 names_push [] name e h = (refl, tt)
 names_push (b ∷ bs) name e h =
-    let parts = neither (bytes_eq b.name name) (list_any (has_name name) bs) e in (
+    let parts = or_parts (bytes_eq b.name name) (list_any (has_name name) bs) e in (
       any_push (has_name b.name) bs (new_branch name) ∙ rw (h.0, other_bytes b.name name parts.0) refl,
       names_push bs name parts.1 h.1,
     )
@@ -187,7 +189,7 @@ own_entries lock before rs h = all_weaker (IsNew lock before) (IsOwnEntry lock) 
   where
     own_entry : (r : Record) → IsNew lock before r → IsOwnEntry lock r
     own_entry r k =
-        let n = neither (is_transfer_mark r.mark) (is_closing_mark r.mark) k.own in
+        let n = or_parts (is_transfer_mark r.mark) (is_closing_mark r.mark) k.own in
         record { apart = n.0; clear = k.clear; closed = λ e. absurd (let x : true ≡ false = sym e ∙ n.1 in cc) }
 
 all_clear : (lock : Option Day) (rs : List Record) → AllByRecursion (IsOwnEntry lock) rs

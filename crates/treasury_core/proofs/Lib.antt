@@ -1,4 +1,3 @@
-pub mod BytesLemmas
 pub mod ChangeLemmas
 pub mod HeldLemmas
 pub mod HashLemmas
@@ -24,7 +23,6 @@ pub mod WorkedState
 pub mod WorkedChoice
 pub mod WorkedParts
 pub mod TransferReplyLemmas
-pub mod AccountOrder
 pub mod ClosingSums
 pub mod ClosingLoops
 pub mod ClosingLemmas

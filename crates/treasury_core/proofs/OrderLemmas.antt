@@ -1,10 +1,12 @@
 -- transfers in byte order of their IDs
 use Rattle.std.proofs.Common.{◌≡◌, ℕ, Bool, true, false, List, [], ◌∷◌, refl, ap, ◌∙◌, sym}
+use Rattle.std.proofs.lemmas.Bool.{or_parts}
 use Rattle.std.specs.Prelude.{if◌then◌else◌}
 use Rattle.std.specs.Ordering.{is_lt}
 use Rattle.std.specs.declared.cmp.Ordering.TheVariants.{Less}
 use Rattle.std.specs.List.{list_any}
 use Rattle.std.specs.Str.{bytes_eq}
+use Rattle.money_core.proofs.BytesLemmas.{bytes_eq-refl}
 use Rattle.book_core.specs.Account.{name_cmp}
 use Rattle.book_core.proofs.AccountListLemmas.{is_less, name_after}
 use Rattle.treasury_state.specs.declared.transfer.Transfer.{Transfer}
@@ -12,12 +14,11 @@ use Rattle.treasury_state.specs.declared.transfer.Part.{Part}
 use Rattle.treasury_state.specs.Transfer.{has_id}
 use Rattle.treasury_state.specs.Joined.{inserted, received, with_receipt}
 use Rattle.treasury_state.specs.Good.{AreAscending}
-use Rattle.treasury_state.proofs.BytesLemmas.{self_bytes, neither}
 use Rattle.treasury_state.proofs.OrderLemmas.{AreBehind, all_after, not_less}
 use Rattle.treasury_core.proofs.TransferLemmas.{all-inserted}
 
 not_same : (a b : List ℕ) → bytes_eq b a ≡ false → b ≡ a → ⊥
-not_same a b e h = let k : true ≡ false = sym (self_bytes a) ∙ (ap (λ (x : List ℕ). bytes_eq x a) (sym h) ∙ e) in cc
+not_same a b e h = let k : true ≡ false = sym (bytes_eq-refl a) ∙ (ap (λ (x : List ℕ). bytes_eq x a) (sym h) ∙ e) in cc
 
 sorted_at : (t x : Transfer) (xs : List Transfer) (c : Bool) → is_lt (name_cmp x.id t.id) ≡ c
     → bytes_eq x.id t.id ≡ false → AreAscending (x ∷ xs) → AreAscending (inserted t xs)
@@ -30,9 +31,9 @@ sorted_at t x xs false e f h i = let less =
 pub sorted_inserted : (t : Transfer) (ts : List Transfer) → list_any (has_id t.id) ts ≡ false → AreAscending ts
     → AreAscending (inserted t ts)
 sorted_inserted t [] e h = (tt, tt)
-sorted_inserted t (x ∷ xs) e h = let n =
-    neither (bytes_eq x.id t.id) (list_any (has_id t.id) xs) e in sorted_at t x xs (is_lt (name_cmp x.id t.id)) refl n.0
-    h (sorted_inserted t xs n.1 h.1)
+sorted_inserted t (x ∷ xs) e h =
+    let n = or_parts (bytes_eq x.id t.id) (list_any (has_id t.id) xs) e in
+    sorted_at t x xs (is_lt (name_cmp x.id t.id)) refl n.0 h (sorted_inserted t xs n.1 h.1)
 
 -- a receipt leaves the IDs
 behind_at : (id : List ℕ) (r : Part) (x : Transfer) (xs ys : List Transfer) (c : Bool) → AreBehind id (x ∷ xs)

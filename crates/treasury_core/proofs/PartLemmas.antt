@@ -7,6 +7,9 @@ use Rattle.std.specs.List.{list_any, AllByRecursion}
 use Rattle.std.specs.Str.{bytes_eq}
 use Rattle.std.specs.declared.cmp.Ordering.TheVariants.{Less}
 use Rattle.std.proofs.lemmas.Int.{ints}
+use Rattle.std.proofs.lemmas.Bool.{or_parts}
+use Rattle.money_core.proofs.BytesLemmas.{bytes_eq-refl}
+use Rattle.money_core.proofs.TestLemmas.{le_from_int_le}
 use Rattle.book_core.specs.Account.{name_cmp}
 use Rattle.book_core.proofs.AccountListLemmas.{is_less, name_after}
 use Rattle.treasury_state.specs.declared.transfer.Part.{Part}
@@ -15,14 +18,8 @@ use Rattle.treasury_state.specs.declared.transfer.Transfer.{Transfer}
 use Rattle.treasury_state.specs.Transfer.{sum_of, of_rest, left_of}
 use Rattle.treasury_state.specs.Joined.{put_part}
 use Rattle.treasury_state.specs.Good.{AreKeyed, HasGoodParts}
-use Rattle.treasury_state.proofs.BytesLemmas.{self_bytes, neither}
-use Rattle.treasury_state.proofs.PartLemmas.{le_from, all_positive, sum_low, received_within, left_some, AreKeysBehind}
+use Rattle.treasury_state.proofs.PartLemmas.{all_positive, sum_low, received_within, left_some, AreKeysBehind}
 use Rattle.treasury_state.proofs.PartLemmas.{keys_after}
-
--- ---- sums
-
-pub le_to : (y z : ℤ) → y ≤ℤ z → int_le y z ≡ true
-le_to y z e = grind (arith, ints)
 
 -- ---- what is left
 
@@ -47,7 +44,7 @@ pub none_yet : (t : Transfer) (q : ℤ) → int_le (pos 1) q ≡ true → q ≤�
     → o ≡ None
 none_yet t q positive within None e = refl
 none_yet t q positive within (Some r) e =
-    absurd (let all = left_some t r e in let one = le_from (pos 1) q positive in omega (arith, ints))
+    absurd (let all = left_some t r e in let one = le_from_int_le (pos 1) q positive in omega (arith, ints))
 
 -- ---- a part put in its place
 
@@ -74,7 +71,7 @@ pub keyed_put : (p : Part) (ps : List Part) → list_any (λ (x : Part). bytes_e
     → AreKeyed (put_part p ps)
 keyed_put p [] e h = (tt, tt)
 keyed_put p (x ∷ xs) e h =
-    let n = neither (bytes_eq x.key p.key) (list_any (λ (x : Part). bytes_eq x.key p.key) xs) e in
+    let n = or_parts (bytes_eq x.key p.key) (list_any (λ (x : Part). bytes_eq x.key p.key) xs) e in
     by_test (is_lt (name_cmp x.key p.key)) refl (all_put (λ (y : Part). name_cmp x.key y.key ≡ Less) p xs)
     (keyed_put p xs n.1 h.1) n.0
   where
@@ -86,6 +83,6 @@ keyed_put p (x ∷ xs) e h =
     by_test false g put more n =
         let not_less : name_cmp x.key p.key ≡ Less → ⊥ = λ k. true≢false (sym (ap is_lt k) ∙ g) in
         let not_same : x.key ≡ p.key → ⊥ = λ k.
-        true≢false (sym (self_bytes p.key) ∙ (ap (λ (m : List ℕ). bytes_eq m p.key) (sym k) ∙ n)) in
+        true≢false (sym (bytes_eq-refl p.key) ∙ (ap (λ (m : List ℕ). bytes_eq m p.key) (sym k) ∙ n)) in
         let first = name_after x.key p.key not_less not_same in
         ((first, keys_after p.key x.key xs first h.0), h)

@@ -7,6 +7,8 @@ use Rattle.std.specs.Ordering.{is_lt}
 use Rattle.std.specs.List.{list_any, AllByRecursion}
 use Rattle.std.specs.Str.{bytes_eq}
 use Rattle.std.proofs.lemmas.List.Folds.{find-append}
+use Rattle.std.proofs.lemmas.Bool.{or_parts}
+use Rattle.money_core.proofs.BytesLemmas.{same_bytes}
 use Rattle.book_core.specs.Account.{name_cmp}
 use Rattle.treasury_state.specs.declared.record.Record.{Record}
 use Rattle.treasury_state.specs.declared.transfer.Part.{Part}
@@ -16,7 +18,6 @@ use Rattle.treasury_state.specs.Transfer.{asked, out_records, in_records, receip
 use Rattle.treasury_state.specs.Transfer.{dispatch_record, receipt_record}
 use Rattle.treasury_state.specs.Joined.{inserted, received, with_receipt}
 use Rattle.treasury_state.specs.Fair.{HasNoColon, IsMarked}
-use Rattle.treasury_state.proofs.BytesLemmas.{same_bytes, neither}
 use Rattle.treasury_state.proofs.MarkLemmas.{id_no_colon}
 use Rattle.treasury_state.proofs.AskedLemmas.{none_out_at, none_in_at}
 use Rattle.treasury_state.proofs.SkipLemmas.{skip, pass_out, same_transfer}
@@ -120,7 +121,7 @@ pub inserted_here : (t : Transfer) (ts : List Transfer) (name m : List ℕ) → 
     ≡ cond (bytes_eq (out_mark t) m) (Some (dispatch_record t)) (held (asked ts name) m)
 inserted_here t [] name m e f g = new_here t name [] m e f
 inserted_here t (x ∷ xs) name m e f g =
-    let n = neither (bytes_eq x.id t.id) (list_any (has_id t.id) xs) g in
+    let n = or_parts (bytes_eq x.id t.id) (list_any (has_id t.id) xs) g in
     here_at t x xs name m (is_lt (name_cmp x.id t.id)) e f n.0 (inserted_here t xs name m e f n.1)
 
 -- a receipt: nothing new in other branches

@@ -6,7 +6,7 @@ use Rattle.std.specs.Prelude.{codes, not, nat_lt, nat_le, slice_index, unsigned_
 use Rattle.std.specs.List.{list_all, slice_split, All, AllByRecursion}
 use Rattle.std.specs.Char.{is_ascii_lowercase}
 use Rattle.std.specs.Str.{is_utf8}
-use Rattle.std.proofs.lemmas.Bool.{and_from, and_parts, ltb-true, leb-true}
+use Rattle.std.proofs.lemmas.Bool.{and_from, and_parts, ltb-true, leb-true, or_left}
 use Rattle.std.proofs.lemmas.Bool.Decides.{nat_tests}
 use Rattle.std.proofs.lemmas.Grind.{common_steps}
 use Rattle.std.proofs.lemmas.Int.{ints}
@@ -18,6 +18,7 @@ use Rattle.money_core.specs.declared.day.Day.{Day}
 use Rattle.money_core.specs.declared.unit.Unit.{Unit as Commodity}
 use Rattle.money_core.specs.Style.{AreStyles}
 use Rattle.money_core.specs.Amount.{limit}
+use Rattle.money_core.proofs.Utf8Lemmas.{utf8_joined, utf8_low, is_low}
 use Rattle.book_core.specs.GoodBook.{IsFit}
 use Rattle.journal_lines.specs.Blank.{is_blank, is_trimmed}
 use Rattle.journal_lines.specs.Date.{IsDayNumber}
@@ -28,13 +29,13 @@ use Rattle.journal_format.specs.declared.posting.Posting.{Posting}
 use Rattle.journal_format.specs.CanonicalText.{body_text}
 use Rattle.journal_format.specs.Mark.{is_mark, is_mark_byte}
 use Rattle.journal_format.specs.Printable.{is_amount, is_posting}
-use Rattle.journal_format.proofs.Utf8Lemmas.{utf8_low, utf8_joined, is_low}
 use Rattle.journal_format.proofs.PostingLemmas.{part_length}
 use Rattle.journal_format.proofs.SizeLemmas.{body_size, head_is, header_small, postings-append, posting_size, line_is}
 use Rattle.journal_format.proofs.SizeLemmas.{posting_small, no_remarks}
 use Rattle.journal_format.specs.BodySize.{postings_size, remarks_size}
 use Rattle.journal_balance.specs.Legs.{leg}
 use Rattle.journal_balance.proofs.WrittenLemmas.{legs_of-written}
+use Rattle.journal_balance.proofs.NameLemmas.{no_gap}
 use Rattle.treasury_state.specs.declared.transfer.Part.{Part}
 use Rattle.treasury_state.specs.declared.transfer.Transfer.{Transfer}
 use Rattle.treasury_state.specs.Federation.{is_name_byte, is_branch_name}
@@ -90,10 +91,6 @@ name_between b h = record {
   no_colon = grind (arith, common_steps);
   no_semicolon = grind (arith, common_steps);
 }
-
-or_left : (t u : Bool) → t ≡ true → (t || u) ≡ true
-or_left true u h = refl
-or_left false u h = absurd cc
 
 name_is_id : (b : ℕ) → is_name_byte b ≡ true → is_id_byte b ≡ true
 name_is_id b h = grind (arith, common_steps)
@@ -311,21 +308,16 @@ two_parts from to v w =
     (λ (ps : List (List ℕ)). from ∷ ps) (slice_split_none (λ b. b == 58) to (no_colons to w.plain)))
     ∙ and_from _ _ (part_some from v.some) (and_from _ _ (part_some to w.some) refl)
 
--- no gap in plain bytes, nor before a colon
-gap_free : (b : ℕ) (xs : List ℕ) → (b == 32) ≡ false → is_gap b xs ≡ false
-gap_free b [] h = h
-gap_free b (x ∷ xs) h = ap (λ (t : Bool). t && (x == 32)) h
-
 no_gap_word : (xs ys : List ℕ) → AllByRecursion IsPlain xs → has_gap ys ≡ false → has_gap (xs ++ ys) ≡ false
 no_gap_word [] ys h k = k
-no_gap_word (x ∷ xs) ys h k = rw (gap_free x (xs ++ ys) h.0.no_space, no_gap_word xs ys h.1 k) refl
+no_gap_word (x ∷ xs) ys h k = rw (no_gap x (xs ++ ys) h.0.no_space, no_gap_word xs ys h.1 k) refl
 
 append_nil_gap : (xs : List ℕ) → AllByRecursion IsPlain xs → has_gap xs ≡ false
 append_nil_gap [] h = refl
-append_nil_gap (x ∷ xs) h = rw (gap_free x xs h.0.no_space, append_nil_gap xs h.1) refl
+append_nil_gap (x ∷ xs) h = rw (no_gap x xs h.0.no_space, append_nil_gap xs h.1) refl
 
 no_gap_pair : (from to : List ℕ) → IsWord from → IsWord to → has_gap (from ++ (58 ∷ to)) ≡ false
-no_gap_pair from to v w = no_gap_word from (58 ∷ to) v.plain (rw (gap_free 58 to refl, append_nil_gap to w.plain) refl)
+no_gap_pair from to v w = no_gap_word from (58 ∷ to) v.plain (rw (no_gap 58 to refl, append_nil_gap to w.plain) refl)
 
 pub transit_is_account : (from to : List ℕ) → IsWord from → IsWord to → length from ≤ 32 → length to ≤ 32
     → is_account (transit_account from to) ≡ true
@@ -339,7 +331,7 @@ transit_is_account from to v w l m =
     list_all-append is_account_byte from (58 ∷ to) ∙ and_from _ _
     (passes_all is_account_byte (λ b p. p.account) from v.plain)
     (and_from _ _ refl (passes_all is_account_byte (λ b p. p.account) to w.plain)) in
-    let gaps : (is_gap 58 rest || has_gap rest) ≡ false = rw (gap_free 58 rest refl) (no_gap_pair from to v w) in
+    let gaps : (is_gap 58 rest || has_gap rest) ≡ false = rw (no_gap 58 rest refl) (no_gap_pair from to v w) in
     and_from _ _ (and_from _ _ (and_from _ _ (and_from _ _ short (two_parts from to v w)) bytes) (ap not gaps)) refl
 
 pub transit_is_utf8 : (from to : List ℕ) → IsWord from → IsWord to → is_utf8 (transit_account from to) ≡ true

@@ -8,6 +8,9 @@ use Rattle.std.specs.List.{list_any}
 use Rattle.std.specs.Str.{bytes_eq}
 use Rattle.std.proofs.lemmas.Int.{ints}
 use Rattle.std.proofs.lemmas.List.Folds.{find-append}
+use Rattle.std.proofs.lemmas.Bool.{or_parts}
+use Rattle.money_core.proofs.TestLemmas.{int_le-true}
+use Rattle.money_core.proofs.BytesLemmas.{same_bytes}
 use Rattle.book_core.specs.Account.{name_cmp}
 use Rattle.treasury_state.specs.declared.record.Record.{Record}
 use Rattle.treasury_state.specs.declared.transfer.Part.{Part}
@@ -20,10 +23,9 @@ use Rattle.treasury_state.specs.Transfer.{in_mark, receipt_record}
 use Rattle.treasury_state.specs.Joined.{put_part, parts_with, rest_with, with_receipt}
 use Rattle.treasury_state.specs.Good.{IsGoodPart, IsGoodRest, IsGoodTransfer}
 use Rattle.treasury_state.specs.Fair.{HasNoColon}
-use Rattle.treasury_state.proofs.BytesLemmas.{same_bytes, neither}
 use Rattle.treasury_state.proofs.MarkLemmas.{and_never, mark_eq}
 use Rattle.treasury_state.proofs.AskedLemmas.{none_of_key}
-use Rattle.treasury_core.proofs.PartLemmas.{le_to, none_yet, left_none, all_put, sum_put, keyed_put}
+use Rattle.treasury_core.proofs.PartLemmas.{none_yet, left_none, all_put, sum_put, keyed_put}
 use Rattle.treasury_core.proofs.PassLemmas.{Asks}
 use Rattle.treasury_core.proofs.GetsLemmas.{IsFresh}
 
@@ -96,7 +98,7 @@ good_at bs t p false e good h =
         keys = all_put (λ (x : Part). is_key x.key ≡ true) p t.parts (h.key e) good.parts.keys;
         keyed = keyed_put p t.parts (fresh_parts t p h) good.parts.keyed;
         each = all_put (IsGoodPart t.day) p t.parts h.part good.parts.each;
-        within = le_to (sum_of (put_part p t.parts)) t.qty (omega (arith, ints));
+        within = int_le-true (sum_of (put_part p t.parts)) t.qty (omega (arith, ints));
       };
       rest = subst (λ (o : Option Receipt). IsGoodRest (with_at false p t) o) (sym none) tt;
     }
@@ -158,7 +160,7 @@ put_asks : (t : Transfer) (p : Part) (ps : List Part) (back : List Record) (m : 
     ≡ cond (bytes_eq (in_mark t.id p.key) m) (Some (receipt_record t p)) (held (map (receipt_record t) ps ++ back) m)
 put_asks t p [] back m h e = refl
 put_asks t p (x ∷ xs) back m h e =
-    let n = neither (bytes_eq x.key p.key) (list_any (λ (x : Part). bytes_eq x.key p.key) xs) e in
+    let n = or_parts (bytes_eq x.key p.key) (list_any (λ (x : Part). bytes_eq x.key p.key) xs) e in
     put_at t p x xs back m (is_lt (name_cmp x.key p.key)) h n.0 (put_asks t p xs back m h n.1)
 
 map_last : (t : Transfer) (ps : List Part) (p : Part) (back : List Record)

@@ -6,7 +6,7 @@ use Rattle.std.specs.Prelude.{if◌then◌else◌, Result, not, ⊤, find, is_so
 use Rattle.std.specs.Cmp.Lexicographic.{pointwise}
 use Rattle.std.specs.List.{list_any, AllByRecursion}
 use Rattle.std.specs.Str.{bytes_eq, is_utf8}
-use Rattle.std.proofs.lemmas.Bool.{leb-false, and_from, and_parts}
+use Rattle.std.proofs.lemmas.Bool.{leb-false, and_from, and_parts, or_parts}
 use Rattle.std.proofs.lemmas.Bool.Decides.{nat_tests}
 use Rattle.std.proofs.lemmas.Int.{ints}
 use Rattle.money_core.specs.declared.style.Style.{Style}
@@ -19,6 +19,8 @@ use Rattle.money_core.specs.declared.cause.Cause.TheVariants.{MarkClash, OutOfMe
 use Rattle.money_core.specs.Style.{declared, is_style}
 use Rattle.money_core.specs.Amount.{limit}
 use Rattle.money_core.specs.AmountText.{IsDeclared}
+use Rattle.money_core.proofs.BytesLemmas.{same_bytes}
+use Rattle.money_core.proofs.TestLemmas.{le_from_int_le}
 use Rattle.book_core.specs.declared.refusal.Refusal.{Refusal}
 use Rattle.book_core.specs.declared.refusal.Refusal.TheVariants.{Plain}
 use Rattle.book_core.specs.GoodBook.{verdict}
@@ -38,9 +40,8 @@ use Rattle.treasury_state.specs.Transfer.{is_id, is_account_text, is_reserved, h
 use Rattle.treasury_state.specs.Transfer.{is_all, is_key, receipts_of, left_of, transfer_at}
 use Rattle.treasury_state.specs.Joined.{with_entered, with_locked, with_received}
 use Rattle.treasury_state.specs.Good.{IsGoodBranch, IsGoodRecord, IsGoodTransfer, IsGoodState}
-use Rattle.treasury_state.proofs.BytesLemmas.{same_bytes, neither}
 use Rattle.treasury_state.proofs.MarkLemmas.{not_all}
-use Rattle.treasury_state.proofs.PartLemmas.{le_from, small_from}
+use Rattle.treasury_state.proofs.PartLemmas.{small_from}
 use Rattle.treasury_state.proofs.FairLemmas.{known, names_of}
 use Rattle.treasury_state.proofs.HeldLemmas.{own_push}
 use Rattle.treasury_state.proofs.DispatchLemmas.{dispatch_written}
@@ -341,7 +342,7 @@ at_most y z h = grind (arith, ints)
 within_at : (t : Transfer) (o : Option AskedPart) → is_too_much t o ≡ false → qty_of t o ≤ℤ left_of t
 within_at t None h = omega (arith, ints)
 within_at t (Some a) h =
-    at_most (left_of t) a.qty (neither (not (nat_eq a.unit.0 t.unit.0)) (int_lt (left_of t) a.qty) h).1
+    at_most (left_of t) a.qty (or_parts (not (nat_eq a.unit.0 t.unit.0)) (int_lt (left_of t) a.qty) h).1
 
 -- what is asked for may come, where no case of its refusal applies
 pub may_receive : (t : Transfer) (r : Receive) → has_bad_key r.part ≡ false
@@ -402,8 +403,8 @@ taken f r a is h =
 receipt_small : (f : Federation) (t : Transfer) (p : Part) → IsGoodTransfer f.branches t
     → IsGoodRecord f.styles (dispatch_record t) → IsReceipt t p → unsigned_abs p.qty ≤ limit
 receipt_small f t p fair written may =
-    let low = le_from (pos 1) p.qty may.part.positive in
-    let amount = le_from (pos 1) t.qty fair.positive in
+    let low = le_from_int_le (pos 1) p.qty may.part.positive in
+    let amount = le_from_int_le (pos 1) t.qty fair.positive in
     let high = left_high t fair.parts (omega (arith, ints)) in
     let within = may.within in
     small_from p.qty t.qty (omega (arith, ints)) (omega (arith, ints)) (amount_small f t written)

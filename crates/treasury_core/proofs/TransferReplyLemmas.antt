@@ -8,11 +8,14 @@ use Rattle.std.specs.List.{list_any}
 use Rattle.std.proofs.lemmas.List.Folds.{find-append}
 use Rattle.std.specs.Str.{bytes_eq}
 use Rattle.std.proofs.lemmas.Int.{ints}
+use Rattle.std.proofs.lemmas.Bool.{or_parts}
 use Rattle.money_core.specs.declared.style.Style.{Style}
 use Rattle.money_core.specs.AmountText.{IsDeclared}
 use Rattle.money_core.specs.declared.cause.Cause.TheVariants.{OutOfMemory, UnknownBranch, SameBranch, BadId, MarkClash}
 use Rattle.money_core.specs.declared.cause.Cause.TheVariants.{UnknownTransfer, WrongBranch, AlreadyReceived}
 use Rattle.money_core.specs.Amount.{limit}
+use Rattle.money_core.proofs.BytesLemmas.{other_bytes}
+use Rattle.money_core.proofs.TestLemmas.{le_from_int_le}
 use Rattle.book_core.specs.declared.refusal.Refusal.{Refusal}
 use Rattle.book_core.specs.declared.refusal.Refusal.TheVariants.{Plain}
 use Rattle.treasury_state.specs.declared.transfer.Part.{Part}
@@ -25,9 +28,8 @@ use Rattle.treasury_state.specs.Transfer.{is_id, all_key, is_all, is_key, rest_p
 use Rattle.treasury_state.specs.Transfer.{dispatch_record, receipt_record, transfer_at}
 use Rattle.treasury_state.specs.Good.{HasGoodParts, IsGoodTransfer, IsGoodState}
 use Rattle.treasury_state.proofs.FindLemmas.{IsThere}
-use Rattle.treasury_state.proofs.BytesLemmas.{neither, other_bytes}
 use Rattle.treasury_state.proofs.MarkLemmas.{not_all, none_all}
-use Rattle.treasury_state.proofs.PartLemmas.{le_from, small_from}
+use Rattle.treasury_state.proofs.PartLemmas.{small_from}
 use Rattle.treasury_state.proofs.FoundLemmas.{found_transfer}
 use Rattle.treasury_state.proofs.NotLemmas.{transfer_small}
 use Rattle.treasury_core.specs.declared.command.Answer.{Answer}
@@ -172,7 +174,7 @@ so_held t r = option_map (is_received_so t r) (find (has_key (key_of r.part)) (r
 none_by_any : {X : Type 0} (p : X → Bool) (xs : List X) → list_any p xs ≡ false → find p xs ≡ None
 none_by_any p [] e = refl
 none_by_any p (x ∷ xs) e =
-    let n = neither (p x) (list_any p xs) e in
+    let n = or_parts (p x) (list_any p xs) e in
     ap (λ (b : Bool). cond b (Some x) (find p xs)) n.0 ∙ none_by_any p xs n.1
 
 and_true : (b : Bool) → (b && true) ≡ b
@@ -292,5 +294,5 @@ pub asked_small : (f : Federation) (r : Receive) (t : Transfer) → IsGoodState 
     → transfer_at f r.id ≡ Some t → unsigned_abs (qty_of t r.part) ≤ limit
 asked_small f r t good fits at =
     let fair = transfer_good f r.id t good at in
-    let amount = le_from (pos 1) t.qty fair.positive in
+    let amount = le_from_int_le (pos 1) t.qty fair.positive in
     small_at f.styles t r.part fits.part fair.parts (omega (arith, ints)) (transfer_small f r.id t good at)

@@ -16,6 +16,7 @@ use Rattle.book_core.specs.declared.entry.Entry.{Entry}
 use Rattle.book_core.specs.declared.refusal.Refusal.{Refusal}
 use Rattle.book_core.specs.declared.refusal.Refusal.TheVariants.{Plain}
 use Rattle.book_core.specs.Balance.{balance}
+use Rattle.book_core.specs.Accounts.{book_accounts}
 use Rattle.journal_format.specs.declared.posting.Posting.{Posting}
 use Rattle.journal_format.specs.declared.txn.Txn.{Txn}
 use Rattle.journal_format.specs.Pieces.{posting_limit}
@@ -25,7 +26,6 @@ use Rattle.treasury_state.specs.declared.record.Record.{Record}
 use Rattle.treasury_state.specs.Federation.{Federation, has_branch, book_of}
 use Rattle.treasury_state.specs.Mark.{close_mark}
 use Rattle.treasury_core.specs.declared.choice.Choice.{Choice}
-use Rattle.treasury_core.specs.Accounts.{book_accounts}
 use Rattle.treasury_core.specs.Choice.{is_selected, target_in, choice_comments, choice_refusal}
 
 -- ---- which accounts are closed

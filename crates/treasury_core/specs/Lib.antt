@@ -1,5 +1,4 @@
 -- What a reader has to believe, in reading order
-pub mod Accounts
 pub mod Choice
 pub mod Closing
 pub mod Fits

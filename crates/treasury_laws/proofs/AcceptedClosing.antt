@@ -1,12 +1,13 @@
 -- what an accepted closing does
-use Rattle.std.proofs.Common.{◌≡◌, ◌||◌, inl, ℕ, Bool, true, false, List, [], ◌∷◌, ◌++◌, ℤ, pos, refl, ap, ◌∙◌, sym}
-use Rattle.std.proofs.Common.{arith, append-nil, Option, Some, Ok}
-use Rattle.std.specs.Prelude.{if◌then◌else◌, Result, int_le}
+use Rattle.std.proofs.Common.{◌≡◌, ◌||◌, inl, ℕ, Bool, true, false, List, [], ◌∷◌, ◌++◌, pos, refl, ap, ◌∙◌, sym}
+use Rattle.std.proofs.Common.{append-nil, Option, Some, Ok}
+use Rattle.std.specs.Prelude.{if◌then◌else◌, Result}
 use Rattle.std.specs.List.{list_any}
 use Rattle.std.specs.Str.{bytes_eq}
-use Rattle.std.proofs.lemmas.Int.{ints}
 use Rattle.money_core.specs.declared.day.Day.{Day}
 use Rattle.money_core.specs.declared.unit.Unit.{Unit as Commodity}
+use Rattle.money_core.proofs.TestLemmas.{int_le-refl}
+use Rattle.money_core.proofs.BytesLemmas.{bytes_eq-refl, same_bytes}
 use Rattle.book_core.specs.declared.entry.Entry.{Entry}
 use Rattle.book_core.specs.declared.account.Reach.TheVariants.{Own}
 use Rattle.book_core.specs.declared.place.Until.TheVariants.{Through}
@@ -18,7 +19,6 @@ use Rattle.treasury_state.specs.Federation.{Branch, Federation, has_name, record
 use Rattle.treasury_state.specs.Federation.{book_of, is_locked}
 use Rattle.treasury_state.specs.Joined.{with_records, with_lock, changed}
 use Rattle.treasury_state.specs.Good.{IsGoodState}
-use Rattle.treasury_state.proofs.BytesLemmas.{same_bytes, self_bytes}
 use Rattle.treasury_state.proofs.EntriesLemmas.{entries-append}
 use Rattle.treasury_core.specs.declared.command.Answer.{Answer}
 use Rattle.treasury_core.specs.declared.command.Answer.TheVariants.{Done}
@@ -118,7 +118,7 @@ own_records : (f : Federation) (x : Close) (t : Txn) → reply f (cmd.Close x) �
     → closing_in f x.branch x.day x.choice ≡ Some t
     → records_of (step f (cmd.Close x)).next x.branch ≡ records_of f x.branch ++ closing_record x.day t ∷ []
 own_records f x t h e = next_records f x x.branch t h e ∙ ap
-    (λ (b : Bool). records_of f x.branch ++ own_or b (closing_record x.day t ∷ [])) (self_bytes x.branch)
+    (λ (b : Bool). records_of f x.branch ++ own_or b (closing_record x.day t ∷ [])) (bytes_eq-refl x.branch)
 
 pub closing_adds_one : (f : Federation) (x : Close) → reply f (cmd.Close x) ≡ Ok Done
     → (t : Txn) × ((closing_in f x.branch x.day x.choice ≡ Some t)
@@ -169,10 +169,6 @@ pub closing_apart : (f : Federation) (x : Close) → reply f (cmd.Close x) ≡ O
     → is_selected x.choice.accounts (target_in x.choice.into) ≡ false
 closing_apart f x h = (allowed x.choice (shut f x Done tt h).chosen).apart
 
--- later on
-same_day : (q : ℤ) → int_le q q ≡ true
-same_day q = grind (arith, ints)
-
 pub closing_stays : (f : Federation) (x : Close) (turns : List Turn) (account : List ℕ) (unit : Commodity)
     → IsGoodState f → reply f (cmd.Close x) ≡ Ok Done → IsRun (step f (cmd.Close x)).next turns
     → is_selected x.choice.accounts account ≡ true
@@ -180,5 +176,5 @@ pub closing_stays : (f : Federation) (x : Close) (turns : List Turn) (account : 
     ≡ pos 0
 closing_stays f x turns account unit good h run is =
     run_balance (step f (cmd.Close x)).next turns x.branch x.day Own account unit run
-    (ap (λ (o : Option Day). is_locked o x.day) (closing_locked f x h) ∙ same_day x.day.0)
+    (ap (λ (o : Option Day). is_locked o x.day) (closing_locked f x h) ∙ int_le-refl x.day.0)
     ∙ closing_zero f x account unit good h is

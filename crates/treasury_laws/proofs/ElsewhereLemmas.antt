@@ -1,6 +1,7 @@
 -- the records of transfers of one branch are in no other, which refuses them from a file
 use Rattle.std.proofs.Common.{◌≡◌, ◌⊎◌, ℕ, Bool, true, false, ◌||◌, ◌&&◌, cond, List, [], ◌∷◌, ◌++◌, map, refl, ap, ◌∙◌}
 use Rattle.std.proofs.Common.{sym, subst, inl, inr, append_assoc, Option, Some, None, Err}
+use Rattle.std.proofs.Math.Bool.{or-true}
 use Rattle.std.specs.Prelude.{if◌then◌else◌}
 use Rattle.std.specs.List.{AllByRecursion}
 use Rattle.std.specs.Option.{option_or}
@@ -8,6 +9,7 @@ use Rattle.std.specs.Str.{bytes_eq}
 use Rattle.money_core.specs.declared.style.Style.{Style}
 use Rattle.money_core.specs.declared.day.Day.{Day}
 use Rattle.money_core.specs.declared.cause.Cause.TheVariants.{ReservedMark}
+use Rattle.money_core.proofs.BytesLemmas.{bytes_eq-refl, same_bytes}
 use Rattle.book_core.specs.declared.refusal.Refusal.{Refusal}
 use Rattle.book_core.specs.declared.refusal.Refusal.TheVariants.{Plain}
 use Rattle.journal_format.specs.declared.txn.Txn.{Txn}
@@ -20,9 +22,8 @@ use Rattle.treasury_state.specs.Mark.{is_held, held, is_repeat, is_product_mark,
 use Rattle.treasury_state.specs.Mark.{is_closing_mark, is_closing}
 use Rattle.treasury_state.specs.Transfer.{asked, out_records, in_records, receipts_of, out_mark, in_mark}
 use Rattle.treasury_state.specs.Transfer.{receipt_record}
-use Rattle.treasury_state.specs.Good.{IsGoodRecord, IsGoodState}
+use Rattle.treasury_state.specs.Good.{IsGoodState}
 use Rattle.treasury_state.specs.Fair.{IsMarked}
-use Rattle.treasury_state.proofs.BytesLemmas.{same_bytes, self_bytes, or_true}
 use Rattle.treasury_state.proofs.MarkLemmas.{id_no_colon}
 use Rattle.treasury_state.proofs.AskedLemmas.{HaveOwnIds, none_append, none_out_at, out_of_in, no_out, no_in}
 use Rattle.treasury_state.proofs.SkipLemmas.{skip}
@@ -31,8 +32,8 @@ use Rattle.treasury_state.proofs.FilterLemmas.{held-filter}
 use Rattle.treasury_state.proofs.FairLemmas.{found, good_marked}
 use Rattle.treasury_state.proofs.OrderLemmas.{own_ids}
 use Rattle.treasury_state.proofs.DispatchLemmas.{IsWhole, all_whole}
-use Rattle.treasury_state.proofs.BranchLemmas.{of_branch}
 use Rattle.treasury_state.proofs.HolderLemmas.{unheld}
+use Rattle.treasury_state.proofs.OpenLemmas.{good_records}
 use Rattle.treasury_core.specs.declared.command.Command.TheVariants as cmd
 use Rattle.treasury_core.specs.Step.{number_in, unbalanced, recorded_in, records_from, records_in_file, refusal_of}
 use Rattle.treasury_core.specs.Step.{refused_in, reply, IsNew}
@@ -161,7 +162,7 @@ not_elsewhere f from to r good here there apart among transfer =
     let b = found (IsWhole f.styles f.transfers) f.branches to whole there in
     let own : IsAmong r a.branch.records = subst (IsAmong r) a.same among in
     let holds : is_held a.branch.records r.mark ≡ true =
-    among_any (λ (x : Record). bytes_eq x.mark r.mark) a.branch.records r (self_bytes r.mark) own in
+    among_any (λ (x : Record). bytes_eq x.mark r.mark) a.branch.records r (bytes_eq-refl r.mark) own in
     by_case (in_one f.transfers from to r.mark (good_marked f.branches f.transfers good.transfers)
     (own_ids f.transfers good.ids) apart) a.branch b.branch a.holds b.holds a.named b.named b.same transfer holds
   where
@@ -249,10 +250,6 @@ refused_by : (f : Federation) (name : List ℕ) (file : List Located) (e : Refus
 unfolding reply
 refused_by f name file e here balanced refused = rw (here, balanced, refused) refl
 
-own_of : (f : Federation) (from : List ℕ) → IsGoodState f → AllByRecursion (IsGoodRecord f.styles) (records_of f from)
-own_of f from good = of_branch (λ rs. AllByRecursion (IsGoodRecord f.styles) rs) f.styles f.branches from tt
-    (λ b h. h.records) good.branches
-
 -- a record with a mark of the product that the branch does not hold
 pub reserved_there : (f : Federation) (from to : List ℕ) (before : List Located) (x : Located) (rest : List Located)
     → IsGoodState f → has_branch f to ≡ true → IsOwnJournal (records_of f from) (before ++ x ∷ rest)
@@ -263,13 +260,13 @@ pub reserved_there : (f : Federation) (from to : List ℕ) (before : List Locate
 reserved_there f from to before x rest good there all passes own product absent =
     let rs = records_of f from in
     let parts = records_parts f.styles [] before (x ∷ rest) in
-    let one = recorded_own f.styles rs x (number_in f.styles parts.0 x.txn) (own_of f from good) own in
+    let one = recorded_own f.styles rs x (number_in f.styles parts.0 x.txn) (good_records f from good) own in
     let split : records_in_file f.styles (before ++ x ∷ rest)
     ≡ records_in_file f.styles before ++ own.holder ∷ records_from f.styles (parts.0 ++ x.txn ∷ []) rest =
     parts.1 ∙ ap (λ (ys : List Record).
     records_in_file f.styles before ++ (ys ++ records_from f.styles (parts.0 ++ x.txn ∷ []) rest)) one in
     refused_by f to (before ++ x ∷ rest) (Plain ReservedMark) there
-    (balanced_own f.styles rs (before ++ x ∷ rest) (own_of f from good) all)
+    (balanced_own f.styles rs (before ++ x ∷ rest) (good_records f from good) all)
     (ap (refused_in f.styles (lock_of f to) (records_of f to)) split
     ∙ reserved_in f.styles (lock_of f to) (records_of f to) (records_in_file f.styles before) own.holder
     (records_from f.styles (parts.0 ++ x.txn ∷ []) rest) passes absent product)
@@ -295,5 +292,5 @@ pub closings_elsewhere : (f : Federation) (from to : List ℕ) (before : List Lo
     → reply f (cmd.Enter to (before ++ x ∷ rest)) ≡ Err (Plain ReservedMark)
 closings_elsewhere f from to before x rest good there all passes own closing absent =
     reserved_there f from to before x rest good there all passes own
-    (ap (λ (t : Bool). is_transfer_mark own.holder.mark || t) closing ∙ or_true (is_transfer_mark own.holder.mark))
+    (ap (λ (t : Bool). is_transfer_mark own.holder.mark || t) closing ∙ or-true (is_transfer_mark own.holder.mark))
     absent

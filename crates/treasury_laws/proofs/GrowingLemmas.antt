@@ -24,8 +24,8 @@ use Rattle.treasury_laws.proofs.HistoryLemmas.{after_records}
 stays : {X : Type 0} (xs : List X) → Grows xs xs
 stays xs = ([], sym (append-nil xs))
 
-twice : {X : Type 0} (xs ys zs : List X) → Grows xs ys → Grows ys zs → Grows xs zs
-twice xs ys zs h k = (h.0 ++ k.0, k.1 ∙ (ap (λ us. us ++ k.0) h.1 ∙ append_assoc xs h.0 k.0))
+pub grows_twice : {X : Type 0} (xs ys zs : List X) → Grows xs ys → Grows ys zs → Grows xs zs
+grows_twice xs ys zs h k = (h.0 ++ k.0, k.1 ∙ (ap (λ us. us ++ k.0) h.1 ∙ append_assoc xs h.0 k.0))
 
 -- a change of a branch leaves the names
 names_at : (g : Branch → Branch) (b : Branch) (bs xs : List Branch) (t : Bool) → KeepsName g → names_of xs ≡ names_of bs
@@ -108,10 +108,10 @@ run_grown f (t ∷ ts) r =
     let h = state_after g ts in
     let rest = run_grown g ts r.2 in
     record {
-      styles = twice f.styles g.styles h.styles (after_styles f t.command t.reply) rest.styles;
-      branches = twice (names_of f.branches) (names_of g.branches) (names_of h.branches)
+      styles = grows_twice f.styles g.styles h.styles (after_styles f t.command t.reply) rest.styles;
+      branches = grows_twice (names_of f.branches) (names_of g.branches) (names_of h.branches)
           (after_names f t.command t.reply) rest.branches;
-      records = λ name. twice (records_of f name) (records_of g name) (records_of h name)
+      records = λ name. grows_twice (records_of f name) (records_of g name) (records_of h name)
           (records_among name (delta f t.command t.reply), after_records f t.command t.reply name r.1)
           (rest.records name);
     }

@@ -7,6 +7,7 @@ use Rattle.std.specs.Str.{bytes_eq}
 use Rattle.money_core.specs.declared.day.Day.{Day}
 use Rattle.money_core.specs.declared.unit.Unit.{Unit as Commodity}
 use Rattle.money_core.specs.declared.cause.Cause.TheVariants.{OutOfMemory}
+use Rattle.money_core.proofs.BytesLemmas.{third_bytes, same_bytes}
 use Rattle.book_core.specs.declared.entry.Entry.{Entry}
 use Rattle.book_core.specs.declared.refusal.Refusal.{Refusal}
 use Rattle.book_core.specs.declared.refusal.Refusal.TheVariants.{Plain}
@@ -22,7 +23,6 @@ use Rattle.treasury_state.specs.Transfer.{dispatch_record, receipt_record, trans
 use Rattle.treasury_state.specs.Federation.{Branch, Federation, has_name, has_branch, records_in, records_of, entries}
 use Rattle.treasury_state.specs.Federation.{book_of}
 use Rattle.treasury_state.specs.Joined.{new_branch, with_records, with_lock, changed}
-use Rattle.treasury_state.proofs.BytesLemmas.{same_bytes}
 use Rattle.treasury_state.proofs.EntriesLemmas.{entries-append}
 use Rattle.treasury_core.specs.declared.command.Answer.{Answer}
 use Rattle.treasury_core.specs.declared.command.Answer.TheVariants.{Done, Entered, Repeated}
@@ -33,7 +33,6 @@ use Rattle.treasury_core.specs.Closing.{closing_in}
 use Rattle.treasury_core.specs.Step.{reply, done, added, after, delta, new_records, transfer_of, receipt_of}
 use Rattle.treasury_core.specs.Step.{receipt_additions, with_receipt_of, closing_records}
 use Rattle.treasury_core.specs.Run.{Turn, Replies, IsRun, state_after}
-use Rattle.treasury_core.proofs.BytesLemmas.{third_bytes}
 use Rattle.treasury_laws.specs.History.{history, record_if, records_among}
 
 -- a new branch has no records

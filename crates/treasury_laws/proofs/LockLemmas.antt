@@ -7,6 +7,8 @@ use Rattle.std.specs.Str.{bytes_eq}
 use Rattle.std.proofs.lemmas.Int.{ints}
 use Rattle.money_core.specs.declared.day.Day.{Day}
 use Rattle.money_core.specs.declared.unit.Unit.{Unit as Commodity}
+use Rattle.money_core.proofs.ListLemmas.{all_weaker}
+use Rattle.money_core.proofs.BytesLemmas.{same_bytes}
 use Rattle.book_core.specs.declared.entry.Entry.{Entry}
 use Rattle.book_core.specs.declared.account.Reach.{Reach}
 use Rattle.book_core.specs.declared.place.Until.TheVariants.{Through}
@@ -20,9 +22,7 @@ use Rattle.treasury_state.specs.Federation.{Branch, Federation, records_of, lock
 use Rattle.treasury_state.specs.Federation.{is_locked}
 use Rattle.treasury_state.specs.Joined.{new_branch, with_records, with_lock, changed}
 use Rattle.treasury_state.specs.Transfer.{dispatch_record, receipt_record, transfer_at}
-use Rattle.treasury_state.proofs.BytesLemmas.{same_bytes}
 use Rattle.treasury_state.proofs.EntriesLemmas.{entries-append}
-use Rattle.treasury_state.proofs.AllLemmas.{all_weaker}
 use Rattle.treasury_core.specs.declared.command.Answer.{Answer}
 use Rattle.treasury_core.specs.declared.command.Answer.TheVariants.{Done, Entered, Repeated}
 use Rattle.treasury_core.specs.declared.command.Receive.{Receive}

@@ -1,6 +1,7 @@
 -- a branch's own journal, entered again
 use Rattle.std.proofs.Common.{◌≡◌, ◌+◌, ◌-◌, ℕ, Bool, true, false, ◌||◌, ◌&&◌, List, [], ◌∷◌, ◌++◌, length, refl, ap}
 use Rattle.std.proofs.Common.{◌∙◌, sym, subst, arith, inl, inr, append-nil, Option, Some, None, Ok, Err}
+use Rattle.std.proofs.Math.Bool.{or-true}
 use Rattle.std.specs.Prelude.{if◌then◌else◌, Result, not}
 use Rattle.std.specs.List.{list_any, AllByRecursion}
 use Rattle.std.specs.Option.{option_or}
@@ -9,6 +10,7 @@ use Rattle.money_core.specs.declared.style.Style.{Style}
 use Rattle.money_core.specs.declared.day.Day.{Day}
 use Rattle.money_core.specs.declared.cause.Cause.{Cause}
 use Rattle.money_core.specs.declared.cause.Cause.TheVariants.{UnknownBranch}
+use Rattle.money_core.proofs.BytesLemmas.{bytes_eq-refl}
 use Rattle.book_core.specs.declared.entry.Entry.{Entry}
 use Rattle.book_core.specs.declared.refusal.Refusal.{Refusal}
 use Rattle.book_core.specs.declared.refusal.Refusal.TheVariants.{Plain}
@@ -23,7 +25,6 @@ use Rattle.treasury_state.specs.Federation.{Federation, has_branch, records_of, 
 use Rattle.treasury_state.specs.Mark.{is_repeat, mark_of}
 use Rattle.treasury_state.specs.Joined.{with_entered}
 use Rattle.treasury_state.specs.Good.{IsGoodRecord, IsGoodState}
-use Rattle.treasury_state.proofs.BytesLemmas.{self_bytes, or_true}
 use Rattle.treasury_state.proofs.BranchLemmas.{of_branch}
 use Rattle.treasury_core.specs.declared.command.Answer.{Answer}
 use Rattle.treasury_core.specs.declared.command.Answer.TheVariants.{Done, Entered, Repeated}
@@ -43,7 +44,7 @@ among_all P (x ∷ xs) r (inr a) h = among_all P xs r a h.1
 pub among_any : (p : Record → Bool) (rs : List Record) (r : Record) → p r ≡ true → IsAmong r rs → list_any p rs ≡ true
 among_any p [] r e a = absurd a
 among_any p (x ∷ xs) r e (inl s) = ap (λ (t : Bool). t || list_any p xs) (ap p s ∙ e)
-among_any p (x ∷ xs) r e (inr a) = ap (λ (t : Bool). p x || t) (among_any p xs r e a) ∙ or_true (p x)
+among_any p (x ∷ xs) r e (inr a) = ap (λ (t : Bool). p x || t) (among_any p xs r e a) ∙ or-true (p x)
 
 -- the record of a record's transaction is that record
 recorded_again : (styles : List Style) (r : Record) (n : ℕ) → IsGoodRecord styles r
@@ -86,7 +87,7 @@ balanced_own styles rs (x ∷ xs) good own =
 is_repeat_of : (styles : List Style) (rs : List Record) (r : Record) → IsAmong r rs → is_repeat styles rs r ≡ true
 is_repeat_of styles rs r a = among_any
     (λ (h : Record). bytes_eq h.mark r.mark && bytes_eq (body_text styles h.txn) (body_text styles r.txn)) rs r
-    (rw (self_bytes r.mark, self_bytes (body_text styles r.txn)) refl) a
+    (rw (bytes_eq-refl r.mark, bytes_eq-refl (body_text styles r.txn)) refl) a
 
 none_refused : (styles : List Style) (lock : Option Day) (rs file : List Record)
     → AllByRecursion (λ (r : Record). IsAmong r rs) file → refused_in styles lock rs file ≡ None
@@ -96,7 +97,7 @@ none_refused styles lock rs (r ∷ file) h = rw (is_repeat_of styles rs r h.0) (
 none_new : (rs file : List Record) → AllByRecursion (λ (r : Record). IsAmong r rs) file → new_in rs file ≡ []
 none_new rs [] h = refl
 none_new rs (r ∷ file) h =
-    rw (among_any (λ (x : Record). bytes_eq x.mark r.mark) rs r (self_bytes r.mark) h.0) (none_new rs file h.1)
+    rw (among_any (λ (x : Record). bytes_eq x.mark r.mark) rs r (bytes_eq-refl r.mark) h.0) (none_new rs file h.1)
 
 abbrev answer_of : List Record → ℕ → Option Refusal → Result Answer Refusal
 answer_of new n o = unless (entered (length new) n) o

@@ -13,6 +13,7 @@ use Rattle.money_core.specs.declared.mark.Mark.TheVariants.{Point, Comma}
 use Rattle.money_core.specs.declared.style.Style.{Style}
 use Rattle.money_core.specs.Mark.{decimal_byte}
 use Rattle.money_core.specs.Style.{AreStyles}
+use Rattle.money_core.proofs.ListLemmas.{all_weaker}
 use Rattle.book_core.specs.declared.entry.Entry.{Entry}
 use Rattle.journal_format.specs.declared.txn.Located.{Located}
 use Rattle.journal_format.specs.CanonicalText.{body_text, marked}
@@ -33,7 +34,6 @@ use Rattle.treasury_state.specs.Transfer.{has_id}
 use Rattle.treasury_state.specs.Good.{IsGoodRecord, IsGoodTransfer, IsGoodState}
 use Rattle.treasury_state.specs.Rows.{truth, unit_row, branch_row, branch_rows_from, entry_row, entry_rows_from}
 use Rattle.treasury_state.specs.Rows.{entry_rows_in, transfer_row, part_row, part_rows, rows}
-use Rattle.treasury_state.proofs.AllLemmas.{all_weaker}
 use Rattle.treasury_state.proofs.RestLemmas.{numbered, heads, tails}
 use Rattle.treasury_state.proofs.UnitRowLemmas.{same_style}
 use Rattle.treasury_state.proofs.EntryRowLemmas.{IsBodyOf, ReadsRow, printable_unmarked, body_reads, record_only}

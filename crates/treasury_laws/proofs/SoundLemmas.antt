@@ -1,22 +1,18 @@
 -- the books of a good state sum to zero, and their assertions hold
-use Rattle.std.proofs.Common.{◌≡◌, ◌++◌, List, [], ◌∷◌, pos, ◌+ℤ◌, arith, refl}
+use Rattle.std.proofs.Common.{◌≡◌, List, [], ◌∷◌, pos, arith, refl}
 use Rattle.std.specs.List.{AllByRecursion}
 use Rattle.std.proofs.lemmas.Int.{ints}
 use Rattle.money_core.specs.declared.style.Style.{Style}
 use Rattle.money_core.specs.declared.unit.Unit.{Unit as Commodity}
-use Rattle.book_core.specs.declared.leg.Leg.{Leg}
 use Rattle.book_core.specs.declared.entry.Entry.{Entry}
 use Rattle.book_core.specs.Book.{legs_of}
 use Rattle.book_core.specs.Balance.{value}
 use Rattle.book_core.specs.Claim.{asserted_from, Holds}
 use Rattle.book_core.specs.GoodBook.{IsFit, IsBalanced}
+use Rattle.journal_balance.proofs.ValueLemmas.{value-append}
 use Rattle.treasury_state.specs.Federation.{Branch, Federation, entries}
 use Rattle.treasury_state.specs.Good.{IsGoodBranch, IsGoodState}
 use Rattle.treasury_laws.specs.Sound.{EachBalances, EachAssertionHolds}
-
-value-append : (unit : Commodity) (xs ys : List Leg) → value unit (xs ++ ys) ≡ value unit xs +ℤ value unit ys
-value-append unit [] ys = omega (arith, ints)
-value-append unit (x ∷ xs) ys = let h = value-append unit xs ys in omega (arith, ints)
 
 value-fit : (unit : Commodity) (b : List Entry) → AllByRecursion IsFit b → value unit (legs_of b) ≡ pos 0
 value-fit unit [] h = refl

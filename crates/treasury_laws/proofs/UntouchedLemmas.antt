@@ -5,17 +5,18 @@ use Rattle.std.specs.Str.{bytes_eq}
 use Rattle.std.proofs.lemmas.Int.{ints}
 use Rattle.money_core.specs.declared.unit.Unit.{Unit as Commodity}
 use Rattle.money_core.specs.declared.day.Day.{Day}
+use Rattle.money_core.proofs.TestLemmas.{if_zero}
 use Rattle.book_core.specs.declared.account.Reach.TheVariants.{Own}
 use Rattle.book_core.specs.declared.entry.Entry.{Entry}
 use Rattle.book_core.specs.declared.place.Until.TheVariants.{Through}
 use Rattle.book_core.specs.Balance.{balance}
+use Rattle.book_core.specs.Accounts.{book_accounts}
 use Rattle.journal_format.specs.declared.txn.Txn.{Txn}
 use Rattle.treasury_state.specs.Federation.{Federation, book_of}
-use Rattle.treasury_core.specs.Accounts.{book_accounts}
 use Rattle.treasury_core.specs.Closing.{selected, held_in}
 use Rattle.treasury_core.specs.Closed.{IsClosing, closed_book}
 use Rattle.treasury_core.proofs.ClosingSums.{held_none}
-use Rattle.treasury_core.proofs.ClosingLemmas.{unselected, zero_either, IsKnown, book_known, moves, moves_is}
+use Rattle.treasury_core.proofs.ClosingLemmas.{unselected, IsKnown, book_known, moves, moves_is}
 use Rattle.treasury_core.proofs.ClosingLemmas.{closed_balance}
 
 -- ---- what the closing moves on an account
@@ -40,7 +41,7 @@ untouched select into f name day t a unit x h off apart =
     let b = book_of f name in
     let is = closed_balance select into f name day t h a unit x in
     let by = moves_other (length f.styles) b (book_known f name h.good) day into select a unit off apart in
-    let none = zero_either (int_le day.0 x.0) (moves (length f.styles) b day into select a unit) by in
+    let none = if_zero (int_le day.0 x.0) (moves (length f.styles) b day into select a unit) by in
     omega (arith, ints, is, none)
 
 pub unmoved_before : (select : List ℕ → Bool) (into : List ℕ) (f : Federation) (name : List ℕ) (day : Day) (t : Txn)

@@ -1,7 +1,5 @@
 -- balances that can be printed
-use Rattle.std.proofs.Common.{ℕ, ◌≤◌, ◌<◌, List, length, ℤ, arith}
-use Rattle.std.specs.Prelude.{unsigned_abs}
-use Rattle.std.proofs.lemmas.Int.{ints}
+use Rattle.std.proofs.Common.{ℕ, ◌<◌, List, length, arith}
 use Rattle.money_core.specs.declared.unit.Unit.{Unit as Commodity}
 use Rattle.money_core.specs.declared.style.Style.{Style}
 use Rattle.money_core.specs.declared.day.Day.{Day}
@@ -11,16 +9,14 @@ use Rattle.book_core.specs.declared.account.Reach.TheVariants.{Own}
 use Rattle.book_core.specs.declared.place.Until.TheVariants.{Through}
 use Rattle.book_core.specs.Balance.{turnover, balance}
 use Rattle.book_core.specs.GoodBook.{HasRoom}
-use Rattle.book_core.proofs.SumLemmas.{Within, within_entries}
-
-within_abs : (m : ℕ) (z : ℤ) → Within m z → unsigned_abs z ≤ m
-within_abs m z h = let a = h.low in let b = h.high in omega (arith, ints)
+use Rattle.book_core.proofs.SumLemmas.{within_entries}
+use Rattle.book_core.proofs.NamedLemmas.{abs_within}
 
 -- no balance passes the turnover
 pub balance_is_declared : (styles : List Style) (entries : List Entry) (account : List ℕ) (unit : Commodity) (day : Day)
     → unit.0 < length styles → HasRoom entries → IsDeclared styles unit (balance Own entries account unit (Through day))
 unfolding balance
 balance_is_declared styles entries account unit day known room =
-    let within = within_abs (turnover unit entries) (balance Own entries account unit (Through day))
+    let within = abs_within (turnover unit entries) (balance Own entries account unit (Through day))
     (within_entries Own account unit (Through day) 1 entries) in
     record { known = known; size = omega (arith, room unit) }

@@ -1,5 +1,4 @@
 pub mod AppendLemmas
-pub mod AccountOrder
 pub mod BalanceLemmas
 pub mod UnitLemmas
 pub mod SortLemmas

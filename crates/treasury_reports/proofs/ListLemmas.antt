@@ -1,13 +1,11 @@
 -- the reports of what is there
 use Rattle.std.proofs.Common.{◌≡◌, ◌∙◌, ◌≤ℤ◌, ◌+ℤ◌, ◌-ℤ◌, ℕ, ℤ, pos, Bool, true, false, cond, List, [], ◌∷◌, ◌++◌, map}
-use Rattle.std.proofs.Common.{arith, refl, ap, sym, length, take, get_or, inl, inr, ◌⊎◌, ◌+◌, ◌<◌, ◌≤◌, Some, None}
-use Rattle.std.proofs.Common.{IsTrue}
+use Rattle.std.proofs.Common.{arith, refl, ap, length, take, get_or, inl, inr, ◌⊎◌, ◌+◌, ◌<◌, ◌≤◌, Some, None}
 use Rattle.std.specs.List.{slice_get}
 use Rattle.std.proofs.lemmas.Option.{slice_get_cases}
 use Rattle.std.proofs.lemmas.List.{take_more}
-use Rattle.treasury_reports.proofs.AppendLemmas.{flat_map_next}
-use Rattle.std.specs.Prelude.{filter, find, if◌then◌else◌, int_le, not, negsuc, nat_lt, unsigned_abs, ◌↔◌}
-use Rattle.std.proofs.lemmas.Bool.{cases_Bool, and_parts, ltb-true, leb-true}
+use Rattle.std.specs.Prelude.{filter, find, if◌then◌else◌, int_le, not, nat_lt, unsigned_abs}
+use Rattle.std.proofs.lemmas.Bool.{and_parts, ltb-true, leb-true}
 use Rattle.std.specs.Ordering.{int_eq}
 use Rattle.std.specs.List.{flat_map, AllByRecursion}
 use Rattle.std.proofs.lemmas.Int.{ints}
@@ -16,7 +14,7 @@ use Rattle.money_core.specs.declared.unit.Unit.{Unit as Commodity}
 use Rattle.money_core.specs.declared.day.Day.{Day}
 use Rattle.money_core.specs.Amount.{limit}
 use Rattle.money_core.specs.AmountText.{IsDeclared}
-use Rattle.journal_lines.specs.Date.{IsDayNumber}
+use Rattle.money_core.proofs.TestLemmas.{if_zero, zero_from_int_eq, le_from_int_le}
 use Rattle.journal_format.specs.Printable.{is_posting}
 use Rattle.journal_balance.specs.Legs.{leg}
 use Rattle.treasury_state.specs.declared.transfer.Transfer.{Transfer}
@@ -25,14 +23,13 @@ use Rattle.treasury_state.specs.Transfer.{open_of, open_amount, is_between, rece
 use Rattle.treasury_state.specs.Transfer.{posting, transit_account, has_id}
 use Rattle.treasury_state.specs.Good.{IsGoodRecord, IsGoodTransfer, IsGoodState}
 use Rattle.treasury_state.specs.Fair.{IsFair}
-use Rattle.journal_lines.proofs.DateLemmas.{day_number_bounds, day_number_from}
-use Rattle.treasury_state.proofs.PartLemmas.{le_from, all_positive, received_low, small_from}
+use Rattle.journal_format.proofs.PrintingLemmas.{part_next}
+use Rattle.treasury_state.proofs.PartLemmas.{all_positive, received_low, small_from}
 use Rattle.treasury_state.proofs.WayLemmas.{all_good, open_low}
 use Rattle.treasury_state.proofs.FairLemmas.{all_fair, names_good}
 use Rattle.treasury_state.proofs.AmountLemmas.{amount_of}
 use Rattle.treasury_state.proofs.DispatchLemmas.{dispatch_written}
 use Rattle.treasury_state.proofs.EachFoundLemmas.{all_found}
-use Rattle.treasury_reports.specs.BranchesReport.{is_calendar}
 use Rattle.treasury_reports.specs.TransfersReport.{pending, AddUpToTransit}
 use Rattle.treasury_reports.specs.Lent.{IsListableTransfer}
 
@@ -54,12 +51,6 @@ flat_map-filter {X} p g (x ∷ xs) = by_test (p x) (flat_map-filter p g xs)
     by_test false h = h
 
 -- ---- what is not open adds nothing
-zero_if : (z : ℤ) → int_eq z (pos 0) ≡ true → z ≡ pos 0
-zero_if z e = grind (arith, ints)
-
-none : (b : Bool) (z : ℤ) → z ≡ pos 0 → (if b then z else pos 0) ≡ pos 0
-none true z e = e
-none false z e = refl
 
 adds_up : (ts : List Transfer) (day : Day) (from to : List ℕ) (unit : Commodity)
     → open_amount (pending day ts) from to unit day ≡ open_amount ts from to unit day
@@ -73,31 +64,11 @@ adds_up (t ∷ ts) day from to unit = by_test (int_eq (open_of t day) (pos 0)) r
     by_test false e h =
         ap (λ (z : ℤ). (if is_between from to unit t then open_of t day else pos 0) +ℤ z) h
     by_test true e h =
-        let zero = none (is_between from to unit t) (open_of t day) (zero_if (open_of t day) e) in
+        let zero = if_zero (is_between from to unit t) (open_of t day) (zero_from_int_eq (open_of t day) e) in
         omega (arith, ints)
 
 pub add_up_to_transit : (ts : List Transfer) (day : Day) → AddUpToTransit ts day
 add_up_to_transit ts day from to unit = adds_up ts day from to unit
-
--- ---- days that a calendar has
-in_calendar : (day : Day) → IsDayNumber day → is_calendar day ≡ true
-in_calendar day h = let bounds = day_number_bounds day h in grind (arith, ints, bounds.0, bounds.1)
-
-calendar_has : (day : Day) → is_calendar day ≡ true → IsDayNumber day
-calendar_has day e =
-    let parts = and_parts (int_le (negsuc 719161) day.0) _ e in
-    let low = le_from (negsuc 719161) day.0 parts.0 in
-    let high = le_from day.0 (pos 2932896) parts.1 in
-    day_number_from day (omega (arith, ints, low)) (omega (arith, ints, high))
-
--- a test of it
-pub calendar_test : (day : Day) (b : Bool) → IsTrue b ↔ IsDayNumber day → b ≡ is_calendar day
-calendar_test day true h = sym (in_calendar day (h.0 refl))
-calendar_test day false h =
-    elim (cases_Bool (is_calendar day)) [
-      | inl has ↦ absurd (let wrong : false ≡ true = h.1 (calendar_has day has) in cc)
-      | inr lacks ↦ sym lacks
-    ]
 
 -- ---- each transfer of a good state can be listed
 amount_declared : (styles : List Style) (t : Transfer) → IsGoodRecord styles (dispatch_record t)
@@ -138,7 +109,7 @@ at_most t d true fair =
     omega (arith, ints)
 at_most t d false fair =
     let a = received_low (receipts_of t) d (all_positive t.day (receipts_of t) (all_good t fair)) in
-    let b = le_from (pos 1) t.qty fair.positive in
+    let b = le_from_int_le (pos 1) t.qty fair.positive in
     omega (arith, ints)
 
 pub open_declared : (styles : List Style) (t : Transfer) (d : Day) → IsListableTransfer styles t
@@ -157,6 +128,6 @@ next_line {X} f xs i before after h k below = by_place (slice_get_cases xs i).1
     by_place : ((x : X) × (i < length xs) × (slice_get xs i ≡ Some x) × (get_or xs i x ≡ x))
         ⊎ ((length xs ≤ i) × (slice_get xs i ≡ None)) → after ≡ flat_map f (take (i + 1) xs)
     by_place (inl found) =
-        flat_map_next f [] before after (take i xs) (take (i + 1) xs) found.0 h (k found.0 found.2)
+        part_next f [] before after (take i xs) (take (i + 1) xs) found.0 h (k found.0 found.2)
         (take_more xs i found.0 below ∙ ap (λ (y : X). take i xs ++ y ∷ []) found.3)
     by_place (inr past) = absurd (omega (arith, past.0, below))

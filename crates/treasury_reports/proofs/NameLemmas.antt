@@ -6,11 +6,11 @@ use Rattle.std.specs.List.Sorted.{IsStrictlySortedBy}
 use Rattle.std.proofs.lemmas.List.{take_more}
 use Rattle.std.proofs.lemmas.List.Elements.{Contains-append_left, Contains-push, Contains-push_cases}
 use Rattle.book_core.specs.Account.{name_cmp}
+use Rattle.book_core.specs.Accounts.{ordered_names}
+use Rattle.book_core.proofs.AccountOrder.{same_names, ordered_names_ascend, Contains-ordered_names}
 use Rattle.treasury_state.specs.declared.state.Branch.{Branch as Kept}
 use Rattle.treasury_state.specs.Seen.{branches_of}
 use Rattle.treasury_state.specs.Federation.{names_of}
-use Rattle.treasury_reports.specs.BalanceReport.{ordered_names}
-use Rattle.treasury_reports.proofs.AccountOrder.{same_names, ordered_names_ascend, Contains-ordered_names}
 
 -- the names of the first ones, in order
 pub record InOrder (names all : List (List ℕ)) : Type 0 where

@@ -1,6 +1,6 @@
 -- open amounts can be printed: in a book that sums to zero a balance is at most half of the turnover
-use Rattle.std.proofs.Common.{◌≡◌, ℕ, ◌+◌, ◌≤◌, ◌<◌, Bool, true, false, ◌&&◌, nat_eq, List, [], ◌∷◌, ◌++◌, length, ℤ}
-use Rattle.std.proofs.Common.{pos, neg_ℤ, ◌+ℤ◌, ◌-ℤ◌, ◌≤ℤ◌, arith, refl, ap, ◌∙◌, sym, subst}
+use Rattle.std.proofs.Common.{◌≡◌, ℕ, ◌+◌, ◌≤◌, ◌<◌, Bool, true, false, ◌&&◌, List, [], ◌∷◌, ◌++◌, length, ℤ}
+use Rattle.std.proofs.Common.{pos, neg_ℤ, ◌+ℤ◌, ◌-ℤ◌, ◌≤ℤ◌, arith, refl, ap, sym, subst}
 use Rattle.std.specs.Prelude.{unsigned_abs, if◌then◌else◌}
 use Rattle.std.specs.List.{AllByRecursion}
 use Rattle.std.specs.Str.{bytes_eq}
@@ -17,18 +17,13 @@ use Rattle.book_core.specs.Book.{posted_legs, posted_from, legs_of}
 use Rattle.book_core.specs.Balance.{counts, total, value, moved, turnover, balance}
 use Rattle.book_core.specs.GoodBook.{IsFit, IsGoodBook, most_turnover}
 use Rattle.book_core.proofs.SumLemmas.{Within, Within_abs, Within_add, total-append, moved-append}
-use Rattle.book_core.proofs.GoodBookLemmas.{good_nil}
-use Rattle.treasury_state.specs.declared.transfer.Transfer.{Transfer}
-use Rattle.treasury_state.specs.Federation.{Federation, has_branch, entries, book_of}
+use Rattle.treasury_state.specs.Federation.{Federation, has_branch, book_of}
 use Rattle.treasury_state.specs.Transfer.{transit_account, open_amount}
 use Rattle.treasury_state.specs.Good.{IsGoodState}
 use Rattle.treasury_state.specs.Fair.{IsFair}
-use Rattle.treasury_state.proofs.BranchLemmas.{of_branch}
 use Rattle.treasury_state.proofs.FairLemmas.{all_fair, names_good, adds_up_named}
-use Rattle.treasury_state.proofs.OpenLemmas.{unknown}
-use Rattle.treasury_state.proofs.WayLemmas.{open_none, open_sum_low}
-use Rattle.treasury_state.proofs.BytesLemmas.{same_bytes}
-use Rattle.std.proofs.lemmas.Slice.Eq.{bytes_eq-Decides}
+use Rattle.treasury_state.proofs.OpenLemmas.{unknown, good_book, open_amount-self}
+use Rattle.treasury_state.proofs.WayLemmas.{open_sum_low}
 
 -- what counts, twice, less all that is of the commodity
 zero_within : Within 0 (pos 0)
@@ -96,10 +91,6 @@ unfolding balance
 half_balance es account unit day good =
     half_of (turnover unit es) _ (good.within.small unit) (half_entries account unit (Through day) 1 es good.fit)
 
-good_book : (f : Federation) (name : List ℕ) → IsGoodState f → IsGoodBook (book_of f name)
-good_book f name good =
-    of_branch (λ rs. IsGoodBook (entries rs)) f.styles f.branches name good_nil (λ b h. h.book) good.branches
-
 two_halves : (x y z : ℤ) → (x +ℤ y) ≡ z → x ≤ℤ pos 5000000000000000 → y ≤ℤ pos 5000000000000000
     → z ≤ℤ pos 10000000000000000
 two_halves x y z e h k = omega (arith, ints)
@@ -122,31 +113,13 @@ apart_small f from to unit day true true good h k e =
 within_abs : (z : ℤ) → pos 0 ≤ℤ z → z ≤ℤ pos 10000000000000000 → unsigned_abs z ≤ 10000000000000000
 within_abs z low high = omega (arith, ints)
 
--- nothing goes from a branch to itself
-self_at : (x : Transfer) (from to : List ℕ) (unit : Commodity) (a b : Bool) → bytes_eq x.source from ≡ a
-    → bytes_eq x.target to ≡ b → IsFair x → bytes_eq from to ≡ true → ((a && b) && nat_eq x.unit.0 unit.0) ≡ false
-self_at x from to unit true true e f fair n =
-    let z : true ≡ false = sym ((bytes_eq-Decides x.source x.target).1
-    (same_bytes x.source from e ∙ same_bytes from to n ∙ sym (same_bytes x.target to f))) ∙ fair.apart in absurd
-    (cc)
-self_at x from to unit true false e f fair n = refl
-self_at x from to unit false b e f fair n = refl
-
-oneself : (ts : List Transfer) (from to : List ℕ) (unit : Commodity) (day : Day) → AllByRecursion IsFair ts
-    → bytes_eq from to ≡ true → open_amount ts from to unit day ≡ pos 0
-oneself [] from to unit day fair n = refl
-oneself (x ∷ xs) from to unit day fair n =
-    let a = open_none x from to unit day
-    (self_at x from to unit (bytes_eq x.source from) (bytes_eq x.target to) refl refl fair.0 n) in
-    let b = oneself xs from to unit day fair.1 n in
-    omega (arith, ints)
-
 fair_transfers : (f : Federation) → IsGoodState f → AllByRecursion IsFair f.transfers
 fair_transfers f good = all_fair f.branches f.transfers (names_good f good) good.transfers
 
 open_small : (f : Federation) (from to : List ℕ) (unit : Commodity) (day : Day) → IsGoodState f → (b : Bool)
     → bytes_eq from to ≡ b → open_amount f.transfers from to unit day ≤ℤ pos 10000000000000000
-open_small f from to unit day good true e = nothing _ (oneself f.transfers from to unit day (fair_transfers f good) e)
+open_small f from to unit day good true e =
+    nothing _ (open_amount-self f.transfers from to unit day (fair_transfers f good) e)
 open_small f from to unit day good false e =
     apart_small f from to unit day (has_branch f from) (has_branch f to) good refl refl e
 

@@ -22,11 +22,13 @@ use Rattle.book_core.specs.GoodBook.{HasRoom, IsGoodBook, most_turnover}
 use Rattle.money_core.specs.Amount.{limit}
 use Rattle.std.proofs.Math.Seq.{split_at}
 use Rattle.std.proofs.lemmas.List.{take_more}
+use Rattle.money_core.proofs.ListLemmas.{all-append}
 use Rattle.book_core.proofs.SumLemmas.{Within, Within_abs, Within_add, moved-append}
 use Rattle.book_core.proofs.GoodBookLemmas.{good_nil}
 use Rattle.journal_lines.specs.Date.{IsDayNumber}
 use Rattle.journal_balance.proofs.FaultLemmas.{legs_found}
 use Rattle.journal_balance.proofs.DeclaredLemmas.{entry_declared}
+use Rattle.journal_balance.proofs.ValueLemmas.{value-append}
 use Rattle.treasury_state.specs.declared.record.Record.{Record}
 use Rattle.treasury_state.specs.Federation.{Federation, records_of, entries}
 use Rattle.treasury_state.specs.Good.{IsGoodRecord, IsGoodState}
@@ -40,20 +42,12 @@ use Rattle.treasury_reports.specs.Lent.{IsListable, HaveRoom, sum_at, AreSums}
 use Rattle.treasury_reports.proofs.SortLemmas.{all_by_day}
 
 -- ---- the records of a good state
-pub good_records : (f : Federation) (name : List ℕ) → IsGoodState f
-    → AllByRecursion (IsGoodRecord f.styles) (records_of f name)
-good_records f name good = of_branch (λ rs. AllByRecursion (IsGoodRecord f.styles) rs) f.styles f.branches name tt
-    (λ b h. h.records) good.branches
 
 pub room_of : (f : Federation) (name : List ℕ) → IsGoodState f → HasRoom (entries (records_of f name))
 room_of f name good = (of_branch (λ rs. IsGoodBook (entries rs)) f.styles f.branches name good_nil (λ b h. h.book)
     good.branches).within.small
 
 -- ---- what is listed can be printed
-all-append : {X : Type 0} (P : X → Type 0) (xs ys : List X) → AllByRecursion P xs → AllByRecursion P ys
-    → AllByRecursion P (xs ++ ys)
-all-append P [] ys h k = k
-all-append P (x ∷ xs) ys h k = (h.0, all-append P xs ys h.1 k)
 
 listable_legs : (styles : List Style) (account : List ℕ) (n : ℕ) (r : Record) (xs : List Leg) → IsDayNumber r.entry.day
     → AllByRecursion (λ (x : Leg). IsDeclared styles x.unit x.qty) xs
@@ -163,10 +157,6 @@ pub value_within : (unit : Commodity) (xs : List Leg) → Within (moved unit xs)
 value_within unit [] = record { low = omega (arith, ints); high = omega (arith, ints) }
 value_within unit (x ∷ xs) = Within_add _ _ _ _ (share (nat_eq x.unit.0 unit.0) x.qty) (value_within unit xs)
 
-pub value-append : (unit : Commodity) (xs ys : List Leg) → value unit (xs ++ ys) ≡ value unit xs +ℤ value unit ys
-value-append unit [] ys = omega (arith, ints)
-value-append unit (x ∷ xs) ys = let h = value-append unit xs ys in omega (arith, ints)
-
 nat_eq_self : (n : ℕ) → nat_eq n n ≡ true
 nat_eq_self n = grind (arith, nat_tests)
 
@@ -258,9 +248,6 @@ legs_more account n r x xs old before after e h =
         ≡ (if b then listed_leg n r x ∷ listed_legs account n r xs else listed_legs account n r xs)
     by_test true = refl
     by_test false = refl
-
-pub leg_at : (xs : List Leg) (i : ℕ) (x : Leg) → i < length xs → x ≡ get_or xs i x → drop i xs ≡ x ∷ drop (i + 1) xs
-leg_at xs i x below e = rw add-one (drop-cons xs i x below ∙ ap (λ (y : Leg). y ∷ drop (suc i) xs) (sym e))
 
 -- ---- sums in a table
 same_unit : (a b : Commodity) → nat_eq a.0 b.0 ≡ true → b.0 ≡ a.0

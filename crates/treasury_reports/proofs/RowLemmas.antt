@@ -13,10 +13,11 @@ use Rattle.money_core.specs.declared.unit.Unit.{Unit as Commodity}
 use Rattle.money_core.specs.declared.day.Day.{Day}
 use Rattle.book_core.specs.declared.entry.Entry.{Entry}
 use Rattle.book_core.specs.Balance.{value}
+use Rattle.book_core.specs.Accounts.{book_accounts}
 use Rattle.treasury_state.specs.Federation.{Federation}
 use Rattle.treasury_reports.specs.declared.layout.Layout.TheVariants.{Text, Json}
 use Rattle.treasury_reports.specs.declared.listed.Listed.{Listed}
-use Rattle.treasury_reports.specs.BalanceReport.{account_rows, balance_row, book_rows, book_accounts, first_units}
+use Rattle.treasury_reports.specs.BalanceReport.{account_rows, balance_row, book_rows, first_units}
 use Rattle.treasury_reports.specs.RegisterReport.{register_line, register_lines, register_cells, rows_behind, legs_in}
 use Rattle.treasury_reports.specs.TransitReport.{has_way, open_cells, transit_row, way_rows, rows_from, transit_rows}
 use Rattle.treasury_reports.specs.TransitReport.{branch_names}

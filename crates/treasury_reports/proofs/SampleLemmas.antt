@@ -6,7 +6,6 @@ use Rattle.std.proofs.lemmas.Bool.{cases_Bool, and_parts, or_right, eq-eqb, leb-
 use Rattle.std.proofs.lemmas.List.Folds.{list_any-append}
 use Rattle.std.proofs.Math.Seq.{drop-append-add}
 use Rattle.std.specs.List.{list_all, list_any}
-use Rattle.std.specs.Char.{is_ascii_digit}
 use Rattle.std.specs.Str.Parse.{digits_value_after}
 use Rattle.money_core.specs.declared.mark.Mark.{Mark}
 use Rattle.money_core.specs.declared.mark.Mark.TheVariants.{Point, Comma}
@@ -24,7 +23,9 @@ use Rattle.money_core.specs.Style.{is_style, IsSample, AreStyles}
 use Rattle.money_core.proofs.AmountParts.{gap_blanks, gap_seen}
 use Rattle.money_core.proofs.RoundTrip.{ReadsAs, before_mark, whole_reads, reads_with_mark}
 use Rattle.std.proofs.lemmas.Fmt.{decimal_digit, decimal_step}
+use Rattle.std.proofs.lemmas.List.{length-replicate}
 use Rattle.money_core.proofs.SymbolText.{symbol_facts, printed_symbol_writes}
+use Rattle.money_core.proofs.StyleSamples.{zeros_digits, zeros_no_mark}
 use Rattle.treasury_reports.specs.CommoditiesReport.{thousand, sample_number, sample_text, AreSamples}
 
 -- ---- a thousand
@@ -47,18 +48,6 @@ thousand_is Comma true = ap (λ (l : List ℕ). l ++ 46 ∷ 48 ∷ 48 ∷ 48 ∷
 thousand_is Comma false = decimal_1000
 
 -- ---- its decimals
-zeros_digits : (n : ℕ) → list_all is_ascii_digit (replicate n 48) ≡ true
-zeros_digits zero = refl
-zeros_digits (suc n) = zeros_digits n
-
-zeros_length : (n : ℕ) → length {A = ℕ} (replicate n 48) ≡ n
-zeros_length zero = refl
-zeros_length (suc n) = ap suc (zeros_length n)
-
-zeros_no_mark : (mark : Mark) (n : ℕ) → list_any (λ b. b == group_byte mark) (replicate n 48) ≡ false
-zeros_no_mark mark zero = refl
-zeros_no_mark Point (suc n) = zeros_no_mark Point n
-zeros_no_mark Comma (suc n) = zeros_no_mark Comma n
 
 abbrev value_of : ℕ → ℕ
 value_of decimals = digits_value_after 10 1000 (replicate decimals 48)
@@ -87,7 +76,7 @@ writes : (mark : Mark) (groups : Bool) (decimals : ℕ)
 unfolding number_of
 writes mark groups decimals =
     reads_with_mark mark decimals 1000 (value_of decimals) (thousand mark groups) (replicate decimals 48)
-    (reads mark groups) (zeros_digits decimals) (zeros_length decimals) refl
+    (reads mark groups) (zeros_digits decimals) (length-replicate decimals 48) refl
 
 fraction : (mark : Mark) (groups : Bool) (decimals : ℕ)
     → decimals ≡ length (fraction_part mark (number_of mark groups decimals))
@@ -96,7 +85,7 @@ fraction mark groups decimals =
     let whole = thousand mark groups in
     let at = before_mark (λ b. b == decimal_byte mark) whole (replicate decimals 48) (decimal_byte mark)
     (reads mark groups).unmarked (eq-eqb (decimal_byte mark) (decimal_byte mark) refl) in
-    rw (at, drop-append-add whole (decimal_byte mark ∷ replicate decimals 48) 1) (sym (zeros_length decimals))
+    rw (at, drop-append-add whole (decimal_byte mark ∷ replicate decimals 48) 1) (sym (length-replicate decimals 48))
 
 shows : (mark : Mark) (groups : Bool) (decimals : ℕ)
     → list_any (λ b. b == decimal_byte mark) (number_of mark groups decimals) ≡ true

@@ -13,6 +13,7 @@ use Rattle.std.specs.declared.cmp.Ordering.TheVariants.{Less, Equal, Greater}
 use Rattle.std.proofs.lemmas.Cmp.{int_cmp_total}
 use Rattle.std.proofs.lemmas.Int.{ints}
 use Rattle.std.proofs.lemmas.List.Sorted.{sorted_far, ranks_by}
+use Rattle.money_core.proofs.TestLemmas.{le_from_int_le}
 use Rattle.book_core.proofs.TouchedLemmas.{not_below_day}
 use Rattle.treasury_reports.specs.declared.listed.Listed.{Listed}
 use Rattle.treasury_reports.specs.RegisterReport.{put_by_day, by_day}
@@ -137,9 +138,6 @@ from_le a b le = by_tests (int_lt b a) (int_lt a b) refl refl
     by_tests false true g h = refl
     by_tests false false g h = refl
 
-le_true : (a b : ℤ) → int_le a b ≡ true → a ≤ℤ b
-le_true a b e = grind (arith, ints, e)
-
 le_false : (a b : ℤ) → int_le a b ≡ false → b ≤ℤ a
 le_false a b e = grind (arith, ints, e)
 
@@ -182,7 +180,8 @@ put_in_order x (y ∷ ys) h = by_test (int_le x.day.0 y.day.0) refl (put_in_orde
   where
     by_test : (b : Bool) → int_le x.day.0 y.day.0 ≡ b → InOrder earlier (put_by_day x ys)
         → InOrder earlier (if b then x ∷ (y ∷ ys) else y ∷ put_by_day x ys)
-    by_test true e k = let le = le_true x.day.0 y.day.0 e in ((from_le x.day.0 y.day.0 le, later x y ys le h.0), h)
+    by_test true e k =
+        let le = le_from_int_le x.day.0 y.day.0 e in ((from_le x.day.0 y.day.0 le, later x y ys le h.0), h)
     by_test false e k = (
       all_put (λ (w : Listed). earlier w y ≡ false) x ys
           (from_le y.day.0 x.day.0 (le_false x.day.0 y.day.0 e)) h.0,

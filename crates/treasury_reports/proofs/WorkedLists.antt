@@ -5,11 +5,12 @@ use Rattle.money_core.specs.declared.mark.Mark.{Mark}
 use Rattle.money_core.specs.declared.mark.Mark.TheVariants.{Point, Comma}
 use Rattle.money_core.specs.declared.day.Day.{Day}
 use Rattle.money_core.specs.AmountText.{printed_symbol}
+use Rattle.journal_lines.specs.Date.{is_in_calendar}
 use Rattle.treasury_state.specs.declared.transfer.Part.{Part}
 use Rattle.treasury_state.specs.declared.transfer.Receipt.{Receipt}
 use Rattle.treasury_state.specs.declared.transfer.Transfer.{Transfer}
 use Rattle.treasury_state.specs.Transfer.{open_of}
-use Rattle.treasury_reports.specs.BranchesReport.{is_calendar, lock_column}
+use Rattle.treasury_reports.specs.BranchesReport.{lock_column}
 use Rattle.treasury_reports.specs.CommoditiesReport.{sample_number, sample_text}
 use Rattle.treasury_reports.specs.AccountsReport.{account_line}
 use Rattle.treasury_reports.specs.TransfersReport.{pending}
@@ -19,13 +20,13 @@ pub unlocked : lock_column None ≡ codes "          "
 unlocked = refl
 
 -- 9999-12-31 is the last day, 0001-01-01 the first
-pub last_day : is_calendar (record { 0 = pos 2932896 }) ≡ true
+pub last_day : is_in_calendar (record { 0 = pos 2932896 }) ≡ true
 last_day = refl
 
 pub past_days : lock_column (Some (record { 0 = pos 2932897 })) ≡ codes "?         "
 past_days = refl
 
-pub first_day : is_calendar (record { 0 = negsuc 719161 }) ≡ true
+pub first_day : is_in_calendar (record { 0 = negsuc 719161 }) ≡ true
 first_day = refl
 
 pub before_days : lock_column (Some (record { 0 = negsuc 719162 })) ≡ codes "?         "

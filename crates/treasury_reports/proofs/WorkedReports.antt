@@ -4,6 +4,7 @@ use Rattle.money_core.specs.declared.style.Style.{Style}
 use Rattle.money_core.specs.declared.unit.Unit.{Unit as Commodity}
 use Rattle.money_core.specs.declared.day.Day.{Day}
 use Rattle.book_core.specs.declared.leg.Leg.{Leg}
+use Rattle.book_core.specs.Accounts.{ordered_names}
 use Rattle.journal_format.specs.declared.txn.Txn.{Txn}
 use Rattle.journal_format.specs.CanonicalText.{txn_text}
 use Rattle.treasury_state.specs.declared.record.Record.{Record}
@@ -13,7 +14,6 @@ use Rattle.treasury_reports.specs.declared.listed.Listed.{Listed}
 use Rattle.std.proofs.Common.{append-nil, ◌∙◌}
 use Rattle.journal_lines.specs.Tag.{first_tag, starts_tag, tag_at}
 use Rattle.treasury_reports.specs.Columns.{right_aligned}
-use Rattle.treasury_reports.specs.BalanceReport.{ordered_names}
 use Rattle.treasury_reports.specs.RegisterReport.{is_asked, txn_has, is_wanted, listed_from, by_day, register_line}
 use Rattle.treasury_reports.specs.RegisterReport.{register_lines}
 use Rattle.treasury_reports.specs.TransitReport.{open_line, transit_text}

@@ -1,8 +1,8 @@
 -- The accounts of a branch (own rule; docs/FORMATS.md, "Accounts report").
 use Rattle.std.specs.Prelude.{ℕ, List, [], ◌∷◌, ◌++◌, map, codes}
 use Rattle.std.specs.List.{flat_map}
+use Rattle.book_core.specs.Accounts.{book_accounts}
 use Rattle.treasury_state.specs.Federation.{Federation, book_of}
-use Rattle.treasury_reports.specs.BalanceReport.{book_accounts}
 
 -- an account's line
 abbrev pub account_line : List ℕ → List ℕ

@@ -2,8 +2,6 @@
 use Rattle.std.specs.Prelude.{ℕ, zero, suc, ℤ, pos, if◌then◌else◌, List, [], ◌∷◌, ◌++◌, length, codes}
 use Rattle.std.specs.List.{flat_map}
 use Rattle.std.specs.Ordering.{int_eq}
-use Rattle.std.specs.declared.cmp.Ordering.{Ordering}
-use Rattle.std.specs.declared.cmp.Ordering.TheVariants.{Less, Equal, Greater}
 use Rattle.money_core.specs.declared.style.Style.{Style}
 use Rattle.money_core.specs.declared.unit.Unit.{Unit as Commodity}
 use Rattle.money_core.specs.declared.day.Day.{Day}
@@ -11,31 +9,10 @@ use Rattle.money_core.specs.AmountText.{printed_in}
 use Rattle.book_core.specs.declared.entry.Entry.{Entry}
 use Rattle.book_core.specs.declared.account.Reach.TheVariants.{Own}
 use Rattle.book_core.specs.declared.place.Until.TheVariants.{Through}
-use Rattle.book_core.specs.Account.{name_cmp}
-use Rattle.book_core.specs.Book.{legs_of, accounts_of}
 use Rattle.book_core.specs.Balance.{balance}
+use Rattle.book_core.specs.Accounts.{book_accounts}
 use Rattle.treasury_state.specs.Federation.{Federation, book_of}
 use Rattle.treasury_reports.specs.Columns.{amount_column}
-
--- the list with the name before the first one that is greater, if it is not there yet
-abbrev pub placed_name : Ordering → List ℕ → List ℕ → List (List ℕ) → List (List ℕ) → List (List ℕ)
-placed_name Less name first rest more = name ∷ (first ∷ rest)
-placed_name Equal name first rest more = first ∷ rest
-placed_name Greater name first rest more = first ∷ more
-
--- a list in byte order with one name more, if it is not there yet
-abbrev pub with_name : List ℕ → List (List ℕ) → List (List ℕ)
-with_name name [] = name ∷ []
-with_name name (first ∷ rest) = placed_name (name_cmp name first) name first rest (with_name name rest)
-
--- the names, each once, in byte order
-abbrev pub ordered_names : List (List ℕ) → List (List ℕ)
-ordered_names [] = []
-ordered_names (name ∷ names) = with_name name (ordered_names names)
-
--- the accounts of all legs of a book, each once, in byte order
-unfoldable pub book_accounts : List Entry → List (List ℕ)
-book_accounts entries = ordered_names (accounts_of (legs_of entries))
 
 -- the first commodities, so many, in declared order
 abbrev pub first_units : ℕ → List Commodity

@@ -1,20 +1,16 @@
 -- The branches, with their locks (own rule; docs/FORMATS.md, "Branches report").
-use Rattle.std.specs.Prelude.{ℕ, ◌&&◌, Bool, if◌then◌else◌, List, ◌++◌, length, codes, decimal, pos, negsuc, int_le}
+use Rattle.std.specs.Prelude.{ℕ, if◌then◌else◌, List, ◌++◌, length, codes, decimal}
 use Rattle.std.specs.Prelude.{Option, Some, None, [], ◌∷◌, map}
 use Rattle.std.specs.List.{flat_map}
 use Rattle.money_core.specs.declared.day.Day.{Day}
-use Rattle.journal_lines.specs.Date.{printed_date}
+use Rattle.journal_lines.specs.Date.{printed_date, is_in_calendar}
 use Rattle.treasury_state.specs.Federation.{Branch, Federation}
 use Rattle.treasury_reports.specs.Columns.{right_aligned, number_width}
 
--- a day from 0001-01-01 to 9999-12-31: a lock day that another program wrote may be none
-abbrev pub is_calendar : Day → Bool
-is_calendar day = int_le (negsuc 719161) day.0 && int_le day.0 (pos 2932896)
-
--- a lock day, ten blanks where there is none
+-- a lock day, ten blanks where there is none; one that another program wrote may be in no calendar
 abbrev pub lock_column : Option Day → List ℕ
 lock_column None = codes "          "
-lock_column (Some day) = if is_calendar day then printed_date day else codes "?         "
+lock_column (Some day) = if is_in_calendar day then printed_date day else codes "?         "
 
 -- lock day, number of entries and name of a branch
 unfoldable pub branch_line : Branch → List ℕ
@@ -29,7 +25,7 @@ branches_text f = flat_map branch_line f.branches
 -- a lock day in JSON, an empty text where there is none
 abbrev pub lock_cell : Option Day → List ℕ
 lock_cell None = []
-lock_cell (Some day) = if is_calendar day then printed_date day else codes "?"
+lock_cell (Some day) = if is_in_calendar day then printed_date day else codes "?"
 
 -- in JSON, the cells of a branch: lock day, number of entries and name
 abbrev pub branch_cells : Branch → List (List ℕ)

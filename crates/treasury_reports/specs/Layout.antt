@@ -9,12 +9,13 @@ use Rattle.book_core.specs.declared.entry.Entry.{Entry}
 use Rattle.book_core.specs.declared.account.Reach.TheVariants.{Own}
 use Rattle.book_core.specs.declared.place.Until.TheVariants.{Through}
 use Rattle.book_core.specs.Balance.{balance, value}
+use Rattle.book_core.specs.Accounts.{book_accounts}
 use Rattle.treasury_state.specs.declared.transfer.Transfer.{Transfer}
 use Rattle.treasury_state.specs.Federation.{Branch, Federation}
 use Rattle.treasury_reports.specs.declared.layout.Layout.{Layout}
 use Rattle.treasury_reports.specs.declared.layout.Layout.TheVariants.{Text, Json}
 use Rattle.treasury_reports.specs.declared.listed.Listed.{Listed}
-use Rattle.treasury_reports.specs.BalanceReport.{amount_line, amount_row, first_units, book_accounts}
+use Rattle.treasury_reports.specs.BalanceReport.{amount_line, amount_row, first_units}
 use Rattle.treasury_reports.specs.RegisterReport.{register_line, register_cells, legs_in}
 use Rattle.treasury_reports.specs.TransitReport.{open_line, open_cells, has_way, branch_names}
 use Rattle.treasury_reports.specs.BranchesReport.{branch_line, branch_cells}

@@ -5,11 +5,12 @@ use Rattle.std.specs.Str.{bytes_eq}
 use Rattle.money_core.specs.declared.unit.Unit.{Unit as Commodity}
 use Rattle.money_core.specs.declared.day.Day.{Day}
 use Rattle.money_core.specs.AmountText.{printed_in}
+use Rattle.book_core.specs.Accounts.{ordered_names}
 use Rattle.treasury_state.specs.declared.transfer.Transfer.{Transfer}
 use Rattle.treasury_state.specs.Federation.{Federation, names_of}
 use Rattle.treasury_state.specs.Transfer.{open_amount}
 use Rattle.treasury_reports.specs.Columns.{amount_column}
-use Rattle.treasury_reports.specs.BalanceReport.{ordered_names, first_units}
+use Rattle.treasury_reports.specs.BalanceReport.{first_units}
 
 -- the transfer was dispatched from that branch on or before the day
 abbrev pub is_from : List ℕ → Day → Transfer → Bool

@@ -6,9 +6,9 @@ ghost use Rattle.std.specs.Result.{IsOkUnless};
 ghost use Rattle.std.specs.List.Sorted.{IsStrictlySortedBy};
 ghost use Rattle.std.specs.declared.cmp.Ordering.TheVariants.{Less};
 ghost use Rattle.book_core.specs.Account.{name_cmp};
+ghost use Rattle.book_core.specs.Accounts.{ordered_names};
 ghost use Rattle.treasury_state.specs.Seen.{branches_of};
 ghost use Rattle.treasury_state.specs.Federation.{names_of};
-ghost use Rattle.treasury_reports.specs.BalanceReport.{ordered_names};
 
 use book_core::Ledger;
 use money_core::{Cause, Copied, Text};

@@ -12,14 +12,14 @@ use Rattle.money_core.specs.declared.cause.Cause.{Cause}
 use Rattle.money_core.specs.declared.cause.Cause.TheVariants.{Damaged}
 use Rattle.money_core.specs.declared.day.Day.{Day}
 use Rattle.money_core.specs.declared.style.Style.{Style}
+use Rattle.money_core.proofs.ListLemmas.{drop_at, all-append}
 use Rattle.treasury_state.specs.declared.record.Record.{Record}
 use Rattle.treasury_state.specs.declared.rows.BranchRow.{BranchRow}
 use Rattle.treasury_state.specs.declared.rows.EntryRow.{EntryRow}
 use Rattle.treasury_state.specs.Federation.{Branch}
 use Rattle.treasury_state.specs.Good.{IsGoodRecord, IsShort}
 use Rattle.treasury_state.specs.Rows.{branch_row, branch_rows_from, entry_rows_from, entry_rows_in}
-use Rattle.treasury_state.proofs.AllLemmas.{all-append}
-use Rattle.treasury_state.proofs.RestLemmas.{heads, tails, less}
+use Rattle.treasury_state.proofs.RestLemmas.{heads, tails}
 use Rattle.treasury_state.proofs.BranchRowLemmas.{own_rows, other_rows}
 use Rattle.treasury_rows.specs.Drafted.{IsFault, IsKeepable}
 use Rattle.treasury_rows.proofs.DraftLemmas.{fault_of, all_middle}
@@ -54,7 +54,7 @@ pub stops_here : {T : Type 0} (P : T → Type 0) (rows : List T) (i : ℕ) (row 
     → row ≡ get_or rows i row → (P row → ⊥)
     → (y : T) (ys : List T) → drop i rows ≡ y ∷ ys → P y → ⊥
 stops_here P rows i row h is n y ys e p =
-    n (subst P (sym (heads row y (drop (i + 1) rows) ys (sym (less rows i row h is) ∙ e))) p)
+    n (subst P (sym (heads row y (drop (i + 1) rows) ys (sym (drop_at rows i row h is) ∙ e))) p)
 
 pub stops_behind : {T : Type 0} (P : T → Type 0) (rows : List T) (i : ℕ) → length rows ≤ i → (y : T) (ys : List T)
     → drop i rows ≡ y ∷ ys → P y → ⊥
@@ -166,7 +166,7 @@ branch_item : (styles : List Style) (rows : List BranchRow) (entries : List Entr
 branch_item styles rows entries n i count done row left h is counts front bs p =
     let r = front bs p in
     branch_at styles n count done bs r.rest row (drop (i + 1) rows) left counts p.0 r.split
-    (r.named ∙ less rows i row h is) r.entered
+    (r.named ∙ drop_at rows i row h is) r.entered
 
 pub branch_next : (styles : List Style) (rows : List BranchRow) (entries : List EntryRow) (n i nr count : ℕ)
     (done new : List Branch) (row : BranchRow) (left : List EntryRow) (x : Branch) → i < length rows

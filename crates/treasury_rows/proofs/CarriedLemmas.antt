@@ -1,9 +1,12 @@
 -- a branch's records of transfers are those that are asked for: by all look-ups, and record by record
 use Rattle.std.proofs.Common.{◌≡◌, ℕ, Bool, true, false, ◌||◌, cond, List, [], ◌∷◌, ◌++◌, refl, ap, ◌∙◌, sym, subst}
 use Rattle.std.proofs.Common.{Option, Some, None}
+use Rattle.std.proofs.Math.Bool.{or-true}
 use Rattle.std.specs.Prelude.{IfSome, MatchOption, filter}
 use Rattle.std.specs.List.{AllByRecursion}
 use Rattle.std.specs.Str.{bytes_eq}
+use Rattle.money_core.proofs.ListLemmas.{all_weaker}
+use Rattle.money_core.proofs.BytesLemmas.{bytes_eq-refl, same_bytes}
 use Rattle.treasury_state.specs.declared.record.Record.{Record}
 use Rattle.treasury_state.specs.declared.transfer.Part.{Part}
 use Rattle.treasury_state.specs.declared.transfer.Transfer.{Transfer}
@@ -12,13 +15,11 @@ use Rattle.treasury_state.specs.Mark.{is_held, held, HaveOwnMarks, is_transfer_m
 use Rattle.treasury_state.specs.Transfer.{asked, out_records, in_records, receipts_of}
 use Rattle.treasury_state.specs.Good.{AreAscending, IsCarried}
 use Rattle.treasury_state.specs.Fair.{IsMarked}
-use Rattle.treasury_state.proofs.BytesLemmas.{same_bytes, self_bytes, or_true}
 use Rattle.treasury_state.proofs.HeldLemmas.{not_held}
 use Rattle.treasury_state.proofs.LookupLemmas.{first_held}
 use Rattle.treasury_state.proofs.HolderLemmas.{held_all, unheld}
 use Rattle.treasury_state.proofs.AskedLemmas.{asked_own}
 use Rattle.treasury_state.proofs.OrderLemmas.{own_ids}
-use Rattle.treasury_state.proofs.AllLemmas.{all_weaker}
 use Rattle.treasury_state.proofs.FilterLemmas.{held-filter}
 
 -- each of them is of a transfer
@@ -90,9 +91,9 @@ self_held (r ∷ rs) own = (
 all_held : (rs : List Record) → AllByRecursion (λ (r : Record). is_held rs r.mark ≡ true) rs
 all_held [] = tt
 all_held (r ∷ rs) = (
-  ap (λ (t : Bool). t || is_held rs r.mark) (self_bytes r.mark),
+  ap (λ (t : Bool). t || is_held rs r.mark) (bytes_eq-refl r.mark),
   all_weaker (λ (x : Record). is_held rs x.mark ≡ true) (λ (x : Record). is_held (r ∷ rs) x.mark ≡ true) rs
-      (λ x h. ap (λ (t : Bool). bytes_eq r.mark x.mark || t) h ∙ or_true (bytes_eq r.mark x.mark)) (all_held rs),
+      (λ x h. ap (λ (t : Bool). bytes_eq r.mark x.mark || t) h ∙ or-true (bytes_eq r.mark x.mark)) (all_held rs),
 )
 
 all_both : (P Q : Record → Type 0) (rs : List Record) → AllByRecursion P rs → AllByRecursion Q rs

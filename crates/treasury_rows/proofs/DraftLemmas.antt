@@ -6,7 +6,8 @@ use Rattle.std.proofs.lemmas.Result.{err_from_is_err_and}
 use Rattle.std.specs.List.{AllByRecursion}
 use Rattle.std.proofs.lemmas.List.{drop_all, length_push, take_more}
 use Rattle.money_core.specs.declared.cause.Cause.{Cause}
-use Rattle.treasury_state.proofs.RestLemmas.{numbered, heads, tails, less}
+use Rattle.money_core.proofs.ListLemmas.{drop_at}
+use Rattle.treasury_state.proofs.RestLemmas.{numbered, heads, tails}
 use Rattle.treasury_rows.specs.Drafted.{IsFault}
 
 -- a fault of a part is one of the whole
@@ -60,7 +61,7 @@ pub front_item : {X Y : Type 0} (g : ℕ → X → Y) (P : List X → Type 0) (f
     → Next g n done xs row (drop (i + 1) rows)
 front_item g P first rows n i done row h is front xs p e =
     let r = front xs p e in
-    next_at g n done xs r.rest row (drop (i + 1) rows) r.split (r.same ∙ less rows i row h is)
+    next_at g n done xs r.rest row (drop (i + 1) rows) r.split (r.same ∙ drop_at rows i row h is)
 
 -- one more item was read, the only one with its row
 pub front_next : {X Y : Type 0} (g : ℕ → X → Y) (P : List X → Type 0) (Q : X → Type 0) (first : ℕ) (rows : List Y)

@@ -5,6 +5,7 @@ use Rattle.money_core.specs.declared.cause.Cause.{Cause}
 use Rattle.money_core.specs.declared.cause.Cause.TheVariants.{OutOfMemory, Damaged}
 use Rattle.money_core.specs.declared.style.Style.{Style}
 use Rattle.money_core.specs.Style.{AreStyles}
+use Rattle.money_core.proofs.ListLemmas.{all_weaker}
 use Rattle.treasury_state.specs.declared.rows.UnitRow.{UnitRow}
 use Rattle.treasury_state.specs.declared.rows.BranchRow.{BranchRow}
 use Rattle.treasury_state.specs.declared.rows.EntryRow.{EntryRow}
@@ -15,7 +16,6 @@ use Rattle.treasury_state.specs.declared.transfer.Transfer.{Transfer}
 use Rattle.treasury_state.specs.Federation.{Branch, Federation}
 use Rattle.treasury_state.specs.Good.{IsGoodBranch, IsGoodState}
 use Rattle.treasury_state.specs.Rows.{unit_rows, rows}
-use Rattle.treasury_state.proofs.AllLemmas.{all_weaker}
 use Rattle.treasury_rows.specs.Drafted.{IsFault, IsKeepable}
 use Rattle.treasury_rows.proofs.BranchRowLemmas.{HaveRows}
 use Rattle.treasury_rows.proofs.TransferRowLemmas.{all_named}

@@ -8,6 +8,8 @@ use Rattle.std.proofs.lemmas.List.{take-append-drop, take_more}
 use Rattle.money_core.specs.Amount.{limit}
 use Rattle.money_core.specs.declared.style.Style.{Style}
 use Rattle.money_core.specs.Style.{AreStyles}
+use Rattle.money_core.proofs.ListLemmas.{all_weaker}
+use Rattle.money_core.proofs.BytesLemmas.{other_bytes}
 use Rattle.book_core.specs.declared.entry.Entry.{Entry}
 use Rattle.book_core.specs.declared.refusal.Refusal.{Refusal}
 use Rattle.book_core.specs.Account.{name_cmp}
@@ -23,8 +25,6 @@ use Rattle.treasury_state.specs.Transfer.{has_id}
 use Rattle.treasury_state.specs.Good.{IsGoodBranch, IsGoodTransfer, IsCarried, HaveOwnNames, AreAscending, AreKeyed}
 use Rattle.treasury_state.specs.Good.{IsGoodState}
 use Rattle.treasury_state.specs.Room.{is_before, is_key_before}
-use Rattle.treasury_state.proofs.BytesLemmas.{other_bytes}
-use Rattle.treasury_state.proofs.AllLemmas.{all_weaker}
 use Rattle.treasury_state.proofs.HeldLemmas.{none_tail, own_push}
 use Rattle.treasury_state.proofs.PartLemmas.{keys_after}
 use Rattle.treasury_state.proofs.OrderLemmas.{all_after}

@@ -5,13 +5,14 @@ use Rattle.std.specs.List.{AllByRecursion}
 use Rattle.std.proofs.lemmas.List.{drop_all}
 use Rattle.money_core.specs.declared.cause.Cause.{Cause}
 use Rattle.money_core.specs.declared.cause.Cause.TheVariants.{Damaged}
+use Rattle.money_core.proofs.ListLemmas.{drop_at}
 use Rattle.treasury_state.specs.declared.rows.PartRow.{PartRow}
 use Rattle.treasury_state.specs.declared.rows.TransferRow.{TransferRow}
 use Rattle.treasury_state.specs.declared.transfer.Transfer.{Transfer}
 use Rattle.treasury_state.specs.Federation.{Branch}
 use Rattle.treasury_state.specs.Good.{AreAscending}
 use Rattle.treasury_state.specs.Rows.{transfer_row, part_row, part_rows}
-use Rattle.treasury_state.proofs.RestLemmas.{heads, tails, less}
+use Rattle.treasury_state.proofs.RestLemmas.{heads, tails}
 use Rattle.treasury_state.proofs.OrderLemmas.{none_like}
 use Rattle.treasury_state.proofs.PartRowLemmas.{IsOf, IsOfOther, own_rows, other_rows}
 use Rattle.treasury_rows.specs.Drafted.{IsFault, IsNamed}
@@ -101,7 +102,7 @@ transfer_item : (bs : List Branch) (rows : List TransferRow) (parts : List PartR
 transfer_item bs rows parts i count done row left h is counts front ts p =
     let r = front ts p in
     transfer_at bs count done ts r.rest row (drop (i + 1) rows) left counts p.0 p.1.0 r.split
-    (r.sent ∙ less rows i row h is) r.received
+    (r.sent ∙ drop_at rows i row h is) r.received
 
 pub transfer_next : (bs : List Branch) (rows : List TransferRow) (parts : List PartRow) (i count : ℕ)
     (done new : List Transfer) (row : TransferRow) (left : List PartRow) (x : Transfer) → i < length rows

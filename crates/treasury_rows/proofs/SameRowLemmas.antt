@@ -6,6 +6,8 @@ use Rattle.std.specs.Str.{bytes_eq}
 use Rattle.std.specs.List.{slice_get}
 use Rattle.std.proofs.lemmas.List.{drop_all}
 use Rattle.money_core.specs.declared.style.Style.{Style}
+use Rattle.money_core.proofs.ListLemmas.{drop_at}
+use Rattle.money_core.proofs.BytesLemmas.{bytes_eq-refl, same_bytes}
 use Rattle.treasury_state.specs.declared.record.Record.{Record}
 use Rattle.treasury_state.specs.declared.transfer.Transfer.{Transfer}
 use Rattle.treasury_state.specs.declared.rows.UnitRow.{UnitRow}
@@ -19,8 +21,7 @@ use Rattle.treasury_state.specs.declared.rows.Parts.{Parts}
 use Rattle.treasury_state.specs.Federation.{Branch, Federation, name_place}
 use Rattle.treasury_state.specs.Rows.{unit_rows, branch_rows_from, entry_rows_in}
 use Rattle.treasury_state.specs.Rows.{leg_rows_in, claim_rows_in, transfer_row, part_rows, rows}
-use Rattle.treasury_state.proofs.BytesLemmas.{same_bytes, self_bytes}
-use Rattle.treasury_state.proofs.RestLemmas.{numbered, heads, tails, less}
+use Rattle.treasury_state.proofs.RestLemmas.{numbered, heads, tails}
 use Rattle.treasury_rows.specs.Drafted.{record_rows_from, record_rows_in}
 
 -- a test's answer
@@ -47,8 +48,8 @@ pub walk_next : {X Y : Type 0} (g : ℕ → X → Y) (first n i : ℕ) (xs : Lis
     → i < length xs → x ≡ get_or xs i x → i < length ys → y ≡ get_or ys i y → g n x ≡ y
     → Walk g first n i xs ys → Walk g first (n + 1) (i + 1) xs ys
 walk_next g first n i xs ys x y h is k at same walk =
-    let front = less xs i x h is in
-    let back = less ys i y k at in (
+    let front = drop_at xs i x h is in
+    let back = drop_at ys i y k at in (
       λ e. walk.0 (ap (numbered g n) front ∙
           (ap (λ z. z ∷ numbered g (n + 1) (drop (i + 1) xs)) same ∙ (ap (λ zs. y ∷ zs) e ∙ sym back))),
       λ e. tails (g n x) y (numbered g (n + 1) (drop (i + 1) xs)) (drop (i + 1) ys)
@@ -60,7 +61,7 @@ pub walk_stop : {X Y : Type 0} (g : ℕ → X → Y) (first n i : ℕ) (xs : Lis
     → Walk g first n i xs ys → numbered g first xs ≡ ys → ⊥
 walk_stop g first n i xs ys x y h is k at other walk e =
     other (heads (g n x) y (numbered g (n + 1) (drop (i + 1) xs)) (drop (i + 1) ys)
-    (sym (ap (numbered g n) (less xs i x h is)) ∙ (walk.1 e ∙ less ys i y k at)))
+    (sym (ap (numbered g n) (drop_at xs i x h is)) ∙ (walk.1 e ∙ drop_at ys i y k at)))
 
 pub walk_end : {X Y : Type 0} (g : ℕ → X → Y) (first n i : ℕ) (xs : List X) (ys : List Y) → length xs ≤ i
     → length ys ≤ i → Walk g first n i xs ys → numbered g first xs ≡ ys
@@ -96,7 +97,7 @@ pub whole_next : {T : Type 0} (g : ℕ → ℕ → Record → List T) (b i : ℕ
 whole_next g b i bs list left rest x h is split whole =
     let own = record_rows_from (g b) 1 x.records in
     let others = record_rows_in g (b + 1) (drop (i + 1) bs) in
-    let front : record_rows_in g b (drop i bs) ≡ own ++ others = ap (record_rows_in g b) (less bs i x h is) in (
+    let front : record_rows_in g b (drop i bs) ≡ own ++ others = ap (record_rows_in g b) (drop_at bs i x h is) in (
       λ e. whole.0 (front ∙ (ap (λ xs. own ++ xs) e ∙ sym split)),
       λ e. append_same own others rest (sym front ∙ (whole.1 e ∙ split)),
     )
@@ -146,16 +147,16 @@ pub place_here : (bs : List Branch) (name : List ℕ) (i all : ℕ) (x : Branch)
     → x.name ≡ name → i + name_place (drop i bs) name ≡ all → i ≡ all
 place_here bs name i all x h is same e =
     let z : name_place (drop i bs) name ≡ 0 =
-    ap (λ xs. name_place xs name) (less bs i x h is) ∙ ap
+    ap (λ xs. name_place xs name) (drop_at bs i x h is) ∙ ap
     (λ (t : Bool). if t then 0 else suc (name_place (drop (i + 1) bs) name))
-    (ap (bytes_eq x.name) (sym same) ∙ self_bytes x.name) in
+    (ap (bytes_eq x.name) (sym same) ∙ bytes_eq-refl x.name) in
     omega (arith, z, e)
 
 pub place_next : (bs : List Branch) (name : List ℕ) (i all : ℕ) (x : Branch) → i < length bs → x ≡ get_or bs i x
     → (x.name ≡ name → ⊥) → i + name_place (drop i bs) name ≡ all → i + 1 + name_place (drop (i + 1) bs) name ≡ all
 place_next bs name i all x h is differ e =
     let z : name_place (drop i bs) name ≡ suc (name_place (drop (i + 1) bs) name) =
-    ap (λ xs. name_place xs name) (less bs i x h is) ∙ ap
+    ap (λ xs. name_place xs name) (drop_at bs i x h is) ∙ ap
     (λ (t : Bool). if t then 0 else suc (name_place (drop (i + 1) bs) name)) (not_bytes x.name name differ) in
     omega (arith, z, e)
 

@@ -1,16 +1,18 @@
 -- transfers, read from their rows
-use Rattle.std.proofs.Common.{◌≡◌, ◌<◌, ◌≤◌, ◌+◌, ◌^◌, ℕ, ℤ, Bool, true, false, cond, List, [], ◌∷◌, ◌++◌, length}
+use Rattle.std.proofs.Common.{◌≡◌, ◌<◌, ◌≤◌, ◌^◌, ℕ, ℤ, Bool, true, false, cond, List, [], ◌∷◌, length}
 use Rattle.std.proofs.Common.{get_or, refl, ap, ◌∙◌, sym, subst, arith, map, inl, inr, ltb, Option, Some, None, Ok, Err}
 use Rattle.std.specs.Prelude.{find, Result, IfOk, IfSome}
 use Rattle.std.specs.Result.{IsOkUnless}
 use Rattle.std.specs.List.{list_any, slice_get, AllByRecursion}
 use Rattle.std.specs.Str.{bytes_eq}
-use Rattle.std.proofs.lemmas.Bool.{and_parts, ltb-true, lt-ltb}
+use Rattle.std.proofs.lemmas.Bool.{and_parts, ltb-true, lt-ltb, or_parts}
 use Rattle.std.proofs.lemmas.Option.{slice_get_within, slice_get_read}
 use Rattle.money_core.specs.declared.cause.Cause.{Cause}
 use Rattle.money_core.specs.declared.cause.Cause.TheVariants.{OutOfMemory, Damaged}
 use Rattle.money_core.specs.declared.style.Style.{Style}
 use Rattle.money_core.specs.declared.unit.Unit.{Unit as Commodity}
+use Rattle.money_core.proofs.ListLemmas.{all_behind, all_front, all_weaker}
+use Rattle.money_core.proofs.BytesLemmas.{bytes_eq-refl, other_bytes}
 use Rattle.journal_format.specs.Printable.{is_posting, is_amount}
 use Rattle.journal_balance.specs.Legs.{leg}
 use Rattle.treasury_state.specs.declared.record.Record.{Record}
@@ -23,8 +25,6 @@ use Rattle.treasury_state.specs.Transfer.{asked, out_records, in_records, of_res
 use Rattle.treasury_state.specs.Transfer.{posting, transit_account}
 use Rattle.treasury_state.specs.Good.{IsGoodRecord, IsGoodTransfer, IsGoodState, IsShort}
 use Rattle.treasury_state.proofs.AskedLemmas.{HaveOwnIds}
-use Rattle.treasury_state.proofs.BytesLemmas.{self_bytes, other_bytes, neither}
-use Rattle.treasury_state.proofs.AllLemmas.{all_weaker}
 use Rattle.treasury_state.proofs.DispatchLemmas.{IsWhole, all_whole, dispatch_written}
 use Rattle.treasury_state.proofs.FairLemmas.{found, good_marked}
 use Rattle.treasury_state.proofs.HolderLemmas.{held_all}
@@ -68,7 +68,7 @@ found_more : (t : Transfer) (ts xs : List Transfer) → list_any (has_id t.id) x
     → AllByRecursion (λ (y : Transfer). find (has_id y.id) (t ∷ ts) ≡ Some y) xs
 found_more t ts [] n h = tt
 found_more t ts (y ∷ xs) n h =
-    let k = neither (bytes_eq y.id t.id) (list_any (has_id t.id) xs) n in (
+    let k = or_parts (bytes_eq y.id t.id) (list_any (has_id t.id) xs) n in (
       ap (λ (b : Bool). cond b (Some t) (find (has_id y.id) ts)) (other_bytes y.id t.id k.0) ∙ h.0,
       found_more t ts xs k.1 h.1,
     )
@@ -76,18 +76,9 @@ found_more t ts (y ∷ xs) n h =
 all_found : (ts : List Transfer) → HaveOwnIds ts → AllByRecursion (λ (y : Transfer). find (has_id y.id) ts ≡ Some y) ts
 all_found [] h = tt
 all_found (t ∷ ts) h = (
-  ap (λ (b : Bool). cond b (Some t) (find (has_id t.id) ts)) (self_bytes t.id),
+  ap (λ (b : Bool). cond b (Some t) (find (has_id t.id) ts)) (bytes_eq-refl t.id),
   found_more t ts ts h.0 (all_found ts h.1),
 )
-
--- the records of receipts stand in their target's book
-all_front : {X : Type 0} (P : X → Type 0) (xs ys : List X) → AllByRecursion P (xs ++ ys) → AllByRecursion P xs
-all_front P [] ys h = tt
-all_front P (x ∷ xs) ys h = (h.0, all_front P xs ys h.1)
-
-all_behind : {X : Type 0} (P : X → Type 0) (xs ys : List X) → AllByRecursion P (xs ++ ys) → AllByRecursion P ys
-all_behind P [] ys h = h
-all_behind P (x ∷ xs) ys h = all_behind P xs ys h.1
 
 all_in : (P : Record → Type 0) (t : Transfer) (b : Bool) (ps : List Part) → b ≡ true
     → AllByRecursion P (in_records t b ps) → AllByRecursion P (map (receipt_record t) ps)
@@ -103,7 +94,7 @@ receipts_at P t x xs true e h k =
     let Q : Transfer → Type 0 = λ y. AllByRecursion P (asked (y ∷ xs) t.target)
     → AllByRecursion P (map (receipt_record t) (receipts_of t)) in
     subst Q (sym (same_transfer x t e))
-    (λ all. all_in P t (bytes_eq t.target t.target) (receipts_of t) (self_bytes t.target)
+    (λ all. all_in P t (bytes_eq t.target t.target) (receipts_of t) (bytes_eq-refl t.target)
     (all_front P (in_records t (bytes_eq t.target t.target) (receipts_of t)) (asked xs t.target)
     (all_behind P (out_records t (bytes_eq t.source t.target)) _ all))) h
 receipts_at P t x xs false e h k =

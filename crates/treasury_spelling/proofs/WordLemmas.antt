@@ -10,6 +10,7 @@ use Rattle.clap.specs.declared.parser.matches.SubCommand.{SubCommand}
 use Rattle.treasury_spelling.specs.Known.{known}
 use Rattle.std.proofs.Common.{◌≡◌, ℕ, true, List, [], ◌∷◌, ap, refl, sym}
 use Rattle.std.proofs.Common.{◌∙◌, subst, inl, inr, ◌⊎◌}
+use Rattle.std.proofs.lemmas.Option.{same_Some}
 use Rattle.clap.specs.Simple.{App}
 use Rattle.clap.specs.Kinds.{Kinds, IsAmong, or_else}
 use Rattle.clap.specs.Faults.{fault_of, is_simple_and_free}
@@ -115,16 +116,13 @@ met_name m word values met =
     sym (name_of (out-ArgMatches m).subcommand) ∙ ap
     (λ (o : Option (List ℕ × List Row)). option_map (λ (p : List ℕ × List Row). p.0) o) met
 
-pub same_some : {X : Type 0} (a b : X) → Some a ≡ Some b → a ≡ b
-same_some a b same = cc
-
 -- and what is lent of it is that word, with those values
 pub met_word : (m : ArgMatches) (word lent : List ℕ) (values rows : List Row)
     → subcommand_rows_of m ≡ Some (word, values) → Some lent ≡ subcommand_name_of m
     → Some rows ≡ option_map (λ (p : List ℕ × List Row). p.1) (subcommand_rows_of m) → (lent ≡ word) × (rows ≡ values)
 met_word m word lent values rows met named found = (
-  same_some lent word (named ∙ met_name m word values met),
-  same_some rows values (found ∙ ap (λ (o : Option (List ℕ × List Row)). option_map (λ (p : List ℕ × List Row). p.1) o)
+  same_Some lent word (named ∙ met_name m word values met),
+  same_Some rows values (found ∙ ap (λ (o : Option (List ℕ × List Row)). option_map (λ (p : List ℕ × List Row). p.1) o)
       met),
 )
 

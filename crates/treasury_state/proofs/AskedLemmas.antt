@@ -6,6 +6,7 @@ use Rattle.std.specs.List.{list_any, AllByRecursion}
 use Rattle.std.specs.Option.{option_or}
 use Rattle.std.specs.Str.{bytes_eq}
 use Rattle.std.proofs.lemmas.List.Folds.{find-append}
+use Rattle.std.proofs.lemmas.Bool.{or_parts}
 use Rattle.treasury_state.specs.declared.record.Record.{Record}
 use Rattle.treasury_state.specs.declared.transfer.Part.{Part}
 use Rattle.treasury_state.specs.declared.transfer.Transfer.{Transfer}
@@ -13,7 +14,6 @@ use Rattle.treasury_state.specs.Mark.{has_mark, held, HaveOwnMarks}
 use Rattle.treasury_state.specs.Transfer.{asked, out_records, in_records, receipts_of, out_mark, in_mark, has_id}
 use Rattle.treasury_state.specs.Transfer.{dispatch_record, receipt_record}
 use Rattle.treasury_state.specs.Fair.{HasNoColon, IsMarked}
-use Rattle.treasury_state.proofs.BytesLemmas.{neither}
 use Rattle.treasury_state.proofs.MarkLemmas.{HaveOwnKeys, and_never, id_no_colon, mark_eq, own_keys}
 
 -- no two transfers have the same ID
@@ -42,7 +42,7 @@ pub none_of_key : (t : Transfer) (key : List ℕ) (ps : List Part) → HasNoColo
     → held (map (receipt_record t) ps) (in_mark t.id key) ≡ None
 none_of_key t key [] h e = refl
 none_of_key t key (p ∷ ps) h e =
-    let n = neither (bytes_eq p.key key) (list_any (λ (x : Part). bytes_eq x.key key) ps) e in
+    let n = or_parts (bytes_eq p.key key) (list_any (λ (x : Part). bytes_eq x.key key) ps) e in
     none_if (receipt_record t p) _ _
     (mark_eq t.id t.id p.key key h h ∙ and_never (bytes_eq t.id t.id) (bytes_eq p.key key) n.0)
     (none_of_key t key ps h n.1)
@@ -60,7 +60,7 @@ pub no_in : (ts : List Transfer) (name id key : List ℕ) → AllByRecursion IsM
     → list_any (has_id id) ts ≡ false → held (asked ts name) (in_mark id key) ≡ None
 no_in [] name id key h g e = refl
 no_in (t ∷ ts) name id key h g e =
-    let n = neither (bytes_eq t.id id) (list_any (has_id id) ts) e in
+    let n = or_parts (bytes_eq t.id id) (list_any (has_id id) ts) e in
     none_append (out_records t (bytes_eq t.source name)) _ (in_mark id key)
     (none_out_at t id key (bytes_eq t.source name))
     (none_append (in_records t (bytes_eq t.target name) (receipts_of t)) (asked ts name) (in_mark id key)
@@ -83,7 +83,7 @@ pub no_out : (ts : List Transfer) (name id : List ℕ) → list_any (has_id id) 
     → held (asked ts name) (codes "out:" ++ id) ≡ None
 no_out [] name id e = refl
 no_out (t ∷ ts) name id e =
-    let n = neither (bytes_eq t.id id) (list_any (has_id id) ts) e in
+    let n = or_parts (bytes_eq t.id id) (list_any (has_id id) ts) e in
     none_append (out_records t (bytes_eq t.source name)) _ (codes "out:" ++ id)
     (out_of_out t id (bytes_eq t.source name) n.0)
     (none_append (in_records t (bytes_eq t.target name) (receipts_of t)) (asked ts name) (codes "out:" ++ id)

@@ -15,8 +15,11 @@ use Rattle.money_core.specs.Amount.{place_of}
 use Rattle.book_core.specs.GoodBook.{IsFit, IsWithin}
 use Rattle.money_core.proofs.PositionLemmas.{position-none, position-append_found}
 use Rattle.money_core.proofs.StyleLemmas.{place_of-bound, declared-new}
+use Rattle.money_core.proofs.ListLemmas.{all_front, all_last, all_weaker}
+use Rattle.money_core.proofs.BytesLemmas.{bytes_eq-refl}
 use Rattle.std.proofs.lemmas.List.Sums.{prefix_len_passes}
 use Rattle.std.proofs.lemmas.Option.{get_or_from_slice_get, slice_get_within}
+use Rattle.book_core.proofs.BookLemmas.{within_left}
 use Rattle.treasury_state.specs.declared.record.Record.{Record}
 use Rattle.treasury_state.specs.declared.delta.Addition.{Addition}
 use Rattle.treasury_state.specs.declared.delta.Addition.TheVariants as add
@@ -25,10 +28,7 @@ use Rattle.treasury_state.specs.Joined.{new_branch, with_records, with_lock, cha
 use Rattle.treasury_state.specs.Good.{IsGoodBranch, IsGoodState}
 use Rattle.treasury_state.specs.Room.{HasRoom, IsRoomy}
 use Rattle.treasury_state.proofs.OrderLemmas.{uninserted, unreceived}
-use Rattle.treasury_state.proofs.BytesLemmas.{self_bytes}
-use Rattle.treasury_state.proofs.AllLemmas.{all_weaker}
 use Rattle.treasury_state.proofs.EntriesLemmas.{entries-append}
-use Rattle.treasury_state.proofs.RoomLemmas.{within_front}
 
 -- the front of styles
 slice_front : (xs ys : List Style) (i : ℕ) (x : Style) → slice_get xs i ≡ Some x → slice_get (xs ++ ys) i ≡ Some x
@@ -57,7 +57,8 @@ found_back styles style s i None are h e =
     let all = position-none p styles e in
     let here =
     prefix_len_passes (λ (x : Style). not (p x)) styles i s (omega (arith, all, slice_get_within styles i s h)) in
-    absurd (not_true (p (get_or styles i s)) (ap p (get_or_from_slice_get styles i s s h) ∙ self_bytes s.symbol) here)
+    absurd
+    (not_true (p (get_or styles i s)) (ap p (get_or_from_slice_get styles i s s h) ∙ bytes_eq-refl s.symbol) here)
 
 pub styles_back : (styles : List Style) (style : Style) → AreStyles (styles ++ style ∷ []) → AreStyles styles
 styles_back styles style are = record {
@@ -85,22 +86,13 @@ last_new styles style are =
     declared-new styles style (free_at styles style (place_of styles style.symbol) are refl)
     (omega (arith, are.few, length-append styles (style ∷ [])))
 
--- the front of a list
-all_front : {X : Type 0} (P : X → Type 0) (xs ys : List X) → AllByRecursion P (xs ++ ys) → AllByRecursion P xs
-all_front P [] ys h = tt
-all_front P (x ∷ xs) ys h = (h.0, all_front P xs ys h.1)
-
-all_last : {X : Type 0} (P : X → Type 0) (xs : List X) (x : X) → AllByRecursion P (xs ++ x ∷ []) → P x
-all_last P [] x h = h.0
-all_last P (y ∷ xs) x h = all_last P xs x h.1
-
 -- a branch with one record less
 pub room_before : (b : Branch) (r : Record) → HasRoom (with_records (r ∷ []) b) → HasRoom b
 room_before b r h = record {
   fit = all_front IsFit (entries b.records) (r.entry ∷ [])
       (subst (AllByRecursion IsFit) (entries-append b.records (r ∷ [])) h.fit);
   within =
-      within_front (entries b.records) (r.entry ∷ []) (subst IsWithin (entries-append b.records (r ∷ [])) h.within);
+      within_left (entries b.records) (r.entry ∷ []) (subst IsWithin (entries-append b.records (r ∷ [])) h.within);
 }
 
 pub room_fit : (b : Branch) (r : Record) → HasRoom (with_records (r ∷ []) b) → IsFit r.entry

@@ -3,12 +3,12 @@ use Rattle.std.proofs.Common.{◌≡◌, ◌<◌, ◌+◌, ℕ, pos, List, [], �
 use Rattle.std.specs.List.{AllByRecursion}
 use Rattle.money_core.specs.declared.day.Day.{Day}
 use Rattle.money_core.specs.declared.style.Style.{Style}
+use Rattle.money_core.proofs.ListLemmas.{all-append}
 use Rattle.treasury_state.specs.declared.record.Record.{Record}
 use Rattle.treasury_state.specs.declared.rows.EntryRow.{EntryRow}
 use Rattle.treasury_state.specs.Federation.{Branch}
 use Rattle.treasury_state.specs.Good.{IsGoodRecord}
 use Rattle.treasury_state.specs.Rows.{entry_rows_from, entry_rows_in}
-use Rattle.treasury_state.proofs.AllLemmas.{all-append}
 
 -- the rows of a branch stand before those of the next ones
 pub own_rows : (styles : List Style) (b n : ℕ) (rs : List Record)

@@ -1,19 +1,16 @@
 -- a printed date is text
-use Rattle.std.proofs.Common.{◌≡◌, ◌||◌, ◌==◌, ℕ, Bool, true, List, [], ◌∷◌, refl, arith}
+use Rattle.std.proofs.Common.{◌≡◌, ◌||◌, ◌==◌, ℕ, Bool, true, List, [], ◌∷◌, refl}
 use Rattle.std.specs.Char.{is_ascii_digit}
 use Rattle.std.specs.List.{list_all}
 use Rattle.std.specs.Str.{is_utf8}
 use Rattle.std.proofs.lemmas.Bool.{and_from, and_parts}
-use Rattle.std.proofs.lemmas.Grind.{common_steps}
 use Rattle.money_core.specs.declared.day.Day.{Day}
+use Rattle.money_core.proofs.Utf8Lemmas.{utf8_low, is_low}
 use Rattle.journal_lines.specs.Date.{printed_date, IsDayNumber}
 use Rattle.journal_lines.proofs.DateLemmas.{dates_print}
-use Rattle.journal_format.proofs.Utf8Lemmas.{is_low, utf8_low}
+use Rattle.journal_lines.proofs.Utf8Lemmas.{date_low}
 
 -- ---- the transaction can be printed
-
-low_byte : (b : ℕ) → (is_ascii_digit b || (b == 45)) ≡ true → is_low b ≡ true
-low_byte b h = grind (arith, common_steps)
 
 pub all_weaker : (p q : ℕ → Bool) → ((b : ℕ) → p b ≡ true → q b ≡ true) → (xs : List ℕ) → list_all p xs ≡ true
     → list_all q xs ≡ true
@@ -23,4 +20,4 @@ all_weaker p q f (x ∷ xs) h = let both =
 
 pub date_utf8 : (day : Day) → IsDayNumber day → is_utf8 (printed_date day) ≡ true
 date_utf8 day h = utf8_low (printed_date day)
-    (all_weaker (λ b. is_ascii_digit b || (b == 45)) is_low low_byte (printed_date day) (dates_print day h).form)
+    (all_weaker (λ b. is_ascii_digit b || (b == 45)) is_low date_low (printed_date day) (dates_print day h).form)

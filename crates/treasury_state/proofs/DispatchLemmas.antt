@@ -4,6 +4,7 @@ use Rattle.std.specs.Prelude.{find, filter}
 use Rattle.std.specs.List.{AllByRecursion}
 use Rattle.std.specs.Str.{bytes_eq}
 use Rattle.money_core.specs.declared.style.Style.{Style}
+use Rattle.money_core.proofs.BytesLemmas.{bytes_eq-refl}
 use Rattle.treasury_state.specs.declared.record.Record.{Record}
 use Rattle.treasury_state.specs.declared.transfer.Transfer.{Transfer}
 use Rattle.treasury_state.specs.Federation.{Branch, Federation}
@@ -11,7 +12,6 @@ use Rattle.treasury_state.specs.Mark.{held, is_of_transfer}
 use Rattle.treasury_state.specs.Transfer.{has_id, asked, out_records, in_records, receipts_of, dispatch_record}
 use Rattle.treasury_state.specs.Transfer.{out_mark}
 use Rattle.treasury_state.specs.Good.{IsGoodRecord, IsGoodBranch, IsGoodTransfer, IsCarried, IsGoodState}
-use Rattle.treasury_state.proofs.BytesLemmas.{self_bytes}
 use Rattle.treasury_state.proofs.LookupLemmas.{first_held}
 use Rattle.treasury_state.proofs.SkipLemmas.{same_transfer, pass_out}
 use Rattle.treasury_state.proofs.FairLemmas.{found}
@@ -40,7 +40,7 @@ asked_at t x xs true g e h =
     let P : Transfer → Type 0 = λ y. held (asked (x ∷ xs) y.source) (out_mark y) ≡ Some (dispatch_record y) in
     subst P (same_transfer x t e) (asked_first x
     (in_records x (bytes_eq x.target x.source) (receipts_of x) ++ asked xs x.source) (bytes_eq x.source x.source)
-    (self_bytes x.source))
+    (bytes_eq-refl x.source))
 asked_at t x xs false g e h = pass_out x (asked xs t.source) t.id (bytes_eq x.source t.source)
     (bytes_eq x.target t.source) (receipts_of x) g ∙ h e
 

@@ -3,11 +3,11 @@ use Rattle.std.proofs.Common.{◌≡◌, Bool, cond, List, [], ◌∷◌, ap, �
 use Rattle.std.specs.Prelude.{find}
 use Rattle.std.specs.declared.cmp.Ordering.TheVariants.{Less}
 use Rattle.std.specs.List.{AllByRecursion}
+use Rattle.money_core.proofs.BytesLemmas.{bytes_eq-refl, other_bytes}
 use Rattle.book_core.specs.Account.{name_cmp}
 use Rattle.treasury_state.specs.declared.transfer.Transfer.{Transfer}
 use Rattle.treasury_state.specs.Transfer.{has_id}
 use Rattle.treasury_state.specs.Good.{AreAscending}
-use Rattle.treasury_state.proofs.BytesLemmas.{self_bytes, other_bytes}
 use Rattle.treasury_state.proofs.OrderLemmas.{AreBehind, other_than}
 
 -- each is found by its ID
@@ -26,6 +26,6 @@ pub all_found : (ts : List Transfer) → AreAscending ts
     → AllByRecursion (λ (t : Transfer). find (has_id t.id) ts ≡ Some t) ts
 all_found [] h = tt
 all_found (t ∷ ts) h = (
-  ap (λ (c : Bool). cond c (Some t) (find (has_id t.id) ts)) (self_bytes t.id),
+  ap (λ (c : Bool). cond c (Some t) (find (has_id t.id) ts)) (bytes_eq-refl t.id),
   all_found_at t ts ts h.0 (all_found ts h.1),
 )

@@ -10,6 +10,8 @@ use Rattle.std.proofs.lemmas.Bool.{and_parts}
 use Rattle.std.proofs.lemmas.Bool.Decides.{nat_tests}
 use Rattle.money_core.specs.declared.unit.Unit.{Unit as Commodity}
 use Rattle.money_core.specs.declared.day.Day.{Day}
+use Rattle.money_core.proofs.ListLemmas.{all_weaker}
+use Rattle.money_core.proofs.BytesLemmas.{same_bytes}
 use Rattle.book_core.specs.declared.account.Reach.TheVariants.{Own}
 use Rattle.book_core.specs.declared.place.Until.TheVariants.{Through}
 use Rattle.book_core.specs.Balance.{balance}
@@ -19,8 +21,6 @@ use Rattle.treasury_state.specs.Federation.{records_in, entries}
 use Rattle.treasury_state.specs.Transfer.{open_amount, transit_account, AddsUp}
 use Rattle.treasury_state.specs.Good.{IsGoodBranch, IsGoodTransfer, IsCarried, IsGoodState}
 use Rattle.treasury_state.specs.Fair.{HasNoColon, IsMarked, IsFair}
-use Rattle.treasury_state.proofs.BytesLemmas.{same_bytes}
-use Rattle.treasury_state.proofs.AllLemmas.{all_weaker}
 use Rattle.treasury_state.proofs.OrderLemmas.{own_ids}
 use Rattle.treasury_state.proofs.WayLemmas.{IsInStep, AddUp, adds_up, open_sum_low}
 

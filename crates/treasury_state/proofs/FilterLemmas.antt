@@ -2,9 +2,9 @@
 use Rattle.std.proofs.Common.{◌≡◌, ℕ, Bool, true, false, cond, List, [], ◌∷◌, refl, ap, ◌∙◌, sym, Option, Some}
 use Rattle.std.specs.Prelude.{filter}
 use Rattle.std.specs.Str.{bytes_eq}
+use Rattle.money_core.proofs.BytesLemmas.{same_bytes}
 use Rattle.treasury_state.specs.declared.record.Record.{Record}
 use Rattle.treasury_state.specs.Mark.{held, is_transfer_mark, is_of_transfer}
-use Rattle.treasury_state.proofs.BytesLemmas.{same_bytes}
 
 -- a transfer's mark is looked up among the transfers' records
 filtered_at : (r : Record) (rs : List Record) (m : List ℕ) (b t : Bool) → is_transfer_mark r.mark ≡ b

@@ -5,13 +5,13 @@ use Rattle.std.specs.List.{AllByRecursion}
 use Rattle.std.specs.Str.{bytes_eq}
 use Rattle.std.proofs.lemmas.Bool.{leb-true, and_parts}
 use Rattle.money_core.specs.Amount.{limit}
+use Rattle.money_core.proofs.BytesLemmas.{same_bytes}
 use Rattle.journal_format.specs.Printable.{is_posting}
 use Rattle.journal_balance.specs.Legs.{leg}
 use Rattle.treasury_state.specs.declared.transfer.Transfer.{Transfer}
 use Rattle.treasury_state.specs.Federation.{Federation}
 use Rattle.treasury_state.specs.Transfer.{has_id, dispatch_record, posting, transit_account}
 use Rattle.treasury_state.specs.Good.{IsGoodRecord}
-use Rattle.treasury_state.proofs.BytesLemmas.{same_bytes}
 use Rattle.treasury_state.proofs.AmountLemmas.{amount_of}
 
 pub found_transfer : (P : Transfer → Type 0) (id : List ℕ) (ts : List Transfer) (t : Transfer)

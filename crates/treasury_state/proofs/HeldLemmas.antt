@@ -4,9 +4,9 @@ use Rattle.std.proofs.Common.{Some, None}
 use Rattle.std.specs.Option.{option_or}
 use Rattle.std.specs.Str.{bytes_eq}
 use Rattle.std.proofs.lemmas.List.Folds.{find-append}
+use Rattle.money_core.proofs.BytesLemmas.{same_bytes, other_bytes}
 use Rattle.treasury_state.specs.declared.record.Record.{Record}
 use Rattle.treasury_state.specs.Mark.{has_mark, is_held, held, HaveOwnMarks}
-use Rattle.treasury_state.proofs.BytesLemmas.{same_bytes, other_bytes}
 
 pub none_tail : (r : Record) (o : Option Record) (t : Bool) → cond t (Some r) o ≡ None → (t ≡ false) × (o ≡ None)
 none_tail r o true e = absurd cc

@@ -1,5 +1,6 @@
 -- which record holds a mark
 use Rattle.std.proofs.Common.{◌≡◌, ℕ, Bool, true, false, ◌||◌, cond, List, [], ◌∷◌, refl, Option, Some, None}
+use Rattle.std.proofs.lemmas.Bool.{or_from}
 use Rattle.std.specs.Prelude.{IfSome}
 use Rattle.std.specs.List.{AllByRecursion}
 use Rattle.std.specs.Str.{bytes_eq}
@@ -17,13 +18,9 @@ pub held_all : (P : Record → Type 0) (rs : List Record) (m : List ℕ) → All
 held_all P [] m h = tt
 held_all P (r ∷ rs) m h = held_at P r (held rs m) (bytes_eq r.mark m) h.0 (held_all P rs m h.1)
 
--- no holder: it is neither held nor repeated
-unheld_at : (t u : Bool) → t ≡ false → u ≡ false → (t || u) ≡ false
-unheld_at t u e h = rw (e, h) refl
-
 pub unheld : (rs : List Record) (m : List ℕ) → held rs m ≡ None → is_held rs m ≡ false
 unheld [] m e = refl
-unheld (r ∷ rs) m e = let k = none_tail r (held rs m) (bytes_eq r.mark m) e in unheld_at (bytes_eq r.mark m)
+unheld (r ∷ rs) m e = let k = none_tail r (held rs m) (bytes_eq r.mark m) e in or_from (bytes_eq r.mark m)
     (is_held rs m) k.0 (unheld rs m k.1)
 
 holding_at : (r x : Record) (o : Option Record) (t u : Bool) → cond t (Some r) o ≡ Some x → (o ≡ Some x → u ≡ true)

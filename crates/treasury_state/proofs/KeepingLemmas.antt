@@ -3,7 +3,9 @@ use Rattle.std.proofs.Common.{◌≡◌, List, [], ◌∷◌, ◌++◌, length, 
 use Rattle.std.specs.List.{AllByRecursion}
 use Rattle.book_core.specs.GoodBook.{IsFit, IsWithin}
 use Rattle.money_core.specs.declared.style.Style.{Style}
+use Rattle.money_core.proofs.ListLemmas.{all_front, all_weaker}
 use Rattle.book_core.specs.declared.entry.Entry.{Entry}
+use Rattle.book_core.proofs.BookLemmas.{within_left}
 use Rattle.treasury_state.specs.declared.record.Record.{Record}
 use Rattle.treasury_state.specs.declared.transfer.Transfer.{Transfer}
 use Rattle.treasury_state.specs.declared.state.Branch.{Branch as Kept}
@@ -12,9 +14,7 @@ use Rattle.treasury_state.specs.Federation.{Branch, Federation, entries}
 use Rattle.treasury_state.specs.Joined.{with_records}
 use Rattle.treasury_state.specs.Good.{IsGoodState}
 use Rattle.treasury_state.specs.Room.{HasRoom}
-use Rattle.treasury_state.proofs.AllLemmas.{all_weaker}
 use Rattle.treasury_state.proofs.EntriesLemmas.{entries-append}
-use Rattle.treasury_state.proofs.RoomLemmas.{within_front}
 use Rattle.treasury_state.proofs.BackLemmas.{room_fit, room_within}
 
 -- the ledgers of branches that are kept
@@ -23,11 +23,6 @@ pub ledgers_kept : {L : Type 0} (book : L → List Entry) (lent bs : List (Kept 
 ledgers_kept {L = L} book lent bs same h =
     subst (AllByRecursion (λ (b : Kept L). book b.ledger ≡ entries b.records)) (sym same)
     (all_weaker (IsKept book) (λ (b : Kept L). book b.ledger ≡ entries b.records) bs (λ b k. k.ledger) h)
-
--- the front of a list, and what stands behind it
-all_front : {X : Type 0} (P : X → Type 0) (xs ys : List X) → AllByRecursion P (xs ++ ys) → AllByRecursion P xs
-all_front P [] ys h = tt
-all_front P (x ∷ xs) ys h = (h.0, all_front P xs ys h.1)
 
 pub all_next : {X : Type 0} (P : X → Type 0) (xs ys : List X) (y : X) → AllByRecursion P (xs ++ y ∷ ys) → P y
 all_next P [] ys y h = h.0
@@ -47,7 +42,7 @@ room_next b all r rs items split same h =
       fit = all_front IsFit (entries (b.records ++ r ∷ [])) (entries rs)
           (subst (AllByRecursion IsFit) (book_split b r rs) room.fit);
       within =
-          within_front (entries (b.records ++ r ∷ [])) (entries rs) (subst IsWithin (book_split b r rs) room.within);
+          within_left (entries (b.records ++ r ∷ [])) (entries rs) (subst IsWithin (book_split b r rs) room.within);
     }
 
 pub next_fit : (b all : Branch) (r : Record) (rs items : List Record) → items ≡ r ∷ rs → with_records items b ≡ all

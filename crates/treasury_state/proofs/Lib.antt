@@ -1,5 +1,3 @@
-pub mod BytesLemmas
-pub mod AllLemmas
 pub mod FindLemmas
 pub mod IndexLemmas
 pub mod HeldLemmas
@@ -25,7 +23,6 @@ pub mod BranchLemmas
 pub mod OpenLemmas
 pub mod WorkedHistory
 pub mod WorkedState
-pub mod RoomLemmas
 pub mod PlaceLemmas
 pub mod BackLemmas
 pub mod SearchLemmas

@@ -6,9 +6,9 @@ use Rattle.std.specs.Option.{unwrap_or}
 use Rattle.std.specs.List.{AllByRecursion}
 use Rattle.std.specs.Str.{bytes_eq}
 use Rattle.std.proofs.lemmas.Int.{ints}
+use Rattle.money_core.proofs.BytesLemmas.{bytes_eq-refl, same_bytes}
 use Rattle.treasury_state.specs.declared.record.Record.{Record}
 use Rattle.treasury_state.specs.Mark.{held, HaveOwnMarks}
-use Rattle.treasury_state.proofs.BytesLemmas.{same_bytes, self_bytes}
 use Rattle.treasury_state.proofs.HeldLemmas.{none_tail}
 
 -- a number of each record, summed
@@ -88,7 +88,7 @@ total-others f k [] y h s = absurd cc
 total-others f k (r ∷ rs) y h s = taken_at f k r rs y (bytes_eq r.mark k) refl h s (total-others f k rs y h.1)
 
 pub first_held : (x : Record) (xs : List Record) → held (x ∷ xs) x.mark ≡ Some x
-first_held x xs = ap (λ (b : Bool). cond b (Some x) (held xs x.mark)) (self_bytes x.mark)
+first_held x xs = ap (λ (b : Bool). cond b (Some x) (held xs x.mark)) (bytes_eq-refl x.mark)
 
 none_held : (ys : List Record) → ((m : List ℕ) → None ≡ held ys m) → ys ≡ []
 none_held [] h = refl

@@ -6,10 +6,11 @@ use Rattle.std.specs.List.{list_all, list_any, AllByRecursion}
 use Rattle.std.specs.Str.{bytes_eq}
 use Rattle.std.specs.Ordering.{is_eq}
 use Rattle.std.specs.declared.cmp.Ordering.TheVariants.{Less}
-use Rattle.std.proofs.lemmas.Bool.{and_parts}
+use Rattle.std.proofs.lemmas.Bool.{and_parts, or_parts}
 use Rattle.std.proofs.lemmas.Bool.Decides.{nat_tests}
 use Rattle.std.proofs.lemmas.Map.Text.{is_eq-slice_cmp}
 use Rattle.std.proofs.lemmas.Slice.Eq.{bytes_eq-Decides}
+use Rattle.money_core.proofs.BytesLemmas.{same_bytes, other_bytes}
 use Rattle.book_core.specs.Account.{name_cmp}
 use Rattle.treasury_state.specs.declared.transfer.Part.{Part}
 use Rattle.treasury_state.specs.declared.transfer.Receipt.{Receipt}
@@ -18,7 +19,6 @@ use Rattle.treasury_state.specs.Transfer.{is_id_byte, is_id, all_key, is_all, is
 use Rattle.treasury_state.specs.Transfer.{in_mark}
 use Rattle.treasury_state.specs.Good.{AreKeyed, HasGoodParts}
 use Rattle.treasury_state.specs.Fair.{HasNoColon}
-use Rattle.treasury_state.proofs.BytesLemmas.{same_bytes, other_bytes, neither}
 
 -- two names round a colon
 colon_first : (c : ℕ) (b : Bool) → nat_eq c 58 ≡ false → (nat_eq 58 c && b) ≡ false
@@ -149,7 +149,7 @@ any_append : (key : List ℕ) (ps qs : List Part) → list_any (λ (x : Part). b
     → list_any (λ (x : Part). bytes_eq x.key key) (ps ++ qs) ≡ false
 any_append key [] qs e f = f
 any_append key (p ∷ ps) qs e f =
-    let n = neither (bytes_eq p.key key) (list_any (λ (x : Part). bytes_eq x.key key) ps) e in
+    let n = or_parts (bytes_eq p.key key) (list_any (λ (x : Part). bytes_eq x.key key) ps) e in
     ap (λ (b : Bool). b || list_any (λ (x : Part). bytes_eq x.key key) (ps ++ qs)) n.0 ∙ any_append key ps qs n.1 f
 
 -- the key of a part is not `all`

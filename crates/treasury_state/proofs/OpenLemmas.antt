@@ -8,6 +8,7 @@ use Rattle.std.proofs.lemmas.Int.{ints}
 use Rattle.std.proofs.lemmas.Slice.Eq.{bytes_eq-Decides}
 use Rattle.money_core.specs.declared.unit.Unit.{Unit as Commodity}
 use Rattle.money_core.specs.declared.day.Day.{Day}
+use Rattle.money_core.proofs.BytesLemmas.{same_bytes}
 use Rattle.book_core.specs.declared.account.Reach.TheVariants.{Own}
 use Rattle.book_core.specs.declared.entry.Entry.{Entry}
 use Rattle.book_core.specs.declared.place.Until.TheVariants.{Through}
@@ -22,7 +23,6 @@ use Rattle.treasury_state.specs.Good.{IsGoodTransfer, IsGoodState}
 use Rattle.treasury_state.specs.Fair.{IsFair}
 use Rattle.treasury_state.proofs.FairLemmas.{all_fair, names_good, adds_up_named}
 use Rattle.treasury_state.proofs.BranchLemmas.{of_branch}
-use Rattle.treasury_state.proofs.BytesLemmas.{same_bytes}
 use Rattle.treasury_state.proofs.WayLemmas.{open_none}
 
 -- no transfer from or to a branch that isn't there
@@ -56,13 +56,14 @@ self_at x from to u true true e f k n =
 self_at x from to u true false e f k n = refl
 self_at x from to u false b e f k n = refl
 
-oneself : (ts : List Transfer) (from to : List ℕ) (u : Commodity) (d : Day) → AllByRecursion IsFair ts
+-- nothing is open from a branch to itself
+pub open_amount-self : (ts : List Transfer) (from to : List ℕ) (u : Commodity) (d : Day) → AllByRecursion IsFair ts
     → bytes_eq from to ≡ true → open_amount ts from to u d ≡ pos 0
-oneself [] from to u d k n = refl
-oneself (x ∷ xs) from to u d k n =
+open_amount-self [] from to u d k n = refl
+open_amount-self (x ∷ xs) from to u d k n =
     let a =
     open_none x from to u d (self_at x from to u (bytes_eq x.source from) (bytes_eq x.target to) refl refl k.0 n) in
-    let b = oneself xs from to u d k.1 n in
+    let b = open_amount-self xs from to u d k.1 n in
     omega (arith, ints)
 
 two : (x y z : ℤ) → (x +ℤ y) ≡ z → x ≤ℤ pos 10000000000000000 → y ≤ℤ pos 10000000000000000 → z ≤ℤ pos 20000000000000000
@@ -88,8 +89,8 @@ small_at f from to u d false b c good h k e =
 small_at f from to u d true false c good h k e =
     zero_small _ (unknown f.transfers f.branches from to u d good.transfers (rw (h, k) refl))
 small_at f from to u d true true true good h k e =
-    zero_small _ (oneself f.transfers from to u d (all_fair f.branches f.transfers (names_good f good) good.transfers)
-    e)
+    zero_small _
+    (open_amount-self f.transfers from to u d (all_fair f.branches f.transfers (names_good f good) good.transfers) e)
 small_at f from to u d true true false good h k e =
     two _ _ _ (adds_up_named f from to good h k e u d)
     (book_high (book_of f from) (good_book f from good) (transit_account from to) u d)
@@ -120,3 +121,8 @@ pub fair_item : (ts : List Transfer) (i : ℕ) (x : Transfer) → i < length ts 
     → AllByRecursion IsFair ts → IsFair x
 fair_item ts i x h e f = (subst (AllByRecursion IsFair)
     (drop-cons ts i x h ∙ ap (λ (y : Transfer). y ∷ drop (suc i) ts) (sym e)) (fair_drop ts i f)).0
+
+pub good_records : (f : Federation) (name : List ℕ) → IsGoodState f
+    → AllByRecursion (IsGoodRecord f.styles) (records_of f name)
+good_records f name good =
+    of_branch (AllByRecursion (IsGoodRecord f.styles)) f.styles f.branches name tt (λ b h. h.records) good.branches

@@ -6,6 +6,7 @@ use Rattle.std.specs.declared.cmp.Ordering.TheVariants.{Less}
 use Rattle.std.specs.List.{list_any, AllByRecursion}
 use Rattle.std.specs.Str.{bytes_eq}
 use Rattle.std.proofs.lemmas.Map.Text.{is_eq-slice_cmp}
+use Rattle.money_core.proofs.BytesLemmas.{other_bytes}
 use Rattle.book_core.specs.Account.{name_cmp}
 use Rattle.book_core.proofs.AccountListLemmas.{names_total}
 use Rattle.treasury_state.specs.declared.transfer.Transfer.{Transfer}
@@ -13,7 +14,6 @@ use Rattle.treasury_state.specs.declared.transfer.Part.{Part}
 use Rattle.treasury_state.specs.Transfer.{has_id}
 use Rattle.treasury_state.specs.Joined.{inserted, received, with_receipt}
 use Rattle.treasury_state.specs.Good.{AreAscending}
-use Rattle.treasury_state.proofs.BytesLemmas.{other_bytes}
 use Rattle.treasury_state.proofs.AskedLemmas.{HaveOwnIds}
 
 -- behind the ID

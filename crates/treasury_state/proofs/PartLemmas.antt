@@ -9,18 +9,15 @@ use Rattle.book_core.specs.Account.{name_cmp}
 use Rattle.book_core.proofs.AccountListLemmas.{names_total}
 use Rattle.money_core.specs.Amount.{limit}
 use Rattle.money_core.specs.declared.day.Day.{Day}
+use Rattle.money_core.proofs.TestLemmas.{le_from_int_le}
+use Rattle.money_core.proofs.ListLemmas.{drop_at, all_weaker}
 use Rattle.treasury_state.specs.declared.transfer.Part.{Part}
 use Rattle.treasury_state.specs.declared.transfer.Receipt.{Receipt}
 use Rattle.treasury_state.specs.declared.transfer.Transfer.{Transfer}
 use Rattle.treasury_state.specs.Transfer.{sum_of, rest_part, of_rest, receipts_of, left_of, received_by, open_of}
 use Rattle.treasury_state.specs.Good.{IsGoodPart, HasGoodParts}
-use Rattle.treasury_state.proofs.AllLemmas.{all_weaker}
-use Rattle.treasury_state.proofs.RestLemmas.{less}
 
 -- ---- sums
-
-pub le_from : (y z : ℤ) → int_le y z ≡ true → y ≤ℤ z
-le_from y z e = grind (arith, ints)
 
 pub sum_of-append : (xs ys : List Part) → sum_of (xs ++ ys) ≡ sum_of xs +ℤ sum_of ys
 sum_of-append [] ys = omega (arith, ints)
@@ -35,16 +32,16 @@ all_positive d ps h = all_weaker (IsGoodPart d) IsPositive ps (λ p k. k.positiv
 
 pub sum_low : (ps : List Part) → AllByRecursion IsPositive ps → pos 0 ≤ℤ sum_of ps
 sum_low [] h = omega (arith, ints)
-sum_low (p ∷ ps) h = let a = le_from (pos 1) p.qty h.0 in let b = sum_low ps h.1 in omega (arith, ints)
+sum_low (p ∷ ps) h = let a = le_from_int_le (pos 1) p.qty h.0 in let b = sum_low ps h.1 in omega (arith, ints)
 
 -- a part by a day, or nothing of it
 pub share_low : (b : Bool) (q : ℤ) → int_le (pos 1) q ≡ true → pos 0 ≤ℤ (if b then q else pos 0)
-share_low true q h = let k = le_from (pos 1) q h in omega (arith, ints)
+share_low true q h = let k = le_from_int_le (pos 1) q h in omega (arith, ints)
 share_low false q h = omega (arith, ints)
 
 pub share_high : (b : Bool) (q : ℤ) → int_le (pos 1) q ≡ true → (if b then q else pos 0) ≤ℤ q
 share_high true q h = omega (arith, ints)
-share_high false q h = let k = le_from (pos 1) q h in omega (arith, ints)
+share_high false q h = let k = le_from_int_le (pos 1) q h in omega (arith, ints)
 
 -- what was received by a day
 pub received_by-append : (xs ys : List Part) (d : Day) → received_by (xs ++ ys) d ≡ received_by xs d +ℤ received_by ys d
@@ -84,15 +81,15 @@ open_with t d r b sent some by =
 -- the first of the parts that are left
 pub sum_more : (ps : List Part) (i : ℕ) (p : Part) → i < length ps → p ≡ get_or ps i p
     → sum_of (drop i ps) ≡ p.qty +ℤ sum_of (drop (i + 1) ps)
-sum_more ps i p h is = ap sum_of (less ps i p h is)
+sum_more ps i p h is = ap sum_of (drop_at ps i p h is)
 
 pub all_left : (P : Part → Type 0) (ps : List Part) (i : ℕ) (p : Part) → i < length ps → p ≡ get_or ps i p
     → AllByRecursion P (drop i ps) → P p × AllByRecursion P (drop (i + 1) ps)
-all_left P ps i p h is all = subst (AllByRecursion P) (less ps i p h is) all
+all_left P ps i p h is all = subst (AllByRecursion P) (drop_at ps i p h is) all
 
 rest_within : (t : Transfer) (o : Option Receipt) → int_le (sum_of t.parts) t.qty ≡ true
     → (sum_of t.parts +ℤ sum_of (of_rest t o)) ≤ℤ t.qty
-rest_within t None h = let k = le_from (sum_of t.parts) t.qty h in omega (arith, ints)
+rest_within t None h = let k = le_from_int_le (sum_of t.parts) t.qty h in omega (arith, ints)
 rest_within t (Some r) h = omega (arith, ints)
 
 -- the receipts together are at most the amount

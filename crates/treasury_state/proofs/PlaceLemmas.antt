@@ -16,7 +16,7 @@ past_at : (g : Branch → Branch) (name : List ℕ) (b : Branch) (bs : List Bran
 past_at g name b bs n true h k = absurd (omega (arith, h))
 past_at g name b bs n false h k = ap (λ (xs : List Branch). b ∷ xs) (k (omega (arith, h)))
 
-changed_past : (g : Branch → Branch) (name : List ℕ) (bs : List Branch) → length bs ≤ name_place bs name
+pub changed_past : (g : Branch → Branch) (name : List ℕ) (bs : List Branch) → length bs ≤ name_place bs name
     → changed g name bs ≡ bs
 changed_past g name [] h = refl
 changed_past g name (b ∷ bs) h = past_at g name b bs (length bs) (bytes_eq b.name name) h (changed_past g name bs)

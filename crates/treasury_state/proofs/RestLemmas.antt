@@ -1,6 +1,6 @@
 -- the first of what is left of a list, and the rest
-use Rattle.std.proofs.Common.{◌≡◌, ◌<◌, ◌+◌, ℕ, suc, List, [], ◌∷◌, length, drop, get_or, ap, ◌∙◌, sym, arith}
-use Rattle.std.proofs.Common.{drop-cons, map}
+use Rattle.std.proofs.Common.{◌≡◌, ℕ, List, [], ◌∷◌, ap}
+use Rattle.std.proofs.Common.{map}
 use Rattle.std.specs.List.{enumerate_from}
 
 -- the rows of a list, numbered
@@ -22,10 +22,3 @@ heads x y xs ys e = ap (first_of x) e
 pub tails : {Y : Type 0} (x y : Y) (xs ys : List Y) → x ∷ xs ≡ y ∷ ys → xs ≡ ys
 unfolding rest_of
 tails x y xs ys e = ap rest_of e
-
--- what is left begins with the next row
-pub less : {Y : Type 0} (rows : List Y) (i : ℕ) (row : Y) → i < length rows → row ≡ get_or rows i row
-    → drop i rows ≡ row ∷ drop (i + 1) rows
-less rows i row h e =
-    drop-cons rows i row h ∙ ap (λ y. y ∷ drop (suc i) rows) (sym e) ∙ ap (λ (j : ℕ). row ∷ drop j rows)
-    (let k : suc i ≡ i + 1 = omega arith in k)

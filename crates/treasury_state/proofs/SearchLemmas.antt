@@ -12,6 +12,8 @@ use Rattle.std.proofs.lemmas.List.Sums.{prefix_len_is}
 use Rattle.std.proofs.lemmas.Option.{slice_get_read, slice_get_past}
 use Rattle.std.proofs.lemmas.Bool.Decides.{nat_tests}
 use denote.Ref.{Bor}
+use Rattle.money_core.proofs.ListLemmas.{drop_at}
+use Rattle.money_core.proofs.BytesLemmas.{bytes_eq-refl, other_bytes}
 use Rattle.book_core.specs.Account.{name_cmp}
 use Rattle.book_core.proofs.AccountListLemmas.{names_total, is_less, name_after}
 use Rattle.treasury_state.specs.declared.transfer.Part.{Part}
@@ -21,8 +23,6 @@ use Rattle.treasury_state.specs.Joined.{inserted, put_part, received, with_recei
 use Rattle.treasury_state.specs.Good.{AreAscending}
 use Rattle.treasury_state.specs.Room.{is_before, is_key_before}
 use Rattle.treasury_state.proofs.OrderLemmas.{AreBehind, other_than, all_after, not_less}
-use Rattle.treasury_state.proofs.BytesLemmas.{self_bytes, other_bytes}
-use Rattle.treasury_state.proofs.RestLemmas.{less}
 
 -- some transfer, for places past the end
 pub blank : Transfer
@@ -76,7 +76,7 @@ none_behind id (t ∷ ts) h =
     ap (λ (c : Bool). cond c (Some t) (find (has_id id) ts)) (other_than id t.id h.0) ∙ none_behind id ts h.1
 
 not_same : (a b : List ℕ) → bytes_eq a b ≡ false → a ≡ b → ⊥
-not_same a b e h = let k : true ≡ false = sym (self_bytes b) ∙ (ap (λ (x : List ℕ). bytes_eq x b) (sym h) ∙ e) in cc
+not_same a b e h = let k : true ≡ false = sym (bytes_eq-refl b) ∙ (ap (λ (x : List ℕ). bytes_eq x b) (sym h) ∙ e) in cc
 
 -- behind the first transfer that is not before the ID, none has it
 no_later : (id : List ℕ) (t : Transfer) (ts : List Transfer) → is_before id t ≡ false → bytes_eq t.id id ≡ false
@@ -196,7 +196,7 @@ pub key_stops : (key : List ℕ) (ps : List Part) (i : ℕ) (p : Part) → i < l
     → i ≡ prefix_len (is_key_before key) ps
 key_stops key ps i p h is e whole =
     let none : prefix_len (is_key_before key) (drop i ps) ≡ 0 =
-    ap (prefix_len (is_key_before key)) (less ps i p h is) ∙ ap
+    ap (prefix_len (is_key_before key)) (drop_at ps i p h is) ∙ ap
     (λ (c : Bool). cond c (1 + prefix_len (is_key_before key) (drop (i + 1) ps)) 0) e in
     omega (arith, none, whole)
 
@@ -205,7 +205,7 @@ pub key_passes : (key : List ℕ) (ps : List Part) (i : ℕ) (p : Part) → i < 
     → i + 1 + prefix_len (is_key_before key) (drop (i + 1) ps) ≡ prefix_len (is_key_before key) ps
 key_passes key ps i p h is e whole =
     let more : prefix_len (is_key_before key) (drop i ps) ≡ 1 + prefix_len (is_key_before key) (drop (i + 1) ps) =
-    ap (prefix_len (is_key_before key)) (less ps i p h is) ∙ ap
+    ap (prefix_len (is_key_before key)) (drop_at ps i p h is) ∙ ap
     (λ (c : Bool). cond c (1 + prefix_len (is_key_before key) (drop (i + 1) ps)) 0) e in
     omega (arith, more, whole)
 

@@ -3,8 +3,8 @@ use Rattle.std.proofs.Common.{◌≡◌, ◌+◌, ℕ, suc, Bool, true, false, �
 use Rattle.std.specs.Prelude.{if◌then◌else◌}
 use Rattle.std.specs.List.{list_any, slice_get}
 use Rattle.std.specs.Str.{bytes_eq}
+use Rattle.money_core.proofs.BytesLemmas.{same_bytes}
 use Rattle.treasury_state.specs.Federation.{Branch, has_name, name_place}
-use Rattle.treasury_state.proofs.BytesLemmas.{same_bytes}
 use Rattle.treasury_state.proofs.RestLemmas.{numbered}
 
 -- the rows of transfers have no number

@@ -8,6 +8,9 @@ use Rattle.std.proofs.lemmas.Int.{ints}
 use Rattle.std.proofs.lemmas.Slice.Eq.{bytes_eq-Decides}
 use Rattle.money_core.specs.declared.unit.Unit.{Unit as Commodity}
 use Rattle.money_core.specs.declared.day.Day.{Day}
+use Rattle.money_core.proofs.TestLemmas.{if_zero}
+use Rattle.money_core.proofs.ListLemmas.{all-append, all_weaker}
+use Rattle.money_core.proofs.BytesLemmas.{same_bytes}
 use Rattle.book_core.specs.declared.leg.Leg.{Leg}
 use Rattle.book_core.specs.declared.account.Reach.TheVariants.{Own}
 use Rattle.book_core.specs.declared.place.Until.TheVariants.{Through}
@@ -23,8 +26,6 @@ use Rattle.treasury_state.specs.Transfer.{open_amount, is_transit, is_reserved}
 use Rattle.treasury_state.specs.Federation.{Branch, entries}
 use Rattle.treasury_state.specs.Good.{IsGoodPart, IsGoodRest}
 use Rattle.treasury_state.specs.Fair.{HasNoColon, IsMarked, IsFair}
-use Rattle.treasury_state.proofs.BytesLemmas.{same_bytes}
-use Rattle.treasury_state.proofs.AllLemmas.{all_weaker, all-append}
 use Rattle.treasury_state.proofs.MarkLemmas.{pair_eq}
 use Rattle.treasury_state.proofs.PartLemmas.{share_high, received_within}
 use Rattle.treasury_state.proofs.LookupLemmas.{total_of, same_total, filter_own, filter_total, total_of-append}
@@ -100,11 +101,6 @@ share_in f t u d x p h e k =
     (bytes_eq p.payee (transit_account f t)) p.qty (off_way p.payee f t e)
     ∙ ap (λ (b : Bool). if nat_eq x.unit.0 u.0 && b then pos 0 -ℤ p.qty else pos 0)
     (way_eq x.source f x.target t h.source k))
-
--- of one transfer
-pub if_zero : (b : Bool) (z : ℤ) → z ≡ pos 0 → (if b then z else pos 0) ≡ pos 0
-if_zero true z e = e
-if_zero false z e = refl
 
 -- what receipts take off the way
 abbrev back_of : Bool → ℤ → ℤ

@@ -5,13 +5,14 @@ use Rattle.std.proofs.Common.{IsPermutation, true≢false, arith, bytes_eq, Some
 use Rattle.std.specs.Prelude.{if◌then◌else◌}
 use Rattle.std.specs.List.{enumerate_from, flat_map, list_any, AllByRecursion}
 use Rattle.std.specs.Ordering.{is_lt}
-use Rattle.std.proofs.lemmas.List.{map-append, append_assoc, append-nil, length-append, length-map, set_past}
+use Rattle.std.proofs.lemmas.List.{map-append, append-nil, length-append, length-map, set_past}
 use Rattle.std.proofs.lemmas.List.Concat.{flat_map_single}
 use Rattle.std.proofs.lemmas.List.Sorted.{IsPermutation-refl, IsPermutation-trans, IsPermutation-cons}
 use Rattle.std.proofs.lemmas.List.Sorted.{IsPermutation-map, IsPermutation-append, IsPermutation-append_right}
-use Rattle.std.proofs.lemmas.Bool.{ltb-true, lt-ltb}
+use Rattle.std.proofs.lemmas.Bool.{ltb-true, lt-ltb, or_parts}
 use Rattle.money_core.specs.declared.day.Day.{Day}
 use Rattle.money_core.specs.declared.style.Style.{Style}
+use Rattle.money_core.proofs.BytesLemmas.{same_bytes}
 use Rattle.book_core.specs.Account.{name_cmp}
 use Rattle.journal_format.proofs.MoreStylesLemmas.{printable_stays}
 use Rattle.treasury_state.specs.declared.record.Record.{Record}
@@ -34,9 +35,10 @@ use Rattle.treasury_state.specs.Rows.{transfer_row, part_row, part_rows, rows}
 use Rattle.treasury_state.specs.Transfer.{is_all, has_id}
 use Rattle.treasury_state.proofs.AskedLemmas.{HaveOwnIds}
 use Rattle.treasury_state.proofs.BackLemmas.{room_back}
-use Rattle.treasury_state.proofs.BytesLemmas.{neither, same_bytes}
 use Rattle.treasury_state.proofs.OrderLemmas.{own_ids}
+use Rattle.treasury_state.proofs.PlaceLemmas.{changed_past}
 use Rattle.treasury_laws.specs.History.{Grows}
+use Rattle.treasury_laws.proofs.GrowingLemmas.{grows_twice}
 use Rattle.treasury_tables.specs.declared.change.Change.TheVariants as change
 use Rattle.treasury_tables.specs.Rows.{Tables, locked, received as takes, joined as written}
 use Rattle.treasury_tables.proofs.SameLemmas.{Same, same_refl, same_trans, same_joined, other_units, joined-append}
@@ -46,7 +48,7 @@ use Rattle.treasury_store.specs.Store.{Finds, FindsAll}
 use Rattle.treasury_store.specs.Changes.{Counts, named, place_in, record_changes, receipt_change, changes_by, counted}
 use Rattle.treasury_store.specs.Changes.{changes_from, counted_all, style_with, name_with, styles_with, names_with}
 use Rattle.treasury_store.specs.Changes.{counts_of, changes_of, numbers_with}
-use Rattle.treasury_store.proofs.NumberedLemmas.{place_named, IsFront, front_place, changed_past, one_more, rows_from}
+use Rattle.treasury_store.proofs.NumberedLemmas.{place_named, IsFront, front_place, one_more, rows_from}
 use Rattle.treasury_store.proofs.NumberedLemmas.{none_more, rows-locked, record_in, branch_rows, branches-entered}
 use Rattle.treasury_store.proofs.NumberedLemmas.{none_locked, branch_locked, each-entered, each-locked, names-changed}
 
@@ -95,7 +97,7 @@ none_taken : (bs : List Branch) (id : List ℕ) (day : ℤ) (payee : List ℕ) (
     → list_any (has_id id) ts ≡ false → map (takes id day payee) (map (transfer_row bs) ts) ≡ map (transfer_row bs) ts
 none_taken bs id day payee [] h = refl
 none_taken bs id day payee (x ∷ xs) h =
-    let n = neither (bytes_eq x.id id) (list_any (has_id id) xs) h in
+    let n = or_parts (bytes_eq x.id id) (list_any (has_id id) xs) h in
     ap (λ (c : Bool). cond c (let r : TransferRow =
     record (transfer_row bs x) { received = Some day; payee = Some payee } in r) (transfer_row bs x)
     ∷ map (takes id day payee) (map (transfer_row bs) xs)) n.0
@@ -434,9 +436,6 @@ names_joined [] f = refl
 names_joined (x ∷ xs) f =
     ap (λ (ns : List (List ℕ)). names_with ns xs) (name_joined f x) ∙ names_joined xs (joined_one f x)
 
-both_grow : {X : Type 0} (xs ys zs : List X) → Grows xs ys → Grows ys zs → Grows xs zs
-both_grow xs ys zs h k = (h.0 ++ k.0, k.1 ∙ (ap (λ us. us ++ k.0) h.1 ∙ append_assoc xs h.0 k.0))
-
 style_grows : (styles : List Style) (x : Addition) → Grows styles (style_with styles x)
 style_grows styles (add.Commodity style) = (style ∷ [], refl)
 style_grows styles (add.Branch name) = ([], sym (append-nil styles))
@@ -447,7 +446,7 @@ style_grows styles (add.Locked name day) = ([], sym (append-nil styles))
 
 pub styles_grow : (xs : List Addition) (styles : List Style) → Grows styles (styles_with styles xs)
 styles_grow [] styles = ([], sym (append-nil styles))
-styles_grow (x ∷ xs) styles = both_grow styles (style_with styles x) (styles_with (style_with styles x) xs)
+styles_grow (x ∷ xs) styles = grows_twice styles (style_with styles x) (styles_with (style_with styles x) xs)
     (style_grows styles x) (styles_grow xs (style_with styles x))
 
 name_grows : (names : List (List ℕ)) (x : Addition) → Grows names (name_with names x)
@@ -460,7 +459,8 @@ name_grows names (add.Locked name day) = ([], sym (append-nil names))
 
 names_grow : (xs : List Addition) (names : List (List ℕ)) → Grows names (names_with names xs)
 names_grow [] names = ([], sym (append-nil names))
-names_grow (x ∷ xs) names = both_grow names (name_with names x) (names_with (name_with names x) xs) (name_grows names x)
+names_grow (x ∷ xs) names =
+    grows_twice names (name_with names x) (names_with (name_with names x) xs) (name_grows names x)
     (names_grow xs (name_with names x))
 
 pub grown : (xs : List Addition) (f : Federation) (N : List (List ℕ)) → N ≡ names_of (joined f xs).branches

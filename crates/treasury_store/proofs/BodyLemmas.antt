@@ -5,12 +5,12 @@ use Rattle.std.specs.Str.{is_utf8}
 use Rattle.std.proofs.lemmas.Bool.{and_parts}
 use Rattle.money_core.specs.declared.style.Style.{Style}
 use Rattle.money_core.specs.Style.{AreStyles}
+use Rattle.money_core.proofs.Utf8Lemmas.{utf8_joined, utf8_low}
 use Rattle.journal_lines.specs.Printed.{ended}
 use Rattle.journal_format.specs.declared.txn.Txn.{Txn}
 use Rattle.journal_format.specs.CanonicalText.{txn_lines, body_text, marked}
 use Rattle.journal_format.specs.Line.{is_line}
 use Rattle.journal_format.specs.Printable.{IsPrintable}
-use Rattle.journal_format.proofs.Utf8Lemmas.{utf8_joined, utf8_low}
 use Rattle.journal_format.proofs.ReadLemmas.{line_utf8}
 use Rattle.journal_format.proofs.PrintLemmas.{txn_right}
 

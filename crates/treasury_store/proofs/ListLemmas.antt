@@ -4,26 +4,16 @@ use Rattle.std.proofs.Common.{length, get_or, take, drop, refl, sym, ap, ap₂, 
 use Rattle.std.proofs.Common.{position, nat_lt}
 use Rattle.std.specs.List.{slice_get, position_or_len}
 use Rattle.std.specs.Prelude.{if◌then◌else◌}
-use Rattle.std.proofs.lemmas.List.{append-nil, append_assoc, take-append-drop, take_more, map-append}
+use Rattle.std.proofs.lemmas.List.{take-append-drop, take_more, map-append}
 use Rattle.money_core.specs.declared.style.Style.{Style}
 use Rattle.money_core.specs.Style.{AreStyles}
 use Rattle.money_core.proofs.PositionLemmas.{some_chosen, position-none}
+use Rattle.money_core.proofs.ListLemmas.{drop_at}
 use Rattle.treasury_state.specs.declared.delta.Addition.{Addition}
 use Rattle.treasury_state.specs.declared.delta.Addition.TheVariants as add
-use Rattle.treasury_state.specs.Federation.{Federation}
-use Rattle.treasury_state.specs.Joined.{joined}
-use Rattle.treasury_state.specs.Room.{IsRoomy}
-use Rattle.treasury_state.proofs.BackLemmas.{room_back}
+use Rattle.treasury_rows.proofs.UnitRowLemmas.{styles_front}
 use Rattle.treasury_store.specs.Changes.{place_in, style_with, name_with, styles_with, names_with}
 use Rattle.treasury_store.proofs.AdditionLemmas.{styles_grow}
-
--- what is left of a list begins with its next element
-pub rest_is : {X : Type 0} (xs : List X) (i : ℕ) (x : X) → i < length xs → x ≡ get_or xs i x
-    → drop i xs ≡ x ∷ drop (i + 1) xs
-rest_is [] i x h e = absurd (omega (arith, h))
-rest_is (y ∷ ys) zero x h e = ap (λ z. z ∷ ys) (sym e)
-rest_is (y ∷ ys) (suc i) x h e = let same : suc (i + 1) ≡ suc i + 1 =
-    omega arith in rest_is ys i x (omega (arith, h)) e ∙ ap (λ (n : ℕ). x ∷ drop n (y ∷ ys)) same
 
 pub taken_next : {X : Type 0} (xs : List X) (i : ℕ) (x : X) → slice_get xs i ≡ Some x
     → take (suc i) xs ≡ take i xs ++ x ∷ []
@@ -62,18 +52,6 @@ place_bound [] name = omega arith
 place_bound (x ∷ xs) name = bound_at (bytes_eq x name) (place_in xs name) (length xs) (place_bound xs name)
 
 -- ---- styles
-abbrev of_styles : List Style → Federation
-of_styles styles = record { styles = styles; branches = []; transfers = [] }
-
-declared_all : (more styles : List Style)
-    → joined (of_styles styles) (map add.Commodity more) ≡ of_styles (styles ++ more)
-declared_all [] styles = ap of_styles (sym (append-nil styles))
-declared_all (s ∷ more) styles = declared_all more (styles ++ s ∷ []) ∙ ap of_styles (append_assoc styles (s ∷ []) more)
-
-pub styles_front : (styles more : List Style) → AreStyles (styles ++ more) → AreStyles styles
-styles_front styles more h =
-    let all : IsRoomy (of_styles (styles ++ more)) = record { styles = h; branches = tt; ids = tt } in
-    (room_back (map add.Commodity more) (of_styles styles) (subst IsRoomy (sym (declared_all more styles)) all)).styles
 
 -- those on the way to all are styles too
 pub styles_on_way : (styles : List Style) (xs : List Addition) → AreStyles (styles_with styles xs) → AreStyles styles
@@ -103,21 +81,21 @@ pub more_fit : (styles all : List Style) (xs : List Addition) (i : ℕ) (x : Add
     → AreStyles (style_with all x)
 more_fit styles all xs i x h e so_far good =
     styles_on_way (style_with all x) (drop (i + 1) xs)
-    (subst AreStyles (sym so_far ∙ ap (styles_with all) (rest_is xs i x h e)) good)
+    (subst AreStyles (sym so_far ∙ ap (styles_with all) (drop_at xs i x h e)) good)
 
 pub more_styles : (styles all new : List Style) (xs : List Addition) (i : ℕ) (x : Addition) → i < length xs
     → x ≡ get_or xs i x → styles_with all (drop i xs) ≡ styles_with styles xs → new ≡ style_with all x
     → styles_with new (drop (i + 1) xs) ≡ styles_with styles xs
 more_styles styles all new xs i x h e so_far is =
     ap (λ (s : List Style). styles_with s (drop (i + 1) xs)) is ∙
-    (ap (styles_with all) (sym (rest_is xs i x h e)) ∙ so_far)
+    (ap (styles_with all) (sym (drop_at xs i x h e)) ∙ so_far)
 
 pub more_names : (names all new : List (List ℕ)) (xs : List Addition) (i : ℕ) (x : Addition) → i < length xs
     → x ≡ get_or xs i x → names_with all (drop i xs) ≡ names_with names xs → new ≡ name_with all x
     → names_with new (drop (i + 1) xs) ≡ names_with names xs
 more_names names all new xs i x h e so_far is =
     ap (λ (s : List (List ℕ)). names_with s (drop (i + 1) xs)) is ∙
-    (ap (names_with all) (sym (rest_is xs i x h e)) ∙ so_far)
+    (ap (names_with all) (sym (drop_at xs i x h e)) ∙ so_far)
 
 -- one more is read off a list that is mapped twice
 pub mapped_more : {X Y Z : Type 0} (f : X → Y) (h : Y → Z) (xs : List X) (i : ℕ) (x : X) (all : List Z) (z : Z)

@@ -43,17 +43,6 @@ front_place [] ys name = record { inside = λ k. absurd (omega (arith, k)); past
 front_place (x ∷ xs) ys name =
     front_at (length xs) (place_in xs name) (place_in (xs ++ ys) name) (bytes_eq x name) (front_place xs ys name)
 
-past_at : (g : Branch → Branch) (name : List ℕ) (b : Branch) (bs : List Branch) (n : ℕ) (t : Bool)
-    → suc n ≤ (if t then 0 else suc (name_place bs name)) → (n ≤ name_place bs name → changed g name bs ≡ bs)
-    → (if t then g b ∷ bs else b ∷ changed g name bs) ≡ b ∷ bs
-past_at g name b bs n true h k = absurd (omega (arith, h))
-past_at g name b bs n false h k = ap (λ (xs : List Branch). b ∷ xs) (k (omega (arith, h)))
-
-pub changed_past : (g : Branch → Branch) (name : List ℕ) (bs : List Branch) → length bs ≤ name_place bs name
-    → changed g name bs ≡ bs
-changed_past g name [] h = refl
-changed_past g name (b ∷ bs) h = past_at g name b bs (length bs) (bytes_eq b.name name) h (changed_past g name bs)
-
 -- ---- one more at the end
 pub enumerate-push : {X : Type 0} (n k : ℕ) (xs : List X) (x : X) → k ≡ n + length xs
     → enumerate_from n (xs ++ x ∷ []) ≡ enumerate_from n xs ++ (k, x) ∷ []

@@ -9,11 +9,12 @@ use Rattle.std.specs.Cmp.{int_cmp_is}
 use Rattle.std.proofs.lemmas.Int.{ints}
 use Rattle.std.proofs.lemmas.Map.Text.{is_eq-slice_cmp}
 use Rattle.book_core.specs.Account.{name_cmp}
-use Rattle.treasury_state.proofs.BytesLemmas.{self_bytes}
 use Rattle.std.proofs.lemmas.List.Concat.{flat_map_single}
 use Rattle.sqlite.specs.Tree.{IsAscending}
 use Rattle.money_core.specs.declared.cause.Cause.{Cause}
 use Rattle.money_core.specs.declared.style.Style.{Style}
+use Rattle.money_core.proofs.ListLemmas.{all-append, all_weaker}
+use Rattle.money_core.proofs.BytesLemmas.{bytes_eq-refl}
 use Rattle.book_core.specs.declared.claim.Claim.{Claim}
 use Rattle.book_core.specs.declared.claim.Placed.{Placed}
 use Rattle.book_core.specs.declared.entry.Entry.{Entry}
@@ -35,7 +36,6 @@ use Rattle.treasury_state.specs.Federation.{Branch, Federation, entries}
 use Rattle.treasury_state.specs.Good.{AreAscending, AreKeyed, IsGoodRecord, IsGoodBranch, IsGoodTransfer, IsGoodState}
 use Rattle.treasury_state.specs.Rows.{unit_row, branch_row, leg_row, leg_rows, claim_row, claim_rows, transfer_row}
 use Rattle.treasury_state.specs.Rows.{part_row, part_rows, rows}
-use Rattle.treasury_state.proofs.AllLemmas.{all_weaker, all-append}
 use Rattle.treasury_tables.specs.Order.{entry_cmp, leg_cmp, claim_cmp, transfer_cmp, part_cmp, InOrder}
 use Rattle.treasury_tables.proofs.KeyedLemmas.{equal_is}
 use Rattle.treasury_store.proofs.NumberedLemmas.{rows_from, rows_in}
@@ -282,7 +282,7 @@ abbrev PartLess : PartRow → PartRow → Type 0
 PartLess x y = part_cmp x y ≡ Less
 
 same_name : (id : List ℕ) → name_cmp id id ≡ Equal
-same_name id = equal_is (name_cmp id id) (is_eq-slice_cmp id id ∙ self_bytes id)
+same_name id = equal_is (name_cmp id id) (is_eq-slice_cmp id id ∙ bytes_eq-refl id)
 
 parts_at : (id : List ℕ) (ps : List Part) → AreKeyed ps → IsAscending PartLess (map (part_row id) ps)
 parts_at id [] h = tt

@@ -6,6 +6,7 @@ use Rattle.std.specs.List.{enumerate_from, AllByRecursion}
 use Rattle.std.proofs.lemmas.Bool.{ltb-true, lt-ltb}
 use Rattle.std.proofs.lemmas.List.{append-nil, append_assoc}
 use Rattle.money_core.specs.declared.style.Style.{Style}
+use Rattle.money_core.proofs.ListLemmas.{drop_at}
 use Rattle.book_core.specs.declared.claim.Placed.{Placed}
 use Rattle.book_core.specs.declared.leg.Leg.{Leg}
 use Rattle.treasury_state.specs.declared.delta.Addition.{Addition}
@@ -13,7 +14,7 @@ use Rattle.treasury_state.specs.Rows.{leg_row, claim_row}
 use Rattle.treasury_tables.specs.declared.change.Change.{Change}
 use Rattle.treasury_tables.specs.declared.change.Change.TheVariants as change
 use Rattle.treasury_store.specs.Changes.{Counts, changes_by, counted, changes_from, counted_all, CanWrite, CanWriteFrom}
-use Rattle.treasury_store.proofs.ListLemmas.{rest_is, past_end}
+use Rattle.treasury_store.proofs.ListLemmas.{past_end}
 
 -- one more in front of the rest
 pub one_put : (changes new rest all : List Change) (c : Change) → changes ++ (c ∷ rest) ≡ all → new ≡ changes ++ c ∷ []
@@ -30,7 +31,7 @@ leg_put b n k changes new all legs i x h e so_far is =
     one_put changes new _ all (change.Leg (leg_row b n (k + 1) x))
     (ap (λ (ls : List Leg). changes
     ++ map change.Leg (map (λ (p : ℕ × Leg). leg_row b n p.0 p.1) (enumerate_from (k + 1) ls)))
-    (sym (rest_is legs i x h e)) ∙ so_far) is
+    (sym (drop_at legs i x h e)) ∙ so_far) is
 
 pub legs_put : (b n k : ℕ) (changes all : List Change) (legs : List Leg) (i : ℕ) → length legs ≤ i
     → changes ++ map change.Leg (map (λ (p : ℕ × Leg). leg_row b n p.0 p.1) (enumerate_from (k + 1) (drop i legs)))
@@ -47,7 +48,7 @@ pub claim_put : (b n : ℕ) (changes new all : List Change) (claims : List Place
     → new ++ map change.Claim (map (claim_row b n) (drop (i + 1) claims)) ≡ all
 claim_put b n changes new all claims i x h e so_far is =
     one_put changes new _ all (change.Claim (claim_row b n x))
-    (ap (λ (ls : List Placed). changes ++ map change.Claim (map (claim_row b n) ls)) (sym (rest_is claims i x h e)) ∙
+    (ap (λ (ls : List Placed). changes ++ map change.Claim (map (claim_row b n) ls)) (sym (drop_at claims i x h e)) ∙
     so_far) is
 
 pub claims_put : (b n : ℕ) (changes all : List Change) (claims : List Placed) (i : ℕ) → length claims ≤ i
@@ -60,7 +61,7 @@ claims_put b n changes all claims i h so_far =
 pub all_next : {X : Type 0} (P : X → Type 0) (xs : List X) (i : ℕ) (x : X) → i < length xs → x ≡ get_or xs i x
     → AllByRecursion P (drop i xs) → P x × AllByRecursion P (drop (i + 1) xs)
 all_next P xs i x h e all =
-    let w : AllByRecursion P (x ∷ drop (i + 1) xs) = subst (AllByRecursion P) (rest_is xs i x h e) all in (w.0, w.1)
+    let w : AllByRecursion P (x ∷ drop (i + 1) xs) = subst (AllByRecursion P) (drop_at xs i x h e) all in (w.0, w.1)
 
 pub on_leg : (n : ℕ) (xs : List Placed) (i : ℕ) (d : Placed) → i < length xs
     → AllByRecursion (λ (x : Placed). x.leg ≤ n) (drop i xs) → n < 2 ^ 63 → (get_or xs i d).leg < 2 ^ 63
@@ -85,7 +86,7 @@ module _ (S : List Style) (N : List (List ℕ)) (n m : Counts) (xs : List Additi
     (h : i < length xs) (e : x ≡ get_or xs i x) where
   pub can_next : CanWriteFrom S N n (drop i xs) → CanWrite S N n x × CanWriteFrom S N (counted N n x) (drop (i + 1) xs)
   can_next fit = let w : CanWriteFrom S N n (x ∷ drop (i + 1) xs) =
-      subst (CanWriteFrom S N n) (rest_is xs i x h e) fit in (w.0, w.1)
+      subst (CanWriteFrom S N n) (drop_at xs i x h e) fit in (w.0, w.1)
 
   pub fit_next : m ≡ counted N n x → CanWriteFrom S N n (drop i xs) → CanWriteFrom S N m (drop (i + 1) xs)
   fit_next is fit = subst (λ (k : Counts). CanWriteFrom S N k (drop (i + 1) xs)) (sym is) (can_next fit).1
@@ -96,12 +97,12 @@ module _ (S : List Style) (N : List (List ℕ)) (n m : Counts) (xs : List Additi
       ap (λ (l : List Change). l ++ changes_from S N m (drop (i + 1) xs)) put
       ∙ (append_assoc changes (changes_by S N n x) (changes_from S N m (drop (i + 1) xs))
       ∙ (ap (λ (k : Counts). changes ++ (changes_by S N n x ++ changes_from S N k (drop (i + 1) xs))) is ∙
-      (ap (λ (l : List Addition). changes ++ changes_from S N n l) (sym (rest_is xs i x h e)) ∙ so_far)))
+      (ap (λ (l : List Addition). changes ++ changes_from S N n l) (sym (drop_at xs i x h e)) ∙ so_far)))
 
   pub counts_next : (all : Counts) → m ≡ counted N n x → counted_all N n (drop i xs) ≡ all
       → counted_all N m (drop (i + 1) xs) ≡ all
   counts_next all is so_far = ap (λ (k : Counts). counted_all N k (drop (i + 1) xs)) is ∙
-      (ap (counted_all N n) (sym (rest_is xs i x h e)) ∙ so_far)
+      (ap (counted_all N n) (sym (drop_at xs i x h e)) ∙ so_far)
 
 pub changes_end : (S : List Style) (N : List (List ℕ)) (n : Counts) (xs : List Addition) (i : ℕ)
     (changes all : List Change) → length xs ≤ i → changes ++ changes_from S N n (drop i xs) ≡ all → changes ≡ all

@@ -1,5 +1,5 @@
 -- What a store is of, once its state is loaded, and where it is not.
-use Rattle.std.proofs.Common.{◌≡◌, ◌∙◌, ◌⊎◌, inl, inr, Result, Ok, Err, OnErr, IsTrue, sym, subst, arith}
+use Rattle.std.proofs.Common.{◌≡◌, ◌∙◌, ◌⊎◌, inl, inr, Result, Ok, Err, IsTrue, sym, subst, arith}
 use Rattle.std.specs.Prelude.{IsErrAnd}
 use Rattle.std.proofs.lemmas.Result.{err_from_is_err_and}
 use Rattle.sqlite.specs.Store.{Ghosts}
@@ -67,11 +67,6 @@ module _ {S : Type 0} (g : Ghosts S) (old new : Held S)
           → IsFaithful g new → ⊥
       not_damaged e (inl memory) is clean = absurd cc
       not_damaged e (inr none) is clean = none.1 f good (parts_are clean)
-
--- whatever an error, this holds of it
-pub any_err : {X E : Type 0} (r : Result X E) (P : Type 0) → P → OnErr r P
-any_err (Ok x) P h = tt
-any_err (Err e) P h = h
 
 module _ {S X : Type 0} (g : Ghosts S) (old new : Store S) (f : Federation) where
   -- where the rows are not read, the store is of the state that it was of

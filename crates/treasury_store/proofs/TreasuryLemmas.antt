@@ -12,6 +12,7 @@ use Rattle.sqlite.specs.Effect.{Database}
 use Rattle.sqlite.specs.State.{Survives}
 use Rattle.sqlite.specs.Held.{Held, state}
 use Rattle.sqlite.proofs.StateLemmas.{survives_weaker, survives_then}
+use Rattle.money_core.proofs.ListLemmas.{all-append}
 use Rattle.treasury_state.specs.declared.record.Record.{Record}
 use Rattle.treasury_state.specs.declared.transfer.Transfer.{Transfer}
 use Rattle.treasury_state.specs.declared.delta.Addition.{Addition}
@@ -21,7 +22,6 @@ use Rattle.treasury_state.specs.Good.{IsGoodState}
 use Rattle.treasury_state.specs.Joined.{joined_one, joined}
 use Rattle.treasury_state.specs.Transfer.{transfer_at, has_id}
 use Rattle.treasury_state.specs.Rows.{rows}
-use Rattle.treasury_state.proofs.AllLemmas.{all-append}
 use Rattle.treasury_core.specs.declared.command.Answer.{Answer}
 use Rattle.treasury_core.specs.declared.command.Answer.TheVariants.{Done, Entered, Repeated}
 use Rattle.treasury_core.specs.declared.command.Command.{Command}

@@ -6,6 +6,7 @@ use Rattle.std.specs.List.{AllByRecursion}
 use Rattle.std.proofs.lemmas.List.{length-append, length-map}
 use Rattle.money_core.specs.declared.style.Style.{Style}
 use Rattle.money_core.specs.Style.{AreStyles}
+use Rattle.money_core.proofs.ListLemmas.{all_front, all_last, all_weaker}
 use Rattle.book_core.specs.declared.claim.Placed.{Placed}
 use Rattle.treasury_state.specs.declared.record.Record.{Record}
 use Rattle.treasury_state.specs.declared.delta.Addition.{Addition}
@@ -15,19 +16,10 @@ use Rattle.treasury_state.specs.Good.{IsGoodRecord, IsGoodBranch, IsGoodState}
 use Rattle.treasury_state.specs.Joined.{new_branch, with_records, with_lock, changed, joined_one, joined}
 use Rattle.treasury_state.specs.Room.{HasRoom, IsRoomy}
 use Rattle.treasury_state.proofs.BackLemmas.{room_fit, room_within, room_back, good_room}
-use Rattle.treasury_state.proofs.AllLemmas.{all_weaker}
 use Rattle.treasury_store.specs.Numbers.{Numbering, records_each, numbers_of}
 use Rattle.treasury_store.specs.Changes.{Counts, place_in, styles_with, names_with, counts_of, IsWritable, CanWrite}
 use Rattle.treasury_store.specs.Changes.{CanWriteFrom}
 use Rattle.treasury_store.proofs.AdditionLemmas.{styles_joined, names_joined, grown, place_same, count_step}
-
-all_front : {X : Type 0} (P : X → Type 0) (xs ys : List X) → AllByRecursion P (xs ++ ys) → AllByRecursion P xs
-all_front P [] ys h = tt
-all_front P (x ∷ xs) ys h = (h.0, all_front P xs ys h.1)
-
-all_last : {X : Type 0} (P : X → Type 0) (xs : List X) (x : X) → AllByRecursion P (xs ++ x ∷ []) → P x
-all_last P [] x h = h.0
-all_last P (y ∷ xs) x h = all_last P xs x h.1
 
 -- each record is good under these styles
 abbrev ArePrinted : List Style → Branch → Type 0

@@ -21,12 +21,13 @@ use Rattle.sqlite.specs.Store.{Ghosts}
 use Rattle.sqlite.specs.State.{State, Survives, Executes}
 use Rattle.sqlite.specs.Held.{Held, state}
 use Rattle.sqlite.proofs.StateLemmas.{survives_then}
+use Rattle.money_core.proofs.ListLemmas.{all_front, all_behind}
 use Rattle.treasury_tables.specs.Kept.{IsFaithful}
 use Rattle.treasury_tables.specs.Tables.{format, state_tables, made_all, new_tables, no_schema}
 use Rattle.treasury_tables.specs.Rows.{Holds, no_rows, format_row, shown_unit, shown_branch, shown_entry, shown_leg}
 use Rattle.treasury_tables.specs.Rows.{shown_claim, shown_transfer, shown_part}
 use Rattle.treasury_tables.specs.Creating.{Makes, MakesAll, GivesRow, Beside, is_ours, has_one, has_counter}
-use Rattle.treasury_tables.proofs.CreateLemmas.{kept_twice, kept_front, kept_back, stays_uncounted}
+use Rattle.treasury_tables.proofs.CreateLemmas.{kept_twice, stays_uncounted}
 use Rattle.treasury_tables.proofs.Texts.{add_format_text, format_terms}
 use Rattle.treasury_tables.proofs.AnySchema.{adds_format}
 use Rattle.treasury_tables.proofs.AddLemmas.{adds}
@@ -65,10 +66,6 @@ kept_below : (m n : ℕ) (ts : List Table) (a b : Trees) → m ≤ n → AllByRe
 kept_below m n [] a b le low keep = tt
 kept_below m n (t ∷ ts) a b le low keep = (keep.0 (omega (arith, low.0)), kept_below m n ts a b le low.1 keep.1)
 
-front : {X : Type 0} (P : X → Type 0) (xs ys : List X) → AllByRecursion P (xs ++ ys) → AllByRecursion P xs
-front P [] ys all = tt
-front P (x ∷ xs) ys all = (all.0, front P xs ys all.1)
-
 -- ---- the row
 named_format : same_name (codes "format") (codes "format") ≡ true
 unfolding same_name
@@ -105,7 +102,7 @@ gives_row s old new count has free bare h =
       numbered = subst (IsShaped shape.Table) (sym put) (IsShaped-put_row (Int (pos 1) ∷ format_row) [] refl (tt, tt));
       others = kept_below (above (λ (t : Table). t.tree) (past_views s) s.tables) n s.tables old.now.trees new.now.trees
           (grows (λ i. i.tree) s.indexes _) (low_all (λ (t : Table). t.tree) s.tables (past_views s))
-          (front _ s.tables _ a.others);
+          (all_front _ s.tables _ a.others);
     }
 
 -- ---- all of it
@@ -137,16 +134,16 @@ whole_beside a b c d p row q =
     record {
       schema = q.schema ∙ ap (made_all state_tables) row.schema;
       version = ap (map (λ r. column r 1))
-          (kept_back (λ (t : Table). d.trees t.tree ≡ c.trees t.tree) a.schema.tables (f ∷ []) all).0 ∙ row.row;
+          (all_behind (λ (t : Table). d.trees t.tree ≡ c.trees t.tree) a.schema.tables (f ∷ []) all).0 ∙ row.row;
       numbered = subst (IsShaped shape.Table)
-          (sym (kept_back (λ (t : Table). d.trees t.tree ≡ c.trees t.tree) a.schema.tables (f ∷ []) all).0)
+          (sym (all_behind (λ (t : Table). d.trees t.tree ≡ c.trees t.tree) a.schema.tables (f ∷ []) all).0)
           row.numbered;
       empty = subst (λ s. AllByRecursion (λ (t : Table). d.trees t.tree ≡ []) (new_tables state_tables s)) row.schema
           q.empty;
       others =
           kept_twice a.schema.tables a.trees c.trees d.trees
           (kept_twice a.schema.tables a.trees b.trees c.trees p.others row.others)
-          (kept_front (λ (t : Table). d.trees t.tree ≡ c.trees t.tree) a.schema.tables (f ∷ []) all);
+          (all_front (λ (t : Table). d.trees t.tree ≡ c.trees t.tree) a.schema.tables (f ∷ []) all);
     }
 
 -- in an empty database

@@ -10,6 +10,7 @@ use Rattle.sqlite.specs.Rows.{sequence}
 use Rattle.sqlite.specs.Effect.{Database}
 use Rattle.sqlite.specs.Tree.{Trees}
 use Rattle.sqlite.specs.State.{State, Executes}
+use Rattle.money_core.proofs.ListLemmas.{all_behind, all_front}
 use Rattle.treasury_tables.specs.Tables.{format, unit, branch, entry, leg, claim, transfer, receipt, state_tables}
 use Rattle.treasury_tables.specs.Tables.{made_all, new_tables}
 use Rattle.treasury_tables.specs.Creating.{has_counter, Makes, MakesAll}
@@ -85,13 +86,6 @@ module _ (old new : State) (count : ℕ) (none : has_counter old.now.schema ≡ 
       record { schema = m.schema; empty = m.empty; others = m.others }
 
 -- ---- one after another
-pub kept_front : {X : Type 0} (P : X → Type 0) (xs ys : List X) → AllByRecursion P (xs ++ ys) → AllByRecursion P xs
-kept_front P [] ys all = tt
-kept_front P (x ∷ xs) ys all = (all.0, kept_front P xs ys all.1)
-
-pub kept_back : {X : Type 0} (P : X → Type 0) (xs ys : List X) → AllByRecursion P (xs ++ ys) → AllByRecursion P ys
-kept_back P [] ys all = all
-kept_back P (x ∷ xs) ys all = kept_back P xs ys all.1
 
 pub kept_twice : (ts : List Table) (a b c : Trees) → KeepsRows ts a b → KeepsRows ts b c → KeepsRows ts a c
 kept_twice [] a b c p q = tt
@@ -113,11 +107,11 @@ makes_more t ts a b c p q =
     record {
       schema = q.schema ∙ ap (made_all ts) p.schema;
       empty = (
-        (kept_back (λ (u : Table). c.trees u.tree ≡ b.trees u.tree) a.schema.tables (new ∷ []) all).0 ∙ p.empty,
+        (all_behind (λ (u : Table). c.trees u.tree ≡ b.trees u.tree) a.schema.tables (new ∷ []) all).0 ∙ p.empty,
         subst (λ s. AllByRecursion (λ (u : Table). c.trees u.tree ≡ []) (new_tables ts s)) p.schema q.empty,
       );
       others = kept_twice a.schema.tables a.trees b.trees c.trees p.others
-          (kept_front (λ (u : Table). c.trees u.tree ≡ b.trees u.tree) a.schema.tables (new ∷ []) all);
+          (all_front (λ (u : Table). c.trees u.tree ≡ b.trees u.tree) a.schema.tables (new ∷ []) all);
     }
 
 pub still_uncounted : (t : Table) (a b : Database) → t.is_counted ≡ false → has_counter a.schema ≡ false → Makes t a b

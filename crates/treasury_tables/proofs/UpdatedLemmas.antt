@@ -1,16 +1,13 @@
 -- What a table shows after an UPDATE: rows that it takes show what they were changed to, and each other is as it was.
-use Rattle.std.proofs.Common.{◌≡◌, List, ◌++◌, map, filter, Bool, true, false, not, cond, refl, sym, ap, subst, subst₂}
+use Rattle.std.proofs.Common.{◌≡◌, List, ◌++◌, map, filter, Bool, not, cond, refl, sym, ap, subst, subst₂}
 use Rattle.std.proofs.Common.{◌∙◌, IsPermutation}
 use Rattle.std.proofs.lemmas.List.{map-append}
 use Rattle.std.proofs.lemmas.List.Sorted.{IsPermutation-trans, IsPermutation-map, IsPermutation-append}
 use Rattle.std.proofs.lemmas.List.Sorted.{IsPermutation-filter_both}
+use Rattle.std.proofs.lemmas.Bool.{not-true}
 use Rattle.sqlite_keyed.proofs.ListLemmas.{map-map, filter-map, filter_same, IsPermutation-filter}
 use Rattle.sqlite.specs.Order.{Row}
 use Rattle.treasury_tables.proofs.RowLemmas.{map_chosen}
-
-not_true : (b : Bool) → not b ≡ true → b ≡ false
-not_true true e = sym e
-not_true false e = refl
 
 -- `row` is what an object has in the table, and `shown` what the table shows of a stored row. Those that are `chosen`,
 -- as what they show tells, are taken out; what the query gives of each, recast, is put in.
@@ -64,7 +61,7 @@ module _ {X : Type 0} (row : X → Row) (shown query recast renewed : Row → Ro
       let first = map_chosen is_it both (λ x. row (change x))
       (λ x e. ap (λ c. row (cond c (change x) x)) e) xs in
       let second = map_chosen (λ x. not (is_it x)) both row
-      (λ x e. ap (λ c. row (cond c (change x) x)) (not_true (is_it x) e)) xs in
+      (λ x e. ap (λ c. row (cond c (change x) x)) (not-true (is_it x) e)) xs in
       let columns : IsPermutation (map shown (map recast got) ++ map shown (filter (λ r. not (chosen r)) old))
       (map shown new) =
       subst (λ l. IsPermutation l (map shown new)) (map-append shown (map recast got) _)

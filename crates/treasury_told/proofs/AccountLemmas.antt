@@ -9,7 +9,7 @@ use Rattle.std.specs.String.{string_bytes}
 use Rattle.std.specs.declared.string.String.{String}
 use Rattle.std.specs.declared.alloc.Global.{Global}
 use Rattle.std.proofs.lemmas.List.Folds.{list_any_more}
-use Rattle.treasury_state.proofs.BytesLemmas.{self_bytes}
+use Rattle.money_core.proofs.BytesLemmas.{bytes_eq-refl}
 
 but_not : (a b c : Bool) → ((a && not b) && not c) ≡ (a && not (b || c))
 but_not true true c = refl
@@ -53,7 +53,7 @@ some_key (e ∷ es) h = (
   string_bytes e.0,
   ap (λ (t : Bool). is_some (cond t (Some e.1)
       (lookup (λ (q : String Global). bytes_eq (string_bytes e.0) (string_bytes q)) es)))
-      (self_bytes (string_bytes e.0)),
+      (bytes_eq-refl (string_bytes e.0)),
 )
 
 any_key : (es : Entries) (k : List ℕ) → has_key es k ≡ true → 0 < length es

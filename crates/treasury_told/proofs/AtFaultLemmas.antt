@@ -7,9 +7,9 @@ use Rattle.std.specs.Prelude.{slice_get, IfSome}
 use Rattle.std.specs.List.{position_from, AllByRecursion}
 use Rattle.std.specs.Option.{option_map}
 use Rattle.money_core.specs.declared.style.Style.{Style}
+use Rattle.money_core.proofs.ListLemmas.{drop_at}
 use Rattle.journal_format.specs.Printable.{IsPrintable}
 use Rattle.treasury_state.specs.declared.record.Record.{Record}
-use Rattle.treasury_state.proofs.RestLemmas.{less}
 use Rattle.treasury_told.specs.declared.explain.standing.Standing.{Standing}
 use Rattle.treasury_told.specs.declared.explain.standing.Holder.{Holder}
 use Rattle.treasury_told.specs.declared.explain.standing.Holder.TheVariants as at
@@ -21,14 +21,14 @@ pub position_next : {X : Type 0} (p : X → Bool) (xs : List X) (i : ℕ) (x : X
     → position_from p (i + 1) (drop (i + 1) xs) ≡ all
 position_next p xs i x all h e off before =
     sym (ap (λ (t : Bool). cond t (Some i) (position_from p (i + 1) (drop (i + 1) xs))) off)
-    ∙ sym (ap (position_from p i) (less xs i x h e))
+    ∙ sym (ap (position_from p i) (drop_at xs i x h e))
     ∙ before
 
 pub position_here : {X : Type 0} (p : X → Bool) (xs : List X) (i : ℕ) (x : X) (all : Option ℕ) → i < length xs
     → x ≡ get_or xs i x → p x ≡ true → position_from p i (drop i xs) ≡ all → Some i ≡ all
 position_here p xs i x all h e on before =
     sym (ap (λ (t : Bool). cond t (Some i) (position_from p (i + 1) (drop (i + 1) xs))) on)
-    ∙ sym (ap (position_from p i) (less xs i x h e))
+    ∙ sym (ap (position_from p i) (drop_at xs i x h e))
     ∙ before
 
 -- what all items are is any one of them

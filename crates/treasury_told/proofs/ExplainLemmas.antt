@@ -6,6 +6,7 @@ use Rattle.std.specs.List.{AllByRecursion}
 use Rattle.std.specs.Str.{bytes_eq}
 use Rattle.money_core.specs.declared.day.Day.{Day}
 use Rattle.money_core.specs.declared.style.Style.{Style}
+use Rattle.money_core.proofs.ListLemmas.{all_weaker}
 use Rattle.book_core.specs.declared.entry.Entry.{Entry}
 use Rattle.book_core.specs.declared.refusal.Failure.{Failure}
 use Rattle.book_core.specs.declared.refusal.Refusal.TheVariants.{Plain}
@@ -16,7 +17,6 @@ use Rattle.treasury_state.specs.declared.record.Record.{Record}
 use Rattle.treasury_state.specs.Federation.{Branch, Federation, records_in, records_of, lock_of}
 use Rattle.treasury_state.specs.Good.{IsGoodRecord, IsGoodBranch, IsGoodState}
 use Rattle.treasury_state.specs.Mark.{HaveOwnMarks}
-use Rattle.treasury_state.proofs.AllLemmas.{all_weaker}
 use Rattle.treasury_core.specs.Step.{records_in_file, refused_in, unbalanced}
 use Rattle.treasury_core.proofs.ReplyLemmas.{own_marks_of}
 use Rattle.treasury_told.specs.declared.explain.at_fault.Bar.{Bar}

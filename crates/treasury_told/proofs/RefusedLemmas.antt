@@ -7,9 +7,11 @@ use Rattle.std.specs.Option.{option_map, option_or}
 use Rattle.std.specs.Str.{bytes_eq}
 use Rattle.std.proofs.lemmas.List.{map-append, length-append}
 use Rattle.std.proofs.lemmas.List.Folds.{find-append}
+use Rattle.std.proofs.Math.Bool.{or-false}
 use Rattle.money_core.specs.declared.cause.Cause.{Cause}
 use Rattle.money_core.specs.declared.day.Day.{Day}
 use Rattle.money_core.specs.declared.style.Style.{Style}
+use Rattle.money_core.proofs.BytesLemmas.{same_bytes}
 use Rattle.book_core.specs.declared.entry.Entry.{Entry}
 use Rattle.book_core.specs.declared.leg.Leg.{Leg}
 use Rattle.book_core.specs.declared.refusal.Refusal.{Refusal}
@@ -22,7 +24,6 @@ use Rattle.treasury_state.specs.declared.record.Record.{Record}
 use Rattle.treasury_state.specs.Mark.{has_mark, is_held, held, HaveOwnMarks, is_repeat, is_product_mark, mark_of}
 use Rattle.treasury_state.specs.Federation.{is_locked}
 use Rattle.treasury_state.specs.Transfer.{is_transit}
-use Rattle.treasury_state.proofs.BytesLemmas.{or_false, same_bytes}
 use Rattle.treasury_core.specs.Step.{fault_on, unbalanced, recorded, recorded_in, records_from, number_in, barred}
 use Rattle.treasury_core.specs.Step.{refusal_of, refused_in, records_in_file}
 use Rattle.journal_balance.proofs.EntryLemmas.{entry_day}
@@ -67,7 +68,7 @@ repeat_at styles h hs r true e own more =
     let rest : is_repeat styles hs r ≡ false = more
     ∙ ap (λ (o : Option Record). is_text (record_body styles r) (option_map (record_body styles) o)) none in
     ap (λ (t : Bool). bytes_eq (record_body styles h) (record_body styles r) || t) rest
-    ∙ or_false (bytes_eq (record_body styles h) (record_body styles r))
+    ∙ or-false (bytes_eq (record_body styles h) (record_body styles r))
 repeat_at styles h hs r false e own more = more
 
 repeats : (styles : List Style) (now : List Record) (r : Record) → HaveOwnMarks now

@@ -7,13 +7,13 @@ use Rattle.std.specs.List.{AllByRecursion}
 use Rattle.std.specs.Option.{option_map, option_or}
 use Rattle.std.specs.Str.{bytes_eq}
 use Rattle.std.proofs.lemmas.List.Folds.{find-append}
+use Rattle.money_core.proofs.BytesLemmas.{other_bytes}
 use Rattle.treasury_state.specs.declared.transfer.Part.{Part}
 use Rattle.treasury_state.specs.declared.transfer.Receipt.{Receipt}
 use Rattle.treasury_state.specs.declared.transfer.Transfer.{Transfer}
 use Rattle.treasury_state.specs.Federation.{Federation}
 use Rattle.treasury_state.specs.Good.{HasGoodParts, IsGoodTransfer, IsGoodState}
 use Rattle.treasury_state.specs.Transfer.{all_key, is_key, of_rest, rest_part, receipts_of, has_id}
-use Rattle.treasury_state.proofs.BytesLemmas.{other_bytes}
 use Rattle.treasury_state.proofs.MarkLemmas.{not_all}
 use Rattle.treasury_core.specs.Step.{has_key}
 

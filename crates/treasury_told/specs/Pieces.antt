@@ -1,5 +1,5 @@
 -- Days, headers, places and amounts as they are shown (own rule; docs/RULES.md, "Explanations").
-use Rattle.std.specs.Prelude.{ℕ, ℤ, pos, negsuc, nat_lt, nat_le, int_le, ◌==◌, unsigned_abs, Bool, ◌&&◌}
+use Rattle.std.specs.Prelude.{ℕ, ℤ, nat_lt, nat_le, ◌==◌, unsigned_abs, Bool, ◌&&◌}
 use Rattle.std.specs.Prelude.{if◌then◌else◌, List, [], ◌++◌, length, codes, decimal, Option, Some, None}
 use Rattle.std.specs.Option.{option_map}
 use Rattle.money_core.specs.declared.cause.Cause.{Cause}
@@ -8,7 +8,7 @@ use Rattle.money_core.specs.declared.style.Style.{Style}
 use Rattle.money_core.specs.declared.unit.Unit.{Unit as Commodity}
 use Rattle.money_core.specs.Amount.{limit}
 use Rattle.money_core.specs.AmountText.{printed_in}
-use Rattle.journal_lines.specs.Date.{printed_date}
+use Rattle.journal_lines.specs.Date.{printed_date, is_in_calendar}
 use Rattle.journal_lines.specs.Lines.{lines}
 use Rattle.journal_lines.specs.Printed.{header_status, header_code}
 use Rattle.journal_format.specs.declared.txn.Txn.{Txn}
@@ -27,10 +27,6 @@ shown_amount styles unit q = if is_written styles unit q then printed_in styles 
 -- a line that names an amount
 abbrev pub named_amount : List Style → List ℕ → Commodity → ℤ → List ℕ
 named_amount styles name unit q = line_text (name ++ codes ": " ++ shown_amount styles unit q)
-
--- a text writes the day: it is one from 0001-01-01 to 9999-12-31
-abbrev pub is_in_calendar : Day → Bool
-is_in_calendar day = int_le (negsuc 719161) day.0 && int_le day.0 (pos 2932896)
 
 -- a day as it is shown
 abbrev pub shown_day : Day → List ℕ

@@ -2,10 +2,11 @@ use Rattle.std.proofs.Common.{◌≡◌, ◌∙◌, ℕ, List, Err, ap, sym, map
 use Rattle.money_core.specs.declared.cause.Cause.{Cause}
 use Rattle.money_core.specs.declared.cause.Cause.TheVariants.{ReadFault}
 use Rattle.httparse.specs.Spans.{span_bytes, header_bytes}
+use Rattle.journal_lines.proofs.LineSteps.{whole_rest}
 use Rattle.http_request.specs.Length.{body_length}
 use Rattle.http_request.specs.Foreign.{is_foreign}
 use Rattle.http_request.specs.Accept.{form_of}
-use Rattle.http_request.proofs.ReadLemmas.{whole_rest, head_calls, is_command, wanted_told}
+use Rattle.http_request.proofs.ReadLemmas.{head_calls, is_command, wanted_told}
 use Rattle.http_request.proofs.ReadLemmas.{command_told, stop_told}
 use Rattle.http_request.proofs.reading.read_call.Goals as goal
 

@@ -1,9 +1,10 @@
 use Rattle.std.proofs.Common.{◌∙◌, ◌≡◌, false, true, ℕ, List, Option, option_map, ap, codes, sym, rules}
+use Rattle.std.proofs.lemmas.Option.{same_Some}
 use Rattle.clap.specs.Matches.{found_of}
 use Rattle.clap.specs.Walk.{Row, rows_of}
 use Rattle.treasury.proofs.OverFileLemmas.{told_alike}
 use Rattle.treasury.proofs.ServingLemmas.{served_alike, serve_is_not_run}
-use Rattle.treasury_spelling.proofs.WordLemmas.{met_name, met_word, same_some}
+use Rattle.treasury_spelling.proofs.WordLemmas.{met_name, met_word}
 use Rattle.treasury.proofs.words.do_word.Goals as goal
 
 pub returns-in-Some-clause-done : goal.returns-in-Some-clause-done
@@ -15,13 +16,13 @@ returns-in-Some-clause-cut_off g c = λ _. c.do_run.ensures.cut_off
 pub returns-in-Some-clause-word : goal.returns-in-Some-clause-word
 returns-in-Some-clause-word g c =
     λ word values met other _. absurd
-    (other (same_some word (codes "run")
+    (other (same_Some word (codes "run")
     (sym (met_name c.args.matches.now word values met) ∙ c.subcommand_matches.ensures.found.0 (search rules))))
 
 pub returns-in-Some-clause-serve : goal.returns-in-Some-clause-serve
 returns-in-Some-clause-serve g c =
     λ values met. absurd (serve_is_not_run
-    (same_some (codes "serve") (codes "run")
+    (same_Some (codes "serve") (codes "run")
     (sym (met_name c.args.matches.now (codes "serve") values met) ∙ c.subcommand_matches.ensures.found.0
     (search rules))))
 
@@ -29,7 +30,7 @@ pub returns-in-Some-subcommand_matches-clause-word : goal.returns-in-Some-subcom
 returns-in-Some-subcommand_matches-clause-word g c =
     λ word values met other unserved.
     absurd (unserved
-    (same_some word (codes "serve")
+    (same_Some word (codes "serve")
     (sym (met_name c.args.matches.now word values met) ∙ c.subcommand_matches-in-None.ensures.found.0
     (search rules))))
 
@@ -37,7 +38,7 @@ pub returns-in-Some-subcommand_matches-clause-serve : goal.returns-in-Some-subco
 returns-in-Some-subcommand_matches-clause-serve g c =
     λ values met. served_alike _ _ g.W.Write.contents c.args.output.now c.do_serve.new.output c.do_serve.result.status
     (rows_of (found_of c.in-Some-subcommand_matches.values.now)) values c.do_serve.result.left
-    (same_some (rows_of (found_of c.in-Some-subcommand_matches.values.now)) values
+    (same_Some (rows_of (found_of c.in-Some-subcommand_matches.values.now)) values
     (sym c.in-Some-subcommand_matches.ensures.rows ∙ ap
     (λ (o : Option (List ℕ × List Row)). option_map (λ (p : List ℕ × List Row). p.1) o) met))
     c.do_serve.ensures.served

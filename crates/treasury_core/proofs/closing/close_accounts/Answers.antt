@@ -1,10 +1,10 @@
 use Rattle.std.proofs.Common.{◌≡◌, ◌++◌, ◌∙◌, ℕ, List, true, ap, sym}
 use Rattle.std.specs.Prelude.{filter}
 use Rattle.std.specs.List.{flat_map}
+use Rattle.book_core.proofs.AccountOrder.{accounts_are_one}
 use Rattle.journal_balance.specs.Legs.{declared}
 use Rattle.treasury_core.specs.Choice.{is_selected}
 use Rattle.treasury_core.specs.Closing.{closed_account}
-use Rattle.treasury_core.proofs.AccountOrder.{accounts_are_one}
 use Rattle.treasury_core.proofs.ClosingLoops.{next_account, last_account}
 use Rattle.treasury_core.proofs.closing.close_accounts.Goals as goal
 

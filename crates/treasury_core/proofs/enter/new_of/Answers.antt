@@ -1,12 +1,12 @@
 use Rattle.std.proofs.Common.{◌≡◌, ◌++◌, ap, sym, subst, ◌∙◌, List, Option, Bool, true, false, Ok}
 use Rattle.std.specs.Prelude.{IfSome, option_copied, Result}
 use Rattle.std.specs.List.{AllByRecursion}
+use Rattle.money_core.proofs.ListLemmas.{all_weaker}
 use Rattle.book_core.specs.declared.refusal.Refusal.{Refusal}
 use Rattle.journal_format.specs.Printable.{IsPrintable}
 use Rattle.treasury_state.specs.declared.record.Record.{Record}
 use Rattle.treasury_state.specs.Mark.{held}
 use Rattle.treasury_state.specs.Good.{IsGoodRecord}
-use Rattle.treasury_state.proofs.AllLemmas.{all_weaker}
 use Rattle.treasury_state.proofs.HolderLemmas.{held_all}
 use Rattle.treasury_core.specs.Step.{refused_in, new_in}
 use Rattle.treasury_core.specs.Judged.{judged}

@@ -1,12 +1,12 @@
 use Rattle.std.proofs.Common.{◌≡◌, ◌∙◌, List, ap}
 use Rattle.std.specs.List.{flat_map}
 use Rattle.book_core.specs.declared.entry.Entry.{Entry}
+use Rattle.book_core.specs.Accounts.{book_accounts}
+use Rattle.book_core.proofs.AccountOrder.{accounts_are_one}
 use Rattle.treasury_state.specs.Federation.{book_of}
 use Rattle.treasury_reports.specs.declared.layout.Layout.TheVariants.{Json}
-use Rattle.treasury_reports.specs.BalanceReport.{book_accounts}
 use Rattle.treasury_reports.specs.AccountsReport.{account_cells, accounts_rows}
 use Rattle.treasury_reports.specs.Layout.{account_piece}
-use Rattle.treasury_reports.proofs.AccountOrder.{accounts_are_one}
 use Rattle.treasury_reports.proofs.RowLemmas.{appended_rows, mapped_rows}
 use Rattle.treasury_reports.proofs.accounts.accounts_json.Goals as goal
 

@@ -1,9 +1,9 @@
 use Rattle.std.proofs.Common.{◌≡◌, ◌++◌, ◌∙◌, List, ℕ, ap}
 use Rattle.std.specs.List.{flat_map}
 use Rattle.book_core.specs.declared.entry.Entry.{Entry}
-use Rattle.treasury_reports.specs.BalanceReport.{book_accounts}
+use Rattle.book_core.specs.Accounts.{book_accounts}
+use Rattle.book_core.proofs.AccountOrder.{accounts_are_one}
 use Rattle.treasury_reports.specs.AccountsReport.{account_line}
-use Rattle.treasury_reports.proofs.AccountOrder.{accounts_are_one}
 use Rattle.treasury_reports.proofs.accounts.accounts_report.Goals as goal
 
 pub returns-in-Ok-extend_from_slice-clause-ok : goal.returns-in-Ok-extend_from_slice-clause-ok

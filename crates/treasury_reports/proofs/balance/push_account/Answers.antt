@@ -1,8 +1,8 @@
 use Rattle.std.proofs.Common.{◌≡◌, ◌+◌, ◌++◌, ◌<◌, ◌∙◌, ℕ, length, arith, add-one, ap}
 use Rattle.std.specs.List.{flat_map}
+use Rattle.journal_format.proofs.PrintingLemmas.{part_next}
 use Rattle.treasury_reports.specs.BalanceReport.{first_units}
 use Rattle.treasury_reports.specs.Layout.{balance_piece}
-use Rattle.treasury_reports.proofs.AppendLemmas.{flat_map_next}
 use Rattle.treasury_reports.proofs.UnitLemmas.{below_from_found, above_from_missed}
 use Rattle.treasury_reports.proofs.balance.push_account.Goals as goal
 
@@ -14,7 +14,7 @@ units-preserved g c =
     record {
       few = c.units.invariant.few;
       declared = omega arith;
-      lines = flat_map_next
+      lines = part_next
           (balance_piece c.args.layout styles (g.L.Ledger.book c.args.ledger.now) c.args.day c.args.account.now)
           c.args.out.now.items c.units.out.items c.push_balance.new.out.items (first_units c.units.number)
           (first_units (c.units.number + 1)) (record { 0 = c.units.number })

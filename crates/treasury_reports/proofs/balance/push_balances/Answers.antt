@@ -2,8 +2,8 @@ use Rattle.std.proofs.Common.{◌≡◌, ◌++◌, ◌≤◌, ◌∙◌, ℕ, Li
 use Rattle.std.specs.List.{flat_map}
 use Rattle.std.proofs.lemmas.List.{take_all}
 use Rattle.money_core.proofs.Appends.{kept_behind}
+use Rattle.book_core.proofs.AccountOrder.{accounts_are_one}
 use Rattle.treasury_reports.specs.Layout.{account_pieces}
-use Rattle.treasury_reports.proofs.AccountOrder.{accounts_are_one}
 use Rattle.treasury_reports.proofs.balance.push_balances.Goals as goal
 
 pub returns-in-Err-clause-err : goal.returns-in-Err-clause-err

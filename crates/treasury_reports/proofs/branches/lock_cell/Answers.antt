@@ -2,8 +2,8 @@ use Rattle.std.proofs.Common.{◌≡◌, ◌∙◌, ◌++◌, ◌∷◌, [], Lis
 use Rattle.std.specs.Prelude.{Some, codes}
 use Rattle.money_core.specs.declared.day.Day.{Day}
 use Rattle.journal_lines.specs.Date.{printed_date}
+use Rattle.journal_lines.proofs.DateLemmas.{calendar_test}
 use Rattle.treasury_reports.specs.BranchesReport.{lock_cell}
-use Rattle.treasury_reports.proofs.ListLemmas.{calendar_test}
 use Rattle.treasury_reports.proofs.branches.lock_cell.Goals as goal
 
 pub returns-then-is_day_number-clause-ok : goal.returns-then-is_day_number-clause-ok

@@ -1,8 +1,8 @@
 use Rattle.std.proofs.Common.{◌≡◌, ◌++◌, ◌∙◌, List, ℕ, Bool, OnOk, ap, sym, subst, refl}
 use Rattle.std.specs.Prelude.{Some, codes, if◌then◌else◌}
 use Rattle.journal_lines.specs.Date.{printed_date}
-use Rattle.treasury_reports.specs.BranchesReport.{lock_column, is_calendar}
-use Rattle.treasury_reports.proofs.ListLemmas.{calendar_test}
+use Rattle.journal_lines.proofs.DateLemmas.{calendar_test}
+use Rattle.treasury_reports.specs.BranchesReport.{lock_column}
 use Rattle.treasury_reports.proofs.branches.push_day.Goals as goal
 
 pub returns-then-is_day_number-clause-ok : goal.returns-then-is_day_number-clause-ok

@@ -4,10 +4,10 @@ use Rattle.money_core.specs.declared.style.Style.{Style}
 use Rattle.journal_format.specs.declared.txn.Txn.{Txn}
 use Rattle.treasury_state.specs.declared.record.Record.{Record}
 use Rattle.treasury_state.specs.Federation.{records_of, txns_in}
+use Rattle.treasury_state.proofs.OpenLemmas.{good_records}
 use Rattle.treasury_reports.specs.JournalReport.{txn_cells, journal_rows}
 use Rattle.treasury_reports.specs.Layout.{comma_row}
 use Rattle.treasury_reports.proofs.ListLemmas.{flat_map-map}
-use Rattle.treasury_reports.proofs.RegisterLemmas.{good_records}
 use Rattle.treasury_reports.proofs.RowLemmas.{appended_rows, mapped_rows}
 use Rattle.treasury_reports.proofs.journal.journal_json.Goals as goal
 

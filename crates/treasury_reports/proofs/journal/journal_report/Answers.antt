@@ -3,8 +3,8 @@ use Rattle.money_core.specs.declared.style.Style.{Style}
 use Rattle.journal_format.specs.CanonicalText.{journal_text}
 use Rattle.treasury_state.specs.declared.record.Record.{Record}
 use Rattle.treasury_state.specs.Federation.{txns_in}
+use Rattle.treasury_state.proofs.OpenLemmas.{good_records}
 use Rattle.treasury_reports.specs.JournalReport.{branch_journal}
-use Rattle.treasury_reports.proofs.RegisterLemmas.{good_records}
 use Rattle.treasury_reports.proofs.journal.journal_report.Goals as goal
 
 pub push_records-requires : goal.push_records-requires

@@ -1,8 +1,8 @@
 use Rattle.std.proofs.Common.{◌≡◌, ◌≤◌, ◌++◌, ◌∷◌, ◌∙◌, [], List, ℕ, length, take, arith, ap, sym}
 use Rattle.std.proofs.lemmas.List.{take_all}
+use Rattle.book_core.specs.Accounts.{ordered_names}
 use Rattle.treasury_state.specs.Seen.{branches_of}
 use Rattle.treasury_state.specs.Federation.{names_of}
-use Rattle.treasury_reports.specs.BalanceReport.{ordered_names}
 use Rattle.treasury_reports.proofs.NameLemmas.{none_in_order, names_more, one_more, all_in_order}
 use Rattle.treasury_reports.proofs.names.names_in_order.Goals as goal
 

@@ -2,10 +2,11 @@ use Rattle.std.proofs.Common.{◌≡◌, ◌∙◌, [], List, ap, option_copied}
 use Rattle.money_core.specs.declared.style.Style.{Style}
 use Rattle.treasury_state.specs.declared.record.Record.{Record}
 use Rattle.treasury_state.specs.Federation.{records_of}
+use Rattle.treasury_state.proofs.OpenLemmas.{good_records}
 use Rattle.treasury_reports.specs.declared.layout.Layout.TheVariants.{Json}
 use Rattle.treasury_reports.specs.RegisterReport.{register_rows, by_day, listed_from}
 use Rattle.treasury_reports.specs.Layout.{register_pieces}
-use Rattle.treasury_reports.proofs.RegisterLemmas.{good_records, room_of}
+use Rattle.treasury_reports.proofs.RegisterLemmas.{room_of}
 use Rattle.treasury_reports.proofs.RowLemmas.{appended_rows, register_fused}
 use Rattle.treasury_reports.proofs.register.register_json.Goals as goal
 

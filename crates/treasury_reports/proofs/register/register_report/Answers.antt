@@ -1,11 +1,12 @@
 use Rattle.std.proofs.Common.{◌≡◌, ◌++◌, ◌∙◌, [], List, ℕ, ap, option_copied}
 use Rattle.money_core.specs.declared.style.Style.{Style}
 use Rattle.treasury_state.specs.declared.record.Record.{Record}
+use Rattle.treasury_state.proofs.OpenLemmas.{good_records}
 use Rattle.treasury_reports.specs.declared.layout.Layout.TheVariants.{Text}
 use Rattle.treasury_reports.specs.RegisterReport.{register_text, by_day, listed_from}
 use Rattle.treasury_reports.specs.Layout.{register_pieces}
 use Rattle.treasury_reports.proofs.RowLemmas.{register_text_pieces}
-use Rattle.treasury_reports.proofs.RegisterLemmas.{good_records, room_of}
+use Rattle.treasury_reports.proofs.RegisterLemmas.{room_of}
 use Rattle.treasury_reports.proofs.register.register_report.Goals as goal
 
 pub text_of-requires-clause-good : goal.text_of-requires-clause-good

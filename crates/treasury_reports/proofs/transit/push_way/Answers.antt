@@ -1,9 +1,9 @@
 use Rattle.std.proofs.Common.{◌≡◌, ◌+◌, ◌++◌, ◌<◌, ◌∙◌, ℕ, length, arith, add-one, ap, List}
 use Rattle.std.specs.List.{flat_map}
 use Rattle.money_core.specs.declared.style.Style.{Style}
+use Rattle.journal_format.proofs.PrintingLemmas.{part_next}
 use Rattle.treasury_reports.specs.BalanceReport.{first_units}
 use Rattle.treasury_reports.specs.Layout.{transit_piece}
-use Rattle.treasury_reports.proofs.AppendLemmas.{flat_map_next}
 use Rattle.treasury_reports.proofs.UnitLemmas.{below_from_found, above_from_missed}
 use Rattle.treasury_reports.proofs.transit.push_way.Goals as goal
 
@@ -16,7 +16,7 @@ units-preserved g c =
       same = c.units.invariant.same;
       few = c.units.invariant.few;
       declared = omega arith;
-      lines = flat_map_next (transit_piece c.args.layout c.args.state.now c.args.day c.args.from.now c.args.to.now)
+      lines = part_next (transit_piece c.args.layout c.args.state.now c.args.day c.args.from.now c.args.to.now)
           c.args.text.now.items c.units.text.items c.push_unit.new.text.items (first_units c.units.number)
           (first_units (c.units.number + 1)) (record { 0 = c.units.number })
           c.units.invariant.lines c.in-Ok.ensures.ok (ap first_units (add-one c.units.number));

@@ -1,8 +1,8 @@
 use Rattle.std.proofs.Common.{◌≡◌, ◌≤◌, ◌∙◌, List, ℕ, length, take, arith, ap}
 use Rattle.std.specs.List.{flat_map}
 use Rattle.std.proofs.lemmas.List.{take_all}
+use Rattle.book_core.specs.Accounts.{ordered_names}
 use Rattle.treasury_state.specs.Federation.{Branch, names_of}
-use Rattle.treasury_reports.specs.BalanceReport.{ordered_names}
 use Rattle.treasury_reports.specs.TransitReport.{branch_names}
 use Rattle.treasury_reports.specs.Layout.{pieces_from}
 use Rattle.treasury_reports.proofs.transit.text_of.Goals as goal

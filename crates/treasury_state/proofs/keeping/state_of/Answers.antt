@@ -5,13 +5,13 @@ use Rattle.std.specs.List.{AllByRecursion}
 use Rattle.std.specs.Str.{bytes_eq}
 use Rattle.std.specs.HashMap.{get_by_text}
 use Rattle.std.proofs.lemmas.List.{length-map, map-append}
+use Rattle.money_core.proofs.ListLemmas.{all-append}
 use Rattle.treasury_state.specs.Federation.{Branch, Federation}
 use Rattle.treasury_state.specs.Seen.{branch_of, branches_of}
 use Rattle.treasury_state.specs.Kept.{ArePlacesOf}
 use Rattle.treasury_state.specs.Index.{IsKept}
 use Rattle.treasury_state.specs.Room.{HasRoom}
 use Rattle.treasury_state.proofs.BackLemmas.{good_room}
-use Rattle.treasury_state.proofs.AllLemmas.{all-append}
 use Rattle.treasury_state.proofs.IndexLemmas.{pushed}
 use Rattle.treasury_state.proofs.KeepingLemmas.{all_next, good_same, no_branches}
 use Rattle.treasury_state.proofs.keeping.state_of.Goals as goal

@@ -1,7 +1,8 @@
 use Rattle.std.proofs.Common.{◌≡◌, ◌+◌, ◌-ℤ◌, pos, drop, arith, rules, FitsSigned, w64, to_z, of_z, sym, subst}
 use Rattle.std.specs.List.{AllByRecursion}
 use Rattle.std.proofs.lemmas.Int.{ints, to_z-of_z}
-use Rattle.treasury_state.proofs.PartLemmas.{IsPositive, le_from, sum_low, sum_more, all_left}
+use Rattle.money_core.proofs.TestLemmas.{le_from_int_le}
+use Rattle.treasury_state.proofs.PartLemmas.{IsPositive, sum_low, sum_more, all_left}
 use Rattle.treasury_state.proofs.transfer.rest_of.Goals as goal
 
 pub overflow_sub-left : goal.overflow_sub-left
@@ -11,7 +12,7 @@ overflow_sub-left c =
     let p = c.part-item.result in
     let sum = sum_more ps i p c.part-test.true c.part-item.is in
     let each = all_left IsPositive ps i p c.part-test.true c.part-item.is c.part.invariant.each in
-    let one = le_from (pos 1) p.qty each.0 in
+    let one = le_from_int_le (pos 1) p.qty each.0 in
     let rest = sum_low (drop (i + 1) ps) each.1 in
     let same = to_z-of_z w64 p.qty (search rules) in
     let less = c.part.invariant.less in
@@ -26,7 +27,7 @@ part-preserved c =
     let p = c.part-item.result in
     let sum = sum_more ps i p c.part-test.true c.part-item.is in
     let each = all_left IsPositive ps i p c.part-test.true c.part-item.is c.part.invariant.each in
-    let one = le_from (pos 1) p.qty each.0 in
+    let one = le_from_int_le (pos 1) p.qty each.0 in
     let same = to_z-of_z w64 p.qty (search rules) in
     let now = to_z-of_z w64 (to_z w64 c.part.left-bits -ℤ to_z w64 (of_z w64 p.qty)) (overflow_sub-left c) in
     let less = c.part.invariant.less in

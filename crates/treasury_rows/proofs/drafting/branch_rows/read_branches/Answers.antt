@@ -1,11 +1,11 @@
 use Rattle.std.proofs.Common.{◌≡◌, ◌+◌, ◌∙◌, ◌∷◌, ◌++◌, [], true, false, length, ap, sym, subst, List, rules}
 use Rattle.std.specs.Prelude.{◌==◌}
 use Rattle.std.specs.List.{AllByRecursion}
+use Rattle.money_core.proofs.ListLemmas.{all-append}
 use Rattle.treasury_state.specs.declared.rows.EntryRow.{EntryRow}
 use Rattle.treasury_state.specs.Federation.{Branch}
 use Rattle.treasury_state.specs.Good.{IsGoodRecord}
 use Rattle.treasury_state.specs.Rows.{entry_rows_in}
-use Rattle.treasury_state.proofs.AllLemmas.{all-append}
 use Rattle.treasury_state.proofs.BranchRowLemmas.{AreGood}
 use Rattle.treasury_rows.specs.Drafted.{IsFault}
 use Rattle.treasury_rows.proofs.DraftLemmas.{exit, pushed_length}

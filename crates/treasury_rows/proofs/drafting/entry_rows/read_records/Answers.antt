@@ -1,10 +1,10 @@
 use Rattle.std.proofs.Common.{◌+◌, ◌∙◌, ℕ, List, [], ◌∷◌, length, ap, sym, subst, rules, arith}
 use Rattle.std.specs.List.{AllByRecursion}
 use Rattle.std.proofs.lemmas.List.{take_all}
+use Rattle.money_core.proofs.ListLemmas.{all-append}
 use Rattle.treasury_state.specs.declared.record.Record.{Record}
 use Rattle.treasury_state.specs.Good.{IsGoodRecord}
 use Rattle.treasury_state.specs.Rows.{entry_row, entry_rows_from}
-use Rattle.treasury_state.proofs.AllLemmas.{all-append}
 use Rattle.treasury_rows.proofs.DraftLemmas.{exit, IsFront, front_start, front_next, front_fault, front_end, all_middle}
 use Rattle.treasury_rows.proofs.DraftLemmas.{pushed_length, same_next}
 use Rattle.treasury_rows.proofs.drafting.entry_rows.read_records.Goals as goal

@@ -1,10 +1,11 @@
 use Rattle.std.proofs.Common.{Some, refl, ap, sym, subst, arith}
 use Rattle.sqlite.specs.Held.{state}
+use Rattle.money_core.proofs.PrintedLemmas.{on_err}
 use Rattle.treasury_tables.specs.Rows.{ShowsTables}
 use Rattle.treasury_tables.proofs.FailingLemmas.{survives_behind, queries_behind}
 use Rattle.treasury_store.specs.Numbers.{Numbering}
 use Rattle.treasury_store.proofs.LeftLemmas.{leaves_same}
-use Rattle.treasury_store.proofs.StateLoadLemmas.{any_err, failed_of, read_of, read_tables_stay, loaded_of}
+use Rattle.treasury_store.proofs.StateLoadLemmas.{failed_of, read_of, read_tables_stay, loaded_of}
 use Rattle.treasury_store.proofs.StateLoadLemmas.{none_damaged, none_shown}
 use Rattle.treasury_store.proofs.store.Store.load.Goals as goal
 
@@ -30,7 +31,7 @@ returns-in-Err-clause-left g c =
 
 pub returns-in_err-now-clause-err : goal.returns-in_err-now-clause-err
 returns-in_err-now-clause-err g c =
-    any_err c.from_residual.result _
+    on_err c.from_residual.result _
     (λ f of. read_of g.S.Store c.args.self.now _ f _ c.in-Ok.ensures.queries c.in-Ok.ensures.same refl of)
 
 pub returns-in_err-now-clause-damaged : goal.returns-in_err-now-clause-damaged
@@ -46,12 +47,12 @@ returns-in_err-now-clause-unfit g c damaged clean =
 
 pub returns-in_err-numbers-clause-err : goal.returns-in_err-numbers-clause-err
 returns-in_err-numbers-clause-err g c =
-    any_err c.from_residual-in_err-numbers.result _
+    on_err c.from_residual-in_err-numbers.result _
     (λ f of. read_of g.S.Store c.args.self.now _ f _ c.in-Ok.ensures.queries c.in-Ok.ensures.same refl of)
 
 pub returns-in_err-numbers-clause-tables : goal.returns-in_err-numbers-clause-tables
 returns-in_err-numbers-clause-tables g c =
-    any_err c.from_residual-in_err-numbers.result _
+    on_err c.from_residual-in_err-numbers.result _
     (read_tables_stay g.S.Store c.args.self.now.conn c.load_parts.new.conn
     (λ clean. omega (arith, c.in-Ok.ensures.queries.survives.clean, clean)) c.in-Ok.ensures.queries.opened
     c.in-Ok.ensures.same)

@@ -15,7 +15,7 @@ use Rattle.book_core.specs.declared.entry.Entry.{Entry}
 use Rattle.book_core.specs.Account.{name_cmp}
 use Rattle.book_core.specs.Book.{legs_of, accounts_of, AreAccountsOf}
 use Rattle.book_core.proofs.AccountListLemmas.{names_total}
-use Rattle.treasury_core.specs.Accounts.{placed_name, with_name, ordered_names, book_accounts}
+use Rattle.book_core.specs.Accounts.{placed_name, with_name, ordered_names, book_accounts}
 
 -- the elements of a list with one more in front
 Contains-cons : (first : List ℕ) (rest : List (List ℕ)) (x : List ℕ)
