@@ -8,8 +8,8 @@ use Rattle.std.proofs.lemmas.List.Elements.{Contains-push}
 use Rattle.money_core.specs.declared.unit.Unit.{Unit as Commodity}
 use Rattle.money_core.specs.declared.day.Day.{Day}
 use Rattle.money_core.specs.declared.cause.Cause.TheVariants.{Full, Limit}
+use Rattle.money_core.specs.declared.claim.Claim.{Claim}
 use Rattle.book_core.specs.declared.leg.Leg.{Leg}
-use Rattle.book_core.specs.declared.claim.Claim.{Claim}
 use Rattle.book_core.specs.declared.claim.Placed.{Placed}
 use Rattle.book_core.specs.declared.place.Place.{Place}
 use Rattle.book_core.specs.declared.claim.Asserted.{Asserted}

@@ -7,10 +7,9 @@ ghost use Rattle.book_core.specs.Query.{balance_for, stray_for};
 
 use crate::account::Reach;
 use crate::balance::Query;
-use crate::claim::{Claim, ClaimKind};
 use crate::place::{Place, Until};
 use crate::refusal::Failure;
-use money_core::Unit;
+use money_core::{Claim, ClaimKind, Unit};
 
 /// A book whose balances can be found, however it is kept. Neither call takes memory.
 pub trait Balances {

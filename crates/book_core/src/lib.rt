@@ -33,14 +33,14 @@ mod turnover;
 mod turnover_table;
 
 pub use account::{Reach, is_inside};
-pub use claim::{Asserted, Claim, ClaimKind, Placed};
+pub use claim::{Asserted, Placed};
 pub use day_ledger::DayLedger;
 pub use entry::Entry;
 pub use fit::{are_fit, is_balanced, is_fit};
 pub use law::{check_good, failure_law, named_law, unreached_law, verdict_law};
 pub use ledger::Ledger;
 pub use leg::Leg;
-pub use money_core::{Cause, Copied, Day, Fault, Items, Same, Text, Unit};
+pub use money_core::{Cause, Claim, ClaimKind, Copied, Day, Fault, Items, Same, Text, Unit};
 pub use place::{Place, Until};
 pub use plain_ledger::{MAX_ENTRIES, PlainLedger};
 pub use refusal::{Count, Failure, Refusal};

@@ -16,14 +16,13 @@ ghost use Rattle.book_core.specs.GoodBook.{IsFit};
 
 use crate::account::{Reach, is_reached};
 use crate::assertion::account_of;
-use crate::claim::Claim;
 use crate::claim_index::{ClaimIndex, rows_for};
 use crate::entry::Entry;
 use crate::judging::{is_sole_kind, reach_of_kind};
 use crate::leg::Leg;
 use crate::place::{Place, is_at_most};
 use day_sums::Spot;
-use money_core::{Cause, Day};
+use money_core::{Cause, Claim, Day};
 use std::alloc::Global;
 
 /// Whether a leg stands before an assertion's place, where the assertion looks.

@@ -14,11 +14,11 @@ use Rattle.money_core.specs.declared.price.Price.{Price}
 use Rattle.money_core.specs.declared.price.Price.TheVariants.{Each, Total}
 use Rattle.money_core.specs.declared.cause.Cause.{Cause}
 use Rattle.money_core.specs.declared.cause.Cause.TheVariants as cause
+use Rattle.money_core.specs.declared.claim.Claim.{Claim}
 use Rattle.money_core.specs.Amount.{limit}
 use Rattle.money_core.specs.Price.{cost_unit, is_cost, is_price}
 use Rattle.money_core.specs.Cost.{signed_as, exact, cost_in, cost}
 use Rattle.book_core.specs.declared.leg.Leg.{Leg}
-use Rattle.book_core.specs.declared.claim.Claim.{Claim}
 use Rattle.journal_format.specs.declared.posting.Posting.{Posting}
 use Rattle.journal_format.specs.Printable.{is_amount, is_price_or_none, is_claim_or_none, is_value, is_posting}
 use Rattle.journal_balance.specs.Legs.{cost_value, amount_legs, posting_legs, is_large, leg}

@@ -11,11 +11,11 @@ use Rattle.money_core.specs.declared.unit.Unit.{Unit as Commodity}
 use Rattle.money_core.specs.declared.price.Price.{Price}
 use Rattle.money_core.specs.declared.cause.Cause.{Cause}
 use Rattle.money_core.specs.declared.cause.Cause.TheVariants.{TwoBlanks, Unbalanced, Limit}
+use Rattle.money_core.specs.declared.claim.Claim.{Claim}
 use Rattle.money_core.specs.Amount.{limit}
 use Rattle.money_core.specs.Price.{cost_unit}
 use Rattle.money_core.specs.Cost.{cost}
 use Rattle.book_core.specs.declared.leg.Leg.{Leg}
-use Rattle.book_core.specs.declared.claim.Claim.{Claim}
 use Rattle.book_core.specs.declared.claim.Placed.{Placed}
 use Rattle.book_core.specs.declared.entry.Entry.{Entry}
 use Rattle.journal_format.specs.declared.posting.Posting.{Posting}

@@ -8,11 +8,11 @@ use Rattle.std.proofs.lemmas.Bool.{and_parts, and_from, ltb-true, lt-ltb, leb-tr
 use Rattle.money_core.specs.declared.style.Style.{Style}
 use Rattle.money_core.specs.declared.unit.Unit.{Unit as Commodity}
 use Rattle.money_core.specs.declared.price.Price.{Price}
+use Rattle.money_core.specs.declared.claim.Claim.{Claim}
 use Rattle.money_core.specs.Amount.{limit}
 use Rattle.money_core.specs.AmountText.{IsDeclared, printed_in}
 use Rattle.money_core.specs.Growth.{StaysUnderMore}
 use Rattle.money_core.proofs.GrowthLemmas.{styles_grow}
-use Rattle.book_core.specs.declared.claim.Claim.{Claim}
 use Rattle.journal_lines.specs.AccountName.{is_account}
 use Rattle.journal_lines.specs.Printed.{ended, indent, comment_line, header_line}
 use Rattle.journal_format.specs.declared.posting.Posting.{Posting}

@@ -8,6 +8,7 @@ use Rattle.money_core.specs.declared.unit.Unit.{Unit as Commodity}
 use Rattle.money_core.specs.declared.price.Price.{Price}
 use Rattle.money_core.specs.declared.cause.Cause.{Cause}
 use Rattle.money_core.specs.declared.cause.Cause.TheVariants as cause
+use Rattle.money_core.specs.declared.claim.ClaimKind.{ClaimKind}
 use Rattle.money_core.specs.Amount.{HasNoForm, IsOverLimit}
 use Rattle.money_core.specs.Reading.{amount}
 use Rattle.money_core.specs.PriceReading.{price}
@@ -25,7 +26,6 @@ use Rattle.journal_format.specs.PostingParts.{kind_at, is_virtual, name_of, part
 use Rattle.journal_format.specs.PostingParts.{asserted_in}
 use Rattle.journal_format.specs.Posting.{Value, PostingCut, cut_part, cut_posting, with_claim, claimed, with_price}
 use Rattle.journal_format.specs.Posting.{with_amount, without_amount, value_of, posted, judged_posting, posting_of}
-use Rattle.book_core.specs.declared.claim.ClaimKind.{ClaimKind}
 use Rattle.journal_format.specs.LineFaults.{LineFault, IsFirst, amount_faults, price_faults, where_there, value_faults}
 use Rattle.journal_format.specs.LineFaults.{posting_part_faults}
 use Rattle.journal_format.proofs.FirstLemmas.{AreNone, refused, one_err, not_both}

@@ -15,6 +15,9 @@ use Rattle.money_core.specs.declared.unit.Unit.{Unit as Commodity}
 use Rattle.money_core.specs.declared.price.Price.{Price}
 use Rattle.money_core.specs.declared.cause.Cause.{Cause}
 use Rattle.money_core.specs.declared.class.Class.TheVariants.{Blank, Symbol, Number}
+use Rattle.money_core.specs.declared.claim.Claim.{Claim}
+use Rattle.money_core.specs.declared.claim.ClaimKind.{ClaimKind}
+use Rattle.money_core.specs.declared.claim.ClaimKind.TheVariants.{Exact, Sole, ExactIn, SoleIn}
 use Rattle.money_core.specs.Class.{has}
 use Rattle.money_core.specs.Symbol.{is_quoted_byte}
 use Rattle.money_core.specs.Amount.{WritesAmount}
@@ -25,9 +28,6 @@ use Rattle.money_core.proofs.ClassLemmas.{symbol_no_blank, number_no_blank}
 use Rattle.money_core.proofs.ReadingLemmas.{reads_iff}
 use Rattle.money_core.proofs.PriceGrammar.{price_reads_iff, number_no_at}
 use Rattle.money_core.proofs.ListLemmas.{nil_from_empty}
-use Rattle.book_core.specs.declared.claim.Claim.{Claim}
-use Rattle.book_core.specs.declared.claim.ClaimKind.{ClaimKind}
-use Rattle.book_core.specs.declared.claim.ClaimKind.TheVariants.{Exact, Sole, ExactIn, SoleIn}
 use Rattle.journal_lines.specs.declared.header.Status.{Status}
 use Rattle.journal_lines.specs.Blank.{is_blank, first_solid, trim_start, trim_end, trim, is_trimmed}
 use Rattle.journal_lines.specs.Comment.{front_of, comment_of}

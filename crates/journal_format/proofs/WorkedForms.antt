@@ -9,6 +9,7 @@ use Rattle.money_core.specs.declared.cause.Cause.{Cause}
 use Rattle.money_core.specs.declared.cause.Cause.TheVariants as cause
 use Rattle.money_core.specs.declared.price.Price.{Price}
 use Rattle.money_core.specs.declared.price.Price.TheVariants.{Each, Total}
+use Rattle.money_core.specs.declared.claim.ClaimKind.TheVariants.{Exact, SoleIn}
 use Rattle.money_core.specs.Price.{WritesPrice}
 use Rattle.money_core.specs.Cutting.{cut_symbol, left_parts, right_symbol, amount_parts}
 use Rattle.money_core.specs.Reading.{quantity_in, amount_of_parts}
@@ -18,7 +19,6 @@ use Rattle.money_core.proofs.WorkedValues.{styles, euro}
 use Rattle.money_core.proofs.ReadingLemmas.{writes_if}
 use Rattle.money_core.proofs.PriceGrammar.{price_reads_iff}
 use Rattle.money_core.proofs.SampleLemmas.{style_spelled}
-use Rattle.book_core.specs.declared.claim.ClaimKind.TheVariants.{Exact, SoleIn}
 use Rattle.journal_lines.specs.declared.header.Status.TheVariants.{Cleared, Pending}
 use Rattle.journal_lines.specs.Blank.{first_word, trim_start, trim_end}
 use Rattle.journal_lines.specs.Comment.{front_of, comment_of}

@@ -7,11 +7,11 @@ use Rattle.std.specs.List.{list_all}
 use Rattle.money_core.specs.declared.style.Style.{Style}
 use Rattle.money_core.specs.declared.unit.Unit.{Unit as Commodity}
 use Rattle.money_core.specs.declared.price.Price.{Price}
+use Rattle.money_core.specs.declared.claim.Claim.{Claim}
+use Rattle.money_core.specs.declared.claim.ClaimKind.{ClaimKind}
+use Rattle.money_core.specs.declared.claim.ClaimKind.TheVariants.{Exact, Sole, ExactIn, SoleIn}
 use Rattle.money_core.specs.Amount.{WritesAmount}
 use Rattle.money_core.specs.Price.{WritesPrice}
-use Rattle.book_core.specs.declared.claim.Claim.{Claim}
-use Rattle.book_core.specs.declared.claim.ClaimKind.{ClaimKind}
-use Rattle.book_core.specs.declared.claim.ClaimKind.TheVariants.{Exact, Sole, ExactIn, SoleIn}
 use Rattle.journal_lines.specs.Blank.{is_blank}
 use Rattle.journal_lines.specs.AccountName.{is_account}
 use Rattle.journal_lines.specs.Header.{length_of, comment_limit}

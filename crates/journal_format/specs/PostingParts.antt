@@ -2,8 +2,8 @@
 -- assertions"), whether it is well formed or not. A part that is not there is empty.
 use Rattle.std.specs.Prelude.{ℕ, ◌+◌, ◌==◌, List, [], ◌∷◌, length, take, drop, slice_index, Bool, false, ◌&&◌, ◌||◌}
 use Rattle.std.specs.Prelude.{not, if◌then◌else◌}
-use Rattle.book_core.specs.declared.claim.ClaimKind.{ClaimKind}
-use Rattle.book_core.specs.declared.claim.ClaimKind.TheVariants.{Exact, Sole, ExactIn, SoleIn}
+use Rattle.money_core.specs.declared.claim.ClaimKind.{ClaimKind}
+use Rattle.money_core.specs.declared.claim.ClaimKind.TheVariants.{Exact, Sole, ExactIn, SoleIn}
 use Rattle.journal_lines.specs.Blank.{trim_start, trim_end, trim}
 use Rattle.journal_lines.specs.Comment.{front_of}
 use Rattle.journal_lines.specs.Header.{behind_status}

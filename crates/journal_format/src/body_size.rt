@@ -9,9 +9,8 @@ ghost use Rattle.journal_format.specs.BodySize.{remarks_size, line_size, posting
 
 use crate::posting::Posting;
 use crate::posting_line::sign_len;
-use book_core::Claim;
 use journal_lines::{Status, comment_len};
-use money_core::{Price, Styles, Text, amount_len, price_len};
+use money_core::{Claim, Price, Styles, Text, amount_len, price_len};
 
 /// The most bytes of a transaction's body.
 pub(crate) const MAX_BODY: usize = 1_000_000;

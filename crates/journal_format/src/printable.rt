@@ -20,9 +20,8 @@ use crate::posting::Posting;
 use crate::printing::bytes_of;
 use crate::remark::{is_mark, mark_of};
 use crate::txn::Txn;
-use book_core::Claim;
 use journal_lines::{header_len, is_account, is_code, is_comment, is_day_number, is_description};
-use money_core::{Price, Styles, Text, Unit, is_declared, is_price};
+use money_core::{Claim, Price, Styles, Text, Unit, is_declared, is_price};
 
 /// Whether the text of a comment reads back.
 fn is_remark_text(text: &str) -> bool

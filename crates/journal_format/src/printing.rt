@@ -17,9 +17,8 @@ ghost use Rattle.journal_format.specs.PrintedParts.{postings_part, rest_part};
 
 use crate::posting::Posting;
 use crate::txn::Txn;
-use book_core::{Claim, ClaimKind};
 use journal_lines::{Status, print_comment, print_header};
-use money_core::{Cause, Price, Styles, Text, Unit, print_amount, print_price};
+use money_core::{Cause, Claim, ClaimKind, Price, Styles, Text, Unit, print_amount, print_price};
 use std::alloc::{AllocError, Global};
 
 /// The bytes of a text, if there is one.

@@ -6,8 +6,8 @@ use Rattle.std.specs.Prelude.{filter, cond, Bool, Result, OnOk, ⊤}
 use Rattle.std.specs.List.{flat_map}
 use Rattle.money_core.specs.declared.unit.Unit.{Unit as Commodity}
 use Rattle.money_core.specs.declared.cause.Cause.{Cause}
+use Rattle.money_core.specs.declared.claim.Claim.{Claim}
 use Rattle.money_core.proofs.ListLemmas.{drop_at}
-use Rattle.book_core.specs.declared.claim.Claim.{Claim}
 use Rattle.book_core.specs.Balance.{value, moved}
 use Rattle.book_core.proofs.SumLemmas.{moved-append}
 use Rattle.journal_format.specs.declared.posting.Posting.{Posting}

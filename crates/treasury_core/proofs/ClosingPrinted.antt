@@ -18,6 +18,7 @@ use Rattle.money_core.specs.declared.style.Style.{Style}
 use Rattle.money_core.specs.declared.unit.Unit.{Unit as Commodity}
 use Rattle.money_core.specs.declared.day.Day.{Day}
 use Rattle.money_core.specs.declared.price.Price.{Price}
+use Rattle.money_core.specs.declared.claim.Claim.{Claim}
 use Rattle.money_core.specs.Amount.{limit}
 use Rattle.money_core.specs.NamePart.{IsNamePart}
 use Rattle.money_core.specs.Price.{cost_unit, is_cost}
@@ -26,7 +27,6 @@ use Rattle.money_core.specs.Symbol.{is_symbol}
 use Rattle.money_core.proofs.SymbolText.{name_parts}
 use Rattle.money_core.proofs.ListLemmas.{all-append}
 use Rattle.money_core.proofs.Utf8Lemmas.{utf8_low}
-use Rattle.book_core.specs.declared.claim.Claim.{Claim}
 use Rattle.book_core.specs.declared.entry.Entry.{Entry}
 use Rattle.book_core.specs.declared.leg.Leg.{Leg}
 use Rattle.book_core.specs.declared.account.Reach.TheVariants.{Own}

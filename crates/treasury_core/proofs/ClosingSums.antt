@@ -11,10 +11,10 @@ use Rattle.std.proofs.lemmas.Int.{ints}
 use Rattle.std.proofs.lemmas.Bool.{or_parts}
 use Rattle.money_core.specs.declared.unit.Unit.{Unit as Commodity}
 use Rattle.money_core.specs.declared.day.Day.{Day}
+use Rattle.money_core.specs.declared.claim.Claim.{Claim}
 use Rattle.money_core.proofs.TestLemmas.{if_zero, zero_from_int_eq}
 use Rattle.money_core.proofs.BytesLemmas.{same_bytes, other_bytes}
 use Rattle.book_core.specs.declared.account.Reach.TheVariants.{Own}
-use Rattle.book_core.specs.declared.claim.Claim.{Claim}
 use Rattle.book_core.specs.declared.entry.Entry.{Entry}
 use Rattle.book_core.specs.declared.leg.Leg.{Leg}
 use Rattle.book_core.specs.declared.place.Until.{Until}

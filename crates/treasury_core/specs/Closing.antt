@@ -8,10 +8,10 @@ use Rattle.money_core.specs.declared.style.Style.{Style}
 use Rattle.money_core.specs.declared.unit.Unit.{Unit as Commodity}
 use Rattle.money_core.specs.declared.day.Day.{Day}
 use Rattle.money_core.specs.declared.cause.Cause.TheVariants.{UnknownBranch, NothingToClose, Limit}
+use Rattle.money_core.specs.declared.claim.Claim.{Claim}
+use Rattle.money_core.specs.declared.claim.ClaimKind.TheVariants.{Exact}
 use Rattle.book_core.specs.declared.account.Reach.TheVariants.{Own}
 use Rattle.book_core.specs.declared.place.Until.TheVariants.{Through}
-use Rattle.book_core.specs.declared.claim.Claim.{Claim}
-use Rattle.book_core.specs.declared.claim.ClaimKind.TheVariants.{Exact}
 use Rattle.book_core.specs.declared.entry.Entry.{Entry}
 use Rattle.book_core.specs.declared.refusal.Refusal.{Refusal}
 use Rattle.book_core.specs.declared.refusal.Refusal.TheVariants.{Plain}

@@ -4,8 +4,8 @@ use Rattle.std.specs.Prelude.{codes}
 use Rattle.money_core.specs.declared.mark.Mark.TheVariants.{Point}
 use Rattle.money_core.specs.declared.unit.Unit.{Unit as Commodity}
 use Rattle.money_core.specs.declared.day.Day.{Day}
-use Rattle.book_core.specs.declared.claim.Claim.{Claim}
-use Rattle.book_core.specs.declared.claim.ClaimKind.TheVariants.{Exact}
+use Rattle.money_core.specs.declared.claim.Claim.{Claim}
+use Rattle.money_core.specs.declared.claim.ClaimKind.TheVariants.{Exact}
 use Rattle.book_core.specs.declared.account.Reach.TheVariants.{Own}
 use Rattle.book_core.specs.declared.place.Until.TheVariants.{Through}
 use Rattle.book_core.specs.Balance.{balance}

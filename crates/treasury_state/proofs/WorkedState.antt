@@ -13,10 +13,10 @@ use Rattle.money_core.specs.declared.style.Style.{Style}
 use Rattle.money_core.specs.declared.mark.Mark.TheVariants.{Point}
 use Rattle.money_core.specs.declared.unit.Unit.{Unit as Commodity}
 use Rattle.money_core.specs.declared.day.Day.{Day}
+use Rattle.money_core.specs.declared.claim.Claim.{Claim}
+use Rattle.money_core.specs.declared.claim.ClaimKind.TheVariants.{SoleIn}
 use Rattle.money_core.specs.Style.{is_style, AreStyles}
 use Rattle.money_core.specs.Amount.{place_of}
-use Rattle.book_core.specs.declared.claim.Claim.{Claim}
-use Rattle.book_core.specs.declared.claim.ClaimKind.TheVariants.{SoleIn}
 use Rattle.book_core.specs.declared.account.Reach.TheVariants.{Inside}
 use Rattle.book_core.specs.declared.place.Until.TheVariants.{At}
 use Rattle.book_core.specs.declared.entry.Entry.{Entry}

@@ -3,9 +3,9 @@ use Rattle.std.specs.Prelude.{ℕ, ℤ, pos, Bool, true, false, List, [], ◌∷
 use Rattle.std.specs.List.{enumerate_from, flat_map}
 use Rattle.std.specs.Option.{option_map}
 use Rattle.money_core.specs.declared.style.Style.{Style}
+use Rattle.money_core.specs.declared.claim.ClaimKind.{ClaimKind}
+use Rattle.money_core.specs.declared.claim.ClaimKind.TheVariants.{Exact, Sole, ExactIn, SoleIn}
 use Rattle.money_core.specs.Mark.{decimal_byte}
-use Rattle.book_core.specs.declared.claim.ClaimKind.{ClaimKind}
-use Rattle.book_core.specs.declared.claim.ClaimKind.TheVariants.{Exact, Sole, ExactIn, SoleIn}
 use Rattle.book_core.specs.declared.claim.Placed.{Placed}
 use Rattle.book_core.specs.declared.leg.Leg.{Leg}
 use Rattle.journal_format.specs.CanonicalText.{body_text}

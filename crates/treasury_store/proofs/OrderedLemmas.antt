@@ -13,9 +13,9 @@ use Rattle.std.proofs.lemmas.List.Concat.{flat_map_single}
 use Rattle.sqlite.specs.Tree.{IsAscending}
 use Rattle.money_core.specs.declared.cause.Cause.{Cause}
 use Rattle.money_core.specs.declared.style.Style.{Style}
+use Rattle.money_core.specs.declared.claim.Claim.{Claim}
 use Rattle.money_core.proofs.ListLemmas.{all-append, all_weaker}
 use Rattle.money_core.proofs.BytesLemmas.{bytes_eq-refl}
-use Rattle.book_core.specs.declared.claim.Claim.{Claim}
 use Rattle.book_core.specs.declared.claim.Placed.{Placed}
 use Rattle.book_core.specs.declared.entry.Entry.{Entry}
 use Rattle.book_core.specs.declared.leg.Leg.{Leg}

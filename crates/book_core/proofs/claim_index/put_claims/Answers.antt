@@ -1,10 +1,10 @@
 use Rattle.std.proofs.Common.{ap, subst, ◌∙◌, List, get_or, pos}
 use Rattle.std.specs.Prelude.{Contains}
+use Rattle.money_core.specs.declared.claim.ClaimKind.TheVariants.{Exact}
 use Rattle.day_sums.specs.Spots.{spots_of}
 use Rattle.book_core.specs.declared.account.Reach.{Reach}
 use Rattle.book_core.specs.declared.leg.Leg.{Leg}
 use Rattle.book_core.specs.declared.claim.Placed.{Placed}
-use Rattle.book_core.specs.declared.claim.ClaimKind.TheVariants.{Exact}
 use Rattle.book_core.specs.Claim.{account_at}
 use Rattle.book_core.specs.ClaimIndex.{part_of}
 use Rattle.book_core.proofs.ClaimIndexLemmas.{found_more, found_all}

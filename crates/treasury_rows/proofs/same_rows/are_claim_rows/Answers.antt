@@ -1,6 +1,6 @@
 use Rattle.std.proofs.Common.{◌≡◌, ◌<◌, ◌∙◌, ℕ, pos, length, get_or, sym, true, false, arith, map}
+use Rattle.money_core.specs.declared.claim.ClaimKind.TheVariants.{Exact}
 use Rattle.book_core.specs.declared.claim.Placed.{Placed}
-use Rattle.book_core.specs.declared.claim.ClaimKind.TheVariants.{Exact}
 use Rattle.treasury_state.specs.declared.rows.ClaimRow.{ClaimRow}
 use Rattle.treasury_state.specs.Rows.{claim_row}
 use Rattle.treasury_state.proofs.TransferRowLemmas.{unnumbered}
