@@ -3,7 +3,7 @@
 ghost use Rattle.std.specs.Prelude.{◌≡◌, ℕ, List, IfOk};
 ghost use Rattle.std.specs.Result.{IsOkUnless};
 
-use money_core::{Cause, Copied};
+use money_core::Cause;
 use std::alloc::Global;
 use std::marker::Model;
 
@@ -41,11 +41,5 @@ impl Bytes {
         ensures { result.now ≡ self.now }
     {
         self.bytes.as_slice()
-    }
-}
-
-impl Copied for Bytes {
-    fn copy(&self) -> Result<Self, Cause> {
-        Bytes::of(*self.bytes.allocator(), self.bytes.as_slice())
     }
 }

@@ -3,14 +3,13 @@
 mod form;
 mod reading;
 
-ghost use Rattle.std.specs.Prelude.{◌≡◌, IfOk};
-ghost use Rattle.std.specs.Result.{IsOkUnless};
+ghost use Rattle.std.specs.Prelude.{◌≡◌};
 ghost use Rattle.treasury_requests.specs.Request.{is_report};
 
 use crate::bytes::Bytes;
 pub use form::{Form, PartForm};
 pub(crate) use form::{form_of, text_at, yes_or_no};
-use money_core::{Cause, Copied, Day, Text};
+use money_core::{Day, Text};
 pub(crate) use reading::owned_text;
 pub use reading::{read_command, read_line, request_of};
 
@@ -124,153 +123,6 @@ impl Request {
             Request::Accounts { .. } => true,
             Request::Transfers { .. } => true,
             _ => false,
-        }
-    }
-}
-
-/// An equal text, if there is one.
-fn copied(text: &Option<Text>) -> Result<Option<Text>, Cause>
-    ensures equal { IfOk result (λ copy. copy ≡ text.now) }
-    ensures memory { IsOkUnless result Cause.OutOfMemory }
-{
-    match text {
-        Some(text) => {
-            let copy = text.copy()?;
-            Ok(Some(copy))
-        }
-        None => Ok(None),
-    }
-}
-
-impl Copied for WrittenPart {
-    fn copy(&self) -> Result<Self, Cause> {
-        let key = self.key.copy()?;
-        let amount = self.amount.copy()?;
-        Ok(WrittenPart { key, amount })
-    }
-}
-
-/// An equal part, if there is one.
-fn copied_part(part: &Option<WrittenPart>) -> Result<Option<WrittenPart>, Cause>
-    ensures equal { IfOk result (λ copy. copy ≡ part.now) }
-    ensures memory { IsOkUnless result Cause.OutOfMemory }
-{
-    match part {
-        Some(part) => {
-            let copy = part.copy()?;
-            Ok(Some(copy))
-        }
-        None => Ok(None),
-    }
-}
-
-impl Copied for Request {
-    fn copy(&self) -> Result<Self, Cause> {
-        match self {
-            Request::Branch { name } => {
-                let name = name.copy()?;
-                Ok(Request::Branch { name })
-            }
-            Request::Commodity { sample } => {
-                let sample = sample.copy()?;
-                Ok(Request::Commodity { sample })
-            }
-            Request::Import { branch, journal } => {
-                let branch = branch.copy()?;
-                let journal = journal.copy()?;
-                Ok(Request::Import { branch, journal })
-            }
-            Request::Dispatch {
-                id,
-                from,
-                to,
-                day,
-                amount,
-                account,
-            } => {
-                let id = id.copy()?;
-                let from = from.copy()?;
-                let to = to.copy()?;
-                let amount = amount.copy()?;
-                let account = account.copy()?;
-                Ok(Request::Dispatch {
-                    id,
-                    from,
-                    to,
-                    day: *day,
-                    amount,
-                    account,
-                })
-            }
-            Request::Receive {
-                id,
-                branch,
-                day,
-                account,
-                part,
-            } => {
-                let id = id.copy()?;
-                let branch = branch.copy()?;
-                let account = account.copy()?;
-                let part = copied_part(part)?;
-                Ok(Request::Receive {
-                    id,
-                    branch,
-                    day: *day,
-                    account,
-                    part,
-                })
-            }
-            Request::Lock { branch, day } => {
-                let branch = branch.copy()?;
-                Ok(Request::Lock { branch, day: *day })
-            }
-            Request::Close {
-                branch,
-                day,
-                accounts,
-                into,
-            } => {
-                let branch = branch.copy()?;
-                let accounts = copied(accounts)?;
-                let into = copied(into)?;
-                Ok(Request::Close {
-                    branch,
-                    day: *day,
-                    accounts,
-                    into,
-                })
-            }
-            Request::Balance { branch, day } => {
-                let branch = branch.copy()?;
-                Ok(Request::Balance { branch, day: *day })
-            }
-            Request::Register {
-                branch,
-                account,
-                tag,
-            } => {
-                let branch = branch.copy()?;
-                let account = account.copy()?;
-                let tag = copied(tag)?;
-                Ok(Request::Register {
-                    branch,
-                    account,
-                    tag,
-                })
-            }
-            Request::Transit { day } => Ok(Request::Transit { day: *day }),
-            Request::Journal { branch } => {
-                let branch = branch.copy()?;
-                Ok(Request::Journal { branch })
-            }
-            Request::Branches => Ok(Request::Branches),
-            Request::Commodities => Ok(Request::Commodities),
-            Request::Accounts { branch } => {
-                let branch = branch.copy()?;
-                Ok(Request::Accounts { branch })
-            }
-            Request::Transfers { day } => Ok(Request::Transfers { day: *day }),
         }
     }
 }
