@@ -64,8 +64,7 @@ use Rattle.treasury_core.specs.Step.{has_key, is_received_so, is_too_much, has_b
 use Rattle.treasury_core.specs.Step.{receipt_refusal, held_reply, receipt_reply, receive_reply, entering_refusal}
 use Rattle.treasury_core.specs.Step.{close_refusal, closed_reply, reply}
 use Rattle.treasury_core.specs.Fits.{Fits}
-use Rattle.treasury_core.proofs.ClosingReply.{not_more}
-use Rattle.treasury_core.proofs.ClosingRecord.{closing_record_good}
+use Rattle.treasury_core.proofs.ClosingReply.{not_more, closing_record_good}
 use Rattle.treasury_core.proofs.ReplyLemmas.{new_good, dispatch_record_good, may_receive, receipt_record_good}
 use Rattle.treasury_laws.proofs.LateEntryLemmas.{all_at}
 use Rattle.treasury_api.specs.Answer.{IsPrintableFailure, IsPrintableRefusal}

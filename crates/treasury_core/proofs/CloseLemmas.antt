@@ -29,8 +29,7 @@ use Rattle.treasury_core.specs.Choice.{is_selected, target_in, choice_comments, 
 use Rattle.treasury_core.specs.Closing.{closing_record, closing_in, closing_answer, closing_reply}
 use Rattle.treasury_core.specs.Step.{unless, reply, added, entering_refusal, close_refusal, closed_reply}
 use Rattle.treasury_core.proofs.ClosingPrinted.{closing_legs}
-use Rattle.treasury_core.proofs.ClosingReply.{of_branch, not_more}
-use Rattle.treasury_core.proofs.ClosingRecord.{is_closing_of, closing_record_good}
+use Rattle.treasury_core.proofs.ClosingReply.{of_branch, not_more, is_closing_of, closing_record_good}
 
 pub no_branch : (f : Federation) (x : Close) → has_branch f x.branch ≡ false
     → reply f (cmd.Close x) ≡ Err (Plain UnknownBranch)

@@ -22,11 +22,10 @@ use Rattle.treasury_state.proofs.FairLemmas.{in_step, good_marked}
 use Rattle.treasury_state.proofs.OrderLemmas.{own_ids}
 use Rattle.treasury_state.proofs.DispatchLemmas.{IsWhole, all_whole}
 use Rattle.treasury_core.proofs.PassLemmas.{inserted_elsewhere, inserted_here, received_elsewhere, received_here}
-use Rattle.treasury_core.proofs.GetsLemmas.{gets, keeps, no_receipt}
-use Rattle.treasury_core.proofs.ReceiveLemmas.{IsReceipt, good_with, asks_more}
-use Rattle.treasury_core.proofs.OrderLemmas.{sorted_inserted, sorted_received}
+use Rattle.treasury_core.proofs.ReceiveLemmas.{gets, keeps, no_receipt, IsReceipt, good_with, asks_more}
+use Rattle.treasury_core.proofs.TransferLemmas.{sorted_inserted, sorted_received, other_branches, all-inserted}
+use Rattle.treasury_core.proofs.TransferLemmas.{all-received}
 use Rattle.treasury_core.proofs.ChangeLemmas.{length-changed, names-changed, all-changed}
-use Rattle.treasury_core.proofs.TransferLemmas.{other_branches, all-inserted, all-received}
 use Rattle.treasury_core.proofs.KeepLemmas.{branch_entered, same_names, transfers-changed}
 
 -- a transfer's record comes into its branch

@@ -64,12 +64,11 @@ use Rattle.treasury_core.specs.Step.{has_nothing_left, receipt_refusal, held_rep
 use Rattle.treasury_core.specs.Fits.{Fits}
 use Rattle.treasury_core.specs.Run.{Turn, Replies, after_turn, IsRun, state_after}
 use Rattle.treasury_core.proofs.FileLemmas.{records_good, all-new, own-new, all_fresh, neither_refusal}
-use Rattle.treasury_core.proofs.PartLemmas.{left_high}
+use Rattle.treasury_core.proofs.TransferLemmas.{left_high}
 use Rattle.treasury_core.proofs.ReceiveLemmas.{IsReceipt}
 use Rattle.treasury_core.proofs.KeepLemmas.{good_branch, good_style, own_entries, good_entered, good_locked}
 use Rattle.treasury_core.proofs.KeepLemmas.{good_closed}
-use Rattle.treasury_core.proofs.ClosingReply.{not_more}
-use Rattle.treasury_core.proofs.ClosingRecord.{closing_record_good, closing_record_own}
+use Rattle.treasury_core.proofs.ClosingReply.{not_more, closing_record_good, closing_record_own}
 use Rattle.treasury_core.proofs.DispatchLemmas.{good_dispatched, good_received}
 use Rattle.treasury_core.proofs.ProductLemmas.{IsWritable, dispatch_good, receipt_good}
 

@@ -43,7 +43,7 @@ use Rattle.treasury_core.specs.Step.{unless, transfer_of, is_dispatched_so, disp
 use Rattle.treasury_core.specs.Step.{receipt_of, has_key, is_amount_so, is_received_so, has_bad_key, has_nothing_left}
 use Rattle.treasury_core.specs.Step.{receipt_refusal, held_reply, receipt_reply, reply, added, delta, Decides}
 use Rattle.treasury_core.specs.Fits.{IsReceive}
-use Rattle.treasury_core.proofs.PartLemmas.{left_low, left_high}
+use Rattle.treasury_core.proofs.TransferLemmas.{left_low, left_high}
 
 -- what was tested of equal texts, and looked up
 pub same_test : {x y a b : List ℕ} {t : Bool} → x ≡ a → y ≡ b → bytes_eq x y ≡ t → bytes_eq a b ≡ t

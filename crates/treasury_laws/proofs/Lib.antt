@@ -2,15 +2,10 @@ pub mod HistoryLemmas
 pub mod JoinedLemmas
 pub mod OwnLemmas
 pub mod LockLemmas
-pub mod GrowingLemmas
-pub mod EnteredLemmas
 pub mod SoundLemmas
 pub mod LateEntryLemmas
 pub mod WorkedHistory
 pub mod ElsewhereLemmas
-pub mod PrintedLemmas
-pub mod SameStateLemmas
 pub mod RowsLawLemmas
-pub mod UntouchedLemmas
 pub mod AcceptedClosing
 pub mod HeadlineLemmas

@@ -32,7 +32,7 @@ use Rattle.treasury_core.specs.Closing.{closing_in}
 use Rattle.treasury_core.specs.Step.{goes_back, reply, done, added, after, delta, new_records, transfer_of, receipt_of}
 use Rattle.treasury_core.specs.Step.{receipt_additions, with_receipt_of, closing_records, IsNew}
 use Rattle.treasury_core.specs.Run.{Turn, Replies, after_turn, IsRun, state_after}
-use Rattle.treasury_core.proofs.ClosingRecord.{made_on}
+use Rattle.treasury_core.proofs.ClosingReply.{made_on}
 use Rattle.treasury_core.proofs.KeepLemmas.{later_lock}
 use Rattle.treasury_core.proofs.ReplyLemmas.{IsDone, replied, lock_forward, accepted_new, sent, taken, unlocked_forward}
 use Rattle.treasury_core.proofs.ReplyLemmas.{shut}

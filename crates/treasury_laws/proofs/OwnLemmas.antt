@@ -1,6 +1,6 @@
--- a branch's own journal, entered again
+-- what an accepted file adds to its branch; a branch's own transactions, printed, read and entered again
 use Rattle.std.proofs.Common.{◌≡◌, ◌+◌, ◌-◌, ℕ, Bool, true, false, ◌||◌, ◌&&◌, List, [], ◌∷◌, ◌++◌, length, refl, ap}
-use Rattle.std.proofs.Common.{◌∙◌, sym, subst, arith, inl, inr, append-nil, Option, Some, None, Ok, Err}
+use Rattle.std.proofs.Common.{◌∙◌, sym, subst, arith, inl, inr, append-nil, Option, Some, None, Ok, Err, suc}
 use Rattle.std.proofs.Math.Bool.{or-true}
 use Rattle.std.specs.Prelude.{if◌then◌else◌, Result, not}
 use Rattle.std.specs.List.{list_any, AllByRecursion}
@@ -18,10 +18,14 @@ use Rattle.book_core.specs.GoodBook.{IsGoodBook, verdict}
 use Rattle.book_core.proofs.GoodBookLemmas.{verdict_good, good_nil}
 use Rattle.journal_format.specs.declared.txn.Txn.{Txn}
 use Rattle.journal_format.specs.declared.txn.Located.{Located}
-use Rattle.journal_format.specs.CanonicalText.{body_text}
+use Rattle.journal_format.specs.CanonicalText.{body_text, txn_lines, journal_text}
+use Rattle.journal_format.specs.Pieces.{Reads}
+use Rattle.journal_format.specs.Printable.{IsPrintable, FitsText, located_from}
+use Rattle.journal_format.proofs.JournalLemmas.{lists_read_back}
+use Rattle.journal_format.proofs.FaultLemmas.{one_list}
 use Rattle.journal_balance.specs.Legs.{legs_of}
 use Rattle.treasury_state.specs.declared.record.Record.{Record}
-use Rattle.treasury_state.specs.Federation.{Federation, has_branch, records_of, lock_of, entries, book_of}
+use Rattle.treasury_state.specs.Federation.{Federation, has_branch, records_of, lock_of, entries, book_of, txns_in}
 use Rattle.treasury_state.specs.Mark.{is_repeat, mark_of}
 use Rattle.treasury_state.specs.Joined.{with_entered}
 use Rattle.treasury_state.specs.Good.{IsGoodRecord, IsGoodState}
@@ -32,9 +36,12 @@ use Rattle.treasury_core.specs.declared.command.Command.TheVariants as cmd
 use Rattle.treasury_core.specs.Step.{unless, reply, done, after, step, entered, number_in, fault_on, unbalanced}
 use Rattle.treasury_core.specs.Step.{recorded, records_from, records_in_file, refused_in, new_in, new_records}
 use Rattle.treasury_core.specs.Step.{enter_refusal}
+use Rattle.treasury_core.specs.declared.command.Command.TheVariants.{Enter}
 use Rattle.treasury_core.proofs.FileLemmas.{length-new, length-records}
 use Rattle.treasury_core.proofs.JoinedLemmas.{with_none}
-use Rattle.treasury_laws.specs.History.{IsAmong, IsOwn, IsOwnJournal}
+use Rattle.treasury_core.proofs.ReplyLemmas.{accepted}
+use Rattle.treasury_laws.specs.History.{IsAmong, IsOwn, IsOwnJournal, AreAmong}
+use Rattle.treasury_laws.proofs.HistoryLemmas.{records-entered}
 
 pub among_all : (P : Record → Type 0) (rs : List Record) (r : Record) → IsAmong r rs → AllByRecursion P rs → P r
 among_all P [] r a h = absurd a
@@ -188,3 +195,61 @@ accepted_counts f name file new repeated h =
     let few = length-new (records_of f name) (records_in_file f.styles file) in
     let all = length-records f.styles [] file in
     (counted_.0, omega (arith, counted_.0, counted_.1, few, all))
+
+all_printable : (styles : List Style) (all rs : List Record) → AllByRecursion (IsGoodRecord styles) all
+    → AreAmong all rs → AllByRecursion (IsPrintable styles) (txns_in rs)
+all_printable styles all [] good among = tt
+all_printable styles all (r ∷ rs) good among =
+    ((among_all (IsGoodRecord styles) all r among.0 good).printable, all_printable styles all rs good among.1)
+
+pub printed_reads : (f : Federation) (name : List ℕ) (rs : List Record) → IsGoodState f
+    → AreAmong (records_of f name) rs → FitsText f.styles (txns_in rs)
+    → Reads f.styles (journal_text f.styles (txns_in rs)) (located_from f.styles 1 (txns_in rs))
+printed_reads f name rs good among fits =
+    let all = of_branch (λ xs. AllByRecursion (IsGoodRecord f.styles) xs) f.styles f.branches name tt (λ b h. h.records)
+    good.branches in
+    lists_read_back f.styles good.styles (txns_in rs) (all_printable f.styles (records_of f name) rs all among) fits
+
+-- what is read is the branch's own
+printed_own : (styles : List Style) (all : List Record) (n : ℕ) (rs : List Record) → AreAmong all rs
+    → IsOwnJournal all (located_from styles n (txns_in rs))
+printed_own styles all n [] among = tt
+printed_own styles all n (r ∷ rs) among = (
+  record { holder = r; among = among.0; same = refl },
+  printed_own styles all (n + (length (txn_lines styles r.txn) + 1)) rs among.1,
+)
+
+printed_length : (styles : List Style) (n : ℕ) (rs : List Record)
+    → length (located_from styles n (txns_in rs)) ≡ length rs
+printed_length styles n [] = refl
+printed_length styles n (r ∷ rs) = ap suc (printed_length styles (n + (length (txn_lines styles r.txn) + 1)) rs)
+
+pub printed_enters : (f : Federation) (name : List ℕ) (rs : List Record) (file : List Located) → IsGoodState f
+    → has_branch f name ≡ true → AreAmong (records_of f name) rs → FitsText f.styles (txns_in rs)
+    → Reads f.styles (journal_text f.styles (txns_in rs)) file
+    → (reply f (Enter name file) ≡ Ok (Entered 0 (length rs))) × ((step f (Enter name file)).next ≡ f)
+printed_enters f name rs file good here among fits reads =
+    let same : file ≡ located_from f.styles 1 (txns_in rs) =
+    one_list f.styles (journal_text f.styles (txns_in rs)) file (located_from f.styles 1 (txns_in rs)) reads
+    (printed_reads f name rs good among fits) in
+    let own =
+    subst (IsOwnJournal (records_of f name)) (sym same) (printed_own f.styles (records_of f name) 1 rs among) in
+    let answer = own_reply f name file good here own in (
+      answer ∙ ap (λ (n : ℕ). let r : Result Answer Refusal = Ok (Entered 0 n) in r)
+          (ap (λ (xs : List Located). length xs) same ∙ printed_length f.styles 1 rs),
+      none_new_stays f name file (length file) answer,
+    )
+
+done_records : (f : Federation) (name : List ℕ) (file : List Located) (a : Answer) → reply f (Enter name file) ≡ Ok a
+    → records_of (done f (Enter name file)) name ≡ records_of f name ++ new_records f name file
+unfolding done
+done_records f name file a h =
+    records-entered (new_records f name file) f.branches name name (accepted f name file a h).there
+    ∙ ap (λ (t : Bool). records_of f name ++ (if t then new_records f name file else [])) (bytes_eq-refl name)
+
+pub entered_records : (f : Federation) (name : List ℕ) (file : List Located) (new repeated : ℕ)
+    → reply f (Enter name file) ≡ Ok (Entered new repeated)
+    → records_of (step f (Enter name file)).next name ≡ records_of f name ++ new_records f name file
+entered_records f name file new repeated h =
+    ap (λ (r : Result Answer Refusal). records_of (after f (Enter name file) r) name) h ∙ done_records f name file
+    (Entered new repeated) h

@@ -43,7 +43,7 @@ use Rattle.treasury_state.proofs.OrderLemmas.{own_ids}
 use Rattle.treasury_state.proofs.TransferRowLemmas.{unnumbered, name_found}
 use Rattle.treasury_state.proofs.PartRowLemmas.{IsOf, same_part, own_rows as part_own_rows}
 use Rattle.treasury_state.proofs.PartRowLemmas.{other_rows as part_other_rows}
-use Rattle.treasury_laws.proofs.SameStateLemmas.{good_records}
+use Rattle.treasury_laws.proofs.JoinedLemmas.{good_records}
 
 -- lists with the same rows are equal, where items are
 same_numbered : {X Y : Type 0} (g : ℕ → X → Y) (Q : X → Type 0)

@@ -38,7 +38,7 @@ use Rattle.treasury_state.proofs.BackLemmas.{room_back}
 use Rattle.treasury_state.proofs.OrderLemmas.{own_ids}
 use Rattle.treasury_state.proofs.PlaceLemmas.{changed_past}
 use Rattle.treasury_laws.specs.History.{Grows}
-use Rattle.treasury_laws.proofs.GrowingLemmas.{grows_twice}
+use Rattle.treasury_laws.proofs.HeadlineLemmas.{grows_twice}
 use Rattle.treasury_tables.specs.declared.change.Change.TheVariants as change
 use Rattle.treasury_tables.specs.Rows.{Tables, locked, received as takes, joined as written}
 use Rattle.treasury_tables.proofs.SameLemmas.{Same, same_refl, same_trans, same_joined, other_units, joined-append}

@@ -1,5 +1,5 @@
 use Rattle.treasury_core.proofs.ClosingLemmas.{closed, moved_on, gained}
-use Rattle.treasury_laws.proofs.UntouchedLemmas.{untouched, unmoved_before}
+use Rattle.treasury_laws.proofs.AcceptedClosing.{untouched, unmoved_before}
 use Rattle.treasury_laws.proofs.law.closed_law.Goals as goal
 
 pub returns-clause-closed : goal.returns-clause-closed

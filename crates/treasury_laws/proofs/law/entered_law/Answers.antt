@@ -1,7 +1,6 @@
 use Rattle.treasury_core.specs.declared.command.Answer.TheVariants.{Entered}
 use Rattle.treasury_core.proofs.ReplyLemmas.{accepted_new}
-use Rattle.treasury_laws.proofs.OwnLemmas.{accepted_counts}
-use Rattle.treasury_laws.proofs.EnteredLemmas.{entered_records}
+use Rattle.treasury_laws.proofs.OwnLemmas.{accepted_counts, entered_records}
 use Rattle.treasury_laws.proofs.law.entered_law.Goals as goal
 
 pub returns-clause-records : goal.returns-clause-records

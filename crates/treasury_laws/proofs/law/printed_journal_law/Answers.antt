@@ -1,4 +1,4 @@
-use Rattle.treasury_laws.proofs.PrintedLemmas.{printed_reads, printed_enters}
+use Rattle.treasury_laws.proofs.OwnLemmas.{printed_reads, printed_enters}
 use Rattle.treasury_laws.proofs.law.printed_journal_law.Goals as goal
 
 pub returns-clause-reads : goal.returns-clause-reads
