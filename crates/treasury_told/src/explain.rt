@@ -20,12 +20,14 @@ pub(crate) mod standing;
 mod touching;
 pub(crate) mod transfers;
 
-ghost use Rattle.std.specs.Prelude.{◌≡◌, ℕ, List, ◌++◌, OnOk};
+ghost use Rattle.std.specs.Prelude.{◌≡◌, ℕ, List, [], ◌++◌, OnOk};
 ghost use Rattle.std.specs.Result.{IsOkUnless};
+ghost use Rattle.money_core.specs.declared.cause.Cause.{Cause as Reason};
 ghost use Rattle.book_core.specs.declared.refusal.Failure.{Failure};
 ghost use Rattle.book_core.specs.declared.refusal.Refusal.TheVariants.{Plain, ClaimFailed};
 ghost use Rattle.treasury_told.specs.declared.explain.at_fault.Bar.{Bar as Hindrance};
 ghost use Rattle.treasury_told.specs.AtFault.{cause_of};
+ghost use Rattle.treasury_told.specs.Detail.{IsBare};
 ghost use Rattle.treasury_told.specs.Failure.{TellsFailure};
 ghost use Rattle.treasury_told.specs.Passing.{IsPassed, IsPassedText, TellsPassed};
 ghost use Rattle.treasury_told.specs.Pieces.{origin_text, sentence_line};
@@ -112,7 +114,10 @@ fn explain_plain<L: Ledger>(
     request: &Request,
     cause: Cause,
     out: &mut Vec<u8>,
-) -> Result<(), Cause> {
+) -> Result<(), Cause>
+    ensures bare { IsBare request.now cause → OnOk result
+        (out.new.items ≡ out.old.items ++ sentence_line [] cause) }
+{
     push_sentence(b"", cause, out)?;
     push_held(alloc, state, request, cause, out)?;
     push_closing(alloc, state, request, cause, out)
@@ -189,6 +194,8 @@ fn explain_cause<L: Ledger>(
         (TellsRefused state.now request.now name source.now journal bar out.old.items out.new.items) }
     ensures passed { (name journal : List ℕ) → IsPassed state.now request.now name journal → cause ≡ Cause.Limit
         → OnOk result (TellsPassed state.now name source.now journal out.old.items out.new.items) }
+    ensures bare { IsBare request.now cause → OnOk result
+        (out.new.items ≡ out.old.items ++ sentence_line [] cause) }
 {
     let Request::Import { branch, journal } = request else {
         return explain_plain(alloc, state, request, cause, out);
@@ -226,6 +233,9 @@ pub fn explain<L: Ledger>(
     ensures passed { (name journal : List ℕ) → IsPassed state.now request.now name journal
         → refusal.now ≡ Plain Cause.Limit → OnOk result
         (TellsPassed state.now name source.now journal out.old.items out.new.items) }
+    // Of a refusal by a cause alone of which no more is said than its sentence, that is all.
+    ensures bare { (cause : Reason) → refusal.now ≡ Plain cause → IsBare request.now cause → OnOk result
+        (out.new.items ≡ out.old.items ++ sentence_line [] cause) }
 {
     match refusal {
         Refusal::Plain(cause) => explain_cause(alloc, state, request, source, *cause, out),

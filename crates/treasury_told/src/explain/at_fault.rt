@@ -60,7 +60,8 @@ pub enum Bar {
 
 /// The one of a cause.
 pub fn bar_of(cause: Cause) -> Option<Bar>
-    ensures { (bar : Hindrance) → cause ≡ cause_of bar → result ≡ Some bar }
+    ensures is { (bar : Hindrance) → cause ≡ cause_of bar → result ≡ Some bar }
+    ensures only { IfSome result (λ bar. cause ≡ cause_of bar) }
 {
     match cause {
         Cause::MarkClash => Some(Bar::Clash),

@@ -130,7 +130,7 @@ pub fn push_closing<L: Ledger>(
     out: &mut Vec<u8>,
 ) -> Result<(), Cause>
     // Of a refusal of which no more is said than its sentence, nothing is appended.
-    ensures bare { has_closing_detail cause ≡ false → OnOk result (out.new.items ≡ out.old.items) }
+    ensures bare { has_closing_detail request.now cause ≡ false → OnOk result (out.new.items ≡ out.old.items) }
 {
     let Request::Close {
         branch,
