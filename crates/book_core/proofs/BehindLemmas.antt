@@ -1,4 +1,4 @@
--- sums over entries that come behind others, by their own numbers
+-- sums over entries that come after others, by their own numbers
 use Rattle.std.proofs.Common.{◌≡◌, ℕ, ◌+◌, ◌-◌, ◌≤◌, Bool, true, false, ◌&&◌, List, [], ◌∷◌, arith, refl, ap, ◌∙◌, sym}
 use Rattle.std.proofs.Common.{subst, nat_eq, nat_lt, ℤ, pos, ◌+ℤ◌}
 use Rattle.std.specs.Prelude.{if◌then◌else◌}

@@ -80,7 +80,7 @@ room_for reach rows b e legs sums within f = record {
     moved_one : (u : Commodity) → turnover u (e ∷ []) ≡ moved u legs
     moved_one u = ap (moved u) (append-nil e.legs ∙ sym f)
 
--- the entry that comes behind the book has the number after its length
+-- the entry that comes after the book has the number after its length
 pub sums_add : (reach : Reach) (old now : DaySums) (b : List Entry) (e : Entry) (legs : List Leg) (n : ℕ)
     → AreSums reach old b → legs ≡ e.legs → n ≡ length b + 1 → AreRaised reach legs e.day n old now
     → AreSums reach now (b ++ e ∷ [])

@@ -1,4 +1,4 @@
--- legs behind a limit
+-- legs after a limit
 use Rattle.std.proofs.Common.{◌≡◌, ℕ, ◌+◌, Bool, true, false, ◌&&◌, List, [], ◌∷◌, refl, arith, nat_eq, nat_lt, pos}
 use Rattle.std.proofs.Common.{◌+ℤ◌}
 use Rattle.std.specs.Prelude.{if◌then◌else◌, int_lt, cond}
@@ -50,7 +50,7 @@ until_later : (limit : Until) (day : Day) (n k : ℕ) → is_until limit (record
 until_later (At p) day n k h = place_later day n k p h
 until_later (Through d) day n k h = h
 
--- where a leg is behind the limit, it adds nothing, and neither do those after it
+-- where a leg is after the limit, it adds nothing, and neither do those after it
 pub total_later : (reach : Reach) (a : List ℕ) (u : Commodity) (limit : Until) (day : Day) (n k : ℕ) (legs : List Leg)
     → is_until limit (record { day = day; entry = n; leg = k }) ≡ false
     → total (counts reach a u limit) (posted_legs day n k legs) ≡ pos 0

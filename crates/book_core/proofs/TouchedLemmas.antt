@@ -201,7 +201,7 @@ posted_entry least n (e ∷ es) y all h =
     by_case more (inr m) =
         let p = more m in (p.0, omega (arith, p.1), Contains-append_right e.legs (legs_of es) y.leg p.2)
 
--- every assertion of a reach that is touched is at a spot behind the first day, in the row of an account of which the
+-- every assertion of a reach that is touched is at a spot after the first day, in the row of an account of which the
 -- reach takes in one of the legs
 pub touched_place : (reach : Reach) (b e : List Entry) (index : ClaimIndex) (part : NamedSpots) (rows : List ℕ)
     (least : Day) (places : List Place) → part ≡ part_of reach index

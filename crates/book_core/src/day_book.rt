@@ -1,4 +1,4 @@
-//! A ledger's book with new entries behind it, whose balances are found by sums.
+//! A ledger's book with new entries after it, whose balances are found by sums.
 
 ghost use Rattle.std.specs.Prelude.{◌≡◌, ◌≤◌, ◌<◌, ◌-◌, ◌⊎◌, length, slice_index_or, IfSome, None};
 ghost use Rattle.book_core.specs.Balance.{turnover};
@@ -15,7 +15,7 @@ use crate::turnover_table::next_moved;
 use money_core::Unit;
 use std::marker::Model;
 
-/// A book within the limits on count and turnover: entries with their sums, and new ones behind them. Clauses see one
+/// A book within the limits on count and turnover: entries with their sums, and new ones after them. Clauses see one
 /// list.
 #[derive(Drop)]
 pub struct DayBook<'a> {

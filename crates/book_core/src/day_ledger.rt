@@ -30,11 +30,11 @@ use std::marker::Model;
 ///
 /// `balance` and `balance_in` are one search; `len`, `accounts` and `empty` cost nothing. `check` is one pass over the
 /// new legs for each of their commodities, a search for each account that takes in one of them, and a look at the
-/// assertions behind the first new day that look at the account of one of them, or take it in; then, for each assertion
+/// assertions after the first new day that look at the account of one of them, or take it in; then, for each assertion
 /// that is reached, a few searches, the legs of its own entry up to its own and a pass over the new ones, and for `==`
 /// and `==*` as much for each commodity. Where there are many of both, it takes sums of the new entries, and passes
 /// over none of them; and where an entry has many assertions, it takes sums of its legs for those on one account alone.
-/// `add` is, for each leg and each account that takes it in, a search and the days of one row behind the entry's own.
+/// `add` is, for each leg and each account that takes it in, a search and the days of one row after the entry's own.
 #[derive(Drop)]
 pub struct DayLedger {
     entries: Vec<Entry>,
@@ -58,7 +58,7 @@ impl Model for DayLedger {
 }
 
 impl DayLedger {
-    /// The ledger's book with new entries behind it.
+    /// The ledger's book with new entries after it.
     fn book_with<'a>(&'a self, new: NewEntries<'a>) -> DayBook<'a>
         requires fit { AllByRecursion IsFit new }
         requires room { IsWithin (self.now ++ new) }

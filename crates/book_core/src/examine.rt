@@ -57,7 +57,7 @@ fn fault_at(book: &DayBook<'_>, own: &Option<OwnLegs>, place: Place) -> Option<F
     }
 }
 
-/// The first failure by place among the book's assertions at the places; it looks at no other, and at none behind it.
+/// The first failure by place among the book's assertions at the places; it looks at no other, and at none after it.
 pub fn first_at(book: &DayBook<'_>, places: &[Place], count: &mut Count) -> Option<Failure>
     requires fit { AllByRecursion IsFit book.now }
     requires places { ArePlaces book.now places.now }

@@ -1,4 +1,4 @@
-//! New entries that come behind a book.
+//! New entries that come after a book.
 
 ghost use Rattle.std.specs.Prelude.{◌≡◌, ◌+◌, ◌<◌, ◌^◌, List, length, IfOk};
 ghost use Rattle.std.specs.Result.{IsOkUnless};
@@ -57,7 +57,7 @@ impl<'a> Model for NewEntries<'a> {
     ghost invariant = { λ n. IfSome n.sums (λ sums. AreSumsOf sums n.entries.now) };
 }
 
-/// The same question to the entries behind the first `count` alone, which are numbered from 1 there.
+/// The same question to the entries after the first `count` alone, which are numbered from 1 there.
 ///
 /// A place among the first `count` becomes one of entry 0, which is before every entry.
 fn behind<'q>(query: &Query<'q>, count: usize) -> Query<'q>
@@ -105,7 +105,7 @@ impl<'a> NewEntries<'a> {
         self.entries
     }
 
-    /// What they add to a balance where they come behind `count` others. By sums it costs what a balance costs, and
+    /// What they add to a balance where they come after `count` others. By sums it costs what a balance costs, and
     /// else one pass over the entries.
     pub fn sum_behind(&self, query: &Query<'_>, count: usize) -> i64
         requires room { HasRoom self.now }

@@ -29,7 +29,7 @@ pub const MAX_ENTRIES: usize = 50_000;
 /// Each balance is one pass over all legs; `len`, `accounts` and `empty` cost nothing. `check` is one pass over all
 /// legs for each commodity of the new ones; then, for each assertion of the book and of the new entries, one pass over
 /// all legs, and for `==` and `==*` up to one more for each leg. It takes no memory. `add` is a search among the sorted
-/// accounts for each leg, and moves the accounts behind the first new one, each once.
+/// accounts for each leg, and moves the accounts after the first new one, each once.
 #[derive(Drop)]
 pub struct PlainLedger {
     entries: Vec<Entry>,

@@ -148,7 +148,7 @@ fn push_touched(
     Ok(())
 }
 
-/// A day that is not behind that of any entry.
+/// A day that is not after that of any entry.
 fn first_day(entries: &[Entry]) -> Day
     ensures { AllByRecursion (λ (e : Line). result.0 ≤ℤ e.day.0) entries.now }
 {
@@ -163,7 +163,7 @@ fn first_day(entries: &[Entry]) -> Day
 
 /// Puts the places of the book's assertions of that reach last that the new entries touch; one may come twice.
 ///
-/// It looks at the assertions of that reach behind the first new day, on the accounts of new legs, and for `Inside` on
+/// It looks at the assertions of that reach after the first new day, on the accounts of new legs, and for `Inside` on
 /// those above them.
 fn push_reached(
     places: &mut Vec<Place>,

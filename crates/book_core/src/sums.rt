@@ -58,7 +58,7 @@ impl Sums {
         }
     }
 
-    /// Adds the entry, which comes behind the entries. On 40 they are the sums of the entries alone.
+    /// Adds the entry, which comes after the entries. On 40 they are the sums of the entries alone.
     ///
     /// All room is made before a sum changes: what is opened holds the sum before it.
     pub fn add(&mut self, entries: &[Entry], entry: &Entry) -> Result<(), Cause>

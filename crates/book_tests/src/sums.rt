@@ -175,7 +175,7 @@ fn what_is_opened_changes_no_sum(rt: HostRuntime) {
     assert_sums(&rt, &sums, &[("b", USD, 10, 0, 0)]);
 }
 
-/// Asserts of each row the numbers of the account's spots behind the day.
+/// Asserts of each row the numbers of the account's spots after the day.
 fn assert_behind(rt: &impl Abort, spots: &NamedSpots, rows: &[(&str, i32, &[usize])]) {
     for (account, day, numbers) in rows {
         let row = spots

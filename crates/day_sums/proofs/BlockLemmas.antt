@@ -91,7 +91,7 @@ block_last : (k : ℤ) → block_of (last_of k) ≡ k
 block_last (pos m) = omega (arith, ints)
 block_last (negsuc m) = omega (arith, ints)
 
--- a day is behind the last day of the block before its own
+-- a day is after the last day of the block before its own
 before_day : (d : ℤ) → last_of (block_of d +ℤ negsuc 0) <ℤ d
 before_day d = by_case (cases_le d (last_of (block_of d +ℤ negsuc 0)))
   where
@@ -112,7 +112,7 @@ between_last k d h l = by_case (cases_le (block_of d) (k +ℤ negsuc 0))
 test_last : (d k : ℤ) → int_le (block_of d) k ≡ int_le d (last_of k)
 test_last d k = same_test (block_of d) k d (last_of k) (through_last d k) (last_through d k)
 
--- what is in an earlier block, or in the same one and not behind, is not behind
+-- what is in an earlier block, or in the same one and not after, is not after
 test_day : (at d q : ℤ) →
     share q (int_le (block_of at) (block_of d +ℤ negsuc 0))
     +ℤ share q (int_eq (block_of at) (block_of d) && int_le at d)
@@ -207,7 +207,7 @@ module _ (r s : Spread) (at q : ℤ) (tops : RaisedPoints (block_of at) q r.0 s.
     some = still_some r.0 s.0 tops.points;
   }
 
-  -- before its own block nothing is raised, and behind it everything
+  -- before its own block nothing is raised, and after it everything
   raised_before : (k d : ℤ) → d ≤ℤ last_of (k +ℤ negsuc 0) → (int_eq (block_of at) k && int_le at d) ≡ false
   raised_before k d l = by_tests (int_eq (block_of at) k) (int_le at d) refl refl
     where

@@ -45,7 +45,7 @@ AreThrough xs day at = (k : ℕ) → k < at → (get_or xs k blank_spot).day.0 �
 abbrev pub AreBehind : List Spot → Day → ℕ → Type 0
 AreBehind xs day at = (k : ℕ) → at ≤ k → k < length xs → day.0 <ℤ (get_or xs k blank_spot).day.0
 
--- ---- the spots behind a day
+-- ---- the spots after a day
 none_behind : (xs : List Spot) (day : Day) → AreThrough xs day (length xs) → filter (is_behind day) xs ≡ []
 none_behind [] day h = refl
 none_behind (x ∷ xs) day h =

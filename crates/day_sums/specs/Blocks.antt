@@ -39,7 +39,7 @@ abbrev pub one_day : ℤ → ℤ → Spread
 one_day d q = (record { at = block_of d; sum = q } ∷ [], (block_of d, record { at = d; sum = q } ∷ []) ∷ [])
 
 -- the sum through a block is that through its last day; a block has no sum of its own before its days, and the same one
--- behind them; every sum fits a machine integer
+-- after them; every sum fits a machine integer
 pub record IsSpread (s : Spread) : Type 0 where
   pub tops : (k : ℤ) → sum_at (pos 0) s.0 k ≡ day_sum s (last_of k)
   pub before : (k d : ℤ) → d ≤ℤ last_of (k +ℤ negsuc 0) → sum_at (pos 0) (points_at s.1 k) d ≡ pos 0

@@ -20,7 +20,7 @@ spots_in m row = slice_index_or m.rows.items row []
 abbrev pub spots_of : NamedSpots → List ℕ → List Spot
 spots_of m a = option_map_or (spots_in m) (row_of m a) []
 
--- a spot is behind a day
+-- a spot is after a day
 abbrev pub is_behind : Day → Spot → Bool
 is_behind day s = int_lt day.0 s.day.0
 

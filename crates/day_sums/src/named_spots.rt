@@ -39,7 +39,7 @@ impl NamedSpots {
         self.names.get(account).copied()
     }
 
-    /// The spots of a row behind a day.
+    /// The spots of a row after a day.
     ///
     /// Costs one search in the row.
     pub fn spots_behind(&self, row: usize, day: Day) -> &[Spot]
@@ -54,7 +54,7 @@ impl NamedSpots {
     /// Puts a spot into the row of an account, which is made if it is not there.
     ///
     /// What was there stays, also where memory is refused (40). Costs a search in the accounts and one in the row, and
-    /// moves the spots behind its day.
+    /// moves the spots after its day.
     pub fn put_spot(&mut self, account: &[u8], spot: Spot) -> Result<(), Cause>
         ensures kept { KeepsSpots self.old self.new }
         ensures put { OnOk result (Contains (spots_of self.new account.now) spot) }

@@ -74,7 +74,7 @@ impl Spots {
         }
     }
 
-    /// Puts a spot behind those of its day.
+    /// Puts a spot after those of its day.
     pub fn put(&mut self, spot: Spot) -> Result<(), Cause>
         ensures kept { (s : Part) → Contains self.old s → Contains self.new s }
         ensures put { OnOk result (Contains self.new spot) }
@@ -85,7 +85,7 @@ impl Spots {
         Ok(())
     }
 
-    /// The spots behind a day.
+    /// The spots after a day.
     pub fn behind(&self, day: Day) -> &[Spot]
         ensures { result.now ≡ filter (is_behind day) self.now }
     {

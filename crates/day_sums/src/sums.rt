@@ -71,7 +71,7 @@ impl DaySums {
     /// Adds to the sums of an account in a commodity over the periods that a day's number is in, which is open. Takes
     /// no memory.
     ///
-    /// Costs one step for each open day behind it, and one for each open number behind it on its day.
+    /// Costs one step for each open day after it, and one for each open number after it on its day.
     pub fn raise_row(&mut self, account: &[u8], unit: Unit, day: Day, number: u32, qty: i64)
         requires open { is_open self.old account.now unit day number ≡ true }
         requires small { (p : Span) → IsSmall (sum_of self.old account.now unit p) }

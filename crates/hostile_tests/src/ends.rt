@@ -11,7 +11,7 @@ use std::process::Abort;
 const MOST_BYTES: usize = 124;
 
 /// Cuts the first of the requests off after so many bytes, which does nothing; and then its answer, which does it, as
-/// the line does that is whole before a read fails. The requests behind it are never done.
+/// the line does that is whole before a read fails. The requests after it are never done.
 fn assert_cut(
     rt: &impl Abort,
     alloc: Global,

@@ -28,7 +28,7 @@ ends =
 abbrev pub end_at : ℕ → List ℕ
 end_at j = get_or ends j []
 
--- one text is cut off inside another, or goes on behind it
+-- one text is cut off inside another, or goes on after it
 pub cut_at : (a b c d : List ℕ) → a ++ b ≡ c ++ d
     → ((k : List ℕ) × (a ≡ c ++ k) × (d ≡ k ++ b)) ⊎ ((k : List ℕ) × (c ≡ a ++ k) × (0 < length k) × (b ≡ k ++ d))
 cut_at [] b [] d e = inl ([], refl, sym e)
@@ -122,7 +122,7 @@ module _ (f : Field) (good : IsField f) (most : ℕ) (room : 0 < most) (after : 
         raw = All-nil (λ b. IsTrue (is_value_byte b));
       }) refl (omega arith) (omega arith)
 
-  -- cut off behind its colon
+  -- cut off after its colon
   in_raw : (k k' raw r : List ℕ) → k ≡ f.name ++ (58 ∷ raw) → f.raw ≡ raw ++ r → 2 ≤ length k' → EndsSection most k k'
   in_raw k k' raw r is part long =
       one_field most k k' f.name raw lf 1 room
@@ -316,7 +316,7 @@ module _ (text m : List ℕ) (small : length text + length m ≤ 16_384) where
   unfolding lib.Utf8.encode
   slash_text = (codes "/", (refl, refl))
 
-  -- in its empty lines, or behind them
+  -- in its empty lines, or after them
   at_start : (es : List LineEnd) → text ≡ print_blank es → 14 ≤ length m → EndsHead text
   at_start es is long =
       build 12 (record {
@@ -360,7 +360,7 @@ module _ (text m : List ℕ) (small : length text + length m ≤ 16_384) where
       (sym (append_assoc (print_blank es) (13 ∷ 10 ∷ []) (end_at 12)) ∙ ap (λ (t : List ℕ). t ++ end_at 12)
       (flat_map_more print_end [] es crlf)))) (omega arith) (omega arith)
 
-  -- in its method, or behind it
+  -- in its method, or after it
   in_method : (h : RequestHead) (k n : List ℕ) → IsRequestHead h → h.method ≡ k ++ n → text ≡ print_blank h.blank ++ k
       → 0 < length k → 13 ≤ length m → EndsHead text
   in_method h k n good part is some long =
@@ -383,7 +383,7 @@ module _ (text m : List ℕ) (small : length text + length m ≤ 16_384) where
       (ap (λ (t : List ℕ). t ++ end_at 11) is ∙ append_assoc (print_blank h.blank) k (end_at 11)) (omega arith)
       (omega arith)
 
-  -- the text behind the target
+  -- the text after the target
   behind_target : (h : RequestHead) (k end : List ℕ)
       → text ≡ print_blank h.blank ++ (h.method ++ 32 ∷ (h.target ++ 32 ∷ k))
       → text ++ end ≡ print_blank h.blank ++ (h.method ++ 32 ∷ (h.target ++ 32 ∷ (k ++ end)))

@@ -77,13 +77,13 @@ is_command method target named (inr (transfers date, leads, is)) = absurd cc
 
 -- ---- heads
 
--- a head stays one behind which more is read
+-- a head stays one after which more is read
 head_more : (text : List ℕ) (head : RequestHead) (rest more : List ℕ) → IsHead text head rest
     → IsHead (text ++ more) head (rest ++ more)
 head_more text head rest more is =
     record { reads = ReadsRequest-append text head rest more is.reads; small = is.small; few = is.few }
 
--- the bytes behind a head
+-- the bytes after a head
 behind : (text : List ℕ) (head : RequestHead) (rest : List ℕ) (n : ℕ) → IsHead text head rest
     → n ≡ length (print_request head) → (drop n text ≡ rest) × (length text ≡ n + length rest)
 behind text head rest n is len =

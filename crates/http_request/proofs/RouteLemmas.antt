@@ -81,7 +81,7 @@ passes (suc n) rs (b ∷ a) p e = passes n rs a p (omega arith)
 abbrev Rows : Type 0
 Rows = RowsOf (RouteOf Shape)
 
--- what is left of the rows behind a name and a slash
+-- what is left of the rows after a name and a slash
 abbrev rest_rows : Rows
 rest_rows = (257 ∷ [], parts_row) ∷ []
 
@@ -89,7 +89,7 @@ rest_rows = (257 ∷ [], parts_row) ∷ []
 abbrev GoesOnAt : List ℕ → Type 0
 GoesOnAt front = (p : List ℕ) → first shape_rows (front ++ p) ≡ seek 0 rest_rows p
 
--- a name with a slash behind it
+-- a name with a slash after it
 behind-name : (b : ℕ) (bs p : List ℕ) → step b (step 47 shape_rows) ≡ []
     → param_step (step 256 (step 47 shape_rows)) ((b ∷ bs) ++ 47 ∷ p)
     ≡ (suc (length bs), (47 ∷ 257 ∷ [], parts_row) ∷ [])

@@ -23,7 +23,7 @@ pub json : (asked (codes "application/json") ≡ Json) × (asked (codes "APPLICA
 unfolding is_nought is_json_type is_json_range trim_start trim_end
 json = (refl, refl, refl, refl)
 
--- a weight of nought says no, with one to three zeros behind the point, or none
+-- a weight of nought says no, with one to three zeros after the point, or none
 pub nought : (asked (codes "application/json;q=0") ≡ Text) × (asked (codes "application/json ; Q=0.000 ") ≡ Text)
     × (asked (codes "application/json;a=b;q=0.") ≡ Text) × (asked (codes "application/json;q=0.001") ≡ Json)
     × (asked (codes "application/json;q=0.0000") ≡ Json)

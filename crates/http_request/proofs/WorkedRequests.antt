@@ -103,7 +103,7 @@ doubled = (refl, refl, refl)
 
 -- ---- queries
 
--- the query stands behind the first question mark
+-- the query stands after the first question mark
 pub queries : (query_of (codes "/register/north?account=a?b") ≡ codes "account=a?b")
     × (query_of (codes "/register/north") ≡ []) × (query_of (codes "/register/north?") ≡ [])
 queries = (refl, refl, refl)
@@ -116,7 +116,7 @@ pub escapes : (decoded (codes "a%3Ab%3a%2f") ≡ Some (codes "a:b:/")) × (decod
 unfolding percent_decode is_utf8 chars encode
 escapes = (refl, refl, refl, refl, refl, refl, refl, refl, refl)
 
--- bytes at UTF-8's borders: a character of two bytes, one byte of it, a surrogate, the last character, one behind it
+-- bytes at UTF-8's borders: a character of two bytes, one byte of it, a surrogate, the last character, one after it
 pub borders : (decoded (codes "%C3%A9") ≡ Some (195 ∷ 169 ∷ [])) × (decoded (codes "%C3") ≡ None)
     × (decoded (codes "%80") ≡ None) × (decoded (codes "%C0%80") ≡ None) × (decoded (codes "%ED%A0%80") ≡ None)
     × (decoded (codes "%F4%8F%BF%BF") ≡ Some (244 ∷ 143 ∷ 191 ∷ 191 ∷ [])) × (decoded (codes "%F4%90%80%80") ≡ None)

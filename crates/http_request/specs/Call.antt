@@ -45,7 +45,7 @@ wish_at head = wish_of (query_of head.target)
 
 -- What the bytes call for. Nothing where they begin no head, where the length of a command's body is not stated as it
 -- has to be, or where a register is not asked of what its query has to say. A head that is foreign calls for nothing
--- else, whatever it asks for. A command has its whole body, and what stands behind it is not looked at.
+-- else, whatever it asks for. A command has its whole body, and what stands after it is not looked at.
 abbrev pub Calls : List ℕ → Call → Type 0
 Calls seen Unreadable =
     NeverHead seen
@@ -85,7 +85,7 @@ pub record StopsAtHead (seen : List ℕ) : Type 0 where
   pub none : HasNoRequest before
   pub short : length last ≤ 1_024
 
--- where no command is called for, nothing is read behind the part that ends its head
+-- where no command is called for, nothing is read after the part that ends its head
 abbrev pub StopsFor : List ℕ → Call → Type 0
 StopsFor seen (Command branch body) = ⊤
 StopsFor seen call = StopsAtHead seen

@@ -8,7 +8,7 @@ use Rattle.std.specs.List.{list_all}
 use Rattle.std.specs.Str.{bytes_eq}
 use Rattle.http_request.specs.Fields.{is_named, values_of}
 
--- behind a host's name there is nothing, or a colon and a port of digits, perhaps of none (RFC 3986, section 3.2.3)
+-- after a host's name there is nothing, or a colon and a port of digits, perhaps of none (RFC 3986, section 3.2.3)
 abbrev pub is_port : List ℕ → Bool
 is_port [] = true
 is_port (colon ∷ port) = (colon == 58) && list_all is_ascii_digit port

@@ -1,4 +1,4 @@
--- The query of a target: what stands behind its first question mark (RFC 3986, section 3.4). Which keys it has, and
+-- The query of a target: what stands after its first question mark (RFC 3986, section 3.4). Which keys it has, and
 -- that a `+` stands for itself, are own rules.
 use Rattle.std.specs.Prelude.{ℕ, ◌==◌, Bool, true, false, not, ◌&&◌, ◌||◌, if◌then◌else◌, List, [], ◌∷◌, codes, Option}
 use Rattle.std.specs.Prelude.{Some, None}
@@ -8,7 +8,7 @@ use Rattle.std.specs.Str.{bytes_eq, is_utf8}
 use Rattle.percent_encoding.specs.Percent.{percent_decode}
 use Rattle.http_request.specs.declared.query.Wish.{Wish}
 
--- what stands behind the first question mark; nothing where there is none
+-- what stands after the first question mark; nothing where there is none
 abbrev pub query_of : List ℕ → List ℕ
 query_of target = after_first (λ b. b == 63) target
 
@@ -18,7 +18,7 @@ begins_with_digits [] = false
 begins_with_digits (high ∷ []) = false
 begins_with_digits (high ∷ low ∷ rest) = is_ascii_hexdigit high && is_ascii_hexdigit low
 
--- each `%` has two hexadecimal digits behind it ("pct-encoded", section 2.1)
+-- each `%` has two hexadecimal digits after it ("pct-encoded", section 2.1)
 abbrev pub is_escaped : List ℕ → Bool
 is_escaped [] = true
 is_escaped (b ∷ bytes) = (not (b == 37) || begins_with_digits bytes) && is_escaped bytes

@@ -11,7 +11,7 @@ use Rattle.http_request.specs.Routes.{accounts, transfers, register, LeadsTo}
 abbrev pub name_row : RouteOf Shape
 name_row = record { pattern = 47 ∷ param_token ∷ []; text = codes "/{name}"; names = (2, 6) ∷ []; value = Name }
 
--- a path of a name with parts behind it
+-- a path of a name with parts after it
 abbrev pub parts_row : RouteOf Shape
 parts_row = record {
   pattern = 47 ∷ param_token ∷ 47 ∷ catch_all_token ∷ [];

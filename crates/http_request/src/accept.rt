@@ -97,7 +97,7 @@ fn has_json(buf: &[u8], headers: &[HeaderSpan]) -> bool
 }
 
 /// The form that a request with these headers asks for: JSON where one of the ranges of its `Accept` is
-/// `application/json`, in whatever case, and no weight of nought stands behind it.
+/// `application/json`, in whatever case, and no weight of nought stands after it.
 pub fn form_of(buf: &[u8], headers: &[HeaderSpan]) -> Form
     requires { All (IsHeaderWithin (length buf.now)) headers.now }
     ensures { result ≡ form_of (map (header_bytes buf.now) headers.now) }

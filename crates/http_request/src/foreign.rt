@@ -10,7 +10,7 @@ use crate::fields::{Values, is_named, values_of};
 use crate::length::all_digits;
 use httparse::spans::HeaderSpan;
 
-/// Whether there is nothing behind the name of a host, or a colon and digits.
+/// Whether there is nothing after the name of a host, or a colon and digits.
 fn is_port(rest: &[u8]) -> bool
     ensures { result ≡ is_port rest.now }
 {

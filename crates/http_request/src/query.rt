@@ -16,7 +16,7 @@ pub struct Wish {
     pub tag: Option<Text>,
 }
 
-/// The target behind its first question mark; nothing where there is none.
+/// The target after its first question mark; nothing where there is none.
 pub fn query_of(target: &str) -> &str
     ensures { result.now ≡ query_of target.now }
 {
@@ -36,7 +36,7 @@ fn begins_with_digits(text: &[u8]) -> bool
     }
 }
 
-/// Whether each `%` has two hexadecimal digits behind it.
+/// Whether each `%` has two hexadecimal digits after it.
 fn is_escaped(text: &[u8]) -> bool
     ensures { result ≡ is_escaped text.now }
 {

@@ -19,7 +19,7 @@ use std::alloc::Global;
 enum Shape {
     /// A name alone, as in `/branches`.
     Name,
-    /// A name with parts behind it, as in `/journal/north`.
+    /// A name with parts after it, as in `/journal/north`.
     Parts,
 }
 
@@ -57,7 +57,7 @@ fn is_part(text: &str) -> bool
     !text.is_empty() && !text.as_bytes().contains(&b'/')
 }
 
-/// The part of the path behind its front, where nothing else follows.
+/// The part of the path after its front, where nothing else follows.
 fn part_behind<'p>(path: &'p str, front: &str) -> Option<&'p str>
     ensures { MatchOption result ((part : List ℕ) → is_part part ≡ true → path.now ≢ front.now ++ part)
         (λ part. (path.now ≡ front.now ++ part.now) × (is_part part.now ≡ true)) }
@@ -81,7 +81,7 @@ fn both_parts<'p>(one: &'p str, two: &'p str) -> Option<(&'p str, &'p str)>
     }
 }
 
-/// The two parts of the path behind its front, with a slash between them, where nothing else follows.
+/// The two parts of the path after its front, with a slash between them, where nothing else follows.
 fn parts_behind<'p>(path: &'p str, front: &str) -> Option<(&'p str, &'p str)>
     ensures { MatchOption result ((one : List ℕ) → (two : List ℕ) → is_part one ≡ true → is_part two ≡ true
         → path.now ≢ front.now ++ (one ++ 47 ∷ two))

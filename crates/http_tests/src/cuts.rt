@@ -73,7 +73,7 @@ fn assert_cut(rt: &impl Abort, alloc: Global, treasury: &mut Treasury<MemStore>,
 }
 
 /// Asserts that a request, in parts of so many bytes, gets the reply, or as much of it as there is room for, although a
-/// read behind the request would fail.
+/// read after the request would fail.
 fn assert_replied(
     rt: &impl Abort,
     alloc: Global,

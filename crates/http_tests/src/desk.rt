@@ -21,7 +21,7 @@ pub fn begun(rt: &impl Abort, alloc: Global) -> Treasury<MemStore> {
     }
 }
 
-/// Gives so many bytes at most at each read, and fails behind the last.
+/// Gives so many bytes at most at each read, and fails after the last.
 #[derive(Drop)]
 struct Given<'a> {
     rest: &'a [u8],
@@ -63,7 +63,7 @@ impl Write for Narrow {
 }
 
 /// How a connection ends, and what is written on it. These bytes come, in parts of so many, and then a read fails.
-/// There is room for so many bytes; a write behind these fails, or takes nothing if their number is even.
+/// There is room for so many bytes; a write after these fails, or takes nothing if their number is even.
 pub fn served(
     alloc: Global,
     treasury: &mut Treasury<MemStore>,

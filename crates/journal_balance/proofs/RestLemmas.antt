@@ -1,4 +1,4 @@
--- what is left in one commodity, and in those behind it
+-- what is left in one commodity, and in those after it
 use Rattle.std.proofs.Common.{◌≡◌, ℕ, ◌+◌, ◌-◌, ◌<◌, ◌≤◌, Bool, true, false, ◌&&◌, ◌||◌, List, [], ◌∷◌, ◌++◌, length, ℤ}
 use Rattle.std.proofs.Common.{pos, neg_ℤ, refl, ap, ◌∙◌, sym, subst, arith, append_assoc}
 use Rattle.std.specs.Prelude.{nat_lt, unsigned_abs, if◌then◌else◌}
@@ -57,7 +57,7 @@ rest_large account unit sum = by_test (int_eq sum (pos 0)) refl
         or_false true = refl
         or_false false = refl
 
--- where no leg is over the limit, neither is the first rest, nor one behind it
+-- where no leg is over the limit, neither is the first rest, nor one after it
 pub small_first : (account : List ℕ) (f : Commodity → ℤ) (n m : ℕ) → n < m →
     list_any is_large (flat_map (λ (u : Commodity). rest_leg account u (f u)) (commodities n (m - n))) ≡ false
     → unsigned_abs (f (record { 0 = n })) ≤ limit

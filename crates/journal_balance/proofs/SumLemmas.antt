@@ -23,7 +23,7 @@ pub cost_fault-drop : (styles : List Style) (ps : List Posting) (i : ℕ) (p : P
     (cost_fault styles (drop (i + 1) ps))
 cost_fault-drop styles ps i p h e = ap (cost_fault styles) (drop_at ps i p h e)
 
--- the commodities from a declared one on: it, and those behind it
+-- the commodities from a declared one on: it, and those after it
 pub commodities_next : (n m : ℕ) → n < m → commodities n (m - n) ≡ record { 0 = n } ∷ commodities (n + 1) (m - (n + 1))
 commodities_next n m h = let e : m - n ≡ suc (m - (n + 1)) = omega arith in ap (commodities n) e
 

@@ -103,7 +103,7 @@ rest_at f account unit n (suc k) low high = by_unit (nat_eq n unit.0) refl (rest
         ap (λ (t : Bool). if t then neg_ℤ (f own) else pos 0) e in
         let p = parts in omega (arith, ints, p, first, rest)
 
--- and none in one behind them
+-- and none in one after them
 rest_after : (f : Commodity → ℤ) (account : List ℕ) (unit : Commodity) (n k : ℕ) → n + k ≤ unit.0
     → value unit (flat_map (λ (u : Commodity). rest_leg account u (f u)) (commodities n k)) ≡ pos 0
 rest_after f account unit n zero h = refl
@@ -205,7 +205,7 @@ none_open (x ∷ xs) h = by_open (is_open x) (subst (λ (n : ℕ). n ≤ 0) (cou
     by_open true k later = absurd (omega (arith, k))
     by_open false k later = later (omega (arith, k))
 
--- one posting without an amount: the legs are worth nothing behind all postings
+-- one posting without an amount: the legs are worth nothing after all postings
 among_open : (styles : List Style) (all xs : List Posting) (unit : Commodity) → list_all (is_posting styles) all ≡ true
     → list_any is_open xs ≡ true → count_by is_open xs ≤ 1
     → value unit (legs_among styles all xs) ≡ sum_of styles unit xs +ℤ neg_ℤ (sum_of styles unit all)

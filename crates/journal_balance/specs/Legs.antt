@@ -67,7 +67,7 @@ conversion_legs styles a p =
     leg (conversion_account own other own) a.0 (neg_ℤ a.1)
     ∷ leg (conversion_account own other other) (cost_unit p) (cost_value (cost styles a.1 a.0 p)) ∷ []
 
--- the legs of an amount: the amount, and with a cost the two conversion legs behind it
+-- the legs of an amount: the amount, and with a cost the two conversion legs after it
 abbrev pub amount_legs : List Style → List ℕ → Commodity × ℤ → Option Price → List Leg
 amount_legs styles account a None = leg account a.0 a.1 ∷ []
 amount_legs styles account a (Some p) = leg account a.0 a.1 ∷ conversion_legs styles a p

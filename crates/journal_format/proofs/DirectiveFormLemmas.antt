@@ -268,9 +268,9 @@ named_iff styles unit text = (to, from)
       ]
     ]
 
--- ---- a word, and what stands behind it
+-- ---- a word, and what stands after it
 
--- what a text behind a word has to be
+-- what a text after a word has to be
 record IsPlain (text : List ℕ) : Type 0 where
   some : 0 < length text
   trimmed : is_trimmed text ≡ true
@@ -328,7 +328,7 @@ blanks_start : (gap rest : List ℕ) → gap ≢ [] → list_all is_blank gap �
 blanks_start [] rest some h = absurd (some refl)
 blanks_start (b ∷ gap) rest some h = (and_parts (is_blank b) _ h).0
 
--- the front of a line behind what has no `;`
+-- the front of a line after what has no `;`
 front_behind : (word rest : List ℕ) → list_all (λ b. not (b == 59)) word ≡ true
     → front_of (word ++ rest) ≡ word ++ front_of rest
 unfolding front_of
@@ -339,7 +339,7 @@ front_behind (b ∷ word) rest h =
     omega arith in
     rw (not-true _ parts.0, n) (ap (λ (xs : List ℕ). b ∷ xs) (front_behind word rest parts.1))
 
--- the text behind the word of a line in that form
+-- the text after the word of a line in that form
 text_behind : (word : List ℕ) (is : List ℕ → Type 0) (line : List ℕ) → IsWord word
     → ((text : List ℕ) → is text → IsPlain text) → (w : HasBehind word is line)
     → (first_word line ≡ word) × (behind_word (front_of line) ≡ w.text)
@@ -393,7 +393,7 @@ front_starts (b ∷ rest) h =
     let n : 1 + position_or_len (λ c. c == 59) rest ≡ suc (position_or_len (λ c. c == 59) rest) = omega arith in
     rw (not-true _ (blank_no_semicolon b h), n) h
 
--- a line that begins with the word and has such a text behind it has that form
+-- a line that begins with the word and has such a text after it has that form
 has_behind : (word : List ℕ) (is : List ℕ → Type 0) (line : List ℕ) → IsWord word
     → ((text : List ℕ) → is text → IsPlain text) → first_word line ≡ word → is (behind_word (front_of line))
     → HasBehind word is line
@@ -487,7 +487,7 @@ one_commodity styles line unit other k h w =
     same : (r : Result Commodity Cause) → r ≡ Ok unit → r ≡ Ok other → unit ≡ other
     same r e f = cc
 
--- a line behind its blanks, before its comment
+-- a line after its blanks, before its comment
 front_first : (xs : List ℕ) → is_blank (slice_index xs 0) ≡ false → is_blank (slice_index (front_of xs) 0) ≡ false
 unfolding front_of
 front_first xs h =

@@ -1,4 +1,4 @@
--- Lines have one place behind them, and a line behind them one cause.
+-- Lines have one place after them, and a line after them one cause.
 use Rattle.std.proofs.Common.{◌≡◌, ◌≤◌, ◌<◌, ◌+◌, ◌-◌, ◌++◌, ℕ, List, Bool, true, length, drop, arith, refl, ap, ◌∙◌}
 use Rattle.std.proofs.Common.{append-nil, sym, subst, Ok}
 use Rattle.std.specs.List.{list_all}
@@ -18,7 +18,7 @@ use Rattle.journal_format.proofs.LeadLemmas.{all_parts, PiecesLead, pieces_lead,
 use Rattle.journal_format.proofs.LeadLemmas.{unclosed_run}
 use Rattle.journal_format.proofs.FirstLemmas.{one_first}
 
--- the state behind such a place; an entry's header stands on line n
+-- the state after such a place; an entry's header stands on line n
 abbrev context_of : Open → ℕ → Context
 context_of nothing n = at.Outside
 context_of (entry part t) n = at.Entry n t
@@ -39,7 +39,7 @@ front_lead : (styles : List Style) {last : Bool} (front part : List (List ℕ)) 
     → PiecesLead styles last front done
 front_lead styles front part done h lines few = pieces_lead styles h (all_parts is_line front part lines).0 few
 
--- behind pieces, lines that run from their state
+-- after pieces, lines that run from their state
 onward : (styles : List Style) (before front part : List (List ℕ)) (s t : State) → before ≡ front ++ part
     → run styles 1 front begin ≡ Ok s → run styles (length front + 1) part s ≡ Ok t → run styles 1 before begin ≡ Ok t
 onward styles before front part s t e r k =
@@ -118,7 +118,7 @@ reached styles before done block h lines few =
       ),
     )
 
--- lines have one place behind them
+-- lines have one place after them
 pub one_place : (styles : List Style) (before : List (List ℕ)) (d e : List Located) (p q : Open)
     → list_all is_line before ≡ true → StandsOpen styles before d p → count_of d p ≤ 5000 → StandsOpen styles before e q
     → count_of e q ≤ 5000 → (d ≡ e) × (p ≡ q)
@@ -130,7 +130,7 @@ one_place styles before d e p q right h few k less =
     (sym a.1.0 ∙ b.1.0) in
     (ap (λ (s : State). s.done) same, sym a.1.1 ∙ (ap (λ (s : State). place_at before s.context) same ∙ b.1.1))
 
--- and a line behind them one cause
+-- and a line after them one cause
 pub one_cause : (styles : List Style) (before : List (List ℕ)) (line : List ℕ) (c d : Cause)
     → list_all is_line before ≡ true → HasCause styles before line c → HasCause styles before line d → c ≡ d
 one_cause styles before line c d right h k =

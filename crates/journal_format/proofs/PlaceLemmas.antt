@@ -387,7 +387,7 @@ entry_told styles done m part t n line c h k e = by_sign (is_remark line) refl
           ),
         )
 
--- a step that is refused, behind lines of which the state says what they are
+-- a step that is refused, after lines of which the state says what they are
 pub step_told : (styles : List Style)
     → (before : List (List ℕ)) (done : List Located) (context : Context) (n : ℕ) (line : List ℕ) (c : Cause)
     → HoldsAt styles before done context → length (done ++ opened context) ≤ 5000

@@ -192,7 +192,7 @@ claim_free styles text k w =
     sign ExactIn = refl
     sign SoleIn = refl
 
--- a text is cut where what is behind it begins
+-- a text is cut where what is after it begins
 cut_behind : (mark : ℕ) → IsFree (λ b. b == mark) → (front gap rest : List ℕ) → IsPassed (λ b. b == mark) front
     → IsSolid front → list_all is_blank gap ≡ true → outside (λ b. b == mark) false rest ≡ 0
     → (before_mark mark (front ++ (gap ++ rest)) ≡ front) × (from_mark mark (front ++ (gap ++ rest)) ≡ rest)
@@ -219,7 +219,7 @@ abbrev claim_rest : (styles : List Style) (text : List ℕ) (k : Option Claim) �
 claim_rest styles text None w = []
 claim_rest styles text (Some k) w = w.rest
 
--- a cost behind what is passed over
+-- a cost after what is passed over
 price_cut : (styles : List Style) (front text : List ℕ) (p : Option Price) → (w : IsPricePart styles text p)
     → IsPassed (λ b. b == 64) front → IsPassed (λ b. b == 61) front → IsSolid front
     → (before_mark 64 (front ++ text) ≡ front) × (from_mark 64 (front ++ text) ≡ price_rest styles text p w)
@@ -245,7 +245,7 @@ price_cut styles front text (Some p) w at equals solid =
           (solid_behind w.gap w.rest (price_solid styles w.rest p w.holds))),
     )
 
--- an assertion behind what is passed over
+-- an assertion after what is passed over
 claim_cut : (styles : List Style) (front text : List ℕ) (k : Option Claim) → (w : IsClaimPart styles text k)
     → IsPassed (λ b. b == 61) front → IsSolid front
     → (before_mark 61 (front ++ text) ≡ front) × (from_mark 61 (front ++ text) ≡ claim_rest styles text k w)
@@ -588,7 +588,7 @@ blanks_trimmed (x ∷ xs) h k =
     let solid = not-true _ two.0 in
     absurd cc
 
--- an assertion that is read, behind its blanks
+-- an assertion that is read, after its blanks
 sign_at : (text : List ℕ) → slice_index text 0 ≡ 61
     → text ≡ claim_sign (kind_at text) ++ drop (length (claim_sign (kind_at text))) text
 unfolding kind_at
@@ -666,7 +666,7 @@ claim_form styles text a p v sign h = elim (chosen (length text == 0) _ _ _ h) [
         some_is : (x y : Claim) → Some x ≡ Some y → x ≡ y
         some_is x y z = cc
 
--- what stands behind an amount
+-- what stands after an amount
 price_form : (styles : List Style) (text : List ℕ) (p : Option Price) → is_trimmed text ≡ true
     → (p ≡ None → from_mark 64 text ≡ []) → ((q : Price) → p ≡ Some q → WritesPrice styles (from_mark 64 text) q)
     → (part : List ℕ) × (text ≡ before_mark 64 text ++ part) × IsPricePart styles part p

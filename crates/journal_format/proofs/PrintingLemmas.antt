@@ -19,7 +19,7 @@ use Rattle.journal_format.specs.Printable.{is_value, is_posting}
 use Rattle.journal_format.specs.PrintedParts.{whole_line, header_part, mark_part, comment_part, comments_part}
 use Rattle.journal_format.specs.PrintedParts.{posting_part, postings_part, rest_part}
 
--- a step that fails behind one that did not leaves the front
+-- a step that fails after one that did not leaves the front
 pub err_behind : {T E : Type 0} (r : Result T E) (a b d x : List ℕ) → b ≡ a ++ x → OnErr r (take (length b) d ≡ b)
     → OnErr r (take (length a) d ≡ a)
 err_behind (Ok y) a b d x e h = tt

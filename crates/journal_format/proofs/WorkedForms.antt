@@ -111,7 +111,7 @@ abbrev priced_if : (styles : List Style) (text : List ℕ) (p : Price) → price
     → WritesPrice styles text p
 priced_if styles text p e = (price_reads_iff styles text (price styles text) refl p).0 e
 
--- the least line: a status directly before the account, and an empty comment directly behind it
+-- the least line: a status directly before the account, and an empty comment directly after it
 pub bare_line : IsPostingText styles (codes " !a;")
     (record {
       status = Some Pending;
@@ -365,7 +365,7 @@ wrong_formats = (
   faulty_below (codes "  format EUR") cause.Amount refl,
 )
 
--- lines that are kept nowhere: a comment, a blank line, a comment behind blanks, and a skipped directive with a line
+-- lines that are kept nowhere: a comment, a blank line, a comment after blanks, and a skipped directive with a line
 -- below it
 pub nothing_kept : HaveList styles (codes "# c" ∷ [] ∷ codes "  ; stray" ∷ codes "account a" ∷ codes "  x" ∷ []) []
 unfolding is_remark trim_start is_utf8 chars encode is_block_start is_commodity_word is_skipped_word first_word trim_end
@@ -382,7 +382,7 @@ nothing_kept = record {
       })));
 }
 
--- the first fault of a text: an indented line behind a blank line belongs to nothing
+-- the first fault of a text: an indented line after a blank line belongs to nothing
 pub stray_line : IsFirstFault styles (codes "payee x\n  y\n\n  z\n2024-02-30 x")
     (record { line = 4; cause = cause.StrayLine })
 unfolding journal_of step is_remark first_word trim_start trim_end is_utf8 chars encode is_block_start is_block_end

@@ -43,7 +43,7 @@ line_faults line limits parts = (TooLong, line_limit < length line) ∷ (limits 
 abbrev pub PassesBody : List Style → List (List ℕ) → List ℕ → Type 0
 PassesBody styles part line = (t : Txn) × IsEntryOf (λ n. body_limit < n) styles (part ++ line ∷ []) t
 
--- of a header behind so many transactions
+-- of a header after so many transactions
 abbrev pub header_faults : List Style → ℕ → List ℕ → List LineFault
 header_faults styles count line = line_faults line
     ((TooLong, transaction_limit ≤ count) ∷ (TooLong, HasLongPart line) ∷ [])
@@ -56,7 +56,7 @@ pub record IsSecondMark (t : Txn) (line : List ℕ) : Type 0 where
   pub reads : comment_of line ≡ Some text
   pub marked : mark_of text ≡ Some mark
   pub first : t.mark ≢ None
-  -- behind a posting a comment is no mark
+  -- after a posting a comment is no mark
   pub bare : t.postings ≡ []
 
 -- of a comment line in the entry of these lines, which is that transaction so far
@@ -112,7 +112,7 @@ posting_faults styles part t line = line_faults line
 abbrev pub Names : List ℕ → List ℕ → Type 0
 Names symbol text = ((sample : Style) × (IsSample text sample × (sample.symbol ≡ symbol))) ⊎ WritesSymbol symbol text
 
--- of the text behind the word `commodity`: nothing, neither a sample nor a symbol, an undeclared one, a sample that
+-- of the text after the word `commodity`: nothing, neither a sample nor a symbol, an undeclared one, a sample that
 -- does not agree
 abbrev pub directive_faults : List Style → List ℕ → List LineFault
 directive_faults styles text =
@@ -126,11 +126,11 @@ directive_faults styles text =
 abbrev pub IsFormat : List ℕ → Type 0
 IsFormat line = first_word (trim_start line) ≡ codes "format"
 
--- what stands behind it
+-- what stands after it
 abbrev pub behind_format : List ℕ → List ℕ
 behind_format line = behind_word (trim_start (front_of line))
 
--- of a line below a directive of that commodity: behind `format` no sample, or none of that commodity, declared or not
+-- of a line below a directive of that commodity: after `format` no sample, or none of that commodity, declared or not
 abbrev pub format_faults : List Style → Commodity → List ℕ → List LineFault
 format_faults styles unit line =
     (Amount, IsFormat line × ((sample : Style) → ¬ (IsSample (behind_format line) sample)))

@@ -1,4 +1,4 @@
--- The place of a line (hledger manual, "Journal format"): what stands open behind the lines before it, by whole pieces.
+-- The place of a line (hledger manual, "Journal format"): what stands open after the lines before it, by whole pieces.
 -- It says of which kind the line is, and so which faults it may have; its cause is the first of them that it has (own
 -- rule).
 use Rattle.std.specs.Prelude.{◌≡◌, ◌≤◌, ℕ, ◌+◌, List, [], ◌++◌, length, Bool, true, false}
@@ -26,7 +26,7 @@ pub data Open : Type 0 where
   skipped : Open
   block : Open
 
--- lines are whole pieces with these transactions, and behind them such a part
+-- lines are whole pieces with these transactions, and after them such a part
 pub record EndsIn (styles : List Style) (is : List (List ℕ) → Type 0) (ls : List (List ℕ))
     (done : List Located) : Type 0 where
   pub last : Bool
@@ -36,7 +36,7 @@ pub record EndsIn (styles : List Style) (is : List (List ℕ) → Type 0) (ls : 
   pub holds : is part
   pub lines : ls ≡ front ++ part
 
--- this stands open behind the lines, and these transactions stand before it
+-- this stands open after the lines, and these transactions stand before it
 abbrev pub StandsOpen : List Style → List (List ℕ) → List Located → Open → Type 0
 StandsOpen styles ls done nothing = ArePieces styles false ls done
 StandsOpen styles ls done (entry part t) = EndsIn styles (λ p. (p ≡ part) × IsEntry styles p t) ls done
@@ -61,7 +61,7 @@ indented_faults styles (directive unit) line remark = line_faults line [] (forma
 indented_faults styles skipped line remark = plain_faults line
 indented_faults styles block line remark = plain_faults line
 
--- of a line of that kind outside a block, behind so many transactions
+-- of a line of that kind outside a block, after so many transactions
 abbrev pub kind_faults : List Style → ℕ → Open → List ℕ → LineKind → List LineFault
 kind_faults styles count place line kind.Header = header_faults styles count line
 kind_faults styles count place line kind.Indented = indented_faults styles place line (is_remark line)
@@ -81,7 +81,7 @@ faults_at styles count (entry part t) line = kind_faults styles count (entry par
 faults_at styles count (directive unit) line = kind_faults styles count (directive unit) line (kind_of line)
 faults_at styles count skipped line = kind_faults styles count skipped line (kind_of line)
 
--- behind these lines the line has that cause: the first fault in its place
+-- after these lines the line has that cause: the first fault in its place
 pub record HasCause (styles : List Style) (before : List (List ℕ)) (line : List ℕ) (c : Cause) : Type 0 where
   pub done : List Located
   pub place : Open

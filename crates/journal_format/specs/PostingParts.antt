@@ -27,7 +27,7 @@ before_mark mark text = trim_end (take (outside (λ b. b == mark) false text) te
 abbrev pub from_mark : ℕ → List ℕ → List ℕ
 from_mark mark text = drop (outside (λ b. b == mark) false text) text
 
--- the line behind its indent and its status, and before its comment
+-- the line after its indent and its status, and before its comment
 abbrev pub text_of : List ℕ → List ℕ
 text_of line = behind_status (trim_start (front_of line))
 
@@ -39,7 +39,7 @@ name_of line = take (name_end (text_of line)) (text_of line)
 abbrev pub is_virtual : List ℕ → Bool
 is_virtual name = (slice_index name 0 == 40) || (slice_index name 0 == 91)
 
--- the amount part behind it
+-- the amount part after it
 abbrev pub part_of : List ℕ → List ℕ
 part_of line = trim (drop (name_end (text_of line)) (text_of line))
 
@@ -61,6 +61,6 @@ kind_at text =
     if slice_index text 1 == 61 then (if slice_index text 2 == 42 then SoleIn else Sole)
     else (if slice_index text 1 == 42 then ExactIn else Exact)
 
--- the asserted amount behind it
+-- the asserted amount after it
 abbrev pub asserted_in : List ℕ → List ℕ
 asserted_in claim = trim_start (drop (length (claim_sign (kind_at claim))) claim)

@@ -131,7 +131,7 @@ fn are_postings(styles: &Styles, postings: &[Posting]) -> bool
     postings.iter().all(|posting| is_posting(styles, posting))
 }
 
-/// What is left of the room behind comment lines, if they fit.
+/// What is left of the room after comment lines, if they fit.
 fn room_behind_remarks(room: usize, comments: &[Text]) -> Option<usize>
     ensures { result ≡ room_behind room (length (comments_part comments.now)) }
 {
@@ -146,7 +146,7 @@ fn room_behind_remarks(room: usize, comments: &[Text]) -> Option<usize>
     Some(left)
 }
 
-/// What is left of the room behind a posting and its comments, if they fit.
+/// What is left of the room after a posting and its comments, if they fit.
 fn room_behind_posting(room: usize, styles: &Styles, posting: &Posting) -> Option<usize>
     requires { is_posting styles.now posting.now ≡ true }
     ensures { result ≡ room_behind room (length (posting_part styles.now posting.now)) }
@@ -158,7 +158,7 @@ fn room_behind_posting(room: usize, styles: &Styles, posting: &Posting) -> Optio
     room_behind_remarks(room - size, posting.comments.items())
 }
 
-/// What is left of the room behind postings and their comments, if they fit.
+/// What is left of the room after postings and their comments, if they fit.
 fn room_behind_postings(room: usize, styles: &Styles, postings: &[Posting]) -> Option<usize>
     requires { list_all (is_posting styles.now) postings.now ≡ true }
     ensures { result ≡ room_behind room (length (postings_part styles.now postings.now)) }

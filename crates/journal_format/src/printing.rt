@@ -112,7 +112,7 @@ fn push_sign(kind: ClaimKind, out: &mut Vec<u8>) -> Result<(), AllocError>
     }
 }
 
-/// Appends a price behind a space.
+/// Appends a price after a space.
 fn push_price(
     alloc: Global,
     price: &Option<Price>,
@@ -133,7 +133,7 @@ fn push_price(
     }
 }
 
-/// Appends an assertion behind a space.
+/// Appends an assertion after a space.
 fn push_claim(
     alloc: Global,
     claim: Option<Claim>,
@@ -256,7 +256,7 @@ fn push_txn(alloc: Global, txn: &Txn, styles: &Styles, out: &mut Vec<u8>) -> Res
     push_rest(alloc, txn, styles, out)
 }
 
-/// Appends the texts of transactions, each with an empty line behind it.
+/// Appends the texts of transactions, each with an empty line after it.
 fn push_journal(
     alloc: Global,
     txns: &[Txn],
@@ -315,7 +315,7 @@ pub fn print_txn(alloc: Global, txn: &Txn, styles: &Styles, out: &mut Vec<u8>) -
     done
 }
 
-/// Appends the canonical texts of the transactions in order, an empty line behind each.
+/// Appends the canonical texts of the transactions in order, an empty line after each.
 ///
 /// Where memory is refused (40), the vector is as it was.
 pub fn print_journal(

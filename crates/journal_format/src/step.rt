@@ -50,7 +50,7 @@ fn goes_on(
     }
 }
 
-/// What a line of that kind opens that is not indented, behind so many transactions, and how long the body is that
+/// What a line of that kind opens that is not indented, after so many transactions, and how long the body is that
 /// stands open then.
 fn opens(
     alloc: Global,

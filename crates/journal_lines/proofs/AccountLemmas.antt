@@ -22,7 +22,7 @@ behind_transit account rest front behind =
     sym (take-append-drop 14 account) ∙
     (ap (λ (xs : List ℕ). xs ++ drop 14 account) same ∙ ap (λ (xs : List ℕ). transit ++ xs) (sym behind))
 
--- what two texts have behind the same front
+-- what two texts have after the same front
 same_behind : (front xs ys : List ℕ) → front ++ xs ≡ front ++ ys → xs ≡ ys
 same_behind [] xs ys e = e
 same_behind (b ∷ front) xs ys e = same_behind front xs ys cc

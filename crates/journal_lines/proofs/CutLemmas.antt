@@ -133,7 +133,7 @@ pub first_trimmed : (p : ℕ → Bool) (xs : List ℕ) → p (slice_index xs 0) 
 unfolding trim_end
 first_trimmed p xs h k = first_kept p (length xs - first_solid (reverse xs)) xs h k
 
--- behind blanks no blank stands
+-- after blanks no blank stands
 pub trim_start_first : (xs : List ℕ) → is_blank (slice_index (trim_start xs) 0) ≡ false
 trim_start_first [] = ap (λ (t : List ℕ). is_blank (slice_index t 0)) (trim_start_same [] refl)
 trim_start_first (x ∷ xs) = elim (cases_Bool (is_blank x)) [
@@ -187,7 +187,7 @@ before_none p (x ∷ xs) = elim (cases_Bool (p x)) [
       rw (other, n) (rw other (before_none p xs))
 ]
 
--- the first mark, with what stands before and behind it
+-- the first mark, with what stands before and after it
 pub at_mark : (m : ℕ) (xs : List ℕ) → position_or_len (λ b. b == m) xs < length xs
     → xs ≡ before_first (λ b. b == m) xs ++ (m ∷ after_first (λ b. b == m) xs)
 at_mark m xs h =

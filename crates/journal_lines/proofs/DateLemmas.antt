@@ -511,7 +511,7 @@ date_facts text day e = elim (cases_Bool (is_date text)) [
 
 -- ---- a date from left to right
 
--- the first mark behind a text without it
+-- the first mark after a text without it
 at_first_mark : (s : ℕ) (month place : List ℕ) → list_all (λ b. not (b == s)) month ≡ true
     → (before_first (λ b. b == s) (month ++ s ∷ place) ≡ month)
     × (after_first (λ b. b == s) (month ++ s ∷ place) ≡ place)

@@ -166,7 +166,7 @@ cut_alone line word text comment c =
 
 -- ---- codes and descriptions
 
--- a code that is closed, and the description behind it
+-- a code that is closed, and the description after it
 pub coded_of : (text : List ℕ) (coded : Coded) → is_blank (slice_index text 0) ≡ false → has_no 59 text ≡ true
     → code_at text ≡ Some coded → IsCoded text coded.code (trim_end coded.rest)
 coded_of text coded solid none h = record {

@@ -35,7 +35,7 @@ use Rattle.journal_lines.proofs.HeaderLemmas.{all_behind_date, all_behind_status
 abbrev pub is_date_byte : ℕ → Bool
 is_date_byte b = is_ascii_digit b || is_separator b
 
--- what passes before and behind the first mark, and the mark
+-- what passes before and after the first mark, and the mark
 pub all_around : (p q : ℕ → Bool) (xs : List ℕ) → ((b : ℕ) → p b ≡ true → q b ≡ true)
     → list_all q (before_first p xs) ≡ true → list_all q (after_first p xs) ≡ true → list_all q xs ≡ true
 all_around p q [] f h k = refl
@@ -87,7 +87,7 @@ byte_no_semicolon b h = grind (arith, common_steps)
 pub blank_no_semicolon : (b : ℕ) → is_blank b ≡ true → not (b == 59) ≡ true
 blank_no_semicolon b h = grind (arith, common_steps)
 
--- the description behind blanks begins with its first byte
+-- the description after blanks begins with its first byte
 first_is : (text end : List ℕ) → is_trimmed text ≡ true → list_all is_blank end ≡ true
     → slice_index (trim_start (text ++ end)) 0 ≡ slice_index text 0
 first_is [] end t h = ap (λ (xs : List ℕ). slice_index xs 0) (trim_start_blanks end h)
@@ -350,7 +350,7 @@ blanks_end xs = list_all-from_AllPass is_blank (end_blanks xs) (λ k d l.
     not-false true h = refl
     not-false false h = absurd cc
 
--- a status and the blanks behind it
+-- a status and the blanks after it
 pub record StatusForm (text : List ℕ) (status : Option Status) (rest : List ℕ) : Type 0 where
   pub gap : List ℕ
   pub blanks : list_all is_blank gap ≡ true
@@ -376,7 +376,7 @@ status_form (x ∷ xs) = elim (cases_Bool (x == 42)) [
   ]
 ]
 
--- a code and the blanks behind it
+-- a code and the blanks after it
 pub record CodeForm (text : List ℕ) (coded : Coded) : Type 0 where
   pub gap : List ℕ
   pub blanks : list_all is_blank gap ≡ true
@@ -479,7 +479,7 @@ nothing_has_no_code coded h =
     let same : record { code = None; rest = [] } ≡ coded = cc in
     (ap (λ (c : Coded). c.code) (sym same), ap (λ (c : Coded). c.rest) (sym same))
 
--- nothing behind the date
+-- nothing after the date
 nothing_behind : (dated : List ℕ) (coded : Coded) → dated ≡ [] → code_at (behind_status dated) ≡ Some coded
     → (status_at dated ≡ None) × (coded.code ≡ None) × (trim_end coded.rest ≡ [])
 nothing_behind dated coded e h =
@@ -503,7 +503,7 @@ unfolding first_word behind_date
 date_split front = sym (take-append-drop (position_or_len is_blank front) front) ∙ ap
     (λ (xs : List ℕ). before_first is_blank front ++ xs) (split_start (drop (position_or_len is_blank front) front))
 
--- a date with no blank behind it has nothing there
+-- a date with no blank after it has nothing there
 pub nothing_apart : (front : List ℕ)
     → take (first_solid (drop (position_or_len is_blank front) front)) (drop (position_or_len is_blank front) front)
     ≡ [] → behind_date front ≡ []

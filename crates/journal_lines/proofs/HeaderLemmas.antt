@@ -42,7 +42,7 @@ comment_reads text h =
     let inner = and_parts (is_trimmed text) _ outer.0 in
     comment_behind indent (spaced_text text) refl ∙ ap (λ (t : List ℕ). Some t) (spaced_trimmed text inner.0)
 
--- a comment line is indented, and `;` is its first byte behind the blanks
+-- a comment line is indented, and `;` is its first byte after the blanks
 pub comment_shows : (text : List ℕ) → trim_start (comment_line text) ≡ 59 ∷ spaced_text text
 unfolding comment_line
 comment_shows text =
@@ -78,7 +78,7 @@ code_parts code h =
     let c = and_parts (has_no 41 code) _ b.0 in
     record { open_end = c.0; no_semicolon = c.1; clean = b.1; short = a.1 }
 
--- the description behind its space
+-- the description after its space
 description_back : (text : List ℕ) → is_trimmed text ≡ true → trim_start (spaced_text text) ≡ text
 description_back [] t = trim_start_same [] refl
 description_back (b ∷ bs) t =

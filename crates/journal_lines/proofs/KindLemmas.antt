@@ -26,7 +26,7 @@ no_block : (b : ℕ) (bs : List ℕ) → nat_eq b 99 ≡ false → (n : ℕ)
 no_block b bs h zero = refl
 no_block b bs h (suc n) = rw h refl
 
--- a line behind a blank is indented
+-- a line after a blank is indented
 pub kind_indented : (line : List ℕ) → is_blank (slice_index line 0) ≡ true → 0 < length (trim_start line)
     → kind_of line ≡ kind.Indented
 unfolding is_block_start trim_end

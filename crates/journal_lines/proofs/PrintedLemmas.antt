@@ -50,7 +50,7 @@ comments_read_back text h =
       short = comment_short text (leb-true (length text) 900 outer.1);
     }
 
--- a step that failed behind three that did not leaves the front
+-- a step that failed after three that did not leaves the front
 pub kept_behind_three : {E : Type 0} (r : Result Unit E) (a b c d e x y z : List ℕ) → b ≡ a ++ x → c ≡ b ++ y
     → d ≡ c ++ z → OnErr r (take (length d) e ≡ d) → OnErr r (take (length a) e ≡ a)
 kept_behind_three (Ok u) a b c d e x y z p q s h = tt

@@ -21,7 +21,7 @@ pub no_tags : tags_of [] ≡ []
 unfolding first_tag
 no_tags = refl
 
--- the tags of a comment are that of its first part, if it has one, and those behind the comma
+-- the tags of a comment are that of its first part, if it has one, and those after the comma
 pub tags_step : (text : List ℕ)
     → tags_of text
     ≡ cons_option (first_tag true (before_first (λ b. b == 44) text)) (tags_of (after_first (λ b. b == 44) text))
@@ -117,7 +117,7 @@ front_is_tag fresh text begins h =
     get_or_past : (n : ℕ) (xs : List ℕ) → length xs ≤ n → slice_index xs n ≡ 0
     get_or_past n xs h = grind (arith, common_steps)
 
--- a tag that does not stand at the front stands behind the first byte
+-- a tag that does not stand at the front stands after the first byte
 behind_first : (fresh : Bool) (b : ℕ) (rest : List ℕ) (tag : List ℕ × List ℕ) → (fresh && starts_tag (b ∷ rest)) ≡ false
     → (h : HasTag fresh (b ∷ rest) tag) → (k : HasTag (is_blank b) rest tag) × (length h.front ≡ length k.front + 1)
 behind_first fresh b rest tag absent h = at h.front refl

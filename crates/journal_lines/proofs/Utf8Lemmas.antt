@@ -45,7 +45,7 @@ cut_utf8 xs n h c =
       is_utf8-from_IsUtf8 (drop n xs) (IsUtf8-drop xs n u boundary),
     )
 
--- and behind one
+-- and after one
 pub behind_utf8 : (xs : List ℕ) (n : ℕ) → is_utf8 xs ≡ true → n < length xs → slice_index xs n < 128
     → is_utf8 (drop (n + 1) xs) ≡ true
 behind_utf8 xs n h l low = let u =
@@ -149,7 +149,7 @@ pub first_word_utf8 : (text : List ℕ) → is_utf8 text ≡ true → is_utf8 (f
 unfolding first_word
 first_word_utf8 text h = before_utf8 is_blank blank_low text h
 
--- what stands before and behind the first `;`
+-- what stands before and after the first `;`
 pub front_utf8 : (line : List ℕ) → is_utf8 line ≡ true → is_utf8 (front_of line) ≡ true
 unfolding front_of
 front_utf8 line h = before_utf8 (λ b. b == 59) (λ b. sign_low 59 b (omega arith)) line h
@@ -294,7 +294,7 @@ comment_line_utf8 (b ∷ bs) h =
 
 -- ---- as the calls find their places
 
--- before, from and behind a place that was found
+-- before, from and after a place that was found
 pub found_utf8 : (p : ℕ → Bool) → ((b : ℕ) → p b ≡ true → b < 128) → (text : List ℕ) (at : ℕ)
     → Some at ≡ position p text → is_utf8 text ≡ true
     → (is_utf8 (take at text) ≡ true) × (is_utf8 (drop (at + 1) text) ≡ true)
@@ -331,7 +331,7 @@ end_found text count e h =
 pub name_boundary : (text : List ℕ) → IsCharBoundary text (name_end text)
 name_boundary text = let cut = name_cut text in (cut.inside, λ l a. absurd (omega (arith, cut.low l, a)))
 
--- behind a sign
+-- after a sign
 pub sign_utf8 : (text : List ℕ) (first : ℕ) → (first ≡ 42) ⊎ ((first ≡ 42 → ⊥) × (first ≡ 33))
     → first ≡ slice_index text 0 → is_utf8 text ≡ true → is_utf8 (drop 1 text) ≡ true
 sign_utf8 [] first sign is h = h

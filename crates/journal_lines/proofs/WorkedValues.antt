@@ -26,7 +26,7 @@ cr_lf = refl
 pub cr_at_the_end : lines (codes "\na\r") ≡ [] ∷ codes "a" ∷ []
 cr_at_the_end = refl
 
--- a value runs to the next comma, and reading goes on behind it
+-- a value runs to the next comma, and reading goes on after it
 pub two_tags : tags_of (codes "a b:c d:e, f:g") ≡ (codes "b", codes "c d:e") ∷ (codes "f", codes "g") ∷ []
 unfolding first_tag starts_tag tag_at trim_start trim_end
 two_tags = refl
@@ -79,7 +79,7 @@ unfolding judged_header cut_header first_word behind_date trim_start trim_end fr
     behind_status code_at date_of
 header = refl
 
--- only one status is read, and none behind a code
+-- only one status is read, and none after a code
 pub one_status : (status_at (codes "* ! x") ≡ Some Cleared) × (behind_status (codes "* ! x") ≡ codes "! x")
     × (status_at (codes "(a) * x") ≡ None)
 unfolding status_at behind_status trim_start

@@ -11,7 +11,7 @@ has_no byte text = list_all (λ b. not (b == byte)) text
 unfoldable pub front_of : List ℕ → List ℕ
 front_of line = before_first (λ b. b == 59) line
 
--- the text of the comment behind the first `;`, if there is one
+-- the text of the comment after the first `;`, if there is one
 unfoldable pub comment_of : List ℕ → Option (List ℕ)
 comment_of line = if nat_lt (position_or_len (λ b. b == 59) line) (length line)
     then Some (trim (after_first (λ b. b == 59) line)) else None

@@ -15,7 +15,7 @@ use Rattle.journal_lines.specs.HeaderForm.{status_text, code_text, is_closed, Is
 abbrev pub is_sign : ℕ → Bool
 is_sign b = (b == 42) || (b == 33)
 
--- a line, whatever its date is: a word, then behind blanks a status and a text, each optional, then the comment
+-- a line, whatever its date is: a word, then after blanks a status and a text, each optional, then the comment
 pub record IsCut (line word text : List ℕ) (comment : Option (List ℕ)) : Type 0 where
   pub status : Option Status
   pub gap : List ℕ
@@ -24,14 +24,14 @@ pub record IsCut (line word text : List ℕ) (comment : Option (List ℕ)) : Typ
   pub written : line ≡ word ++ (gap ++ (status_text status ++ (status_gap ++ (text ++ remark))))
   pub solid : list_all (λ b. not (is_blank b)) word ≡ true
   pub blanks : list_all is_blank (gap ++ status_gap) ≡ true
-  -- behind a word without a blank nothing stands but the comment
+  -- after a word without a blank nothing stands but the comment
   pub apart : gap ≡ [] → (status ≡ None) × ((status_gap ≡ []) × (text ≡ []))
   pub starts : is_blank (slice_index text 0) ≡ false
   pub begins : status ≡ None → is_sign (slice_index text 0) ≡ false
   pub uncommented : has_no 59 (word ++ text) ≡ true
   pub commented : IsRemark comment remark
 
--- the text is a code, which ends at the first `)`, and a description, each optional, with blanks behind each
+-- the text is a code, which ends at the first `)`, and a description, each optional, with blanks after each
 pub record IsCoded (text : List ℕ) (code : Option (List ℕ)) (description : List ℕ) : Type 0 where
   pub gap : List ℕ
   pub end_gap : List ℕ
@@ -64,7 +64,7 @@ pub record HasNoDate (line : List ℕ) : Type 0 where
   pub short : ¬ (HasLongPart line)
   pub undated : (day : Day) → ¬ (IsDate word day)
 
--- no part has too many bytes, the date is one, and behind it stands `(` without `)`
+-- no part has too many bytes, the date is one, and after it stands `(` without `)`
 pub record HasOpenCode (line : List ℕ) : Type 0 where
   pub word : List ℕ
   pub rest : List ℕ

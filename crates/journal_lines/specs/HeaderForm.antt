@@ -45,7 +45,7 @@ abbrev pub IsRemark : Option (List ℕ) → List ℕ → Type 0
 IsRemark None rest = rest ≡ []
 IsRemark (Some text) rest = WritesComment text rest
 
--- the line is a header with these parts: a date, then behind blanks a status, a code and a description, each optional,
+-- the line is a header with these parts: a date, then after blanks a status, a code and a description, each optional,
 -- then the comment
 pub record Reads (line : List ℕ) (parts : HeaderParts) : Type 0 where
   pub date : List ℕ
@@ -59,7 +59,7 @@ pub record Reads (line : List ℕ) (parts : HeaderParts) : Type 0 where
       ++ (status_gap ++ (code_text parts.code ++ (code_gap ++ (parts.description ++ (end_gap ++ remark)))))))
   pub is_date : IsDate date parts.day
   pub blanks : list_all is_blank (gap ++ (status_gap ++ (code_gap ++ end_gap))) ≡ true
-  -- behind a date without a blank nothing stands but the comment
+  -- after a date without a blank nothing stands but the comment
   pub apart : gap ≡ [] → (parts.status ≡ None) × (parts.code ≡ None) × (parts.description ≡ [])
   pub closed : is_closed parts.code ≡ true
   pub trimmed : is_trimmed parts.description ≡ true

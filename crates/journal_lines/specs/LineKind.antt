@@ -50,6 +50,6 @@ kind_of line =
     else if is_skipped_word (first_word line) then Skipped
     else Unknown
 
--- an indented line is a comment line where `;` is its first byte behind the blanks
+-- an indented line is a comment line where `;` is its first byte after the blanks
 unfoldable pub is_remark : List ℕ → Bool
 is_remark line = slice_index (trim_start line) 0 == 59

@@ -32,23 +32,23 @@ ended ls = flat_map (λ line. line ++ 10 ∷ []) ls
 abbrev pub indent : List ℕ
 indent = 32 ∷ 32 ∷ 32 ∷ 32 ∷ []
 
--- a header's status behind a space
+-- a header's status after a space
 abbrev pub header_status : Option Status → List ℕ
 header_status None = []
 header_status (Some Pending) = 32 ∷ 33 ∷ []
 header_status (Some Cleared) = 32 ∷ 42 ∷ []
 
--- its code in parentheses behind a space
+-- its code in parentheses after a space
 abbrev pub header_code : Option (List ℕ) → List ℕ
 header_code None = []
 header_code (Some code) = 32 ∷ 40 ∷ (code ++ 41 ∷ [])
 
--- a text behind a space, if there is some
+-- a text after a space, if there is some
 abbrev pub spaced_text : List ℕ → List ℕ
 spaced_text [] = []
 spaced_text (b ∷ bs) = 32 ∷ b ∷ bs
 
--- the header line of a transaction: the date, then a status, a code and a description, each behind a space where it is
+-- the header line of a transaction: the date, then a status, a code and a description, each after a space where it is
 -- there
 unfoldable pub header_line : Day → Option Status → Option (List ℕ) → List ℕ → List ℕ
 header_line day status code description =
@@ -67,7 +67,7 @@ abbrev pub is_code : Option (List ℕ) → Bool
 is_code None = true
 is_code (Some code) = has_no 41 code && has_no 59 code && list_all is_clean code && nat_le (length code) code_limit
 
--- a description that reads back behind that status and that code
+-- a description that reads back after that status and that code
 abbrev pub is_description : Option Status → Option (List ℕ) → List ℕ → Bool
 is_description status code text =
     is_trimmed text && has_no 59 text && list_all is_clean text && nat_le (length text) description_limit

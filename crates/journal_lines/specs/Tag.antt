@@ -32,13 +32,13 @@ first_tag fresh (b ∷ rest) =
 abbrev pub tags_of : List ℕ → List (List ℕ × List ℕ)
 tags_of comment = filter_map (first_tag true) (slice_split (λ b. b == 44) comment)
 
--- whether a name may begin behind a text, given whether it may begin before it: where nothing was passed, or behind a
+-- whether a name may begin after a text, given whether it may begin before it: where nothing was passed, or after a
 -- blank
 abbrev pub may_begin : Bool → List ℕ → Bool
 may_begin fresh [] = fresh
 may_begin fresh (b ∷ rest) = may_begin (is_blank b) rest
 
--- the text holds the tag: a name that may begin there, directly followed by `:`, and the value behind it
+-- the text holds the tag: a name that may begin there, directly followed by `:`, and the value after it
 pub record HasTag (fresh : Bool) (text : List ℕ) (tag : List ℕ × List ℕ) : Type 0 where
   pub front : List ℕ
   pub rest : List ℕ

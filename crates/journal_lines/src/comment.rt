@@ -23,7 +23,7 @@ pub fn front_of(line: &[u8]) -> &[u8]
     }
 }
 
-/// The text behind the first `;`, without blanks at its ends.
+/// The text after the first `;`, without blanks at its ends.
 #[tactic(auto, unfolding(crate::specs::Comment::comment_of))]
 pub fn comment_of(line: &[u8]) -> Option<&[u8]>
     ensures value { option_map (λ c. c.now) result ≡ comment_of line.now }

@@ -21,7 +21,7 @@ pub enum LineKind {
     Block,
     /// A digit in the first column: a transaction begins.
     Header,
-    /// A blank in the first column, and something behind it.
+    /// A blank in the first column, and something after it.
     Indented,
     /// A directive `commodity`.
     Commodity,
@@ -67,7 +67,7 @@ pub fn is_block_end(line: &[u8]) -> bool
     is_same(trim_end(line), b"end comment")
 }
 
-/// Whether the first byte behind the blanks is `;`, with which an indented line is a comment line, and has a comment.
+/// Whether the first byte after the blanks is `;`, with which an indented line is a comment line, and has a comment.
 #[tactic(auto, unfolding(crate::specs::LineKind::is_remark))]
 pub fn is_remark(line: &[u8]) -> bool
     ensures value { result ≡ is_remark line.now }

@@ -83,7 +83,7 @@ pub(crate) fn before(text: &[u8], byte: u8) -> &[u8]
     &text[..first_place(text, byte)]
 }
 
-/// What stands behind the byte.
+/// What stands after the byte.
 pub(crate) fn behind(text: &[u8], byte: u8) -> &[u8]
     ensures { result.now ≡ after_first (λ b. b == byte) text.now }
 {

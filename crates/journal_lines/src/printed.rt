@@ -76,7 +76,7 @@ pub fn is_code(code: Option<&[u8]>) -> bool
     }
 }
 
-/// Whether the description reads back behind that status and that code: no blank at an end, no `;`, no control
+/// Whether the description reads back after that status and that code: no blank at an end, no `;`, no control
 /// character but the tab, at most 500 bytes, and a first byte that is taken for neither a status nor a code.
 pub fn is_description(status: Option<Status>, code: Option<&[u8]>, text: &[u8]) -> bool
     ensures { result ≡ is_description status (text_of code.entry) text.now }
@@ -88,7 +88,7 @@ pub fn is_description(status: Option<Status>, code: Option<&[u8]>, text: &[u8]) 
         && starts_so(status, code, first_byte(text))
 }
 
-/// Whether a description may begin with the byte behind that status and that code.
+/// Whether a description may begin with the byte after that status and that code.
 fn starts_so(status: Option<Status>, code: Option<&[u8]>, byte: u8) -> bool
     ensures { result ≡ starts_so status (text_of code.entry) byte }
 {
@@ -151,7 +151,7 @@ pub fn comment_len(text: &[u8]) -> usize
     5 + spaced_len(text)
 }
 
-/// Appends the text behind a space, if there is some.
+/// Appends the text after a space, if there is some.
 fn push_spaced(out: &mut Vec<u8>, text: &[u8]) -> Result<(), AllocError>
     ensures ok { OnOk result (out.new.items ≡ out.old.items ++ spaced_text text.now) }
     ensures err { OnErr result (take (length out.old.items) out.new.items ≡ out.old.items) }
@@ -165,7 +165,7 @@ fn push_spaced(out: &mut Vec<u8>, text: &[u8]) -> Result<(), AllocError>
     }
 }
 
-/// Appends the status behind a space, if there is one.
+/// Appends the status after a space, if there is one.
 fn push_status(out: &mut Vec<u8>, status: Option<Status>) -> Result<(), AllocError>
     ensures ok { OnOk result (out.new.items ≡ out.old.items ++ header_status status) }
     ensures err { OnErr result (out.new.items ≡ out.old.items) }
@@ -177,7 +177,7 @@ fn push_status(out: &mut Vec<u8>, status: Option<Status>) -> Result<(), AllocErr
     }
 }
 
-/// Appends the code in parentheses behind a space, if there is one.
+/// Appends the code in parentheses after a space, if there is one.
 fn push_code(out: &mut Vec<u8>, code: Option<&[u8]>) -> Result<(), AllocError>
     ensures ok { OnOk result (out.new.items ≡ out.old.items ++ header_code (text_of code.entry)) }
     ensures err { OnErr result (take (length out.old.items) out.new.items ≡ out.old.items) }
@@ -213,7 +213,7 @@ fn push_header(
     push_spaced(out, description)
 }
 
-/// Appends the header line of these parts, without its end: `YYYY-MM-DD`, then behind a space each that is there, the
+/// Appends the header line of these parts, without its end: `YYYY-MM-DD`, then after a space each that is there, the
 /// status, the code in parentheses, the description.
 ///
 /// Parts that pass `is_code` and `is_description` read back. Answers 40 for want of memory, and `out` is as it was.
@@ -254,7 +254,7 @@ fn push_comment(out: &mut Vec<u8>, text: &[u8]) -> Result<(), AllocError>
     push_spaced(out, text)
 }
 
-/// Appends the line of a comment below a header, without its end: four spaces, `;`, and behind a space the text.
+/// Appends the line of a comment below a header, without its end: four spaces, `;`, and after a space the text.
 ///
 /// A text that passes `is_comment` reads back. Answers 40 for want of memory, and `out` is as it was.
 pub fn print_comment(text: &[u8], out: &mut Vec<u8>) -> Result<(), Cause>

@@ -40,7 +40,7 @@ impl<'a> Iterator for Tags<'a> {
     }
 }
 
-/// The first tag of a comment, and what follows the comma behind it; nothing where there is none.
+/// The first tag of a comment, and what follows the comma after it; nothing where there is none.
 fn next_tag(comment: &[u8]) -> (Option<(&[u8], &[u8])>, &[u8])
     ensures found { IfSome result.0 (λ tag. tags_of comment.now ≡ (tag.0.now, tag.1.now) ∷ tags_of result.1.now) }
     ensures none { IfNone result.0 ((tags_of comment.now ≡ []) × (tags_of result.1.now ≡ [])) }

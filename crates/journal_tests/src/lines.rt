@@ -115,7 +115,7 @@ fn a_date_is_read_in_three_spellings(rt: HostRuntime) {
     assert_dates(&rt, ROWS);
 }
 
-/// Asserts how each day is printed behind a `>`.
+/// Asserts how each day is printed after a `>`.
 fn assert_dates_printed(rt: &impl Abort, alloc: Global, rows: &[(Day, &str)]) -> Result<(), Fail> {
     for (day, expected) in rows {
         let mut out = Vec::from_slice(alloc, b">")?;
@@ -255,7 +255,7 @@ fn line_with(alloc: Global, front: &str, count: usize, behind: &str) -> Result<V
 }
 
 /// Asserts of each row that a header takes so many letters and no more: what stands before them, their number, what
-/// stands behind, and whether that header has another fault.
+/// stands after, and whether that header has another fault.
 fn assert_limits(
     rt: &impl Abort,
     alloc: Global,
@@ -412,7 +412,7 @@ fn measured(status: Option<Status>, code: Option<&[u8]>, description: &[u8]) -> 
     }
 }
 
-/// Asserts how a header is printed behind what was there, that it is so long, and that it reads back.
+/// Asserts how a header is printed after what was there, that it is so long, and that it reads back.
 fn assert_header_printed(
     rt: &impl Abort,
     alloc: Global,
@@ -469,7 +469,7 @@ fn a_header_is_printed_as_it_reads(rt: HostRuntime) -> Result<(), Fail> {
     assert_headers_printed(&rt, rt.alloc(), ROWS)
 }
 
-/// Asserts how a comment is printed behind what was there, that it is so long, and that it reads back.
+/// Asserts how a comment is printed after what was there, that it is so long, and that it reads back.
 fn assert_comment_printed(
     rt: &impl Abort,
     alloc: Global,

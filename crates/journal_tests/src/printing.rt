@@ -55,7 +55,7 @@ fn push_body(rt: &impl Abort, alloc: Global, txn: &Txn, styles: &Styles, out: &m
     }
 }
 
-/// The texts of all transactions of a journal, an empty line behind each.
+/// The texts of all transactions of a journal, an empty line after each.
 fn canonical(rt: &impl Abort, alloc: Global, text: &str, styles: &Styles) -> Vec<u8> {
     let mut out = Vec::new(alloc);
     for located in &transactions(rt, alloc, text, styles) {
@@ -240,7 +240,7 @@ fn a_journal_prints_as_its_canonical_text(rt: HostRuntime) {
     assert_canonical(&rt, rt.alloc(), ROWS);
 }
 
-/// The line below a header, behind so many blanks.
+/// The line below a header, after so many blanks.
 fn below(rt: &impl Abort, alloc: Global, blanks: &str, line: &str) -> Vec<u8> {
     let mut text = Vec::new(alloc);
     text.extend_from_slice(b"2024-01-05 x\n")

@@ -30,7 +30,7 @@ fn answer(alloc: Global, text: &[u8], styles: &Styles) -> (usize, usize) {
     }
 }
 
-/// Adds the text behind what is there, so many times.
+/// Adds the text after what is there, so many times.
 fn push_text(rt: &impl Abort, out: &mut Vec<u8>, text: &str, count: usize) {
     for _ in 0..count {
         out.extend_from_slice(text.as_bytes()).expect(rt, "memory");
@@ -189,7 +189,7 @@ fn a_limit_is_passed_by_one_more(rt: HostRuntime) {
     assert_repeated(&rt, rt.alloc(), ROWS);
 }
 
-// Each line of the body is `    ;` and its end, behind the 13 bytes of the header.
+// Each line of the body is `    ;` and its end, after the 13 bytes of the header.
 #[test]
 fn a_body_has_at_most_1_000_000_bytes(rt: HostRuntime) {
     const ROWS: &[(&str, &str, usize, &str, (usize, usize))] = &[

@@ -1,4 +1,4 @@
--- One more behind others, with a comma between.
+-- One more after others, with a comma between.
 use Rattle.std.proofs.Common.{◌≡◌, ◌∙◌, ◌++◌, ◌∷◌, ℕ, List, [], Bool, true, false, refl, sym, ap, drop, append-nil}
 use Rattle.std.proofs.Common.{append_assoc}
 use Rattle.std.specs.Prelude.{if◌then◌else◌, codes}
@@ -18,7 +18,7 @@ abbrev pub is_empty : {X : Type 0} → List X → Bool
 is_empty [] = true
 is_empty (x ∷ xs) = false
 
--- what one more is written as, behind those before it
+-- what one more is written as, after those before it
 abbrev pub next_text : {X : Type 0} → (X → List ℕ) → List X → X → List ℕ
 next_text written before x = if is_empty before then written x else codes "," ++ written x
 
@@ -30,7 +30,7 @@ with_commas_more {X} written (y ∷ ys) x =
     append_assoc (written y) (flat_map piece ys) (codes "," ++ written x) ∙ ap (λ (l : List ℕ). written y ++ l)
     (ap (λ (l : List ℕ). flat_map piece ys ++ l) (sym (append-nil (piece x))) ∙ sym (flat_map-append piece ys (x ∷ [])))
 
--- more of them behind others, of which there is one
+-- more of them after others, of which there is one
 pub with_commas_behind : {X : Type 0} (written : X → List ℕ) (before : List X) (x : X) (after : List X)
     → with_commas written (before ++ x ∷ []) ++ flat_map (λ y. codes "," ++ written y) after
     ≡ with_commas written (before ++ x ∷ after)

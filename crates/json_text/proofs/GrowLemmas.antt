@@ -23,7 +23,7 @@ grows_nothing v = record {
   capacity = omega arith;
 }
 
--- a second call behind one that appended its part
+-- a second call after one that appended its part
 pub grows_then : (a b : List ℕ) (old mid new : Vec ℕ Global) (r : Ending)
     → Grows a old mid (Ok tt) → Grows b mid new r → Grows (a ++ b) old new r
 grows_then a b old mid new r first second = record {
@@ -49,7 +49,7 @@ grows_then a b old mid new r first second = record {
     by_error (Ok x) h = tt
     by_error (Err e) h = kept_behind old.items mid.items new.items a first.ok h
 
--- a call that failed, whatever was to come behind it
+-- a call that failed, whatever was to come after it
 pub grows_stop : (a b : List ℕ) (old new : Vec ℕ Global) (e : AllocError)
     → Grows a old new (Err e) → Grows (a ++ b) old new (Err e)
 grows_stop a b old new e failed = record {
@@ -63,7 +63,7 @@ grows_stop a b old new e failed = record {
 pub grows_as : (a b : List ℕ) (old new : Vec ℕ Global) (r : Ending) → a ≡ b → Grows a old new r → Grows b old new r
 grows_as a b old new r same grown = subst (λ (t : List ℕ). Grows t old new r) same grown
 
--- a second call behind one that appended its part, and failed, whatever was to come behind it
+-- a second call after one that appended its part, and failed, whatever was to come after it
 pub grows_stop_then : (a b rest : List ℕ) (old mid new : Vec ℕ Global) (e : AllocError)
     → Grows a old mid (Ok tt) → Grows b mid new (Err e) → Grows (a ++ b ++ rest) old new (Err e)
 grows_stop_then a b rest old mid new e first failed =

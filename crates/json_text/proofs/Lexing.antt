@@ -57,7 +57,7 @@ lexes_close_object r = refl
 
 -- ---- lexemes and tokens
 
--- where a value may begin, and before no colon, the lexemes are these tokens, behind which a value has ended
+-- where a value may begin, and before no colon, the lexemes are these tokens, after which a value has ended
 abbrev pub Punctuates : List Lexeme → List Token → Type 0
 Punctuates ls ts = (p : Place) (r : List Lexeme) → may_begin p ≡ true → begins_colon r ≡ false
     → punctuate p (ls ++ r) ≡ ts ++ punctuate after_value r
@@ -88,7 +88,7 @@ pub record Written (text : List ℕ) (ts : List Token) : Type 0 where
 pub written_string : (s : List ℕ) → Written (quoted s) (string s ∷ [])
 written_string s = record { ls = token (string s) ∷ []; lexed = lexes_string s; punctuated = punctuates_string s }
 
--- a bracket that closes ends a value, behind its first bracket and behind a value
+-- a bracket that closes ends a value, after its first bracket and after a value
 pub record Closes (t : Token) : Type 0 where
   pub first : (r : List Lexeme) → punctuate fresh (token t ∷ r) ≡ t ∷ punctuate after_value r
   pub later : (r : List Lexeme) → punctuate after_value (token t ∷ r) ≡ t ∷ punctuate after_value r
@@ -101,7 +101,7 @@ pub closes_object : Closes end_object
 unfolding punctuate
 closes_object = record { first = λ r. refl; later = λ r. refl }
 
--- a bracket that opens stands where a value may begin, and behind it a first value may
+-- a bracket that opens stands where a value may begin, and after it a first value may
 abbrev pub Opens : Token → Type 0
 Opens t = (p : Place) (r : List Lexeme) → may_begin p ≡ true → punctuate p (token t ∷ r) ≡ t ∷ punctuate fresh r
 
@@ -120,7 +120,7 @@ opens_object after_comma r h = refl
 opens_object after_key r h = absurd (cc)
 
 module _ {X : Type 0} (text : X → List ℕ) (ts : X → List Token) (each : (x : X) → Written (text x) (ts x)) where
-  -- each behind a comma
+  -- each after a comma
   abbrev later : List X → List Lexeme
   later xs = flat_map (λ x. comma ∷ (each x).ls) xs
 
@@ -142,7 +142,7 @@ module _ {X : Type 0} (text : X → List ℕ) (ts : X → List Token) (each : (x
       (lexes_later xs)
 
   module _ (close : Token) (closes : Closes close) where
-    -- what stands behind a value
+    -- what stands after a value
     abbrev rest : List X → List Lexeme → List Lexeme
     rest xs r = later xs ++ token close ∷ r
 
@@ -189,7 +189,7 @@ module _ {X : Type 0} (text : X → List ℕ) (ts : X → List Token) (each : (x
 pub written_as : (text : List ℕ) (ts us : List Token) → ts ≡ us → Written text ts → Written text us
 written_as text ts us same written = subst (λ (l : List Token). Written text l) same written
 
--- the tokens of a whole text, behind which stands nothing that is read
+-- the tokens of a whole text, after which stands nothing that is read
 pub tokens_of_written : (text tail : List ℕ) (ts : List Token) → Written text ts → lex between tail ≡ []
     → tokens (text ++ tail) ≡ ts ++ []
 unfolding punctuate

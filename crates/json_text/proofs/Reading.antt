@@ -154,7 +154,7 @@ members_are (m ∷ ms) found = rw (held_is m.1) (members_are ms (put m.0 (held_v
 
 -- ---- what is read
 
--- a text of a value, behind which stands nothing that is read
+-- a text of a value, after which stands nothing that is read
 read_written : (text tail : List ℕ) (j : json.Json) (d : Data) → Written text (tree.json_tokens j)
     → lex between tail ≡ [] → tree.depth j ≤ max_depth → of_json j ≡ Some d → read (text ++ tail) ≡ Some d
 read_written text tail j d written blank shallow is =

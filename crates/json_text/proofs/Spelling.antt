@@ -156,7 +156,7 @@ content-escaped (x ∷ s) r =
     ap (content plain) (append_assoc (escaped x) (flat_map escaped s) (34 ∷ r)) ∙ (passes x).spelled _
     ∙ ap (prepend (x ∷ [])) (content-escaped s r)
 
--- and what follows is read behind its quote
+-- and what follows is read after its quote
 pub lex-escaped : (s r : List ℕ) → lex in_string (flat_map escaped s ++ 34 ∷ r) ≡ lex between r
 unfolding lex
 lex-escaped [] r = refl

@@ -60,7 +60,7 @@ abbrev pub onto_first : ℕ → List (List ℕ) → List (List ℕ)
 onto_first b [] = (b ∷ []) ∷ []
 onto_first b (line ∷ more) = (b ∷ line) ∷ more
 
--- the lines of a text: what stands before each LF, and what stands behind the last one, where that is something
+-- the lines of a text: what stands before each LF, and what stands after the last one, where that is something
 unfoldable pub lines_of : List ℕ → List (List ℕ)
 lines_of [] = []
 lines_of (b ∷ bs) = if b == 10 then [] ∷ lines_of bs else onto_first b (lines_of bs)

@@ -10,7 +10,7 @@ use crate::string::grow_string;
 use money_core::first_place;
 use std::alloc::AllocError;
 
-/// Appends a string, behind a comma where it is not the first.
+/// Appends a string, after a comma where it is not the first.
 fn grow_next(first: bool, text: &[u8], out: &mut Vec<u8>) -> Result<(), AllocError>
     ensures { Grows (if first then quoted text.now else codes "," ++ quoted text.now) out.old out.new result }
 {
@@ -37,7 +37,7 @@ fn grow_texts(texts: &[&[u8]], out: &mut Vec<u8>) -> Result<(), AllocError>
     Ok(())
 }
 
-/// What stands behind a line of so many bytes, and its LF.
+/// What stands after a line of so many bytes, and its LF.
 fn behind_line(text: &[u8], end: usize) -> &[u8]
     requires { end ≤ length text.now }
     ensures { result.now ≡ drop (end + 1) text.now }
@@ -114,7 +114,7 @@ pub fn push_strings(texts: &[&[u8]], out: &mut Vec<u8>) -> Result<(), AllocError
     }
 }
 
-/// Appends the array of the lines of a text, each a string without its LF. What stands behind the last LF is a line,
+/// Appends the array of the lines of a text, each a string without its LF. What stands after the last LF is a line,
 /// where that is something.
 ///
 /// Where memory is refused, the vector is as it was; where it has room for the array, none is asked for.
@@ -135,14 +135,14 @@ pub fn push_lines(text: &[u8], out: &mut Vec<u8>) -> Result<(), AllocError>
     }
 }
 
-/// What stands behind the first byte.
+/// What stands after the first byte.
 fn behind_first(text: &[u8]) -> &[u8]
     ensures { result.now ≡ drop 1 text.now }
 {
     if text.is_empty() { text } else { &text[1..] }
 }
 
-/// Appends the array of elements that stand each behind a comma.
+/// Appends the array of elements that stand each after a comma.
 fn grow_array(elements: &[u8], out: &mut Vec<u8>) -> Result<(), AllocError>
     ensures { Grows (codes "[" ++ drop 1 elements.now ++ codes "]") out.old out.new result }
 {
@@ -156,7 +156,7 @@ fn grow_array(elements: &[u8], out: &mut Vec<u8>) -> Result<(), AllocError>
     }
 }
 
-/// Appends the array of elements that are written already, each behind a comma.
+/// Appends the array of elements that are written already, each after a comma.
 ///
 /// Where memory is refused, the vector is as it was; where it has room for the array, none is asked for.
 pub fn push_array(elements: &[u8], out: &mut Vec<u8>) -> Result<(), AllocError>

@@ -1,4 +1,4 @@
-//! Bytes behind others.
+//! Bytes after others.
 
 ghost use Rattle.json_text.specs.Growing.{Grows};
 

@@ -51,7 +51,7 @@ fn grow_member(member: &Member, out: &mut Vec<u8>) -> Result<(), AllocError>
     }
 }
 
-/// Appends a member, behind a comma where it is not the first.
+/// Appends a member, after a comma where it is not the first.
 fn grow_next(first: bool, member: &Member, out: &mut Vec<u8>) -> Result<(), AllocError>
     ensures { Grows (if first then member_text (member_of member.now)
         else codes "," ++ member_text (member_of member.now)) out.old out.new result }

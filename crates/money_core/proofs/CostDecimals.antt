@@ -17,7 +17,7 @@ use Rattle.std.specs.Str.Parse.{digits_value}
 use Rattle.std.proofs.lemmas.Int.Digits.{digits_value_push}
 use Rattle.money_core.specs.PriceReading.{significant, kept_decimals}
 
--- a digit behind others
+-- a digit after others
 zero_joined : (xs : List ℕ) (b : ℕ) → (b == 48) ≡ true
     → list_all (λ c. c == 48) (xs ++ b ∷ []) ≡ list_all (λ c. c == 48) xs
 zero_joined [] b h = rw h refl
@@ -85,7 +85,7 @@ significant_last (x ∷ xs) j h =
     )
     behind (suc i) e other rest = let last = rest i (e ∙ omega arith) in (omega (arith, last.0), last.1)
 
--- where all behind a place are zeros, no more are counted
+-- where all after a place are zeros, no more are counted
 pub significant_least : (xs : List ℕ) (n : ℕ) → list_all (λ c. c == 48) (drop n xs) ≡ true → significant xs ≤ n
 significant_least [] n h = omega arith
 significant_least (x ∷ xs) zero h = rw h (omega arith)
@@ -96,7 +96,7 @@ significant_least (x ∷ xs) (suc n) h =
       | inr other ↦ rw other (omega (arith, rest))
     ]
 
--- and where no more are counted, all behind are zeros
+-- and where no more are counted, all after are zeros
 pub significant_fits : (xs : List ℕ) (n : ℕ) → significant xs ≤ n → list_all (λ c. c == 48) (drop n xs) ≡ true
 significant_fits [] zero h = refl
 significant_fits [] (suc n) h = refl
@@ -117,7 +117,7 @@ significant_fits (x ∷ xs) (suc n) h =
           omega (arith, e))
     ]
 
--- behind those that are counted stand zeros
+-- after those that are counted stand zeros
 pub significant_beyond : (xs : List ℕ) (j : ℕ) → significant xs ≤ j → j < length xs → get_or xs j 0 ≡ 48
 significant_beyond [] j h l = absurd (omega arith)
 significant_beyond (x ∷ xs) j h l =
@@ -161,7 +161,7 @@ counted_last whole fraction j digits h =
     rw (last_digit whole fraction j, sym (decimal_written fraction (j + 1) j last.0))
     (digit_not_zero (get_or fraction j 0) digit last.1)
 
--- a digit behind those that are counted is zero
+-- a digit after those that are counted is zero
 pub uncounted_last : (whole fraction : List ℕ) (j : ℕ) → significant fraction ≤ j
     → (digits_value 10 (unit_digits (j + 1) whole fraction) % 10 == 0) ≡ true
 uncounted_last whole fraction j h =

@@ -367,7 +367,7 @@ pub alone_first : (number : List ℕ) → NumberText number → has Number (slic
 alone_first number h =
     ap (λ (xs : List ℕ). has Number (slice_index xs 0)) (sym (append-nil number)) ∙ first_number number [] h
 
--- a symbol on the left, behind a sign
+-- a symbol on the left, after a sign
 left_after_sign : (sign : Sign) (symbol blanks number : List ℕ) → NumberText number → IsBlanks blanks
     → left_number sign symbol (blanks ++ number)
     ≡ record { sign = sign; left = true; spaced = not (length blanks == 0); symbol = symbol; number = number }
@@ -399,7 +399,7 @@ signed_first Absent inner number t h =
 signed_first Plus inner number t h = rw h.1.1 (refl, refl)
 signed_first Minus inner number t h = rw h.1.1 (refl, refl)
 
--- a symbol on the left, and a sign behind it
+-- a symbol on the left, and a sign after it
 left_before_sign : (sign : Sign) (symbol blanks inner number : List ℕ) → NumberText number → IsBlanks blanks
     → WritesSign sign inner
     → left_number Absent symbol (blanks ++ (inner ++ number))
@@ -525,7 +525,7 @@ amount_cut mark text parts a =
     let t = number_text mark parts.number a.number in
     elim a.form [ inl left ↦ left_cut text parts t left | inr right ↦ right_cut text parts t right ]
 
--- behind a symbol on the left that has a sign before it
+-- after a symbol on the left that has a sign before it
 left_unsigned : (text outer written rest symbol : List ℕ) (sign : Sign) → text ≡ outer ++ (written ++ rest)
     → WritesSign sign outer → WritesSymbol symbol written
     → IsLeftAmount text (record {
@@ -548,7 +548,7 @@ left_unsigned text outer written rest symbol sign whole signed w = record {
   left = refl;
 }
 
--- behind the symbol on the left
+-- after the symbol on the left
 left_amount : (text outer written rest symbol : List ℕ) (sign : Sign) → text ≡ outer ++ (written ++ rest)
     → WritesSign sign outer → WritesSymbol symbol written → IsLeftAmount text (left_number sign symbol rest)
 left_amount text outer written rest symbol Absent whole signed w =

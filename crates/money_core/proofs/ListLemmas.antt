@@ -32,7 +32,7 @@ pub nil_from_empty : {X : Type 0} (xs : List X) → (length xs == 0) ≡ true �
 nil_from_empty [] h = refl
 nil_from_empty (x ∷ xs) h = absurd (omega (arith, eqb-true (length (x ∷ xs)) 0 h))
 
--- what is left at a place is the element there, and what is left behind it
+-- what is left at a place is the element there, and what is left after it
 pub drop_at : {X : Type 0} (xs : List X) (i : ℕ) (x : X) → i < length xs → x ≡ get_or xs i x
     → drop i xs ≡ x ∷ drop (i + 1) xs
 drop_at xs i x h e =

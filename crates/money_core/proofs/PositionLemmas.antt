@@ -15,7 +15,7 @@ pub none_chosen : (b : Bool) (n : ℕ) → cond b (Some n) None ≡ None → b �
 none_chosen true n h = absurd cc
 none_chosen false n h = refl
 
--- what is found nowhere has its place behind the end
+-- what is found nowhere has its place after the end
 pub position-none : {X : Type 0} (p : X → Bool) (xs : List X) → position p xs ≡ None → length xs ≡ position_or_len p xs
 position-none p xs h =
     let n = position_or_len p xs in

@@ -189,7 +189,7 @@ amount_begins mark text parts a =
           | inr behind ↦ rw (left.whole, behind.0) body
         ]
 
--- what stands behind the `@` or `@@`
+-- what stands after the `@` or `@@`
 abbrev behind_mark : List ℕ → List ℕ
 behind_mark text = skip_blanks (if slice_index (drop 1 text) 0 == 64 then drop 1 (drop 1 text) else drop 1 text)
 
@@ -215,7 +215,7 @@ cut_so false amount text p b =
     second [] h = b.no_at
     second (x ∷ xs) h = blank_no_at x (and_parts (has Blank x) _ h).0
 
--- the price behind it
+-- the price after it
 price_behind : (styles : List Style) (total : Bool) (amount text : List ℕ) → IsCutSo total amount text
     → price styles text ≡ price_of_parts styles total (amount_parts amount)
 unfolding price

@@ -70,7 +70,7 @@ total_reads styles unit q style ok at l =
       le-ltb limit q l,
     ) refl
 
--- behind `@ ` and `@@ `
+-- after `@ ` and `@@ `
 behind_one : (styles : List Style) (rest : List ℕ) → has Blank (slice_index rest 0) ≡ false
     → price styles (64 ∷ 32 ∷ rest) ≡ price_of_parts styles false (amount_parts rest)
 unfolding price

@@ -70,7 +70,7 @@ value_decimal n h =
     (λ n ds l p. rw (value_after_append 0 ds ((48 + n % 10) ∷ []), p, digit_value_is (n % 10) (omega arith))
     (omega arith)) n h
 
--- where no byte of the front is the mark, the text is cut behind the front
+-- where no byte of the front is the mark, the text is cut after the front
 pub before_mark : (p : ℕ → Bool) (xs ys : List ℕ) (y : ℕ) → list_all (λ b. not (p b)) xs ≡ true → p y ≡ true
     → position_or_len p (xs ++ y ∷ ys) ≡ length xs
 before_mark p [] ys y h k = rw k refl
@@ -211,7 +211,7 @@ whole_reads Point false n l = decimal_reads 44 46 n (lit< tt) (lit< tt) l
 whole_reads Comma true n l = grouped_reads (n + 1) 46 44 n (omega arith) (lit< tt) (lit< tt) (λ e. omega (arith, e)) l
 whole_reads Comma false n l = decimal_reads 46 44 n (lit< tt) (lit< tt) l
 
--- a whole part with the mark and a fraction behind it
+-- a whole part with the mark and a fraction after it
 pub reads_with_mark : (mark : Mark) (decimals n r : ℕ) (text fraction : List ℕ)
     → ReadsAs (group_byte mark) (decimal_byte mark) n text
     → list_all is_ascii_digit fraction ≡ true → length fraction ≡ decimals → digits_value_after 10 n fraction ≡ r

@@ -37,7 +37,7 @@ any_place p (x ∷ xs) h =
       | inr other ↦ let k = rw other at h in let l = any_place p xs k in rw other (omega arith)
     ]
 
--- what stands behind the decimal mark is a digit
+-- what stands after the decimal mark is a digit
 behind_mark : (mark : Mark) (number : List ℕ) (k : ℕ) → shows mark number ≡ true
     → position_or_len (λ b. b == decimal_byte mark) number < k → k < length number
     → is_ascii_digit (get_or number k 0) ≡ true

@@ -13,7 +13,7 @@ use Rattle.money_core.specs.AmountText.{printed_symbol, minus, gap}
 use Rattle.money_core.proofs.ClassLemmas.{all_weaker}
 use Rattle.money_core.proofs.SymbolText.{symbol_facts}
 
--- two texts behind one another
+-- two texts after one another
 pub utf8_joined : (xs ys : List ℕ) → is_utf8 xs ≡ true → is_utf8 ys ≡ true → is_utf8 (xs ++ ys) ≡ true
 utf8_joined xs ys h k =
     is_utf8-from_IsUtf8 (xs ++ ys) (IsUtf8-append xs ys (IsUtf8-from_is_utf8 xs h) (IsUtf8-from_is_utf8 ys k))

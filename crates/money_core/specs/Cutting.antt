@@ -15,7 +15,7 @@ use Rattle.money_core.specs.Amount.{Parts}
 abbrev pub end_of : Class → List ℕ → ℕ
 end_of class text = position_or_len (λ b. not (has class b)) text
 
--- the text behind the blanks at its front
+-- the text after the blanks at its front
 abbrev pub skip_blanks : List ℕ → List ℕ
 skip_blanks text = drop (end_of Blank text) text
 
@@ -24,7 +24,7 @@ pub record Cut : Type 0 where
   pub symbol : List ℕ
   pub rest : List ℕ
 
--- the text up to the closing quote, behind the opening one
+-- the text up to the closing quote, after the opening one
 abbrev pub cut_quoted : List ℕ → Option Cut
 cut_quoted text =
     if (nat_lt (position_or_len (λ b. b == 34) text) (length text)) && is_symbol (before_first (λ b. b == 34) text)
@@ -54,11 +54,11 @@ is_signed Absent = false
 is_signed Plus = true
 is_signed Minus = true
 
--- the text behind a sign and its blanks; the text where it begins with none
+-- the text after a sign and its blanks; the text where it begins with none
 abbrev pub unsigned : List ℕ → List ℕ
 unsigned text = if is_signed (sign_of (slice_index text 0)) then skip_blanks (drop 1 text) else text
 
--- behind a symbol on the left: blanks, then a number, with a sign before it where none stood before the symbol
+-- after a symbol on the left: blanks, then a number, with a sign before it where none stood before the symbol
 abbrev pub left_number : Sign → List ℕ → List ℕ → Parts
 left_number sign symbol rest =
     if is_signed sign
@@ -81,7 +81,7 @@ left_number sign symbol rest =
 unfoldable pub left_parts : Sign → List ℕ → Option Parts
 left_parts sign text = option_and_then (λ cut. Some (left_number sign cut.symbol cut.rest)) (cut_symbol text)
 
--- behind a number: blanks, then a symbol
+-- after a number: blanks, then a symbol
 unfoldable pub right_symbol : Sign → List ℕ → List ℕ → Option Parts
 right_symbol sign number rest = option_and_then (λ cut.
     if length cut.rest == 0

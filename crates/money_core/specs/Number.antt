@@ -19,7 +19,7 @@ is_whole group bytes = if length bytes == 0 then true else list_all is_group (sl
 abbrev pub whole_part : Mark → List ℕ → List ℕ
 whole_part mark bytes = before_first (λ b. b == decimal_byte mark) bytes
 
--- what stands behind the first decimal mark
+-- what stands after the first decimal mark
 abbrev pub fraction_part : Mark → List ℕ → List ℕ
 fraction_part mark bytes = after_first (λ b. b == decimal_byte mark) bytes
 
@@ -29,7 +29,7 @@ is_number mark bytes =
     if length (whole_part mark bytes) + length (fraction_part mark bytes) == 0 then false
     else is_whole (group_byte mark) (whole_part mark bytes) && list_all is_ascii_digit (fraction_part mark bytes)
 
--- the digits of a number in smallest units, so many decimals behind the mark: those that are not written are zeros
+-- the digits of a number in smallest units, so many decimals after the mark: those that are not written are zeros
 abbrev pub unit_digits : ℕ → List ℕ → List ℕ → List ℕ
 unit_digits decimals whole fraction = filter is_ascii_digit whole ++ take decimals (fraction ++ replicate decimals 48)
 

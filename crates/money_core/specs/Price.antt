@@ -71,7 +71,7 @@ pub record IsMarked (total : Bool) (amount text : List ℕ) : Type 0 where
   pub between : IsBlanks blanks
   pub whole : text ≡ price_mark total ++ (blanks ++ amount)
 
--- the text is that price: the amount behind its `@` or `@@` is of a declared commodity, and its value is the price's
+-- the text is that price: the amount after its `@` or `@@` is of a declared commodity, and its value is the price's
 pub record WritesPrice (styles : List Style) (text : List ℕ) (p : Price) : Type 0 where
   pub amount : List ℕ
   pub marked : IsMarked (is_total p) amount text

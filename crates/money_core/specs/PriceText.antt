@@ -29,7 +29,7 @@ price_sign (Total unit quantity) = 64 ∷ 64 ∷ 32 ∷ []
 abbrev pub longest_price : ℕ
 longest_price = 70
 
--- The text is that price wherever it stands: it reads as it, is UTF-8, goes on behind `@ ` or `@@ ` with only bytes of
+-- The text is that price wherever it stands: it reads as it, is UTF-8, goes on after `@ ` or `@@ ` with only bytes of
 -- an amount, has no blank at its end, and is not too long.
 pub record IsPriceText (styles : List Style) (p : Price) (text : List ℕ) : Type 0 where
   pub reads : price styles text ≡ Ok p

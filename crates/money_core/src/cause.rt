@@ -17,7 +17,7 @@ pub enum Cause {
     Date,
     /// The code of a header is not closed.
     Header,
-    /// A line that begins in its first column is of no known kind, or is `commodity` with nothing behind.
+    /// A line that begins in its first column is of no known kind, or is `commodity` with nothing after it.
     Directive,
     /// An indented line, no comment, follows no header and no directive.
     StrayLine,

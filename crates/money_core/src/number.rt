@@ -62,7 +62,7 @@ pub fn whole_part(text: &[u8], mark: Mark) -> &[u8]
     &text[..at]
 }
 
-/// What stands behind the decimal mark.
+/// What stands after the decimal mark.
 pub fn fraction_part(text: &[u8], mark: Mark) -> &[u8]
     ensures { result.now ≡ fraction_part mark text.now }
 {

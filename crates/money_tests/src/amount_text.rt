@@ -5,7 +5,7 @@ use money_core::{Cause, Styles, Unit, amounts_bound, is_declared, print_amount, 
 use std::alloc::Global;
 use std::process::Abort;
 
-/// A line of what the text is read as and printed as, behind what the vector holds.
+/// A line of what the text is read as and printed as, after what the vector holds.
 fn reprint(alloc: Global, text: &str, styles: &Styles, out: &mut Vec<u8>) -> Result<(), Cause> {
     let (unit, quantity) = match read_amount(text, styles) {
         Ok(amount) => amount,

@@ -121,7 +121,7 @@ fn assert_printed(rt: &impl Abort, alloc: Global, styles: &Styles, text: &str, p
     );
 }
 
-/// Asserts it of each row: as it is written, as it is printed; the texts, one behind the other, begin as given.
+/// Asserts it of each row: as it is written, as it is printed; the texts, one after the other, begin as given.
 fn assert_all_printed(rt: &impl Abort, alloc: Global, rows: &[(&str, &str)], begin: &[u8]) {
     let styles = declared_styles(rt, alloc);
     let mut all = Vec::new(alloc);

@@ -33,7 +33,7 @@ shown_byte b =
 abbrev pub most_shown : ℕ
 most_shown = 200
 
--- the characters behind so many bytes of a text: those that begin within the bytes that are shown, and ` ..` for others
+-- the characters after so many bytes of a text: those that begin within the bytes that are shown, and ` ..` for others
 abbrev pub shown_from : ℕ → List ℕ → List ℕ
 shown_from n [] = []
 shown_from n (c ∷ cs) = if nat_lt n most_shown then shown_char c ++ shown_from (n + len_utf8 c) cs else codes " .."

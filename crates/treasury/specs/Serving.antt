@@ -67,7 +67,7 @@ after_listening said = record said { text = listening ++ said.text }
 -- ---- what calls leave
 
 -- trees with the rows of the state where calls lead that are answered so; or, where one of them failed, which leaves
--- the state as do those behind it, with the rows of the state where what it asks leads
+-- the state as do those after it, with the rows of the state where what it asks leads
 abbrev pub HaveRowsAfter : Trees → (s : Standing) (calls : List AnsweredCall) (end : Standing) → AreServed s calls end
     → Type 0
 HaveRowsAfter trees s calls end answered =

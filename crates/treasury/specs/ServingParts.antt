@@ -13,7 +13,7 @@ use Rattle.treasury_files.specs.Left.{KeepsFile}
 use Rattle.treasury.specs.OverFile.{Spoken, IsRefusedBy, IsRefusedBefore}
 use Rattle.treasury.specs.Serving.{ServesOver, ServesOpen, RefusesFile, IsNotClosed, LacksValue, listening, silent}
 
--- the output takes no more behind a first part of `listening`, or does not hand on what it took
+-- the output takes no more after a first part of `listening`, or does not hand on what it took
 abbrev pub IsUnannounced : {W : Type 0} → (W → Option (List ℕ)) → W → W → Type 0
 IsUnannounced contents w0 w1 =
     ((taken : ℕ) × (taken < length listening) × Appends (contents w0) (contents w1) (take taken listening))

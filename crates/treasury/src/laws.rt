@@ -43,7 +43,7 @@ pub fn words_law()
 /// A law of database files: where files hold the rows of a state, their next opening shows that state. So words one
 /// after another, each by a program of its own, are answered each on the state that the one before it left, or are
 /// refused and leave it, and the file holds the state where they lead: their commands are a run of the machine of
-/// commands, which keeps the books as the headline says, and the file holds the state behind it. Where each word is
+/// commands, which keeps the books as the headline says, and the file holds the state after it. Where each word is
 /// answered, the database file alone holds it too. Costs nothing.
 pub fn files_law<D: Disk>()
     ensures shown { (image : Image) (opened : Held (FileStore D D.Disk)) (f : Federation) → HoldsOf image f
@@ -79,7 +79,7 @@ pub fn files_law<D: Disk>()
 /// A law of what is served over a file: where the files that were opened hold the rows of a state, the calls that were
 /// answered are a run of the machine of commands, which keeps the books as the headline says. While the disk returns
 /// what was written, what is opened next of files that were closed, with the log or without, holds the rows of the
-/// state behind it, and so it does of files that were left open, because another program had changed them, unless a
+/// state after it, and so it does of files that were left open, because another program had changed them, unless a
 /// failure has shut the database. Where one has, and where the files could not be closed, what comes back has these
 /// rows, or, where one of the calls failed, those of the state where it leads. Costs nothing.
 pub fn serving_law<D: Disk>()

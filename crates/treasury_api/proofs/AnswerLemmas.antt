@@ -258,7 +258,7 @@ refused_texts law g failed new f request refusal result before written unfailed 
 
 -- ---- a report
 
--- its lines stand behind what was written before
+-- its lines stand after what was written before
 pub reported : {S T : Type 0} {form : Form} (g : Ghosts S) (new : Treasury S) (f : Federation) (report : AnyReport)
     (x : T)
     (before written : List ℕ) → IsTreasuryOf g new f → new.store.failed ≡ false

@@ -231,7 +231,7 @@ module _ {S : Type 0} (g : Ghosts S) (new : Treasury S) (f : Federation) (status
       (said ∙ ap (λ (x : Federation). answer_text x.styles (Err (ClaimFailed failure))) (state_is g new s f of held)) is
       object
 
--- ---- whether the database is open behind a refusal
+-- ---- whether the database is open after a refusal
 
 -- a plain refusal has its own cause
 pub plain_cause : {S : Type 0} (new : Treasury S) (refusal : Refusal) (c because cause : Cause) (text body : List ℕ)

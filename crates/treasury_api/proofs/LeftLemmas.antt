@@ -99,7 +99,7 @@ pub left_same : {S : Type 0} (g : Ghosts S) (old new : Treasury S) (request : Sp
 left_same g old new request same clean is_open f of asked asks =
     leaves_first g new.store.conn (rows f) _ (same is_open (rows f) of.store.tables)
 
--- a command, behind the loading of the state
+-- a command, after the loading of the state
 pub left_command : {S : Type 0} (g : Ghosts S) (old mid new : Treasury S) (request : Spelled) (c : AnyCommand)
     → (IsFaithful g new.store.conn → IsFaithful g mid.store.conn)
     → (IsFaithful g mid.store.conn → IsTrue (state g old.store.conn).is_open
@@ -191,7 +191,7 @@ unread_state cause failed (inl (inr (failure, is_so))) = inr (inr (ap (λ (x : C
 unread_state {X = X} cause failed (inr (damaged, unfailed)) =
     inl (ap (λ (x : Cause). Err (Plain x)) (cause_is {T = X} cause Damaged damaged))
 
--- behind a call that failed
+-- after a call that failed
 pub refused_closed : {T X : Type 0} (cause : Cause) → ◌≡◌ {A = Result X Cause} (Err cause) (Err Closed)
     → ◌≡◌ {A = Result T Refusal} (Err (Plain cause)) (Err (Plain Closed))
 refused_closed {X = X} cause closed = ap (λ (x : Cause). Err (Plain x)) (cause_is {T = X} cause Closed closed)

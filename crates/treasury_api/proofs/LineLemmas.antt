@@ -165,6 +165,6 @@ first_feed text (Some i) e =
     other_byte (get_or (take i text) k 0) (rw same (at.2 k below))) in
     (at.0, part, grind (arith, nat_tests, at.1))
 
--- what stands behind a line feed
+-- what stands after a line feed
 pub behind_feed : (text : List ℕ) (i : ℕ) → drop 1 (drop i text) ≡ drop (i + 1) text
 behind_feed text i = simp drop-drop

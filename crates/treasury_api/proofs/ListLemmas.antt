@@ -28,7 +28,7 @@ none_cut rest r h e =
     (λ y. (position_or_len (λ b. b == 59) rest < length rest) × (y.0.now ≡ before_first (λ b. b == 59) rest)
     × (y.1.now ≡ after_first (λ b. b == 59) rest))) e (split_once_first 59 rest r h (omega arith))
 
--- the part before the first one, and those behind it
+-- the part before the first one, and those after it
 pub next_cut : (old new all : List (List ℕ)) (rest name more : List ℕ)
     → position_or_len (λ b. b == 59) rest < length rest → name ≡ before_first (λ b. b == 59) rest
     → more ≡ after_first (λ b. b == 59) rest

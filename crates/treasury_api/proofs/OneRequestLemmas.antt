@@ -241,11 +241,11 @@ said_refusal g old new written text request Tells made refusal refused days clea
 
 -- ---- requests one after another
 
--- commands behind a state that lead to another
+-- commands after a state that lead to another
 abbrev pub IsRunTo : Federation → List Turn → Federation → Type 0
 IsRunTo f turns end = IsRun f turns × (end ≡ state_after f turns)
 
--- the command of a request, if it is one, and those behind it
+-- the command of a request, if it is one, and those after it
 behind : (f : Federation) (request : Spelled) (asked : Result Asked Refusal) (r : Result Answer Refusal)
     (turns : List Turn) (end : Federation)
     → HasDayNumbers request.request → SpelledAsks f.styles request asked
@@ -268,7 +268,7 @@ behind f request (Ok (DryRun c)) r turns end days asks replies rest = rest
 behind f request (Ok (Report report)) r turns end days asks replies rest = rest
 behind f request (Err refusal) r turns end days asks replies rest = rest
 
--- the command of a request that is answered, if it is one, and those behind it
+-- the command of a request that is answered, if it is one, and those after it
 pub request_run : (f : Federation) (request : Spelled) (Says : Result Asked Refusal → Result Answer Refusal → Type 0)
     (reply : Result Answer Refusal) (t : Standing) (turns : List Turn) (end : Federation)
     → (answers : AnswersAs (record { now = f; failed = false }) request Says reply t) → IsRunTo t.now turns end

@@ -25,7 +25,7 @@ use Rattle.treasury_api.proofs.HistoryLemmas.{IsRunOf, transcript_of, failure_is
 use Rattle.treasury_api.proofs.HistoryLemmas.{turns_leave, lines_leave}
 use Rattle.treasury_api.proofs.LeftLemmas.{LeavesShown}
 
--- ---- turns, and further ones behind them
+-- ---- turns, and further ones after them
 
 turns_then : (s : Standing) (ts us : List Turn) → AreTurns s ts → AreTurns (end_of s ts) us → AreTurns s (ts ++ us)
 turns_then s [] us first then = then
@@ -67,7 +67,7 @@ LeavingIf g old new start turns =
 
 module _ {S : Type 0} (g : Ghosts S) (old mid new : Treasury S)
     (closed : IsTrue mid.store.failed → new ≡ mid) where
-  -- a turn, and what is left along those behind it
+  -- a turn, and what is left along those after it
   leaving_first : (f e : Federation) (turn : Turn) (turns : List Turn)
       → standing mid e ≡ after_turn (standing old f) turn → old.store.failed ≡ false
       → LeavesAsked g mid.store.conn f turn.asked × IsOpenBut g mid.store.conn turn.reply
@@ -115,7 +115,7 @@ module _ {S : Type 0} (g : Ghosts S) (old mid new : Treasury S)
           )
       by_failure false is = by_open is but
 
-  -- turns, and one more behind them
+  -- turns, and one more after them
   leaving_last : (start : Standing) (e end : Federation) (turns : List Turn) (turn : Turn)
       → standing mid e ≡ end_of start turns → standing new end ≡ after_turn (standing mid e) turn
       → (IsTrue (state g mid.store.conn).is_open → mid.store.failed ≡ false
@@ -392,7 +392,7 @@ led_where_cut_off g WriteFault r0 r1 w0 w1 old new ends clean f of =
     )
 led_where_cut_off g _ r0 r1 w0 w1 old new ends clean f of = absurd ends
 
--- the state behind turns is the one behind their commands
+-- the state after turns is the one after their commands
 left_by : (start : Standing) (turns : List Turn) (end : Standing) → end ≡ end_of start turns
     → end.now ≡ state_after start.now (commands_of turns)
 left_by start turns end last = ap (λ (s : Standing). s.now) last ∙ commands_end start turns

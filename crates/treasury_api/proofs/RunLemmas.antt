@@ -258,7 +258,7 @@ stops_later _ Step AtEnd w0 w1 w2 s m t seen line new so_far next = absurd next
 
 -- ---- the lines of further bytes, one after another
 
--- a line that a feed ends is answered, and the bytes behind it are left
+-- a line that a feed ends is answered, and the bytes after it are left
 pub fed_further : {S : Type 0} (Step : Stepping S) (w0 w1 w2 : Option (List ℕ))
     (s m t : S) (seen line front next rest all line' : List ℕ) → AnswersWhole Step w0 w1 s seen line m
     → AnswersWhole Step w1 w2 m ((line ++ front) ++ 10 ∷ []) line' t → rest ≡ front ++ (10 ∷ next) → all ≡ seen ++ rest

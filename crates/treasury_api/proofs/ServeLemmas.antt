@@ -312,7 +312,7 @@ refused_only f failed refusal answer P (inl e) = absurd cc
 refused_only f failed refusal answer P (inr (inl e)) = absurd cc
 refused_only f failed refusal answer P (inr (inr e)) = absurd (let k = e.1 in cc)
 
--- the text of an answer: the line that ends a report stands behind it
+-- the text of an answer: the line that ends a report stands after it
 whole_text : (f : Federation) (failed : Bool) (request : Spelled) (asked : Result Asked Refusal) (answer : Answer)
     (written text : List ℕ) → AsksOf failed f.styles request asked
     → MayReply (record { now = f; failed = failed }) asked (Ok answer) → written ≡ []

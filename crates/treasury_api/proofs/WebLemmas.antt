@@ -63,7 +63,7 @@ told_as g new f (ClaimFailed failure) cause status text of (s, (held, inr (said,
       code ∙ ap (λ (c : Cause). status_of_number (number_of c)) is,
     )
 
--- ---- whether the database is open behind a refusal
+-- ---- whether the database is open after a refusal
 
 -- the status of a plain refusal
 plain_status : {S : Type 0} (new : Treasury S) (refusal : Refusal) (because cause : Cause) (status : ℕ) (text : List ℕ)
@@ -143,7 +143,7 @@ request_answered g old new form call request status body asks replies left open_
 
 -- ---- calls one after another
 
--- a request that is answered, whether or not a call of the database has failed, and commands behind it
+-- a request that is answered, whether or not a call of the database has failed, and commands after it
 request_run_of : (failed : Bool) (f : Federation) (request : Spelled)
     (Says : Result Asked Refusal → Result Answer Refusal → Type 0) (reply : Result Answer Refusal) (t : Standing)
     (turns : List Turn) (end : Federation)
@@ -168,7 +168,7 @@ calls_run start (c ∷ cs) end (mid, inr (request, asks, (reply, (answers, told)
     (turns_of_calls mid cs end rest) end.now answers
     (calls_run mid cs end rest)
 
--- behind a call of the database that failed a call leaves the state
+-- after a call of the database that failed a call leaves the state
 closed_leaves : (failed : Bool) (f : Federation) (form : Form) (call : Call) (status : ℕ) (body : List ℕ)
     (t : Standing) → failed ≡ true → AnswersCall (record { now = f; failed = failed }) form call status body t
     → (t.now ≡ f) × (t.failed ≡ true)

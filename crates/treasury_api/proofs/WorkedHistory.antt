@@ -19,7 +19,7 @@ use Rattle.treasury_api.specs.Step.{at_first, reply, reply_text}
 use Rattle.treasury_api.specs.History.{Turn, end_of, commands_of, IsRefusalOrRepeat}
 
 -- Of six turns the first makes a branch, and the others leave the state. Three of them are commands, of which the last
--- is answered 41: it is left out, and the run is failed, so that what comes behind it is answered 42.
+-- is answered 41: it is left out, and the run is failed, so that what comes after it is answered 42.
 abbrev turns : Day → List Turn
 turns day =
     record { line = codes "a"; asked = Ok (Command (cmd.Branch (codes "north"))); reply = Ok Done }

@@ -39,7 +39,7 @@ abbrev pub end_of : Standing → List Turn → Standing
 end_of s [] = s
 end_of s (t ∷ ts) = end_of (after_turn s t) ts
 
--- the texts of their replies, one behind the other
+-- the texts of their replies, one after the other
 abbrev pub texts_of : Standing → List Turn → List ℕ
 texts_of s [] = []
 texts_of s (t ∷ ts) = reply_text s.now t.asked t.reply ++ texts_of (after_turn s t) ts

@@ -35,7 +35,7 @@ reply_members styles reply told noted =
     (codes "answer", string (line_text styles reply)) ∷ refused_members reply
     ++ (codes "told", strings (lines_of told)) ∷ (codes "notes", strings (lines_of noted)) ∷ []
 
--- the object, with a line feed behind it
+-- the object, with a line feed after it
 abbrev pub reply_json : List Style → Result Answer Refusal → List ℕ → List ℕ → List ℕ
 reply_json styles reply told noted = object_text (reply_members styles reply told noted) ++ codes "\n"
 

@@ -26,7 +26,7 @@ pub record AnswersAll {R W : Type 0} (remaining : R → Option (List ℕ)) (r0 r
   pub lines : RefusedLinesLeave start turns
 
 -- The turns of a run that is cut off are those of the complete lines that were answered; where a write failed, also
--- that of the request behind them, whose answer is torn.
+-- that of the request after them, whose answer is torn.
 abbrev pub AreTurnsOf : (cause : Cause) (r0 r1 w0 w1 : Option (List ℕ)) (start end : Standing)
     → EndsBy cause Answers most_input r0 r1 w0 w1 start end → List Turn → Type 0
 AreTurnsOf OutOfMemory r0 r1 w0 w1 start end ends turns = IsRun start ends.stops.whole ends.stops.written end turns

@@ -28,7 +28,7 @@ FailsWith r failed = IsTrue failed ↔ (r ≡ Err (Plain Failed))
 abbrev pub IsUnread : {T : Type 0} → Result T Refusal → Type 0
 IsUnread r = (r ≡ Err (Plain Damaged)) ⊎ ((r ≡ Err (Plain OutOfMemory)) ⊎ (r ≡ Err (Plain Failed)))
 
--- the database is open behind a call, or the call is refused by 41
+-- the database is open after a call, or the call is refused by 41
 abbrev pub IsOpenBut : {S T : Type 0} → Ghosts S → Held S → Result T Refusal → Type 0
 IsOpenBut g new r = IsTrue (state g new).is_open ⊎ (r ≡ Err (Plain Failed))
 

@@ -1,5 +1,5 @@
 -- What one request is answered that is no line of a run: a word over a file, a call from a network (own rules;
--- docs/RULES.md, "The program"). It is answered as the line of `run` that has it, but a report has no `ok` behind its
+-- docs/RULES.md, "The program"). It is answered as the line of `run` that has it, but a report has no `ok` after its
 -- lines.
 use Rattle.std.specs.Prelude.{◌≡◌, ℕ, Bool, true, false, List, Result, Ok, Err}
 use Rattle.sqlite.specs.Store.{Ghosts}

@@ -30,7 +30,7 @@ body_of form f (Ok (DryRun c)) answer = answer_text f.styles (Ok answer)
 body_of form f (Ok (Report report)) answer = report_in form f report
 body_of form f (Err refusal) answer = []
 
--- What is asked is replied to: the treasury is of the state after the reply, and the answer stands behind what was
+-- What is asked is replied to: the treasury is of the state after the reply, and the answer stands after what was
 -- written before; nothing does where the reply is a refusal. `failed` is whether a call of the database had failed.
 pub record IsRepliedIn {S T : Type 0} (form : Form) (g : Ghosts S) (failed : Bool) (new : Treasury S) (f : Federation)
     (asked : Result Asked Refusal) (result : Result T Refusal) (before written : List ℕ) : Type 0 where
@@ -65,7 +65,7 @@ IsLineOf t refusal text = (s : Federation) × ((t.held ≡ Some s) × IsLineIn s
 
 -- What a line makes of a treasury: of whichever state it is, it is answered as a run's line is, and the treasury is of
 -- the state where the run then stands; the database stays open, and leaves what it may, as the reply to the line says.
--- Only a fault of the disk shuts it, and behind a call that failed a line changes nothing.
+-- Only a fault of the disk shuts it, and after a call that failed a line changes nothing.
 pub record Serves {S : Type 0} (g : Ghosts S) (old : Treasury S) (line text : List ℕ) (new : Treasury S) : Type 0 where
   pub answers : IsFaithful g new.store.conn → (f : Federation) → IsTreasuryOf g old f
       → (end : Federation) × (IsTreasuryOf g new end

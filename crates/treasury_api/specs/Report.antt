@@ -43,7 +43,7 @@ report_rows f (Transfers day) = transfers_rows f day
 abbrev pub report_members : Federation → Report → List (List ℕ × Held)
 report_members f report = (codes "lines", rows (report_rows f report)) ∷ []
 
--- the object of a report, with a line feed behind it
+-- the object of a report, with a line feed after it
 abbrev pub report_json : Federation → Report → List ℕ
 report_json f report = object_text (report_members f report) ++ codes "\n"
 

@@ -22,7 +22,7 @@ abbrev pub HasNoLineFeed : List ℕ → Type 0
 HasNoLineFeed text = All (λ b. b ≢ 10) text
 
 -- of what was seen the complete lines, `whole`, are answered by what was written, and `begun` is what was seen of the
--- line behind them
+-- line after them
 pub record AnswersWhole {S : Type 0} (Step : S → List ℕ → List ℕ → S → Type 0)
     (w0 w1 : Option (List ℕ)) (start : S) (seen begun : List ℕ) (end : S) : Type 0 where
   pub whole : List ℕ
@@ -53,7 +53,7 @@ pub record GaveUp {S : Type 0} (Step : S → List ℕ → List ℕ → S → Typ
   pub transcript : IsTranscript Step start whole written end
   pub appended : Appends w0 w1 written
 
--- 46: the lines `whole` are answered, and of the answer to the request behind them the first `taken` bytes were
+-- 46: the lines `whole` are answered, and of the answer to the request after them the first `taken` bytes were
 -- written, and not all; the state at the end is the one after that request
 pub record Torn {S : Type 0} (Step : S → List ℕ → List ℕ → S → Type 0)
     (AtEnd : Type 0) (w0 w1 : Option (List ℕ)) (start : S) (seen : List ℕ) (end : S) : Type 0 where

@@ -55,7 +55,7 @@ Feeds result Step w0 w1 start seen begun end = MatchResult result
 abbrev pub feed_place : List ℕ → Option ℕ
 feed_place text = position (λ b. b == 10) text
 
--- the line, which a line feed ends, is answered, or the answers stop there, whatever stands behind it
+-- the line, which a line feed ends, is answered, or the answers stop there, whatever stands after it
 abbrev pub EndsLine : {T S : Type 0} → Result T Cause → (S → List ℕ → List ℕ → S → Type 0)
     → Option (List ℕ) → Option (List ℕ) → S → List ℕ → List ℕ → S → Type 0
 EndsLine result Step w0 w1 start line begun end = MatchResult result

@@ -30,7 +30,7 @@ abbrev pub OrMemory : (Result Asked Refusal → Type 0) → Result Asked Refusal
 OrMemory Meant asked = (asked ≡ Err (Plain OutOfMemory)) ⊎ Meant asked
 
 -- What a command would be answered in a state, the reply of its step or 40: the line of one that is no refusal stands
--- behind what was written before, and nothing does where it is refused.
+-- after what was written before, and nothing does where it is refused.
 abbrev pub IsForeseen : {T : Type 0} → Federation → AnyCommand → Result T Refusal → List ℕ → List ℕ → Type 0
 IsForeseen f c result before written =
     (reply : Result Answer Refusal) × (Steps f c reply × MatchResult result

@@ -18,7 +18,7 @@ abbrev pub requests_in : List ℕ → List (List ℕ)
 requests_in input = requests_among (lines input)
 
 -- the requests are answered one after another: each by a step, that relates the state before it, the request, its
--- answer and the state after it; the answers stand one behind the other
+-- answer and the state after it; the answers stand one after the other
 abbrev pub AnswersInTurn : {S : Type 0} → (S → List ℕ → List ℕ → S → Type 0) → S → List (List ℕ) → List ℕ → S → Type 0
 AnswersInTurn Step start [] output end = (output ≡ []) × (end ≡ start)
 AnswersInTurn {S = S} Step start (request ∷ requests) output end =

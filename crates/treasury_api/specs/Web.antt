@@ -101,16 +101,16 @@ AnswersCall s form call status body t =
     × ((reply : Result Answer Refusal)
     × (AnswersAs s request (IsBodyIn form body s.now) reply t × (status ≡ status_of reply))))
 
--- a database that was open is open behind each reply, or the reply is 503 and the store has failed
+-- a database that was open is open after each reply, or the reply is 503 and the store has failed
 abbrev pub IsOpenButFailed : {S : Type 0} → Ghosts S → Treasury S → ℕ → Treasury S → Type 0
 IsOpenButFailed g old status new =
     IsFaithful g new.store.conn → IsTrue (state g old.store.conn).is_open
     → IsTrue (state g new.store.conn).is_open ⊎ ((status ≡ 503) × IsTrue new.store.failed)
 
 -- What a call makes of a treasury: of whichever state it is, while the disk returns what was written, the call is
--- answered, and the treasury is of the state where that leads. Whatever is left, also behind 41, are the rows of the
+-- answered, and the treasury is of the state where that leads. Whatever is left, also after 41, are the rows of the
 -- state before its request, or of the one after it; a call that asks nothing changes nothing. Only a fault of the disk
--- shuts the database, and behind a call of the database that failed nothing changes.
+-- shuts the database, and after a call of the database that failed nothing changes.
 pub record AnswersOn {S : Type 0} (g : Ghosts S) (old : Treasury S) (form : Form) (call : Call) (status : ℕ)
     (body : List ℕ) (new : Treasury S) : Type 0 where
   pub clean : IsFaithful g new.store.conn → IsFaithful g old.store.conn
@@ -214,7 +214,7 @@ abbrev pub AreCommandsOf : List ℕ → List Turn → Type 0
 AreCommandsOf name turns = AllByRecursion (λ (turn : Turn). IsCommandOf name turn.command) turns
 
 -- What connections make of a treasury, of which these calls were answered: of whichever state it was, while the disk
--- returned what was written, it is of the state where they lead, and they leave what they may. Behind a call of the
+-- returned what was written, it is of the state where they lead, and they leave what they may. After a call of the
 -- database that failed nothing changes.
 pub record HasServed {S : Type 0} (g : Ghosts S) (old new : Treasury S) : Type 0 where
   pub calls : List AnsweredCall

@@ -72,7 +72,7 @@ fn answer_command<S: Alter>(
 
 /// Does what a request asks of the treasury, and appends its answer: the line of a command that is accepted or
 /// repeated, or would be in a dry run, which performs nothing, in whatever form; or in this form what a report is
-/// answered with, without the `ok` behind its lines.
+/// answered with, without the `ok` after its lines.
 ///
 /// It refuses as the texts of the request, the command or the report are refused, and 40 to 43 as the treasury; the
 /// vector is then as it was. The room for the line of a command is made before it is performed. A call of the database
@@ -107,14 +107,14 @@ pub fn answer<S: Alter>(
         → treasury.old.held ≡ None → ShowsNoState (state S.Store treasury.old.store.conn).now
         → IsUnread result × (IsTrue (state S.Store treasury.new.store.conn).is_open
         → StaysAsIs (state S.Store treasury.old.store.conn) (state S.Store treasury.new.store.conn)) }
-    // A database that was open is open behind each answer but 41. Only a fault of the disk shuts it.
+    // A database that was open is open after each answer but 41. Only a fault of the disk shuts it.
     ensures still_open { IsFaithful S.Store treasury.new.store.conn
         → IsTrue (state S.Store treasury.old.store.conn).is_open
         → OnOk result (IsTrue (state S.Store treasury.new.store.conn).is_open) }
     ensures open_but { IsFaithful S.Store treasury.new.store.conn
         → IsTrue (state S.Store treasury.old.store.conn).is_open → IsOpenBut S.Store treasury.new.store.conn result }
     ensures shuts { ShutsByFault S.Store treasury.old.store.conn treasury.new.store.conn }
-    // Whatever is left, also behind 41: the rows of the state before the request, or of the one after it.
+    // Whatever is left, also after 41: the rows of the state before the request, or of the one after it.
     ensures left { LeavesRequest S.Store treasury.old treasury.new request.now }
 {
     reading_law();

@@ -1,4 +1,4 @@
--- The bytes of a reply are cut at the first CR behind each name, so that they are one reply alone.
+-- The bytes of a reply are cut at the first CR after each name, so that they are one reply alone.
 use Rattle.std.proofs.Common.{◌≡◌, ◌==◌, ◌<◌, ◌^◌, ◌+◌, ◌++◌, ℕ, zero, suc, Bool, true, false, not, cond, List, [], ◌∷◌}
 use Rattle.std.proofs.Common.{length, take, drop, codes, decimal, Option, Some, None, refl, sym, ap, ◌∙◌, subst}
 use Rattle.std.proofs.Common.{inl, inr, arith}
@@ -62,7 +62,7 @@ digits_on_line (x ∷ xs) all = grind (arith, digit_is_no_cr x, digits_on_line x
 pub decimal_on_line : (n : ℕ) → n < 2 ^ 64 → IsOnLine (decimal n)
 decimal_on_line n fits = digits_on_line (decimal n) (all_digits_decimal n fits)
 
--- the end of a head behind its CR
+-- the end of a head after its CR
 abbrev behind_length : List ℕ → List ℕ
 behind_length body =
     codes "\nContent-Length: " ++ (decimal (length body) ++ (codes "\r\nConnection: close\r\n\r\n" ++ body))
@@ -94,7 +94,7 @@ one_reply bytes status kind body status2 kind2 body2 one two =
 
 -- ---- how a call is put together
 
--- with one more piece behind what there was
+-- with one more piece after what there was
 pub pushed : (old new piece front : List ℕ) → new ≡ old ++ piece → old ≡ front → new ≡ front ++ piece
 pushed old new piece front is was = is ∙ ap (λ (t : List ℕ). t ++ piece) was
 
@@ -134,7 +134,7 @@ pub no_first : (bytes : List ℕ) → ((rest : List ℕ) → bytes ≡ codes "HT
 no_first bytes none status kind body is =
     none (status ++ (codes "\r\nContent-Type: " ++ (kind ++ length_text body))) is.written
 
--- what stands behind the status of a reply
+-- what stands after the status of a reply
 status_cut : (bytes status rest status2 kind body : List ℕ) → bytes ≡ codes "HTTP/1.1 " ++ (status ++ rest)
     → IsOnLine status → EndsLine rest → IsReply bytes status2 kind body
     → rest ≡ codes "\r\nContent-Type: " ++ (kind ++ length_text body)

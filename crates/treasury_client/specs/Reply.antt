@@ -22,7 +22,7 @@ abbrev pub reply_text : List ℕ → List ℕ → List ℕ → List ℕ
 reply_text status kind body =
     codes "HTTP/1.1 " ++ (status ++ (codes "\r\nContent-Type: " ++ (kind ++ length_text body)))
 
--- the bytes are a whole reply of a treasury, with nothing behind it
+-- the bytes are a whole reply of a treasury, with nothing after it
 pub record IsReply (bytes status kind body : List ℕ) : Type 0 where
   pub written : bytes ≡ reply_text status kind body
   pub status_line : IsOnLine status

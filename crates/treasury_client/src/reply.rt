@@ -9,7 +9,7 @@ ghost use Rattle.treasury_client.specs.Parts.{EndsLine};
 use itoa::Buffer;
 use money_core::first_place;
 
-/// A reply: its status behind the version, such as `200 OK`, the type of its body, and that.
+/// A reply: its status after the version, such as `200 OK`, the type of its body, and that.
 #[derive(Clone, Copy, Debug)]
 pub struct Reply<'a> {
     pub status: &'a [u8],
@@ -40,7 +40,7 @@ impl Reply<'_> {
     }
 }
 
-/// What stands behind a name, up to the first CR or the end, and what follows that.
+/// What stands after a name, up to the first CR or the end, and what follows that.
 fn value_behind<'a>(name: &[u8], text: &'a [u8]) -> Option<(&'a [u8], &'a [u8])>
     ensures found { IfSome result (λ parts. (text.now ≡ name.now ++ (parts.0.now ++ parts.1.now))
         × IsOnLine parts.0.now × EndsLine parts.1.now) }
@@ -69,7 +69,7 @@ fn is_decimal_of(digits: &[u8], number: usize) -> bool
     buffer.format(number).as_bytes() == digits
 }
 
-/// The body behind the length that a head names.
+/// The body after the length that a head names.
 fn body_behind(text: &[u8]) -> Option<&[u8]>
     ensures found { IfSome result (λ body. text.now ≡ length_text body.now) }
     ensures missed { result ≡ None → (body : List ℕ) → length body < 2 ^ 64 → text.now ≢ length_text body }
@@ -89,7 +89,7 @@ fn body_behind(text: &[u8]) -> Option<&[u8]>
     }
 }
 
-/// The reply that the bytes are, whole and with nothing behind it; none where they are no reply of a treasury.
+/// The reply that the bytes are, whole and with nothing after it; none where they are no reply of a treasury.
 pub fn read_reply(bytes: &[u8]) -> Option<Reply<'_>>
     ensures found { IfSome result (λ reply. IsReply bytes.now reply.status.now reply.kind.now reply.body.now) }
     ensures missed { result ≡ None → (status kind body : List ℕ) → IsReply bytes.now status kind body → ⊥ }

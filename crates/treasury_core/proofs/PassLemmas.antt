@@ -39,7 +39,7 @@ front_same : (xs ys rest rest' : List Record) (m : List ℕ) → held rest' m �
     → held (xs ++ (ys ++ rest')) m ≡ held (xs ++ (ys ++ rest)) m
 front_same xs ys rest rest' m e = front_at xs (ys ++ rest) (ys ++ rest') m (front_at ys rest rest' m e)
 
--- one more record behind the records of another transfer
+-- one more record after the records of another transfer
 behind_out : (x : Transfer) (rest rest' : List Record) (id m : List ℕ) (v : Record) (a b : Bool) (ps : List Part)
     (t : Bool) → bytes_eq (codes "out:" ++ id) m ≡ t → bytes_eq x.id id ≡ false
     → held rest' m ≡ cond t (Some v) (held rest m)
@@ -167,7 +167,7 @@ same_receipts : (p : Part) (t : Transfer) (ps : List Part)
 same_receipts p t [] = refl
 same_receipts p t (x ∷ xs) = ap (λ (rs : List Record). receipt_record t x ∷ rs) (same_receipts p t xs)
 
--- one more record behind a dispatch
+-- one more record after a dispatch
 swap_marks : (t : Transfer) (a : Bool) (rest rest' : List Record) (id key m : List ℕ) (v : Record) (c : Bool)
     → bytes_eq (in_mark id key) m ≡ c → held rest' m ≡ cond c (Some v) (held rest m)
     → held (out_records t a ++ rest') m ≡ cond c (Some v) (held (out_records t a ++ rest) m)

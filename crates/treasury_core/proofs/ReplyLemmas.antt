@@ -511,7 +511,7 @@ shut f x a is h =
     let unlocked = misses (is_locked (lock_of f x.branch) x.day) _ _ parts.1 in
     shut_at f x (closing_in f x.branch x.day x.choice) there.0 fresh.0 parts.0 unlocked.0 refl unlocked.1
 
--- a day that is not locked is behind the lock day
+-- a day that is not locked is after the lock day
 pub unlocked_forward : (lock : Option Day) (day : Day) → is_locked lock day ≡ false → goes_back lock day ≡ false
 unlocked_forward None day h = refl
 unlocked_forward (Some lock) day h = grind (arith, ints)

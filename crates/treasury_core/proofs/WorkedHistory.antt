@@ -21,7 +21,7 @@ use Rattle.treasury_core.specs.Run.{Turn}
 abbrev pub into : List ℕ → Txn → Command
 into name t = Enter name (located 3 t ∷ [])
 
--- the statement is accepted; behind it the receipt would break its assertion, before it it does not
+-- the statement is accepted; after it the receipt would break its assertion, before it it does not
 pub replies : (reply (federation None []) (into (codes "north") statement) ≡ Ok (Entered 1 0))
     × (reply (federation None []) (into (codes "north") late_receipt) ≡ Ok (Entered 1 0))
     × (reply (federation None (stated ∷ [])) (into (codes "north") late_receipt)

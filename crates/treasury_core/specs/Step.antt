@@ -70,7 +70,7 @@ commodity_reply (Err cause) = Err (Plain cause)
 
 -- ---- Lock
 
--- the lock day is that day, and it is behind that day
+-- the lock day is that day, and it is after that day
 abbrev pub is_lock : Option Day → Day → Bool
 is_lock None day = false
 is_lock (Some lock) day = int_eq day.0 lock.0
@@ -103,15 +103,15 @@ abbrev pub recorded : Txn → List ℕ → Result Entry Cause → List Record
 recorded t mark (Ok e) = record { mark = mark; txn = marked t (Some mark); entry = e } ∷ []
 recorded t mark (Err cause) = []
 
--- which one of the unmarked transactions with its text a transaction is, from 1, behind the transactions before it
+-- which one of the unmarked transactions with its text a transaction is, from 1, after the transactions before it
 abbrev pub number_in : List Style → List Txn → Txn → ℕ
 number_in styles before t = alike styles (body_text styles t) before + 1
 
--- the record of a transaction of a file, behind the transactions before it
+-- the record of a transaction of a file, after the transactions before it
 abbrev pub recorded_in : List Style → List Txn → Txn → List Record
 recorded_in styles before t = recorded t (mark_of styles t (number_in styles before t) t.mark) (legs_of styles t)
 
--- the records of a file, behind the transactions before it
+-- the records of a file, after the transactions before it
 abbrev pub records_from : List Style → List Txn → List Located → List Record
 records_from styles before [] = []
 records_from styles before (x ∷ xs) = recorded_in styles before x.txn ++ records_from styles (before ++ x.txn ∷ []) xs
@@ -127,8 +127,8 @@ barred lock r =
     else if is_locked lock r.entry.day then Some (Plain Locked)
     else None
 
--- a record that comes new behind those that are held: no one has its mark, which is not the product's, it has no leg on
--- `assets:transit` or below it, and its day is behind the lock day
+-- a record that comes new after those that are held: no one has its mark, which is not the product's, it has no leg on
+-- `assets:transit` or below it, and its day is after the lock day
 pub record IsNew (lock : Option Day) (held : List Record) (r : Record) : Type 0 where
   pub absent : is_held held r.mark ≡ false
   pub own : is_product_mark r.mark ≡ false
@@ -155,7 +155,7 @@ new_in held (r ∷ rs) = if is_held held r.mark then new_in held rs else r ∷ n
 abbrev pub new_records : Federation → List ℕ → List Located → List Record
 new_records f name file = new_in (records_of f name) (records_in_file f.styles file)
 
--- why a file is refused behind records: first every transaction has to balance, then each is looked at in turn, then
+-- why a file is refused after records: first every transaction has to balance, then each is looked at in turn, then
 -- all new ones together
 abbrev pub file_refusal : List Style → Option Day → List Record → List Located → Option Refusal
 file_refusal styles lock held file =
@@ -307,7 +307,7 @@ with_receipt_of f r (Some t) =
 
 -- ---- Close
 
--- why a closing does not come in behind records, if it does not
+-- why a closing does not come in after records, if it does not
 abbrev pub entering_refusal : List Record → Day → Result Txn Refusal → Option Refusal
 entering_refusal held day (Ok t) = verdict (entries held ++ entries (closing_record day t ∷ []))
 entering_refusal held day (Err refusal) = Some refusal

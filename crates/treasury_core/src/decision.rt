@@ -62,7 +62,7 @@ fn is_lock(lock: Option<Day>, day: Day) -> bool
     }
 }
 
-/// Whether the lock day is behind that day.
+/// Whether the lock day is after that day.
 fn goes_back(lock: Option<Day>, day: Day) -> bool
     ensures { result ≡ goes_back lock day }
 {

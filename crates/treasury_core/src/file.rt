@@ -44,7 +44,7 @@ fn next_mark(
     }
 }
 
-/// The mark of a transaction of a file, behind those that were counted; an unmarked one is counted too.
+/// The mark of a transaction of a file, after those that were counted; an unmarked one is counted too.
 fn mark_in_file(
     alloc: Global,
     styles: &Styles,
@@ -90,7 +90,7 @@ fn refused_on(line: usize, cause: Cause) -> Refusal
     }
 }
 
-/// The record of a transaction of a file, behind those that were counted; or its fault.
+/// The record of a transaction of a file, after those that were counted; or its fault.
 fn record_in_file(
     alloc: Global,
     styles: &Styles,

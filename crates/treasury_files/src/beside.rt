@@ -58,7 +58,7 @@ fn is_part_of_magic(head: &[u8]) -> bool {
 }
 
 /// Whether a file is as `init` leaves it that was cut off before it was a database: it has one page at most, whose
-/// first byte is written last. Behind a power cut other bytes may lack too, and are 0 then.
+/// first byte is written last. After a power cut other bytes may lack too, and are 0 then.
 fn is_begun(size: u64, head: &[u8]) -> bool {
     match head.first() {
         Some(0) => size <= FIRST_PAGE && is_part_of_magic(head),

@@ -306,7 +306,7 @@ fn left_closed<D: Disk + Drop>(conn: Connection<FileStore<D>>) -> Left<D>
     }
 }
 
-/// What is left of a database whose tables are not opened. Behind a call that failed version 1 of them may be version
+/// What is left of a database whose tables are not opened. After a call that failed version 1 of them may be version
 /// 2.
 fn left_refused<D: Disk + Drop>(
     conn: Connection<FileStore<D>>,

@@ -11,7 +11,7 @@ const TRIES: usize = 2_500;
 
 const PAUSE_MILLIS: u64 = 2;
 
-/// The bytes that SQLite locks, far beyond those of most files: its own, and behind them one that says whose turn it is
+/// The bytes that SQLite locks, far beyond those of most files: its own, and after them one that says whose turn it is
 /// among treasuries. Only the locks stand there.
 const SQLITE_LOCK: u64 = 1 << 30;
 

@@ -98,7 +98,7 @@ impl<'a> Watch<'a> {
         }
     }
 
-    /// What is seen of both behind a call by which the service may have written to them: none where they are others.
+    /// What is seen of both after a call by which the service may have written to them: none where they are others.
     pub fn look_behind(&self, rt: &HostRuntime) -> Option<Sight> {
         match (self.left, self.look(rt)) {
             (Some(left), Some(found)) if left.is_same(&found) => Some(found),
@@ -142,7 +142,7 @@ impl<R: Read> Read for Guarded<'_, R> {
 }
 
 /// Writes a reply, and looks at the files before its first byte: what was asked is done by then. Where they are others,
-/// nothing is written. Behind a report there is nothing to look at, since it writes to no file: that they are as they
+/// nothing is written. After a report there is nothing to look at, since it writes to no file: that they are as they
 /// were left was seen when its last bytes came.
 #[derive(Drop)]
 pub struct Noting<'a, W> {

@@ -133,7 +133,7 @@ run_locked f [] name d r h = h
 run_locked f (t ∷ ts) name d r h =
     run_locked (after_turn f t) ts name d r.2 (after_locked f t.command t.reply name d r.1 h)
 
--- new records are behind the lock, and so add nothing through a locked day
+-- new records are after the lock, and so add nothing through a locked day
 later_day : (lock : Option Day) (day on : Day) → is_locked lock day ≡ true → is_locked lock on ≡ false
     → int_le on.0 day.0 ≡ false
 later_day None day on h k = absurd cc
@@ -143,7 +143,7 @@ nothing_at : (t : Bool) (z : ℤ) → t ≡ false → (if t then z else pos 0) �
 nothing_at true z e = absurd cc
 nothing_at false z e = refl
 
--- the day is behind the lock
+-- the day is after the lock
 abbrev IsBehind : Option Day → Record → Type 0
 IsBehind lock r = is_locked lock r.entry.day ≡ false
 

@@ -31,7 +31,7 @@ abbrev pub RefusalsLeave : Federation → List Turn → Type 0
 RefusalsLeave f [] = ⊤
 RefusalsLeave f (t ∷ ts) = (IsRefusedOrRepeated t.reply → after_turn f t ≡ f) × RefusalsLeave (after_turn f t) ts
 
--- What a file brings that is accepted in the state `f`, `next` being the state right behind it: its branch gets the
+-- What a file brings that is accepted in the state `f`, `next` being the state right after it: its branch gets the
 -- transactions that are counted as new, no one of which it had, and of those that are counted as repeated it gets
 -- nothing.
 pub record Brings (f : Federation) (name : List ℕ) (file : List Located) (new repeated : ℕ)
@@ -49,7 +49,7 @@ FilesBring f (t ∷ ts) =
     → t.reply ≡ Ok (Entered new repeated) → Brings f name file new repeated (after_turn f t))
     × FilesBring (after_turn f t) ts
 
--- What a closing does that is accepted in the state `f`, `next` being the state right behind it, and `end` that at the
+-- What a closing does that is accepted in the state `f`, `next` being the state right after it, and `end` that at the
 -- end of the run. The branch gets the closing and is locked through its day. The accounts that it selects are at zero
 -- through that day, in `next` and in `end`; of the other accounts only the target moves, which it does not select; and
 -- nothing of another branch changes.
@@ -77,7 +77,7 @@ ClosingsClose f (t ∷ ts) =
     → Closes f c (after_turn f t) (state_after (after_turn f t) ts))
     × ClosingsClose (after_turn f t) ts
 
--- The headline, of a run from the state `f`. Behind it the state has what the accepted commands added, and nothing
+-- The headline, of a run from the state `f`. After it the state has what the accepted commands added, and nothing
 -- else. In each branch every commodity sums to zero, and each balance has moved by exactly the accepted records. For
 -- two branches that differ, their transit account adds up to what was dispatched and not received yet, which is never
 -- negative. Every stored assertion holds at its place. Each accepted closing moved only the accounts that it selects

@@ -62,7 +62,7 @@ AreAmong all rs = AllByRecursion (λ (r : Record). IsAmong r all) rs
 abbrev pub Grows : {X : Type 0} → List X → List X → Type 0
 Grows {X} earlier later = (more : List X) × (later ≡ earlier ++ more)
 
--- the later state has all commodities, branches and records of the earlier one, in order, and more behind them
+-- the later state has all commodities, branches and records of the earlier one, in order, and more after them
 pub record HasGrown (earlier later : Federation) : Type 0 where
   pub styles : Grows earlier.styles later.styles
   pub branches : Grows (names_of earlier.branches) (names_of later.branches)

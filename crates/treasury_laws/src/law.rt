@@ -112,7 +112,7 @@ pub fn late_entry_law()
 {}
 
 /// A law of a branch's own journal: entering its own transactions again, with their marks, finds them all there, also
-/// behind a lock, and also those of dispatches and receipts. Costs nothing.
+/// after a lock, and also those of dispatches and receipts. Costs nothing.
 pub fn own_journal_law()
     ensures { (f : Federation) (name : List ℕ) (file : List Located) → IsGoodState f → has_branch f name ≡ true
         → IsOwnJournal (records_of f name) file
@@ -161,7 +161,7 @@ pub fn records_law()
         +ℤ balance reach (entries (records_among name (history f turns))) account unit (Through day) }
 {}
 
-/// A law of runs: commodities, branches and records stay where they are, and only more come behind them. Costs nothing.
+/// A law of runs: commodities, branches and records stay where they are, and only more come after them. Costs nothing.
 pub fn growing_law()
     ensures { (f : Federation) (turns : List Turn) → IsRun f turns → HasGrown f (state_after f turns) }
 {}

@@ -24,7 +24,7 @@ const SHARE: usize = 8;
 /// The bytes of a page.
 const PAGE: usize = 1024;
 
-/// How a database with such pages begins that has no rows: the header of SQLite's file format, and an empty leaf behind
+/// How a database with such pages begins that has no rows: the header of SQLite's file format, and an empty leaf after
 /// it.
 const START: [u8; 108] = [
     // "SQLite format 3", and a 0.

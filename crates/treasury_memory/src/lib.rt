@@ -1,4 +1,4 @@
-//! A database in memory, for a run that keeps nothing behind.
+//! A database in memory, for a run that leaves nothing.
 #![tactic(auto)]
 
 mod disk;

@@ -2,7 +2,7 @@
 use Rattle.std.proofs.Common.{◌≡◌, ◌++◌, ◌∙◌, List, ℕ, ap, take, length, append_assoc}
 use Rattle.std.proofs.Math.Seq.{take-append_seam}
 
--- a step that failed behind one that did not
+-- a step that failed after one that did not
 pub kept_front : (a b d x : List ℕ) → b ≡ a ++ x → d ≡ b → take (length a) d ≡ a
 kept_front a b d x e h = ap (take (length a)) (h ∙ e) ∙ take-append_seam a x
 

@@ -216,7 +216,7 @@ pub took : (all : List Listed) (i : ℕ) (x : Listed) → i < length all → x �
     → take (i + 1) all ≡ take i all ++ x ∷ []
 took all i x below e = take_more all i x below ∙ ap (λ (y : Listed). take i all ++ y ∷ []) (sym e)
 
--- the lines behind one more
+-- the lines after one more
 pub lines_next : (layout : Layout) (styles : List Style) (all : List Listed) (i : ℕ) (x : Listed) (sum : ℤ)
     (text next : List ℕ)
     → i < length all → x ≡ get_or all i x → sum ≡ value x.leg.unit (legs_in (take i all ++ x ∷ []))

@@ -1,4 +1,4 @@
--- Rows that were written one after another, each behind a comma, are those of the array.
+-- Rows that were written one after another, each after a comma, are those of the array.
 use Rattle.std.proofs.Common.{◌≡◌, ◌∙◌, ◌++◌, ◌∷◌, ℕ, ℤ, List, [], Bool, true, false, map, drop, refl, sym, ap, ap₂}
 use Rattle.std.proofs.Common.{append-nil}
 use Rattle.std.proofs.Common.{Result, Ok, Err, OnOk}
@@ -26,7 +26,7 @@ use Rattle.treasury_reports.specs.Layout.{pieces_from}
 use Rattle.treasury_reports.specs.Layout.{transit_pieces, register_pieces}
 use Rattle.treasury_reports.proofs.ListLemmas.{flat_map-map}
 
--- a cell, and those behind it
+-- a cell, and those after it
 pub cell_then : (x y : List ℕ) (xs ys : List (List ℕ)) → x ≡ y → xs ≡ ys → x ∷ xs ≡ y ∷ ys
 cell_then x y xs ys e f = ap₂ (λ (cell : List ℕ) (more : List (List ℕ)). cell ∷ more) e f
 

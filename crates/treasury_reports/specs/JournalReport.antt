@@ -5,7 +5,7 @@ use Rattle.journal_format.specs.declared.txn.Txn.{Txn}
 use Rattle.journal_format.specs.CanonicalText.{txn_text, journal_text}
 use Rattle.treasury_state.specs.Federation.{Federation, records_of, txns_in}
 
--- the canonical texts of a branch's transactions, each with its mark and an empty line behind it, in order of entry
+-- the canonical texts of a branch's transactions, each with its mark and an empty line after it, in order of entry
 unfoldable pub branch_journal : Federation → List ℕ → List ℕ
 branch_journal f name = journal_text f.styles (txns_in (records_of f name))
 

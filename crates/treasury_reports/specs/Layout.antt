@@ -1,4 +1,4 @@
--- Mirrors code: what a report lists, written as lines of a text, or as arrays in JSON, each behind a comma.
+-- Mirrors code: what a report lists, written as lines of a text, or as arrays in JSON, each after a comma.
 use Rattle.std.specs.Prelude.{ℕ, ℤ, List, [], ◌∷◌, ◌++◌, if◌then◌else◌, codes, length}
 use Rattle.std.specs.List.{flat_map}
 use Rattle.json_text.specs.JsonText.{strings_text}
@@ -23,7 +23,7 @@ use Rattle.treasury_reports.specs.CommoditiesReport.{sample_line, sample_cells}
 use Rattle.treasury_reports.specs.AccountsReport.{account_line, account_cells}
 use Rattle.treasury_reports.specs.TransfersReport.{transfer_line, transfer_cells, is_pending}
 
--- a row in JSON, behind a comma
+-- a row in JSON, after a comma
 abbrev pub comma_row : List (List ℕ) → List ℕ
 comma_row cells = codes "," ++ strings_text cells
 
@@ -81,7 +81,7 @@ pieces_from layout f day from = flat_map (way_pieces layout f day from) (branch_
 abbrev pub transit_pieces : Layout → Federation → Day → List ℕ
 transit_pieces layout f day = flat_map (pieces_from layout f day) (branch_names f)
 
--- a listed leg, and those behind others
+-- a listed leg, and those after others
 abbrev pub register_piece : Layout → List Style → Listed → ℤ → List ℕ
 register_piece layout styles x sum = written layout (register_line styles x sum) (register_cells styles x sum)
 

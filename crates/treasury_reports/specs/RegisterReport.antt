@@ -77,7 +77,7 @@ by_day (x ∷ xs) = put_by_day x (by_day xs)
 abbrev pub legs_in : List Listed → List Leg
 legs_in xs = map (λ (x : Listed). x.leg) xs
 
--- a description behind two spaces; nothing where it is empty
+-- a description after two spaces; nothing where it is empty
 abbrev pub description_column : List ℕ → List ℕ
 description_column [] = []
 description_column (b ∷ bs) = codes "  " ++ (b ∷ bs)
@@ -90,7 +90,7 @@ register_line styles x sum =
     ++ amount_column styles x.leg.unit sum ++ codes "  " ++ x.leg.account ++ description_column x.description
     ++ codes "\n"
 
--- the lines of what is listed behind other lines, each with the sum of all that is listed so far in its commodity
+-- the lines of what is listed after other lines, each with the sum of all that is listed so far in its commodity
 abbrev pub register_lines : List Style → List Listed → List Listed → List ℕ
 register_lines styles before [] = []
 register_lines styles before (x ∷ xs) =

@@ -87,7 +87,7 @@ fn push_records(
 }
 
 /// Appends the journal of a branch: the canonical texts of its transactions, each with its mark and an empty line
-/// behind it, in order of entry.
+/// after it, in order of entry.
 ///
 /// Refuses with 20 where the branch is not there, or with 40; the vector is then as it was.
 pub fn journal_report<L: Ledger>(

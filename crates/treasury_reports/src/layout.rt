@@ -7,14 +7,14 @@ ghost use Rattle.treasury_reports.specs.Layout.{comma_row};
 use json_text::{push_array, push_strings};
 use money_core::Cause;
 
-/// As lines of a text, or as arrays of cells in JSON, each behind a comma.
+/// As lines of a text, or as arrays of cells in JSON, each after a comma.
 #[derive(Clone, Copy)]
 pub enum Layout {
     Text,
     Json,
 }
 
-/// Appends the array of a row's cells, behind a comma.
+/// Appends the array of a row's cells, after a comma.
 pub(crate) fn push_cells(cells: &[&[u8]], rows: &mut Vec<u8>) -> Result<(), Cause>
     ensures ok { OnOk result (rows.new.items ≡ rows.old.items ++ comma_row (map (λ cell. cell.now) cells.now)) }
     ensures memory { IsOkUnless result Cause.OutOfMemory }
@@ -24,7 +24,7 @@ pub(crate) fn push_cells(cells: &[&[u8]], rows: &mut Vec<u8>) -> Result<(), Caus
     Ok(())
 }
 
-/// Appends the array of rows that are written already, each behind a comma.
+/// Appends the array of rows that are written already, each after a comma.
 pub(crate) fn push_rows(rows: &[u8], out: &mut Vec<u8>) -> Result<(), Cause>
     ensures ok { OnOk result (out.new.items ≡ out.old.items ++ (codes "[" ++ drop 1 rows.now ++ codes "]")) }
     ensures err { OnErr result (out.new.items ≡ out.old.items) }

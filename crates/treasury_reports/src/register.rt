@@ -25,7 +25,7 @@ use money_core::{Cause, Styles, Unit};
 use std::alloc::{AllocError, Global};
 use treasury_state::{Record, State};
 
-/// Appends a description behind two spaces, where it is not empty.
+/// Appends a description after two spaces, where it is not empty.
 fn push_description(description: &[u8], out: &mut Vec<u8>) -> Result<(), AllocError>
     ensures { OnOk result (out.new.items ≡ out.old.items ++ description_column description.now) }
 {

@@ -124,7 +124,7 @@ list_form word d =
     else if is_form (codes "transfers") 2 word d then option_map Transfers (day_at (codes "day") d)
     else None
 
--- the request of each word that asks for a report, and behind it those of the lists
+-- the request of each word that asks for a report, and after it those of the lists
 abbrev pub report_form : List ℕ → Data → Option Request
 report_form word d =
     if is_form (codes "balance") 3 word d
@@ -135,7 +135,7 @@ report_form word d =
     else if is_form (codes "journal") 2 word d then option_map Journal (text_at (codes "branch") d)
     else list_form word d
 
--- the request of a closing, and behind it those of the reports
+-- the request of a closing, and after it those of the reports
 abbrev pub close_form : List ℕ → Data → Option Request
 close_form word d =
     if is_form (codes "close") 3 word d then close_at d

@@ -123,7 +123,7 @@ pub front_is : (rs : List Record) (i : ℕ) (r : Record) → i < length rs → r
     → take (i + 1) rs ≡ take i rs ++ r ∷ []
 front_is rs i r h e = take_more rs i r h ∙ ap (λ (x : Record). take i rs ++ x ∷ []) (sym e)
 
--- the mark of a record that stands behind others is not theirs
+-- the mark of a record that stands after others is not theirs
 pub own_place : (rs : List Record) (i : ℕ) (r : Record) → i < length rs → r ≡ get_or rs i r → HaveOwnMarks rs
     → position_from (has_mark r.mark) 0 (take i rs) ≡ None
 own_place rs i r h e own = unplaced (take i rs) r.mark 0

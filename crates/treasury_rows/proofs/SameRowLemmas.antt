@@ -72,7 +72,7 @@ pub append_same : {T : Type 0} (own a b : List T) → own ++ a ≡ own ++ b → 
 append_same [] a b e = e
 append_same (x ∷ own) a b e = append_same own a b (tails x x (own ++ a) (own ++ b) e)
 
--- what more stands behind all rows stands behind those of the records that are left
+-- what more stands after all rows stands after those of the records that are left
 abbrev pub Behind : {T : Type 0} → (ℕ → Record → List T) → ℕ → ℕ → List Record → List T → List T → Type 0
 Behind {T = T} g n i rs list left = (more : List T)
     → (list ≡ record_rows_from g 1 rs ++ more) ↔ (left ≡ record_rows_from g n (drop i rs) ++ more)

@@ -307,7 +307,7 @@ impl RecordRow for ClaimRow {
     }
 }
 
-/// What stands behind the rows of the branch's records, if the list begins with them.
+/// What stands after the rows of the branch's records, if the list begins with them.
 fn behind_records<'a, T: RecordRow>(
     branch: usize,
     records: &[Record],

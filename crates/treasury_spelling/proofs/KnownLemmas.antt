@@ -1,4 +1,4 @@
--- How one more word stands behind others.
+-- How one more word stands after others.
 use Rattle.std.proofs.Common.{◌≡◌, ◌∙◌, ◌∷◌, [], ℕ, List, ap, IfOk, Ok, Err, Result}
 use Rattle.clap.specs.Walk.{Rule}
 use Rattle.clap.specs.Simple.{App, Shape, app_of, shape_of, with_subcommand}

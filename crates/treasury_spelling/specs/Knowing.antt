@@ -18,7 +18,7 @@ pub record IsPlaced (name : List ℕ) (rules : List Rule) (c : Command) : Type 0
   pub app : app_of c ≡ record { top = placed name rules; subs = [] }
   pub local : (out-Command c).has_globals ≡ false
 
--- a command has further subcommands, behind its own
+-- a command has further subcommands, after its own
 abbrev pub with_all : App → List Shape → App
 with_all a [] = a
 with_all a (s ∷ ss) = with_all (with_subcommand a s) ss

@@ -128,7 +128,7 @@ pub mark_eq : (id other k l : List ℕ) → HasNoColon id → HasNoColon other
     → bytes_eq (in_mark id k) (in_mark other l) ≡ (bytes_eq id other && bytes_eq k l)
 mark_eq id other k l h g = split id other k l (is_all k) (is_all l) refl refl h g
 
--- ---- keys in order, and `all` behind them, are of their own
+-- ---- keys in order, and `all` after them, are of their own
 
 -- no two receipts have the same key
 abbrev pub HaveOwnKeys : List Part → Type 0

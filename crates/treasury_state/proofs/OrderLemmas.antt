@@ -16,7 +16,7 @@ use Rattle.treasury_state.specs.Joined.{inserted, received, with_receipt}
 use Rattle.treasury_state.specs.Good.{AreAscending}
 use Rattle.treasury_state.proofs.AskedLemmas.{HaveOwnIds}
 
--- behind the ID
+-- after the ID
 abbrev pub AreBehind : List ℕ → List Transfer → Type 0
 AreBehind id ts = AllByRecursion (λ (x : Transfer). name_cmp id x.id ≡ Less) ts
 

@@ -114,7 +114,7 @@ small_from q z low high small = omega (arith, ints)
 
 -- ---- a part put in its place
 
--- behind the key
+-- after the key
 abbrev pub AreKeysBehind : List ℕ → List Part → Type 0
 AreKeysBehind key ps = AllByRecursion (λ (x : Part). name_cmp key x.key ≡ Less) ps
 

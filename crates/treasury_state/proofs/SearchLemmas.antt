@@ -78,7 +78,7 @@ none_behind id (t ∷ ts) h =
 not_same : (a b : List ℕ) → bytes_eq a b ≡ false → a ≡ b → ⊥
 not_same a b e h = let k : true ≡ false = sym (bytes_eq-refl b) ∙ (ap (λ (x : List ℕ). bytes_eq x b) (sym h) ∙ e) in cc
 
--- behind the first transfer that is not before the ID, none has it
+-- after the first transfer that is not before the ID, none has it
 no_later : (id : List ℕ) (t : Transfer) (ts : List Transfer) → is_before id t ≡ false → bytes_eq t.id id ≡ false
     → AreBehind t.id ts → find (has_id id) ts ≡ None
 no_later id t ts e f h =

@@ -121,7 +121,7 @@ left_of t = t.qty -ℤ sum_of (receipts_of t)
 abbrev pub out_mark : Transfer → List ℕ
 out_mark t = codes "out:" ++ t.id
 
--- what stands behind the ID in the mark of a receipt: nothing for the key `all`, else a colon and the key
+-- what stands after the ID in the mark of a receipt: nothing for the key `all`, else a colon and the key
 abbrev pub mark_tail : Bool → List ℕ → List ℕ
 mark_tail true key = []
 mark_tail false key = colon ∷ key
@@ -130,12 +130,12 @@ mark_tail false key = colon ∷ key
 abbrev pub in_mark : List ℕ → List ℕ → List ℕ
 in_mark id key = codes "in:" ++ (id ++ mark_tail (is_all key) key)
 
--- what stands behind the source in the description of a receipt
+-- what stands after the source in the description of a receipt
 abbrev pub text_tail : Bool → List ℕ → List ℕ
 text_tail true key = []
 text_tail false key = codes " part " ++ key
 
--- the description of a receipt: `transfer ID from SOURCE`, of a part with ` part KEY` behind it
+-- the description of a receipt: `transfer ID from SOURCE`, of a part with ` part KEY` after it
 abbrev pub in_text : Transfer → List ℕ → List ℕ
 in_text t key = codes "transfer " ++ (t.id ++ (codes " from " ++ (t.source ++ text_tail (is_all key) key)))
 

@@ -65,7 +65,7 @@ fn out_text(alloc: Global, transfer: &Transfer) -> Result<Text, Cause>
     Ok(Text::from_string(text))
 }
 
-/// The description of a receipt: `transfer ID from BRANCH`, of a part with ` part KEY` behind it.
+/// The description of a receipt: `transfer ID from BRANCH`, of a part with ` part KEY` after it.
 fn in_text(alloc: Global, transfer: &Transfer, key: &Text) -> Result<Text, Cause>
     ensures value { IfOk result (λ text. text ≡ in_text transfer.now key.now) }
     ensures memory { IsOkUnless result Cause.OutOfMemory }

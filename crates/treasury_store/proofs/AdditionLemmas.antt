@@ -384,7 +384,7 @@ module _ (S : List Style) (N : List (List ℕ)) (f : Federation) (more : List (L
   step (add.Received id p) h found = received_step id p (is_all p.key) refl h found
   step (add.Locked name day) h found = lock_step name day
 
-  -- the counts behind it are those of the next state
+  -- the counts after it are those of the next state
   one_count : (name : List ℕ) (r : Record)
       → set (records_each bs) (place_in N name) (suc (get_or (records_each bs) (place_in N name) 0))
       ≡ records_each (changed (with_records (r ∷ [])) name bs)

@@ -23,7 +23,7 @@ use Rattle.treasury_tables.proofs.OpenLemmas.{shown_versions}
 use Rattle.treasury_tables.proofs.FailingLemmas.{survives_behind}
 use Rattle.treasury_store.proofs.OrderedLemmas.{rows_in_order}
 
--- a look at the connection behind a query that failed
+-- a look at the connection after a query that failed
 pub reads_behind : {S : Type 0} (g : Ghosts S) (old mid new : Held S) → ReadsFirst g old mid
     → ChangesNothing g mid new → ReadsFirst g old new
 reads_behind g old mid new reads nothing = record {

@@ -106,7 +106,7 @@ shuts_by g old new Commits left =
 pub shuts_same : {S : Type 0} (g : Ghosts S) (h : Held S) → ShutsByFault g h h
 shuts_same g h = record { clean = λ clean. clean; counts = omega arith; closes = λ clean is_open. inl is_open }
 
--- one call behind another
+-- one call after another
 pub shuts_then : {S : Type 0} (g : Ghosts S) (a b c : Held S) → ShutsByFault g a b → ShutsByFault g b c
     → ShutsByFault g a c
 shuts_then g a b c one two = record {

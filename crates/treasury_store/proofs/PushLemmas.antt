@@ -1,4 +1,4 @@
--- Changes that are put behind one another.
+-- Changes that are put after one another.
 use Rattle.std.proofs.Common.{◌≡◌, ℕ, zero, suc, ◌+◌, ◌<◌, ◌≤◌, ◌^◌, Bool, true, false, List, [], ◌∷◌, ◌++◌, map}
 use Rattle.std.proofs.Common.{length, get_or, drop, refl, sym, ap, subst, ◌∙◌, arith, nat_lt}
 use Rattle.std.specs.Prelude.{if◌then◌else◌}
@@ -57,7 +57,7 @@ claims_put b n changes all claims i h so_far =
     sym (append-nil changes) ∙ (ap (λ (ls : List Placed). changes ++ map change.Claim (map (claim_row b n) ls))
     (sym (past_end claims i h)) ∙ so_far)
 
--- what holds of the rest holds of its first and of those behind
+-- what holds of the rest holds of its first and of those after
 pub all_next : {X : Type 0} (P : X → Type 0) (xs : List X) (i : ℕ) (x : X) → i < length xs → x ≡ get_or xs i x
     → AllByRecursion P (drop i xs) → P x × AllByRecursion P (drop (i + 1) xs)
 all_next P xs i x h e all =

@@ -93,7 +93,7 @@ module _ {S : Type 0} (g : Ghosts S) (old : Store S) (f : Federation) (of : IsOf
           (ap (λ (m : Numbering). numbers_with m xs) same_numbers ∙ numbers_joined f xs);
     }
 
--- the numbers behind what is written are those of the joined state
+-- the numbers after what is written are those of the joined state
 pub knows_joined : (f : Federation) (xs : List Addition) (n : Numbering) (now : Option Numbering) → now ≡ Some n
     → now ≡ Some (numbers_of f)
     → ◌≡◌ {A = Option Numbering} (Some (numbers_with n xs)) (Some (numbers_of (joined f xs)))
@@ -127,7 +127,7 @@ empty_good = record {
   carried = tt;
 }
 
--- whichever version held these rows, version 2 holds them behind an opening
+-- whichever version held these rows, version 2 holds them after an opening
 pub opened_holds : {S : Type 0} (g : Ghosts S) (old new : Held S)
     → (IsFaithful g new → IsFirstNumbered (state g old).now
     → Upgrades (state g old).now (state g new).now × ((state g new).committed ≡ (state g new).now))

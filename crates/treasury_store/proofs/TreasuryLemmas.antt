@@ -197,7 +197,7 @@ module _ {S : Type 0} (g : Ghosts S) (old new : Treasury S) (c : Command) where
   survives_load left = survives_weaker (state g old.store.conn) (state g new.store.conn) _ _
       (λ clean trees none f of fits h. absurd (none h.shows.schema)) left
 
-  -- a command that is settled on the state in memory, behind that
+  -- a command that is settled on the state in memory, after that
   pub survives_settle : (mid : Treasury S) (s : Federation)
       → (IsFaithful g new.store.conn → IsFaithful g mid.store.conn)
       → KeepsTables g old.store.conn mid.store.conn

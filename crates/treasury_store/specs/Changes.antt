@@ -53,7 +53,7 @@ changes_by styles names n (add.Dispatched t) = change.Transfer (transfer_row (na
 changes_by styles names n (add.Received id p) = receipt_change (is_all p.key) id p ∷ []
 changes_by styles names n (add.Locked name day) = change.Lock (pos (place_in names name)) day.0 ∷ []
 
--- the numbers behind it
+-- the numbers after it
 abbrev pub counted : List (List ℕ) → Counts → Addition → Counts
 counted names n (add.Commodity style) = record n { units = suc n.units }
 counted names n (add.Branch name) = record n { records = n.records ++ 0 ∷ [] }
@@ -63,7 +63,7 @@ counted names n (add.Dispatched t) = n
 counted names n (add.Received id p) = n
 counted names n (add.Locked name day) = n
 
--- the changes by a list of additions, in order, and the numbers behind them
+-- the changes by a list of additions, in order, and the numbers after them
 abbrev pub changes_from : List Style → List (List ℕ) → Counts → List Addition → List Change
 changes_from styles names n [] = []
 changes_from styles names n (x ∷ xs) = changes_by styles names n x ++ changes_from styles names (counted names n x) xs
@@ -93,7 +93,7 @@ names_with names (x ∷ xs) = names_with (name_with names x) xs
 abbrev pub counts_of : Numbering → Counts
 counts_of n = record { units = length n.styles; records = n.records }
 
--- the changes by which additions are written, and the numbers behind them
+-- the changes by which additions are written, and the numbers after them
 abbrev pub changes_of : Numbering → List Addition → List Change
 changes_of n xs = changes_from (styles_with n.styles xs) (names_with n.names xs) (counts_of n) xs
 

@@ -26,7 +26,7 @@ abbrev pub LeavesEither : {S : Type 0} → Ghosts S → Held S → Tables → Ta
 LeavesEither g h t u =
     IsFaithful g h → (trees : Trees) → (state g h).may_leave trees → AreTreesOf trees t ⊎ AreTreesOf trees u
 
--- a call on a connection that was open, and whose tables held rows: whatever is left behind it are these
+-- a call on a connection that was open, and whose tables held rows: whatever is left after it are these
 abbrev pub LeavesSame : {S : Type 0} → Ghosts S → Held S → Held S → Type 0
 LeavesSame g old new = IsTrue (state g old).is_open → (t : Tables) → TablesAre g old t → LeavesRows g new t
 
@@ -36,7 +36,7 @@ abbrev pub FirstTablesAre : {S : Type 0} → Ghosts S → Held S → Tables → 
 FirstTablesAre g h t = IsFaithful g h → IsTrue (state g h).is_open
     → HoldsFirst (state g h).now t × ((state g h).committed ≡ (state g h).now)
 
--- the opening of version 1 on a connection that was open: whatever is left behind it are the same rows, as version 1 or
+-- the opening of version 1 on a connection that was open: whatever is left after it are the same rows, as version 1 or
 -- as version 2
 abbrev pub LeavesEitherVersion : {S : Type 0} → Ghosts S → Held S → Held S → Type 0
 LeavesEitherVersion g old new =
@@ -58,7 +58,7 @@ LeavesStep g old new c =
     IsTrue (state g old.store.conn).is_open → (f : Federation) → IsTreasuryOf g old f → Fits f.styles c
     → LeavesEither g new.store.conn (rows f) (rows (step f c).next)
 
--- What a command leaves: at a crash, what could be left before, or the rows of the state after the command; and behind
+-- What a command leaves: at a crash, what could be left before, or the rows of the state after the command; and after
 -- it, also where 41 shuts the connection, the rows of the state before it or after it.
 pub record LeavesCommand {S : Type 0} (g : Ghosts S) (old new : Treasury S) (c : Command) : Type 0 where
   pub crash : SurvivesCommand g old new c

@@ -49,7 +49,7 @@ pub record Joins (f : Federation) (xs : List Addition) : Type 0 where
   pub found : FindsAll f xs
   pub good : IsGoodState (joined f xs)
 
--- The store is of a good state: its tables are that state's rows, and new rows are numbered behind these.
+-- The store is of a good state: its tables are that state's rows, and new rows are numbered after these.
 pub record IsOf {S : Type 0} (g : Ghosts S) (s : Store S) (f : Federation) : Type 0 where
   pub good : IsGoodState f
   pub tables : TablesAre g s.conn (rows f)

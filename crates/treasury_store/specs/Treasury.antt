@@ -104,7 +104,7 @@ pub record RepliesInAnyCase {S : Type 0} (old new : Treasury S) (c : Command) (r
   pub listed : IfErr r IsListed
   pub held : IfSome old.held (λ s. MayReply s c r)
 
--- What a command does to a connection: one that was open is open behind an answer, and behind each refusal but 41; no
+-- What a command does to a connection: one that was open is open after an answer, and after each refusal but 41; no
 -- fault of the disk is forgotten, and only a fault shuts it.
 pub record KeepsConnection {S : Type 0} (g : Ghosts S) (old new : Held S) (r : Result Answer Refusal) : Type 0 where
   pub still_open : IsFaithful g new → IsTrue (state g old).is_open → OnOk r (IsTrue (state g new).is_open)

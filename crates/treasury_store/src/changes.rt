@@ -441,7 +441,7 @@ fn all_changes(
     Ok(changes)
 }
 
-/// The changes by which the additions are written behind a state of these numbers, and the numbers behind them.
+/// The changes by which the additions are written after a state of these numbers, and the numbers after them.
 pub(crate) fn changes_of(
     alloc: Global,
     numbers: &Numbers,

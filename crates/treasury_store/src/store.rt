@@ -143,7 +143,7 @@ impl<S: Alter> Store<S> {
         ensures kept { IfErr result (λ r. r.cause ≡ Cause.OutOfMemory → IsFaithful S.Store r.conn
             → IsTrue (state S.Store r.conn).is_open) }
         ensures crash { MatchResult result (λ s. KeepsOurs S.Store conn s.conn) (λ r. KeepsOurs S.Store conn r.conn) }
-        // Whatever is left, also behind 41 where the connection is shut, are the rows that were there.
+        // Whatever is left, also after 41 where the connection is shut, are the rows that were there.
         ensures left { MatchResult result (λ s. LeavesSame S.Store conn s.conn) (λ r. LeavesSame S.Store conn r.conn) }
         // Where they were there as version 1, they are left as version 1 or as version 2.
         ensures left_first { MatchResult result (λ s. LeavesEitherVersion S.Store conn s.conn)
@@ -235,7 +235,7 @@ impl<S: Alter> Store<S> {
         ensures unchanged { IsFaithful S.Store self.new.conn → IsTrue (state S.Store self.new.conn).is_open
             → StaysAsIs (state S.Store self.old.conn) (state S.Store self.new.conn) }
         ensures unknown { OnErr result (self.new.numbers ≡ self.old.numbers) }
-        // A connection that was open is open behind each refusal but 41.
+        // A connection that was open is open after each refusal but 41.
         ensures kept { IsFaithful S.Store self.new.conn → IsTrue (state S.Store self.old.conn).is_open
             → IsTrue (state S.Store self.new.conn).is_open ⊎ (result ≡ Err Cause.Store) }
         ensures answers { self.old.failed ≡ false → AnswersState result self.new.failed }
@@ -272,7 +272,7 @@ impl<S: Alter> Store<S> {
             (IsFaithful S.Store self.new.conn → IsTrue (state S.Store self.new.conn).is_open) }
         ensures err { OnErr result ((f : Federation) → IsOf S.Store self.old f → IsOf S.Store self.new f) }
         ensures known { OnErr result (self.new.numbers ≡ self.old.numbers) }
-        // A connection that was open is open behind 40, and so it may be behind 41; it has committed nothing then.
+        // A connection that was open is open after 40, and so it may be after 41; it has committed nothing then.
         ensures kept { IsFaithful S.Store self.new.conn → IsTrue (state S.Store self.old.conn).is_open
             → IsTrue (state S.Store self.new.conn).is_open ⊎ (result ≡ Err Cause.Store) }
         ensures unchanged { IsFaithful S.Store self.new.conn → IsTrue (state S.Store self.new.conn).is_open

@@ -83,7 +83,7 @@ impl<S: Alter> Treasury<S> {
             → TablesAre S.Store r.store.conn t) }
         ensures still_open { IfOk result
             (λ t. IsFaithful S.Store t.store.conn → IsTrue (state S.Store t.store.conn).is_open) }
-        // A connection that was open is open behind each refusal but 41.
+        // A connection that was open is open after each refusal but 41.
         ensures open_but { IfErr result (λ r. IsFaithful S.Store r.store.conn
             → IsTrue (state S.Store store.conn).is_open
             → IsTrue (state S.Store r.store.conn).is_open ⊎ (r.cause ≡ Cause.Store)) }
@@ -145,7 +145,7 @@ impl<S: Alter> Treasury<S> {
         ensures still_open { IsFaithful S.Store self.new.store.conn
             → IsTrue (state S.Store self.old.store.conn).is_open
             → OnOk result (IsTrue (state S.Store self.new.store.conn).is_open) }
-        // A connection that was open is open behind each answer but 41.
+        // A connection that was open is open after each answer but 41.
         ensures kept { IsFaithful S.Store self.new.store.conn
             → IsTrue (state S.Store self.old.store.conn).is_open
             → IsTrue (state S.Store self.new.store.conn).is_open ⊎ (result ≡ Err Cause.Store) }
@@ -249,7 +249,7 @@ impl<S: Alter> Treasury<S> {
         }
     }
 
-    /// Performs a command: it decides it, writes what it adds in one transaction, and holds the state behind it.
+    /// Performs a command: it decides it, writes what it adds in one transaction, and holds the state after it.
     ///
     /// It asks that the command fits the state in memory; where the state has to be loaded first, a command that does
     /// not fit it is answered 43. A command that is refused, or that adds nothing, writes nothing. After 40 and 41 the
@@ -270,9 +270,9 @@ impl<S: Alter> Treasury<S> {
         ensures replies { self.old.store.failed ≡ false → RepliesInAnyCase self.old self.new command result }
         ensures closed { IsTrue self.old.store.failed
             → (result ≡ Err (Refusal.Plain Cause.Closed)) × (self.new ≡ self.old) }
-        // A connection that was open is open behind each answer but 41, and only a fault of the disk shuts it.
+        // A connection that was open is open after each answer but 41, and only a fault of the disk shuts it.
         ensures connection { KeepsConnection S.Store self.old.store.conn self.new.store.conn result }
-        // Whatever is left, also behind 41 where the connection is shut: the rows of the state before the command or
+        // Whatever is left, also after 41 where the connection is shut: the rows of the state before the command or
         // after it.
         ensures leaves { LeavesCommand S.Store self.old self.new command }
         // On tables that are no good state's: 43, or 40 or 41, and nothing is written.

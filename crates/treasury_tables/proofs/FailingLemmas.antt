@@ -1,4 +1,4 @@
--- Whether a connection is open behind a call that failed, and what the look at that leaves.
+-- Whether a connection is open after a call that failed, and what the look at that leaves.
 use Rattle.std.proofs.Common.{◌≡◌, ◌∙◌, inl, inr, ℕ, List, [], Ok, Err, Result, IfOk, IfErr, IsTrue}
 use Rattle.std.proofs.Common.{sym, arith}
 use Rattle.sqlite.specs.Order.{Row}
@@ -64,7 +64,7 @@ looked g old new sql r ok err alone survives = record {
 }
 
 module _ {S : Type 0} (g : Ghosts S) (old mid new : Held S) (nothing : ChangesNothing g mid new) where
-  -- what a call leaves stays so behind one that changes nothing
+  -- what a call leaves stays so after one that changes nothing
   pub survives_behind : (P : Trees → Type 0) → Survives (state g old) (state g mid) P
       → Survives (state g old) (state g new) P
   survives_behind P one =

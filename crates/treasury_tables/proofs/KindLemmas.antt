@@ -1,4 +1,4 @@
--- A list of changes is its parts by kind, one behind another.
+-- A list of changes is its parts by kind, one after another.
 use Rattle.std.proofs.Common.{◌≡◌, List, [], ◌∷◌, Bool, true, false, not, cond, filter, refl, sym, ap, ◌∙◌, true≢false}
 use Rattle.treasury_tables.specs.declared.change.Change.{Change}
 use Rattle.treasury_tables.specs.declared.change.Change.TheVariants as change

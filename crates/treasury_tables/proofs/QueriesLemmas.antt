@@ -242,7 +242,7 @@ quiet_more {g = g} {a = a} {b = b} {c = c} one two same = record {
   survives = left g a b c one two.survives;
 }
 
--- one that fails behind them
+-- one that fails after them
 pub quiet_error : {S X Y : Type 0} {g : Ghosts S} {a b c : Held S} (e : Error) (r : Result Y Error)
     → IsErrAnd r (λ y. y ≡ e) → Quiet g a b → Queries {X = X} g b c (Err e) → Queries g a c r
 quiet_error {g = g} {a = a} {b = b} {c = c} e r is one two = of_error g a c e r is (record {
@@ -272,7 +272,7 @@ pub seen_before : {S : Type 0} {g : Ghosts S} {a b : Held S} (c : Held S) (P : D
 seen_before {g = g} {a = a} {b = b} c P one two shown clean has =
     subst P (one.same (cleaner g a b c one two clean) has).0 (shown clean (ours g a b c one two clean has))
 
--- behind queries that changed nothing the tables hold the rows that they held
+-- after queries that changed nothing the tables hold the rows that they held
 pub still_held : {S : Type 0} {g : Ghosts S} {a b : Held S} (t : Tables) → HasReadFirst g a b → IsFaithful g b
     → HoldsFirst (state g a).now t → HoldsFirst (state g b).now t
 still_held {g = g} t one clean holds =

@@ -140,7 +140,7 @@ pub no_upgrade : (old mid : State) → Survives old mid (λ _. ⊥)
     → Survives old mid (λ trees. AreOurs old.now.schema → AreUpgraded old.now trees)
 no_upgrade old mid left = survives_weaker old mid _ _ (λ clean trees none. absurd none) left
 
--- and where the upgrade stands behind it
+-- and where the upgrade stands after it
 pub then_upgrade : (old mid new : State) → (HasCleanDisk mid → AreOurs old.now.schema → IsFirst old.now)
     → Survives old mid (λ _. ⊥) → (HasCleanDisk mid → IsUnchanged old mid)
     → Survives mid new (λ trees. (db : Database) × (trees ≡ db.trees) × (IsFirstNumbered mid.now → Upgrades mid.now db))

@@ -33,8 +33,8 @@ pub record ShutsByFault {S : Type 0} (g : Ghosts S) (old new : Held S) : Type 0 
   pub closes : IsFaithful g new → IsTrue (state g old).is_open
       → IsTrue (state g new).is_open ⊎ MoreFaults (state g old).faults (state g new).faults
 
--- A call that changes nothing: a connection that is open behind it was open, shows what it showed, and has committed
--- what it had; and a crash leaves what it could leave before.
+-- A call that changes nothing: a connection that is open after it was open before it, shows what it showed, and has
+-- committed what it had; and a crash leaves what it could leave before.
 pub record ChangesNothing {S : Type 0} (g : Ghosts S) (old new : Held S) : Type 0 where
   pub same : IsFaithful g new → IsTrue (state g new).is_open
       → IsTrue (state g old).is_open

@@ -48,7 +48,7 @@ fn is_single(change: &Change) -> bool
     !matches!(change, Change::Entry(_) | Change::Leg(_) | Change::Claim(_))
 }
 
-/// The first such change, and the changes behind it.
+/// The first such change, and the changes after it.
 fn next_single(changes: &[Change]) -> Option<(&Change, &[Change])>
     ensures found { IfSome result (λ p. filter is_single changes.now ≡ p.0.now ∷ filter is_single p.1.now) }
     ensures fewer { IfSome result (λ p. length p.1.now < length changes.now) }

@@ -75,7 +75,7 @@ fn push_value(rt: &impl Abort, alloc: Global, row: &Row, at: usize, shown: &mut 
     shown.push_str(value.as_str()).expect(rt, "memory");
 }
 
-/// The first columns of what a query answers, a space behind each, and a bar behind each row.
+/// The first columns of what a query answers, a space after each, and a bar after each row.
 fn shown(
     rt: &impl Abort,
     alloc: Global,

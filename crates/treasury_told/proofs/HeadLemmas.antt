@@ -82,7 +82,7 @@ no_more is ls found all none before =
     ∙ ap (λ (xs : List ℕ). found ++ xs) (sym (ap (heads_from is) none ∙ nothing is))
     ∙ before
 
--- ---- whole pieces: lines behind which no block stands open, with the header lines among them
+-- ---- whole pieces: lines after which no block stands open, with the header lines among them
 abbrev pub Passes : ℕ → List (List ℕ) → List ℕ → Type 0
 Passes n ls found = (rest : List (List ℕ)) → heads_from false (enumerate_from n (ls ++ rest))
     ≡ found ++ heads_from false (enumerate_from (n + length ls) rest)

@@ -17,7 +17,7 @@ right_of f [] ys k j h = ap (slice_get ys) (omega (arith, h))
 right_of f (x ∷ xs) ys zero j h = absurd (omega (arith, h))
 right_of f (x ∷ xs) ys (suc k) j h = right_of f xs ys k j (omega (arith, h))
 
--- one of the first ones, and one of those behind them
+-- one of the first ones, and one of those after them
 pub numbered_first : {A B : Type 0} (f : A → B) (xs : List A) (ys : List B) (n : ℕ) → n ≤ length xs
     → numbered (map f xs ++ ys) n ≡ option_map f (numbered xs n)
 numbered_first f xs ys zero h = refl

@@ -10,7 +10,7 @@ use Rattle.money_core.specs.declared.style.Style.{Style}
 use Rattle.journal_lines.specs.LineKind.{kind_of}
 use Rattle.treasury_told.specs.OddAmount.{OddText, odd_line, lines_below, is_next, is_inner}
 
--- those of the transactions with these headers, behind such lines
+-- those of the transactions with these headers, after such lines
 abbrev pub odds_left : List Style → List ℕ → Bool → List (ℕ × List ℕ) → List OddText
 odds_left styles heads inside ls = flat_map (odd_line styles) (lines_below heads inside ls)
 

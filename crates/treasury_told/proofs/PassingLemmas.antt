@@ -431,7 +431,7 @@ with_leg_sum table x u known = by_test (nat_lt x.unit.0 (length table)) refl
         (let h : x.unit.0 < length table = grind (arith, nat_tests) in h)
     by_test false e = leg_left table x u e known
 
--- with what the legs behind it move
+-- with what the legs after it move
 pub leg_next : (new old : ℕ) (u : Commodity) (legs : List Leg) (i : ℕ) (x : Leg) (all : ℕ) → i < length legs
     → x ≡ get_or legs i x → counted new ≡ counted (old + (if nat_eq x.unit.0 u.0 then unsigned_abs x.qty else 0))
     → counted (old + moved u (drop i legs)) ≡ all → counted (new + moved u (drop (i + 1) legs)) ≡ all

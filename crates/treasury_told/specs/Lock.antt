@@ -16,7 +16,7 @@ branch_of (req.Lock branch day) = Some branch
 branch_of (req.Close branch day accounts into) = Some branch
 branch_of _ = None
 
--- what is said behind it of a closing
+-- what is said after it of a closing
 abbrev pub close_hint : Request → List ℕ
 close_hint (req.Close branch day accounts into) =
     line_text (codes "a branch cannot be closed at a day that is locked: close first, which also locks it")

@@ -25,6 +25,6 @@ abbrev pub view_of : Numbered → EntryOf
 view_of (by.Held r) = held r.now
 view_of (by.New s) = brought s.now
 
--- the entries of a branch, and behind them the new ones of a text
+-- the entries of a branch, and after them the new ones of a text
 abbrev pub entries_with : List Record → List Standing → List EntryOf
 entries_with records found = map held records ++ map brought (new_of found)

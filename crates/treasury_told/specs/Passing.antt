@@ -95,11 +95,11 @@ pub record TellsPassed (f : Federation) (name source journal old new : List ℕ)
 
 -- ---- how it is looked for: by sums that stop counting once they are over the limit
 
--- what a table of sums by commodity says; behind its end nothing
+-- what a table of sums by commodity says; after its end nothing
 abbrev pub sum_at : List ℕ → Commodity → ℕ
 sum_at table u = slice_index_or table u.0 0
 
--- the table with what a leg moves, up to the greatest number of 64 bits; a leg of a commodity behind its end is left
+-- the table with what a leg moves, up to the greatest number of 64 bits; a leg of a commodity after its end is left
 -- out
 unfoldable pub with_leg : List ℕ → Leg → List ℕ
 with_leg table x =

@@ -32,7 +32,7 @@ named_amount styles name unit q = line_text (name ++ codes ": " ++ shown_amount 
 abbrev pub shown_day : Day → List ℕ
 shown_day day = if is_in_calendar day then printed_date day else codes "?"
 
--- a text as it is shown behind a blank; nothing of an empty one
+-- a text as it is shown after a blank; nothing of an empty one
 abbrev pub shown_behind : List ℕ → List ℕ
 shown_behind text = if length text == 0 then [] else (codes " " ++ shown_text text)
 

@@ -38,7 +38,7 @@ is_nobody by.Nobody = true
 is_nobody (by.Record place) = false
 is_nobody (by.Earlier place) = false
 
--- a transaction of a text, behind those before it: its mark is the one by which a branch would keep it; who holds that
+-- a transaction of a text, after those before it: its mark is the one by which a branch would keep it; who holds that
 -- is the first that does; and it is new exactly where neither a record nor a transaction before it has that mark
 pub record IsStanding (styles : List Style) (records : List Record) (before : List Standing)
     (s : Standing) : Type 0 where
@@ -47,7 +47,7 @@ pub record IsStanding (styles : List Style) (records : List Record) (before : Li
       ≡ holder_at (position_from (has_mark s.mark) 0 records) (position_from (goes_by s.mark) 0 before)
   pub new : is_nobody s.holder ≡ not (is_held records s.mark || list_any (goes_by s.mark) before)
 
--- each is, behind those before it
+-- each is, after those before it
 abbrev pub AreStanding : List Style → List Record → List Standing → List Standing → Type 0
 AreStanding styles records before [] = ⊤
 AreStanding styles records before (s ∷ rest) =

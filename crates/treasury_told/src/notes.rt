@@ -207,7 +207,7 @@ fn note_entry<L: Ledger>(
     }
 }
 
-/// The first records, so many, and those behind them.
+/// The first records, so many, and those after them.
 fn parted(records: &[Record], count: usize) -> (&[Record], &[Record])
     ensures { result.1.now ≡ drop count records.now }
 {

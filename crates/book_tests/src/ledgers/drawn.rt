@@ -166,7 +166,7 @@ fn both_ledgers_give_the_same_answers(rt: HostRuntime) {
     draw_lists(&rt, rt.alloc(), 20_240_115, 9);
 }
 
-// So each assertion stands behind others of its day.
+// So each assertion stands after others of its day.
 #[test]
 fn both_ledgers_judge_alike_on_one_day_or_two(rt: HostRuntime) {
     draw_lists(&rt, rt.alloc(), 20_240_116, 1);

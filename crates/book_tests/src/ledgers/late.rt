@@ -91,7 +91,7 @@ fn assert_reached(rt: &impl Abort, alloc: Global, rows: &[(i32, &str, (Option<Fa
     }
 }
 
-// One euro more on a day; the last two rows are before all other days, and behind them.
+// One euro more on a day; the last two rows are before all other days, and after them.
 #[test]
 fn a_late_entry_reaches_the_assertions_behind_it(rt: HostRuntime) {
     const ROWS: &[(i32, &str, (Option<Failing>, u64))] = &[
@@ -118,7 +118,7 @@ fn assert_in_order(
     }
 }
 
-// An entry of the 20th with its own assertion, a euro of the same day entered before it or behind it, and one of the
+// An entry of the 20th with its own assertion, a euro of the same day entered before it or after it, and one of the
 // 15th that is taken back on the 16th.
 #[test]
 fn new_entries_count_in_the_order_of_entry(rt: HostRuntime) {
@@ -247,7 +247,7 @@ fn assert_held<L: Ledger>(rt: &impl Abort, alloc: Global, entries: &[Entry]) {
     assert_balances(rt, &ledger, BALANCES);
 }
 
-/// Two assertions, and a late entry behind them.
+/// Two assertions, and a late entry after them.
 fn with_late_entry(rt: &impl Abort, alloc: Global) -> Vec<Entry> {
     const LEGS: &[(&str, u16, i64)] = &[
         ("assets:cash", EUR, 93),

@@ -39,7 +39,7 @@ fn push_statement(
     }
 }
 
-/// Asserts what both ledgers answer about a statement behind other new entries, where the book has a euro of the 10th
+/// Asserts what both ledgers answer about a statement after other new entries, where the book has a euro of the 10th
 /// with an assertion of it, and seven cents of the 20th.
 fn assert_statement(rt: &impl Abort, alloc: Global, (first, assertions, wrong, failing): Row) {
     const OLD: &[(i32, i64, Option<i64>)] = &[(10, 100, Some(100)), (20, 7, None)];
@@ -66,7 +66,7 @@ fn assert_statements(rt: &impl Abort, alloc: Global, rows: &[Row]) {
     }
 }
 
-// The bank has 103 cents at the assertion of the first entry, and the 40th is the book's 42nd. Behind new entries of
+// The bank has 103 cents at the assertion of the first entry, and the 40th is the book's 42nd. After new entries of
 // the 9th the book's own assertion is judged too, before those of the statement.
 #[test]
 fn a_statement_of_one_day_asserts_its_running_balance(rt: HostRuntime) {
@@ -182,7 +182,7 @@ fn draw_day_of(
     }
 }
 
-/// Both ledgers answer the same about 60 entries of a day and 30 of the next, behind a book of some entries of the
+/// Both ledgers answer the same about 60 entries of a day and 30 of the next, after a book of some entries of the
 /// first.
 fn agree_on_days(rt: &impl Abort, alloc: Global, state: &mut u64) {
     let mut sums = [0; 6];

@@ -109,7 +109,7 @@ pub fn lacking(alloc: Global, room: Vec<u8>, word: &str) -> Said
     refused(alloc, room, Cause::Request, word, sentence(Cause::Request))
 }
 
-/// What a treasury answers to the request of a word: as to a line of `run`, but a report has no `ok` behind its lines.
+/// What a treasury answers to the request of a word: as to a line of `run`, but a report has no `ok` after its lines.
 /// `source` names the journal.
 pub fn answer_word<S: Alter>(
     alloc: Global,

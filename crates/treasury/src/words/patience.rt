@@ -1,5 +1,5 @@
 //! How long a client of `serve` is waited for: for its first byte, for its whole request, until it has taken the reply,
-//! and behind that. And how long a client waits for a service: as long for a part of the call that is taken, and longer
+//! and after that. And how long a client waits for a service: as long for a part of the call that is taken, and longer
 //! for the reply, as other clients come first.
 
 use std::io::{self, ErrorKind, Read, Write};

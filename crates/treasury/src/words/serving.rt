@@ -157,7 +157,7 @@ enum Met {
 }
 
 /// Serves a connection while the files are as they were left, in the time that its client has; and says what is seen of
-/// the files behind it.
+/// the files after it.
 fn meet<S: Alter>(
     rt: &HostRuntime,
     stream: &TcpStream,

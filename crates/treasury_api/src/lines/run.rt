@@ -157,7 +157,7 @@ pub fn run_machine<R: Read, W: Write, M: Machine, L: Listener>(
     let mut line = Vec::new(alloc);
     let mut left = MAX_INPUT;
     'reading: loop {
-        // Behind the last byte that may be read, one more shows that the input goes on.
+        // After the last byte that may be read, one more shows that the input goes on.
         let most = left.min(CHUNK).max(1);
         match reader.read(&mut chunk[..most]) {
             Ok(0) => break,

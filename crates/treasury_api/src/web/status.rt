@@ -38,7 +38,7 @@ impl Status {
         }
     }
 
-    /// The phrase behind its code.
+    /// The phrase after its code.
     pub fn reason(self) -> &'static str
         ensures { result.now ≡ reason_of (code_of self) }
     {

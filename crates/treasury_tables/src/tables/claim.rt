@@ -132,7 +132,7 @@ fn put_eight_claims<S: Alter>(
     )
 }
 
-/// The first claim among the changes, and the changes behind it.
+/// The first claim among the changes, and the changes after it.
 fn next_claim(changes: &[Change]) -> Option<(&ClaimRow, &[Change])>
     ensures found { IfSome result (λ p. filter is_claim changes.now ≡ ClaimChange p.0.now ∷ filter is_claim p.1.now) }
     ensures fewer { IfSome result (λ p. length p.1.now < length changes.now) }

@@ -2,7 +2,7 @@
 
 use crate::change::Change;
 
-/// Eight rows of one table, in the order of their changes, and the changes behind them.
+/// Eight rows of one table, in the order of their changes, and the changes after them.
 #[derive(Drop)]
 pub struct Eight<'r, T> {
     pub a: &'r T,

@@ -129,7 +129,7 @@ fn put_eight_entries<S: Alter>(
     )
 }
 
-/// The first entry among the changes, and the changes behind it.
+/// The first entry among the changes, and the changes after it.
 fn next_entry(changes: &[Change]) -> Option<(&EntryRow, &[Change])>
     ensures found { IfSome result (λ p. filter is_entry changes.now ≡ EntryChange p.0.now ∷ filter is_entry p.1.now) }
     ensures fewer { IfSome result (λ p. length p.1.now < length changes.now) }

@@ -131,7 +131,7 @@ fn put_eight_legs<S: Alter>(
     )
 }
 
-/// The first leg among the changes, and the changes behind it.
+/// The first leg among the changes, and the changes after it.
 fn next_leg(changes: &[Change]) -> Option<(&LegRow, &[Change])>
     ensures found { IfSome result (λ p. filter is_leg changes.now ≡ LegChange p.0.now ∷ filter is_leg p.1.now) }
     ensures fewer { IfSome result (λ p. length p.1.now < length changes.now) }

@@ -19,7 +19,7 @@ const BRANCHES: &[(&str, usize, &str)] = &[(
     "0 north NULL |",
 )];
 
-/// The state behind a command that is accepted, and the store of it.
+/// The state after a command that is accepted, and the store of it.
 fn perform<S: Alter>(
     rt: &impl Abort,
     alloc: Global,

@@ -53,7 +53,7 @@ const SECOND: &[(&str, usize, &str)] = &[
     ("SELECT transfer FROM receipt", 1, ""),
 ];
 
-/// A database of version 1, and a statement that was run over it behind.
+/// A database of version 1, and a statement that was run over it after.
 fn first(rt: &impl Abort, alloc: Global, statement: &str) -> Connection<MemStore> {
     let mut conn = Connection::open_in_memory(alloc).expect(rt, "memory");
     assert!(rt; conn.execute_batch(FIRST).is_ok());

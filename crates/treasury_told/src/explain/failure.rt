@@ -76,7 +76,7 @@ fn push_account(entry: Option<&Entry>, leg: usize, out: &mut Vec<u8>) -> Result<
     }
 }
 
-/// Appends the number and the header of the assertion's entry, and what is said behind them.
+/// Appends the number and the header of the assertion's entry, and what is said after them.
 fn push_entry(
     alloc: Global,
     number: usize,

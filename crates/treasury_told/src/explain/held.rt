@@ -73,7 +73,7 @@ fn push_branches<L: Ledger>(state: &State<L>, out: &mut Vec<u8>) -> Result<(), C
     Ok(())
 }
 
-/// Appends what is said behind a lock, where a branch is to be closed at a day that is locked.
+/// Appends what is said after a lock, where a branch is to be closed at a day that is locked.
 fn push_close_hint(request: &Request, out: &mut Vec<u8>) -> Result<(), Cause>
     ensures value { OnOk result (out.new.items ≡ out.old.items ++ close_hint request.now) }
     ensures memory { IsOkUnless result Cause.OutOfMemory }

@@ -170,7 +170,7 @@ fn behind(text: &[u8], count: usize) -> &[u8]
     }
 }
 
-/// The asserted balance behind the sign of an assertion.
+/// The asserted balance after the sign of an assertion.
 pub fn asserted_in(claim: &[u8]) -> &[u8]
     ensures { result.now ≡ asserted_in claim.now }
 {

@@ -48,7 +48,7 @@ fn new_at(list: &[Standing], number: usize) -> Option<&Standing>
     None
 }
 
-/// The entry of that number: the branch has these records, and the text would bring its new transactions behind them.
+/// The entry of that number: the branch has these records, and the text would bring its new transactions after them.
 pub fn entry_at<'a>(
     records: &'a [Record],
     list: &'a [Standing],

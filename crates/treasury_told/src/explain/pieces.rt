@@ -64,7 +64,7 @@ fn status_mark(status: Option<Status>) -> &'static [u8]
     }
 }
 
-/// Appends a code in parentheses behind a blank, if there is one.
+/// Appends a code in parentheses after a blank, if there is one.
 fn push_code(code: &Option<Text>, out: &mut Vec<u8>) -> Result<(), Cause>
     ensures value { OnOk result (out.new.items ≡ out.old.items ++ header_code (option_map shown_text code.now)) }
     ensures memory { IsOkUnless result Cause.OutOfMemory }
@@ -80,7 +80,7 @@ fn push_code(code: &Option<Text>, out: &mut Vec<u8>) -> Result<(), Cause>
     }
 }
 
-/// Appends a text behind a blank; nothing of an empty one.
+/// Appends a text after a blank; nothing of an empty one.
 pub fn push_behind(text: &[u8], out: &mut Vec<u8>) -> Result<(), Cause>
     ensures value { OnOk result (out.new.items ≡ out.old.items ++ shown_behind text.now) }
     ensures memory { IsOkUnless result Cause.OutOfMemory }

@@ -131,7 +131,7 @@ fn text_of(alloc: Global, txn: &Txn, styles: &Styles) -> Result<Vec<u8>, Cause>
     Ok(text)
 }
 
-/// The mark of a transaction of a text, behind those that were counted; an unmarked one is counted too.
+/// The mark of a transaction of a text, after those that were counted; an unmarked one is counted too.
 fn mark_in_text(
     alloc: Global,
     styles: &Styles,

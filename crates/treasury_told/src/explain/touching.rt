@@ -148,7 +148,7 @@ fn is_touching(
     }
 }
 
-/// Puts a transaction behind others, if it is one of them.
+/// Puts a transaction after others, if it is one of them.
 fn push_if<'a>(found: &mut Vec<&'a Standing>, standing: &'a Standing, is: bool) -> Result<(), Cause>
     ensures value { OnOk result (map (λ s. s.now) found.new.items
         ≡ map (λ s. s.now) found.old.items ++ (if is then standing.now ∷ [] else [])) }
@@ -160,7 +160,7 @@ fn push_if<'a>(found: &mut Vec<&'a Standing>, standing: &'a Standing, is: bool) 
     Ok(())
 }
 
-/// Puts a new transaction of a text, as the entry of that number, behind others, if it touches what the assertion looks
+/// Puts a new transaction of a text, as the entry of that number, after others, if it touches what the assertion looks
 /// at, before its place; the number of the next new one.
 fn take_new<'a>(
     alloc: Global,

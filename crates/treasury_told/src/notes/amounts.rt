@@ -119,7 +119,7 @@ fn is_next(heads: &[usize], number: usize) -> bool
     }
 }
 
-/// The headers behind the next one.
+/// The headers after the next one.
 fn behind_next(heads: &[usize]) -> &[usize]
     ensures { result.now ≡ drop 1 heads.now }
 {

@@ -27,7 +27,7 @@ const MOST_DAYS: i32 = 6;
 /// How many bytes of a key have the day.
 const DAY_BYTES: usize = 4;
 
-/// The day, the header and accounts, and the amounts of a record, one behind the other: what it is looked up by.
+/// The day, the header and accounts, and the amounts of a record, one after the other: what it is looked up by.
 #[derive(Drop)]
 struct Key {
     bytes: Vec<u8>,

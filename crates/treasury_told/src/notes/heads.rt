@@ -51,7 +51,7 @@ fn is_block(kind: LineKind) -> bool
     }
 }
 
-/// Puts a header line behind others.
+/// Puts a header line after others.
 fn put_head<'a>(found: &mut Vec<HeaderLine<'a>>, number: usize, text: &'a [u8]) -> Result<(), Cause>
     ensures value { OnOk result (map (λ (h : Head). h.number) found.new.items
         ≡ map (λ (h : Head). h.number) found.old.items ++ number ∷ []) }

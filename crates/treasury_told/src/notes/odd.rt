@@ -77,7 +77,7 @@ fn is_odd_mark(seen: Seen, rest: &[u8]) -> bool
     (seen.zero && !seen.other) || !has_three(rest)
 }
 
-/// Whether a group mark stands in a number otherwise than before exactly three digits, or behind nothing but zeros.
+/// Whether a group mark stands in a number otherwise than before exactly three digits, or after nothing but zeros.
 #[tactic(auto, unfolding(crate::specs::OddAmount::is_odd_from))]
 fn is_odd(text: &[u8], group: u8) -> bool
     ensures { result ≡ is_odd group text.now }

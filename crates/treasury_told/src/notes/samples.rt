@@ -3,7 +3,7 @@
 use crate::explain::shown::push_shown;
 use money_core::Cause;
 
-/// The mark of a sample that has no other, and three digits behind it; what is in quotes is symbol.
+/// The mark of a sample that has no other, and three digits after it; what is in quotes is symbol.
 fn lone_mark(sample: &[u8]) -> Option<u8> {
     let mut mark: Option<u8> = None;
     let mut digits = 0usize;

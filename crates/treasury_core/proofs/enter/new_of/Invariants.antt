@@ -6,7 +6,7 @@ use Rattle.treasury_state.specs.Index.{IsIndexOf}
 use Rattle.treasury_core.specs.Step.{refused_in, new_in}
 use Rattle.treasury_core.proofs.enter.new_of.Given as goal
 
--- behind the old records and the new ones so far, the rest is refused and taken as all is behind the old ones
+-- after the old records and the new ones so far, the rest is refused and taken as all is after the old ones
 abbrev pub invariant-rows : goal.invariant-rows
 invariant-rows l = record {
   refused : refused_in l.styles l.lock (l.base ++ l.new) l.row-iterator.rest.items

@@ -4,7 +4,7 @@ use Rattle.treasury_core.specs.Counted.{AreCounted}
 use Rattle.treasury_core.proofs.FileLemmas.{txns_of}
 use Rattle.treasury_core.proofs.file.records_in_file.Given as goal
 
--- the rows so far, and those of the rest behind the transactions so far, are those of the file
+-- the rows so far, and those of the rest after the transactions so far, are those of the file
 abbrev pub invariant-loop-located : goal.invariant-loop-located
 invariant-loop-located l = record {
   all : l.rows.items ++ records_from l.styles (txns_of (take l.located-index l.file)) (drop l.located-index l.file)

@@ -2,7 +2,7 @@ use Rattle.std.proofs.Common.{◌≡◌, ◌++◌, ℕ, List, length}
 use Rattle.treasury_api.specs.RunEnd.{AnswersWhole}
 use Rattle.treasury_api.proofs.lines.run.feed.Given as goal
 
--- the lines that the bytes so far end are answered, and the rest is behind them
+-- the lines that the bytes so far end are answered, and the rest is after them
 abbrev pub invariant-feeding : goal.invariant-feeding
 invariant-feeding g l =
     (seen : List ℕ)
