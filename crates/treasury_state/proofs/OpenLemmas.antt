@@ -18,8 +18,8 @@ use Rattle.book_core.proofs.BalanceLemmas.{small_within}
 use Rattle.book_core.proofs.GoodBookLemmas.{good_nil}
 use Rattle.treasury_state.specs.declared.transfer.Transfer.{Transfer}
 use Rattle.treasury_state.specs.Transfer.{transit_account, open_of, open_amount, is_between}
-use Rattle.treasury_state.specs.Federation.{Branch, Federation, has_name, has_branch, entries, book_of}
-use Rattle.treasury_state.specs.Good.{IsGoodTransfer, IsGoodState}
+use Rattle.treasury_state.specs.Federation.{Branch, Federation, has_name, has_branch, records_of, entries, book_of}
+use Rattle.treasury_state.specs.Good.{IsGoodRecord, IsGoodTransfer, IsGoodState}
 use Rattle.treasury_state.specs.Fair.{IsFair}
 use Rattle.treasury_state.proofs.FairLemmas.{all_fair, names_good, adds_up_named}
 use Rattle.treasury_state.proofs.BranchLemmas.{of_branch}
