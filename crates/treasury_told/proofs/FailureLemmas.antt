@@ -16,13 +16,14 @@ use Rattle.money_core.specs.declared.cause.Cause.{Cause}
 use Rattle.money_core.specs.declared.cause.Cause.TheVariants.{OutOfMemory}
 use Rattle.money_core.specs.declared.day.Day.{Day}
 use Rattle.money_core.specs.declared.style.Style.{Style}
+use Rattle.money_core.proofs.ListLemmas.{drop_at}
 use Rattle.book_core.specs.declared.entry.Entry.{Entry}
 use Rattle.book_core.specs.declared.leg.Leg.{Leg}
 use Rattle.book_core.specs.declared.place.Place.{Place}
 use Rattle.book_core.specs.Book.{Posted, posted_legs}
 use Rattle.journal_balance.specs.Legs.{legs_of}
 use Rattle.treasury_state.specs.declared.record.Record.{Record}
-use Rattle.treasury_state.proofs.RestLemmas.{less, heads, tails}
+use Rattle.treasury_state.proofs.RestLemmas.{heads, tails}
 use Rattle.treasury_told.specs.declared.explain.standing.Standing.{Standing}
 use Rattle.treasury_told.specs.declared.explain.touching.Watched.{Watched}
 use Rattle.treasury_told.specs.Standing.{entry_in, is_nobody}
@@ -52,7 +53,7 @@ pub seen_next : (w : Watched) (end : Place) (day : Day) (n i : ℕ) (legs : List
     → list_any (is_seen w end) (posted_legs day n (i + 1 + 1) (drop (i + 1) legs)) ≡ all
 seen_next w end day n i legs x all h e off before =
     sym (ap (λ (t : Bool). t || list_any (is_seen w end) (posted_legs day n (i + 1 + 1) (drop (i + 1) legs))) off)
-    ∙ sym (ap (λ (ys : List Leg). list_any (is_seen w end) (posted_legs day n (i + 1) ys)) (less legs i x h e))
+    ∙ sym (ap (λ (ys : List Leg). list_any (is_seen w end) (posted_legs day n (i + 1) ys)) (drop_at legs i x h e))
     ∙ before
 
 pub seen_here : (w : Watched) (end : Place) (day : Day) (n i : ℕ) (legs : List Leg) (x : Leg) (all : Bool)
@@ -60,7 +61,7 @@ pub seen_here : (w : Watched) (end : Place) (day : Day) (n i : ℕ) (legs : List
     → list_any (is_seen w end) (posted_legs day n (i + 1) (drop i legs)) ≡ all → true ≡ all
 seen_here w end day n i legs x all h e on before =
     sym (ap (λ (t : Bool). t || list_any (is_seen w end) (posted_legs day n (i + 1 + 1) (drop (i + 1) legs))) on)
-    ∙ sym (ap (λ (ys : List Leg). list_any (is_seen w end) (posted_legs day n (i + 1) ys)) (less legs i x h e))
+    ∙ sym (ap (λ (ys : List Leg). list_any (is_seen w end) (posted_legs day n (i + 1) ys)) (drop_at legs i x h e))
     ∙ before
 
 -- ---- new transactions, one by one
@@ -77,7 +78,7 @@ pub touching_held : (styles : List Style) (w : Watched) (end : Place) (n i : ℕ
     → front ++ touching styles w end n (new_of (drop (i + 1) list)) ≡ all
 touching_held styles w end n i list front all s h e off before =
     sym (ap (λ (xs : List Standing). front ++ touching styles w end n xs)
-    (ap new_of (less list i s h e) ∙ new_at s (drop (i + 1) list) false off))
+    (ap new_of (drop_at list i s h e) ∙ new_at s (drop (i + 1) list) false off))
     ∙ before
 
 pub touching_next : (styles : List Style) (w : Watched) (end : Place) (n i : ℕ) (list front next all : List Standing)
@@ -91,7 +92,7 @@ touching_next styles w end n i list front next all s t h e on is added before =
     ∙ ap (λ (u : Bool). front ++ ((if u then s ∷ [] else []) ++ touching styles w end (n + 1)
     (new_of (drop (i + 1) list)))) is
     ∙ sym (ap (λ (xs : List Standing). front ++ touching styles w end n xs)
-    (ap new_of (less list i s h e) ∙ new_at s (drop (i + 1) list) true on))
+    (ap new_of (drop_at list i s h e) ∙ new_at s (drop (i + 1) list) true on))
     ∙ before
 
 pub next_few : (t : Bool) (n m : ℕ) → m ≡ (if t then n + 1 else n) → m ≤ n + 1

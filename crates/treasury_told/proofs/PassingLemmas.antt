@@ -8,6 +8,7 @@ use Rattle.std.specs.Prelude.{not, if◌then◌else◌, unsigned_abs, option_map
 use Rattle.std.specs.List.{list_any, flat_map, AllByRecursion}
 use Rattle.std.specs.Option.{option_or}
 use Rattle.std.specs.Str.{bytes_eq}
+use Rattle.std.proofs.Math.Bool.{or-false}
 use Rattle.std.proofs.Math.Seq.{take-length}
 use Rattle.std.proofs.lemmas.Bool.{cases_lt}
 use Rattle.std.proofs.lemmas.Bool.Decides.{nat_tests}
@@ -21,6 +22,8 @@ use Rattle.money_core.specs.declared.day.Day.{Day}
 use Rattle.money_core.specs.declared.style.Style.{Style}
 use Rattle.money_core.specs.declared.unit.Unit.{Unit as Commodity}
 use Rattle.money_core.specs.AmountText.{IsDeclared}
+use Rattle.money_core.proofs.BytesLemmas.{same_bytes}
+use Rattle.money_core.proofs.ListLemmas.{all_weaker, all-append, drop_at}
 use Rattle.book_core.specs.declared.entry.Entry.{Entry}
 use Rattle.book_core.specs.declared.leg.Leg.{Leg}
 use Rattle.book_core.specs.declared.refusal.Failure.{Failure}
@@ -42,11 +45,8 @@ use Rattle.treasury_state.specs.Federation.{Federation, records_of, lock_of, ent
 use Rattle.treasury_state.specs.Good.{IsGoodRecord, IsGoodState}
 use Rattle.treasury_state.specs.Mark.{is_held, is_repeat, is_product_mark}
 use Rattle.treasury_state.specs.Transfer.{is_transit}
-use Rattle.treasury_state.proofs.AllLemmas.{all_weaker, all-append}
 use Rattle.treasury_state.proofs.BranchLemmas.{of_branch}
-use Rattle.treasury_state.proofs.BytesLemmas.{same_bytes, or_false}
 use Rattle.treasury_state.proofs.OpenLemmas.{good_book}
-use Rattle.treasury_state.proofs.RestLemmas.{less}
 use Rattle.treasury_core.specs.Step.{fault_on, unbalanced, barred, refusal_of, refused_in, records_from, new_in}
 use Rattle.treasury_core.specs.Step.{records_in_file, file_refusal, enter_refusal}
 use Rattle.treasury_told.specs.declared.explain.standing.Standing.{Standing}
@@ -208,7 +208,7 @@ after_before : (styles : List Style) (records : List Record) (found : List Stand
     → entries_after styles records (take i (located_of found)) ≡ entries_before styles records (take i found)
 after_before styles records found i standing even =
     ap (λ (es : List Entry). entries records ++ es)
-    (new_taken styles records [] found records i standing even (λ m. sym (or_false (is_held records m))))
+    (new_taken styles records [] found records i standing even (λ m. sym (or-false (is_held records m))))
 
 -- ---- what moves in a branch is declared
 abbrev IsKnown : ℕ → Leg → Type 0
@@ -440,7 +440,7 @@ leg_next new old u legs i x all low is more before =
     let own : ℕ = if nat_eq x.unit.0 u.0 then unsigned_abs x.qty else 0 in
     counted_more new (old + own) rest more
     ∙ ap counted (let k : (old + own) + rest ≡ old + (own + rest) = omega arith in k)
-    ∙ sym (ap (λ (xs : List Leg). counted (old + moved u xs)) (less legs i x low is))
+    ∙ sym (ap (λ (xs : List Leg). counted (old + moved u xs)) (drop_at legs i x low is))
     ∙ before
 
 -- a table with the legs of one entry more
