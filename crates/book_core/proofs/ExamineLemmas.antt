@@ -24,7 +24,7 @@ use Rattle.book_core.specs.Claim.{Asserted, account_at, asserted_claims, asserte
 use Rattle.book_core.specs.Examine.{same_place, is_listed, listed, examined, ArePlaces}
 use Rattle.book_core.specs.GoodBook.{AreApart, IsFit}
 use Rattle.book_core.proofs.ClaimLemmas.{places_total}
-use Rattle.book_core.proofs.HoldLemmas.{Leads, leads, all_hold, fault_reads}
+use Rattle.book_core.proofs.HoldLemmas.{Leads, first_fault_leads, all_hold, fault_reads}
 
 -- ---- elements
 pub cons_cases : {X : Type 0} (x y : X) (xs : List X) → Contains (x ∷ xs) y → (x ≡ y) ⊎ Contains xs y
@@ -289,7 +289,7 @@ first_fails b places i p result f are l g held says e = by_first (first_fault b 
         All-contains (λ (y : Asserted). fault b y ≡ None) (listed places b) some.0
         (All-from_recursion (λ (y : Asserted). fault b y ≡ None) (listed places b) (all_hold b (listed places b) h))
         in_list in let v = fails in cc)
-    by_first (Some h) m = e ∙ by_lead h (leads b (listed places b) h m) ∙ sym m
+    by_first (Some h) m = e ∙ by_lead h (first_fault_leads b (listed places b) h m) ∙ sym m
 
 -- none fails
 pub none_fails : (b : List Entry) (places : List Place) (i : ℕ) → length places ≤ i → HoldBefore b places i

@@ -279,10 +279,10 @@ itself_le p = by_test (place_le p p) refl
     by_test true e = e
     by_test false e = le_total p p e
 
-pub leads : (b : List Entry) (xs : List Asserted) (f : Failure) → first_fault b xs ≡ Some f → Leads b xs f
-leads b [] f h = absurd (cc)
-leads b (x ∷ xs) f h =
-    by_first (fault b x) refl (first_fault b xs) refl h (λ g e. leads b xs g e) (λ e. all_hold b xs e)
+pub first_fault_leads : (b : List Entry) (xs : List Asserted) (f : Failure) → first_fault b xs ≡ Some f → Leads b xs f
+first_fault_leads b [] f h = absurd (cc)
+first_fault_leads b (x ∷ xs) f h =
+    by_first (fault b x) refl (first_fault b xs) refl h (λ g e. first_fault_leads b xs g e) (λ e. all_hold b xs e)
   where
     in_place : (g : Failure) → fault b x ≡ Some g → g.place ≡ x.place
     in_place g e = (fault_reads b x g e).0
@@ -362,7 +362,7 @@ leads b (x ∷ xs) f h =
 pub failure_first : (b : List Entry) (f : Failure) → failure b ≡ Some f → IsFirstFailure b f
 unfolding failure
 failure_first b f h =
-    let lead = leads b (asserted_from 1 b) f h in
+    let lead = first_fault_leads b (asserted_from 1 b) f h in
     let reads = fault_reads b lead.assertion f lead.fails in
     record {
       assertion = lead.assertion;

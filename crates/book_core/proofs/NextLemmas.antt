@@ -88,8 +88,8 @@ next_of_book old new b u a n o h k f d =
 
 -- ---- the first that strays
 -- what has no turnover does not stray
-pub unmoved : (q : Query) (b : List Entry) (v : Commodity) → turnover v b ≡ 0 → is_stray_for q b v ≡ false
-unmoved q b v h =
+pub no_turnover_no_stray : (q : Query) (b : List Entry) (v : Commodity) → turnover v b ≡ 0 → is_stray_for q b v ≡ false
+no_turnover_no_stray q b v h =
     let w = balance_within q.reach b q.account.now v q.limit in
     let low = w.low in
     let high = w.high in
@@ -105,7 +105,7 @@ below_moved q b u w below own next v l = by_place (cases_lt v.0 u.0)
     later : (v.0 ≡ u.0) ⊎ (u.0 < v.0) → is_stray_for q b v ≡ false
     later (inl e) =
         ap (is_stray_for q b) (one_unit v u (let f : nat_eq v.0 u.0 ≡ true = grind (arith, nat_tests) in f)) ∙ own
-    later (inr m) = unmoved q b v (next.1 v m l)
+    later (inr m) = no_turnover_no_stray q b v (next.1 v m l)
 
     by_place : (v.0 < u.0) ⊎ (u.0 ≤ v.0) → is_stray_for q b v ≡ false
     by_place (inl m) = below v m

@@ -83,9 +83,9 @@ pub one_open : (day : Day) (n : ℕ) (q : ℤ) → has_number (one day n q) day 
 one_open day n q =
     one_has day n q day n ∙ rw ((Decides-int_eq day.0 day.0).1 refl, (Decides-int_eq (pos n) (pos n)).1 refl) refl
 
-more : (t : Bool) (a q : ℤ) → (if t then a +ℤ q else pos 0) ≡ (if t then a else pos 0) +ℤ (if t then q else pos 0)
-more true a q = refl
-more false a q = omega (arith, ints)
+if_add : (t : Bool) (a q : ℤ) → (if t then a +ℤ q else pos 0) ≡ (if t then a else pos 0) +ℤ (if t then q else pos 0)
+if_add true a q = refl
+if_add false a q = omega (arith, ints)
 
 kept_open : (t : Bool) (n : ℕ) (a b : ℤ) (k : ℕ)
     → ((t || false) && has (pos k) (if t then record { at = pos n; sum = a } ∷ [] else []))
@@ -96,7 +96,7 @@ kept_open false n a b k = refl
 raised_one : (day : Day) (n : ℕ) (a q : ℤ) (d : Day) (k : ℕ) → has_number (one day n a) d k ≡ true
     → RaisedRow d k q (one day n a) (one day n (a +ℤ q))
 raised_one day n a q d k h = record {
-  sums = λ p. one_sum day n (a +ℤ q) p ∙ more (is_in p day n) a q ∙ ap
+  sums = λ p. one_sum day n (a +ℤ q) p ∙ if_add (is_in p day n) a q ∙ ap
       (λ (z : ℤ). z +ℤ (if is_in p day n then q else pos 0)) (sym (one_sum day n a p)) ∙ ap
       (λ (t : Bool). row_sum (one day n a) p +ℤ (if t then q else pos 0)) (same p);
   opened =

@@ -23,9 +23,9 @@ other_entries : {K X : Type 0} (eq : K → K → Bool) (test : K → Bool) (old 
 unfolding KeepsOthers
 other_entries eq test old new h = h
 
-apart : (bs cs ks : List ℕ) → bytes_eq bs cs ≡ false → is_eq (slice_cmp nat_cmp bs ks) ≡ true
+cmp_other_bytes : (bs cs ks : List ℕ) → bytes_eq bs cs ≡ false → is_eq (slice_cmp nat_cmp bs ks) ≡ true
     → is_eq (slice_cmp nat_cmp cs ks) ≡ false
-apart bs cs ks n y = is_eq-slice_cmp cs ks ∙ nat_list_eq_equiv.symm cs ks ∙ sym
+cmp_other_bytes bs cs ks n y = is_eq-slice_cmp cs ks ∙ nat_list_eq_equiv.symm cs ks ∙ sym
     (nat_list_eq_equiv.congr bs ks cs (sym (is_eq-slice_cmp bs ks) ∙ y)) ∙ n
 
 abbrev pub vec_cmp : Vec ℕ Global → Vec ℕ Global → Ordering
@@ -42,7 +42,7 @@ Puts name m n v = UpdatesBy vec_cmp (λ (k : Vec ℕ Global). slice_cmp nat_cmp 
 pub under_other : {V : Type 0} (name : List ℕ) (m n : BTreeMap (Vec ℕ Global) V) (v : V) → Puts name m n v
     → (a : List ℕ) → bytes_eq name a ≡ false → under a n ≡ under a m
 under_other name m n v h a e = other_entries _ _ _ _ h.3 _
-    (λ x y. (eq_by_cmp_equiv nat_list_cmp_total).congr a x.items y.items) (λ k. apart name a k.items e)
+    (λ x y. (eq_by_cmp_equiv nat_list_cmp_total).congr a x.items y.items) (λ k. cmp_other_bytes name a k.items e)
 
 -- ---- rows by name
 

@@ -21,14 +21,15 @@ opened z d (p ∷ ps) =
     if is_before d p then p ∷ opened p.sum d ps else (if is_through d p then p ∷ ps else point d z ∷ p ∷ ps)
 
 -- a day that is opened changes no sum
-skip : (a b c : ℤ) → int_le a b ≡ false → int_le b c ≡ false → int_le a c ≡ true → ⊥
-skip a b c h k m = grind (arith, ints)
+not_le_trans : (a b c : ℤ) → int_le a b ≡ false → int_le b c ≡ false → int_le a c ≡ true → ⊥
+not_le_trans a b c h k m = grind (arith, ints)
 
-later : (z : ℤ) (p : Point) (ps : List Point) (day d : ℤ) → is_through day p ≡ false → (t u : Bool) → int_le day d ≡ t
+base_before_later_point : (z : ℤ) (p : Point) (ps : List Point) (day d : ℤ) → is_through day p ≡ false → (t u : Bool)
+    → int_le day d ≡ t
     → int_le p.at d ≡ u → (if t then (if u then sum_at p.sum ps d else z) else z) ≡ (if u then sum_at p.sum ps d else z)
-later z p ps day d h true u e f = refl
-later z p ps day d h false true e f = absurd (skip p.at day d h e f)
-later z p ps day d h false false e f = refl
+base_before_later_point z p ps day d h true u e f = refl
+base_before_later_point z p ps day d h false true e f = absurd (not_le_trans p.at day d h e f)
+base_before_later_point z p ps day d h false false e f = refl
 
 pub sum_at-opened : (z : ℤ) (ps : List Point) (day d : ℤ) → sum_at z (opened z day ps) d ≡ sum_at z ps d
 sum_at-opened z [] day d = by_test (int_le day d)
@@ -43,7 +44,7 @@ sum_at-opened z (p ∷ ps) day d = by_tests (is_before day p) (is_through day p)
         ≡ (if int_le p.at d then sum_at p.sum ps d else z)
     by_tests true u e h = ap (λ (y : ℤ). if int_le p.at d then y else z) h
     by_tests false true e h = refl
-    by_tests false false e h = later z p ps day d e (int_le day d) (int_le p.at d) refl refl
+    by_tests false false e h = base_before_later_point z p ps day d e (int_le day d) (int_le p.at d) refl refl
 
 base_next : (z : ℤ) (p : Point) (ps : List Point) (n : ℕ) → base_at p.sum ps n ≡ base_at z (p ∷ ps) (suc n)
 base_next z p ps zero = let e : nat_eq (suc zero) 0 ≡ false = grind (arith, nat_tests) in rw e refl
@@ -57,8 +58,9 @@ base_next z p ps (suc n) =
 on_day : (a b : ℤ) → a ≡ b → int_le a b ≡ true
 on_day a b h = grind (arith, ints)
 
-exactly : (a b : ℤ) → int_lt a b ≡ false → int_le a b ≡ true → a ≡ b
-exactly a b h k = let f : a ≤ℤ b = grind (arith, ints) in let g : b ≤ℤ a = grind (arith, ints) in omega (arith, ints)
+equal_if_le_not_lt : (a b : ℤ) → int_lt a b ≡ false → int_le a b ≡ true → a ≡ b
+equal_if_le_not_lt a b h k =
+    let f : a ≤ℤ b = grind (arith, ints) in let g : b ≤ℤ a = grind (arith, ints) in omega (arith, ints)
 
 pub opened_same : (z : ℤ) (d : ℤ) (ps : List Point) (n : ℕ) → n ≡ prefix_len (is_before d) ps → n < length ps
     → (get_or ps n blank_point).at ≡ d → opened z d ps ≡ ps
@@ -110,7 +112,8 @@ opened_new z d (p ∷ ps) n e h =
       where
         by_through : (u : Bool) → is_through d p ≡ u → (if u then p ∷ ps else point d z ∷ p ∷ ps) ≡ point d z ∷ p ∷ ps
         by_through true q =
-            absurd (h (omega arith) (ap (λ (m : ℕ). (get_or (p ∷ ps) m blank_point).at) g ∙ exactly p.at d f q))
+            absurd (h (omega arith) (ap (λ (m : ℕ). (get_or (p ∷ ps) m blank_point).at) g
+            ∙ equal_if_le_not_lt p.at d f q))
         by_through false q = refl
 
 -- whether a day has its point at a place
@@ -205,9 +208,10 @@ pub same_opened : (d : ℤ) (ps : List Point) → SamePoints ps (opened (pos 0) 
 same_opened d ps = record { sums = λ e. sum_at-opened (pos 0) ps d e; points = λ e h. has-opened e d (pos 0) ps h }
 
 -- a point that is put in its place
-pub inserted : (d s : ℤ) (ps now : List Point) (n : ℕ) → n ≡ prefix_len (is_before d) ps → is_there d ps n ≡ false
+pub inserted_is_opened : (d s : ℤ) (ps now : List Point) (n : ℕ) → n ≡ prefix_len (is_before d) ps
+    → is_there d ps n ≡ false
     → s ≡ base_at (pos 0) ps n → now ≡ insert ps n (record { at = d; sum = s }) → now ≡ opened (pos 0) d ps
-inserted d s ps now n place absent base e =
+inserted_is_opened d s ps now n place absent base e =
     e ∙ ap (λ (z : ℤ). insert ps n (point d z)) base ∙ sym (opened_absent (pos 0) d ps n place absent)
 
 -- a number that is there already

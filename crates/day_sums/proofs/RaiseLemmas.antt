@@ -29,8 +29,8 @@ raised_all z q (p ∷ ps) d = by_test (int_le p.at d) (raised_all p.sum q ps d)
 no_more : (z : ℤ) → z ≡ z +ℤ pos 0
 no_more z = omega (arith, ints)
 
-apart : (a b c : ℤ) → int_lt a b ≡ true → int_le b c ≡ true → int_le a c ≡ false → ⊥
-apart a b c h k m = grind (arith, ints)
+lt_le_trans : (a b c : ℤ) → int_lt a b ≡ true → int_le b c ≡ true → int_le a c ≡ false → ⊥
+lt_le_trans a b c h k m = grind (arith, ints)
 
 same_day : (a b c : ℤ) → int_lt a b ≡ false → int_le a c ≡ true → int_le b c ≡ false → ⊥
 same_day a b c h k m = grind (arith, ints)
@@ -106,7 +106,7 @@ sum_at-raised z q (p ∷ ps) day d h a =
     up false e f g = by_day (int_le day d) refl
       where
         by_day : (u : Bool) → int_le day d ≡ u → z ≡ z +ℤ (if u then q else pos 0)
-        by_day true m = absurd (apart p.at day d f m e)
+        by_day true m = absurd (lt_le_trans p.at day d f m e)
         by_day false m = no_more z
 
     none_later : (qs : List Point) → int_lt p.at day ≡ false → int_eq p.at day ≡ false

@@ -109,8 +109,9 @@ is_open_within r d n h = parts (has_day d.0 r.0) (has (pos n) (points_at r.1 d.0
     parts true t e = (refl, e)
     parts false t e = absurd (cc)
 
-four : (z : ℤ) → IsUpTo 10000000000000000 z → IsUpTo 40000000000000000 z
-four z h = let l = h.low in let m = h.high in record { low = omega (arith, ints); high = omega (arith, ints) }
+IsUpTo_fourfold : (z : ℤ) → IsUpTo 10000000000000000 z → IsUpTo 40000000000000000 z
+IsUpTo_fourfold z h =
+    let l = h.low in let m = h.high in record { low = omega (arith, ints); high = omega (arith, ints) }
 
 pub small_days : (r : Kept) → ((p : Period) → IsUpTo 10000000000000000 (row_sum r p)) → (k : ℤ)
     → IsUpTo 10000000000000000 (day_sum r.0 k)
@@ -118,7 +119,7 @@ small_days r small k = small (Through (record { 0 = k }))
 
 pub small_numbers : (r : Kept) → IsRow r → ((p : Period) → IsUpTo 10000000000000000 (row_sum r p)) → (k z : ℤ)
     → IsUpTo 40000000000000000 (sum_at (pos 0) (points_at r.1 k) z)
-small_numbers r row small k (pos n) = four _ (small (Within (record { 0 = k }) n))
+small_numbers r row small k (pos n) = IsUpTo_fourfold _ (small (Within (record { 0 = k }) n))
 small_numbers r row small k (negsuc j) =
     subst (IsUpTo 40000000000000000) (sym (row k j)) (record { low = omega (arith, ints); high = omega (arith, ints) })
 

@@ -54,12 +54,12 @@ abbrev pub is_among : List ℕ → Bool
 is_among value = list_any is_json_range (slice_split (λ b. b == 44) value)
 
 -- an empty range is not
-nothing : is_json_range [] ≡ false
+is_json_range-nil : is_json_range [] ≡ false
 unfolding is_json_range is_json_type trim_start trim_end
-nothing = refl
+is_json_range-nil = refl
 
 has_json-each : (values : List (List ℕ)) → has_json values ≡ list_any is_among values
-has_json-each [] = ap (λ (b : Bool). b || false) nothing
+has_json-each [] = ap (λ (b : Bool). b || false) is_json_range-nil
 has_json-each (value ∷ []) = sym (or-false (is_among value))
 has_json-each (value ∷ other ∷ more) =
     ap (list_any is_json_range) (slice_split-comma value (join_with_byte 44 (other ∷ more)))

@@ -28,8 +28,8 @@ not_empty a b c x e = (let l : 0 ≡ length a + (length b + (length c + 1)) =
     omega arith)
 
 -- nothing is no head
-pub nothing : HasNoRequest []
-nothing head rest reads = not_empty _ _ _ _ (reads.1 ∙ print_request-append head rest)
+pub HasNoRequest-nil : HasNoRequest []
+HasNoRequest-nil head rest reads = not_empty _ _ _ _ (reads.1 ∙ print_request-append head rest)
 
 -- where nothing that was read has a head, the last part is empty
 pub all_before : (text : List ℕ) → HasNoRequest text → StopsAtHead text

@@ -22,8 +22,8 @@ decoded_some written bytes escaped same text =
     ∙ sym (ap (λ (e : Bool). if e && is_utf8 (percent_decode written) then Some (percent_decode written) else None)
     escaped ∙ ap (λ (u : Bool). if u then Some (percent_decode written) else None) good)
 
-pub unescaped : (written : List ℕ) → is_escaped written ≡ false → None ≡ decoded written
-unescaped written none =
+pub decoded_unescaped : (written : List ℕ) → is_escaped written ≡ false → None ≡ decoded written
+decoded_unescaped written none =
     sym (ap (λ (e : Bool). if e && is_utf8 (percent_decode written) then Some (percent_decode written) else None) none)
 
 pub no_text : (written bytes : List ℕ) → bytes ≡ percent_decode written → ¬ (IsUtf8 bytes) → None ≡ decoded written

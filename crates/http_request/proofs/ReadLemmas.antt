@@ -84,9 +84,9 @@ head_more text head rest more is =
     record { reads = ReadsRequest-append text head rest more is.reads; small = is.small; few = is.few }
 
 -- the bytes after a head
-behind : (text : List ℕ) (head : RequestHead) (rest : List ℕ) (n : ℕ) → IsHead text head rest
+bytes_after_head : (text : List ℕ) (head : RequestHead) (rest : List ℕ) (n : ℕ) → IsHead text head rest
     → n ≡ length (print_request head) → (drop n text ≡ rest) × (length text ≡ n + length rest)
-behind text head rest n is len =
+bytes_after_head text head rest n is len =
     let e : text ≡ print_request head ++ rest = is.reads.1 in (
       ap (drop n) e ∙ drop_at (print_request head) rest n (sym len),
       ap length e ∙ (length-append (print_request head) rest ∙ ap (λ (m : ℕ). m + length rest) (sym len)),
@@ -285,7 +285,7 @@ module _ (r0 r1 : Option (List ℕ)) (text : List ℕ) (headers : List HeaderSpa
     }
 
     rest_is : drop spans.len text ≡ h.rest
-    rest_is = (behind text h.head h.rest spans.len h.is_head h.at.len).0
+    rest_is = (bytes_after_head text h.head h.rest spans.len h.is_head h.at.len).0
 
     -- a whole head and a whole body
     most : (n : ℕ) → body_length (map (header_bytes text) (take spans.headers headers)) ≡ Some n
@@ -296,7 +296,7 @@ module _ (r0 r1 : Option (List ℕ)) (text : List ℕ) (headers : List HeaderSpa
     whole_length : (more : List ℕ) → length (text ++ more) ≡ spans.len + length (h.rest ++ more)
     whole_length more =
         (let a = length-append text more in let b = length-append h.rest more in let t =
-        (behind text h.head h.rest spans.len h.is_head h.at.len).1 in omega arith)
+        (bytes_after_head text h.head h.rest spans.len h.is_head h.at.len).1 in omega arith)
 
     pub command_calls : (o : Option ℕ) (call : Call)
         → body_length (map (header_bytes text) (take spans.headers headers)) ≡ o
@@ -321,7 +321,7 @@ module _ (r0 r1 : Option (List ℕ)) (text : List ℕ) (headers : List HeaderSpa
       bounded = (
           let l = whole_length has.more in
           let b = subst (λ (t : List ℕ). length (t ++ has.more) ≤ max n (length t)) rest_is has.bounded in
-          let t = (behind text h.head h.rest spans.len h.is_head h.at.len).1 in
+          let t = (bytes_after_head text h.head h.rest spans.len h.is_head h.at.len).1 in
           let w = h.bounded in
           let m = most n size in
           grind (arith, common_steps)

@@ -30,16 +30,17 @@ third-only : {K : Type 0} (u v w : Option K) → u ≡ None → v ≡ None → o
 third-only u v w e f = ap (λ x. or_else x (or_else v w)) e ∙ ap (λ x. or_else x w) f
 
 -- no row
-after : {K : Type 0} (t : Bool) (n : ℕ) (p : List ℕ) → ((m : ℕ) → seek {K = K} m [] p ≡ None)
+seek_no_rows : {K : Type 0} (t : Bool) (n : ℕ) (p : List ℕ) → ((m : ℕ) → seek {K = K} m [] p ≡ None)
     → seek ((cond {A = ℕ × RowsOf K} t (0, []) (n, [])).0 - 1) (cond {A = ℕ × RowsOf K} t (0, []) (n, [])).1 p ≡ None
-after true n p none = none 0
-after false n p none = none (n - 1)
+seek_no_rows true n p none = none 0
+seek_no_rows false n p none = none (n - 1)
 
 no-row : {K : Type 0} (n : ℕ) (p : List ℕ) → seek {K = K} n [] p ≡ None
 unfolding seek param_step
 no-row n [] = refl
 no-row {K = K} zero (b ∷ p) =
-    third-only _ _ _ (no-row {K = K} 0 p) (after (has_slash (b ∷ p)) (suc (length p)) p (λ m. no-row {K = K} m p))
+    third-only _ _ _ (no-row {K = K} 0 p)
+    (seek_no_rows (has_slash (b ∷ p)) (suc (length p)) p (λ m. no-row {K = K} m p))
 no-row (suc n) (b ∷ p) = no-row n p
 
 -- no row that goes on with a part
@@ -48,7 +49,7 @@ no-part : {K : Type 0} (rs : RowsOf K) (b : ℕ) (p : List ℕ) → rs ≡ []
 unfolding param_step
 no-part {K = K} rs b p e =
     let P : RowsOf K → Type 0 = λ r. seek ((param_step r (b ∷ p)).0 - 1) (param_step r (b ∷ p)).1 p ≡ None in
-    subst P (sym e) (after (has_slash (b ∷ p)) (suc (length p)) p (λ m. no-row {K = K} m p))
+    subst P (sym e) (seek_no_rows (has_slash (b ∷ p)) (suc (length p)) p (λ m. no-row {K = K} m p))
 
 -- rows that all go on with a byte
 by-byte : {K : Type 0} (rs : RowsOf K) (b : ℕ) (p : List ℕ) → step 256 rs ≡ [] → step 257 rs ≡ []
@@ -70,11 +71,11 @@ takes-rest k b p byte =
     third-only _ _ _ (ap (λ v. seek 0 (cond v (([], k) ∷ []) []) p) other ∙ no-row 0 p) (no-part _ b p refl)
 
 -- bytes that are passed over
-passes : {K : Type 0} (n : ℕ) (rs : RowsOf K) (a p : List ℕ) → length a ≡ n → seek n rs (a ++ p) ≡ seek 0 rs p
+seek-append : {K : Type 0} (n : ℕ) (rs : RowsOf K) (a p : List ℕ) → length a ≡ n → seek n rs (a ++ p) ≡ seek 0 rs p
 unfolding seek
-passes n rs [] p e = ap (λ m. seek m rs p) (sym e)
-passes zero rs (b ∷ a) p e = absurd (omega arith)
-passes (suc n) rs (b ∷ a) p e = passes n rs a p (omega arith)
+seek-append n rs [] p e = ap (λ m. seek m rs p) (sym e)
+seek-append zero rs (b ∷ a) p e = absurd (omega arith)
+seek-append (suc n) rs (b ∷ a) p e = seek-append n rs a p (omega arith)
 
 -- ---- the shape of a path
 
@@ -99,7 +100,7 @@ behind-name b bs p e cut =
     by-byte shape_rows 47 ((b ∷ bs) ++ 47 ∷ p) refl refl
     ∙ (by-part (step 47 shape_rows) b (bs ++ 47 ∷ p) e refl
     ∙ (ap (λ (q : ℕ × Rows). seek (q.0 - 1) q.1 (bs ++ 47 ∷ p)) cut
-    ∙ (passes (suc (length bs) - 1) rs bs (47 ∷ p) (omega arith) ∙ by-byte rs 47 p refl refl)))
+    ∙ (seek-append (suc (length bs) - 1) rs bs (47 ∷ p) (omega arith) ∙ by-byte rs 47 p refl refl)))
 
 behind_commands : GoesOnAt (codes "/commands/")
 unfolding param_step

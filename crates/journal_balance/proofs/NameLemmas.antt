@@ -79,8 +79,8 @@ no_colons (b ∷ bs) h =
 some_part : (n : ℕ) → 0 < n → nat_lt 0 n ≡ true
 some_part n h = grind (arith, nat_tests)
 
-few : (n : ℕ) → n ≤ 200 → nat_le n 200 ≡ true
-few n h = grind (arith, nat_tests)
+at_most_200 : (n : ℕ) → n ≤ 200 → nat_le n 200 ≡ true
+at_most_200 n h = grind (arith, nat_tests)
 
 -- ---- the name
 
@@ -137,7 +137,7 @@ module _ (x y own : List ℕ) (is_x : IsNamePart x) (is_y : IsNamePart y) (is_ow
   formed : is_account (codes "equity:conversion:" ++ tail_of x y own) ≡ true
   unfolding is_account
   formed =
-      let short = few (length (codes "equity:conversion:" ++ tail_of x y own)) (omega (arith, size)) in
+      let short = at_most_200 (length (codes "equity:conversion:" ++ tail_of x y own)) (omega (arith, size)) in
       let whole : has_gap (codes "equity:conversion:" ++ tail_of x y own) ≡ false =
       rw (no_gap 58 (tail_of x y own) refl, gaps) refl in
       and_from _ _ (and_from _ _ (and_from _ _ (and_from _ _ short both) bytes) (not_from_false _ whole)) refl

@@ -18,14 +18,14 @@ use Rattle.journal_lines.specs.Blank.{trim_start, first_word}
 use Rattle.journal_lines.specs.HeaderReading.{header_of}
 use Rattle.journal_lines.specs.HeaderFaults.{HasLongPart, HasNoDate, HasOpenCode}
 use Rattle.journal_lines.proofs.HeaderFaultLemmas.{fault_of, date_fault}
-use Rattle.journal_lines.proofs.HeaderLemmas.{chosen}
+use Rattle.journal_lines.proofs.HeaderLemmas.{cond_cases}
 use Rattle.journal_format.specs.Line.{is_text}
 use Rattle.journal_format.specs.Machine.{State, within}
 use Rattle.journal_format.specs.Directive.{shows_digit, agrees, sampled, sampled_at, symbol_at, named, commodity_named}
 use Rattle.journal_format.specs.Directive.{format_at, sample_fault, is_format, format_fault}
 use Rattle.journal_format.specs.DirectiveForm.{IsSampleOf, IsSymbolOf, behind_word}
 use Rattle.journal_format.specs.LineFaults.{LineFault, IsFirst, Names, line_faults, directive_faults, format_faults}
-use Rattle.journal_format.proofs.FirstLemmas.{AreNone, skip, front, refused, one_err, not_both}
+use Rattle.journal_format.proofs.FirstLemmas.{AreNone, first_behind_none, first_in_front, refused, one_err, not_both}
 use Rattle.journal_format.proofs.DirectiveFormLemmas.{named_iff, sample_digit, symbol_digit, sample_none, is_format_iff}
 
 pub or_cases : (a b : Bool) → (a || b) ≡ true → (a ≡ true) ⊎ ((a ≡ false) × (b ≡ true))
@@ -33,14 +33,14 @@ or_cases true b h = inl refl
 or_cases false b h = inr (refl, h)
 
 -- the frame of all lines: the limit of a line, the limits of its kind, its bytes, its parts
-pub frame : (styles : List Style) (line : List ℕ) (limits parts : List LineFault) (over : Bool) (r : Result State Cause)
-    (c : Cause)
+pub frame_first_fault : (styles : List Style) (line : List ℕ) (limits parts : List LineFault) (over : Bool)
+    (r : Result State Cause) (c : Cause)
     → (over ≡ true → IsFirst limits cause.TooLong) → (over ≡ false → AreNone limits)
     → (over ≡ false → length line ≤ 1000 → is_text line ≡ true → within styles r ≡ Err c → IsFirst parts c)
     → cond (nat_lt 1000 (length line) || over) (Err cause.TooLong)
     (cond (not (is_text line)) (Err cause.Utf8) (within styles r)) ≡ Err c → IsFirst (line_faults line limits parts) c
-frame styles line limits parts over r c passed none more e =
-    elim (chosen (nat_lt 1000 (length line) || over) (refused {A = State} cause.TooLong) _ (Err c) e) [
+frame_first_fault styles line limits parts over r c passed none more e =
+    elim (cond_cases (nat_lt 1000 (length line) || over) (refused {A = State} cause.TooLong) _ (Err c) e) [
       | inl long ↦ elim (or_cases (nat_lt 1000 (length line)) over long.0) [
         | inl k ↦ inl (
           ltb-true 1000 (length line) k,
@@ -48,7 +48,7 @@ frame styles line limits parts over r c passed none more e =
         )
         | inr k ↦ inr (
           λ l. (let two = sym k.0 ∙ lt-ltb 1000 (length line) l in absurd cc),
-          front limits ((cause.Utf8, is_text line ≡ false) ∷ parts) c
+          first_in_front limits ((cause.Utf8, is_text line ≡ false) ∷ parts) c
               (subst (IsFirst limits) (one_err (refused {A = State} cause.TooLong) cause.TooLong c refl long.1)
               (passed k.1)),
         )
@@ -57,8 +57,8 @@ frame styles line limits parts over r c passed none more e =
           (let sides = or_parts (nat_lt 1000 (length line)) over fits.0 in
           inr (
             λ l. (let two = sym sides.0 ∙ lt-ltb 1000 (length line) l in absurd cc),
-            skip limits ((cause.Utf8, is_text line ≡ false) ∷ parts) c (none sides.1)
-                (elim (chosen (not (is_text line)) (refused {A = State} cause.Utf8) _ (Err c) fits.1) [
+            first_behind_none limits ((cause.Utf8, is_text line ≡ false) ∷ parts) c (none sides.1)
+                (elim (cond_cases (not (is_text line)) (refused {A = State} cause.Utf8) _ (Err c) fits.1) [
                   | inl bad ↦ inl (
                     lacks (is_text line) bad.0,
                     sym (one_err (refused {A = State} cause.Utf8) cause.Utf8 c refl bad.1),
@@ -97,14 +97,14 @@ pub directive_told : (styles : List Style) (text : List ℕ) (c : Cause) → com
     → IsFirst (directive_faults styles text) c
 unfolding commodity_named
 directive_told styles text c e =
-    elim (chosen (length text == 0) (refused {A = Commodity} cause.Directive) _ (Err c) e) [
+    elim (cond_cases (length text == 0) (refused {A = Commodity} cause.Directive) _ (Err c) e) [
       | inl bare ↦ inl (
         nil_from_empty text bare.0,
         sym (one_err (refused {A = Commodity} cause.Directive) cause.Directive c refl bare.1),
       )
       | inr some ↦ inr (
         λ k. (let two = sym some.0 ∙ ap (λ (xs : List ℕ). length xs == 0) k in absurd cc),
-        elim (chosen (shows_digit text) (sampled styles (style_of text)) _ (Err c) some.1) [
+        elim (cond_cases (shows_digit text) (sampled styles (style_of text)) _ (Err c) some.1) [
           | inl digit ↦ by_sample digit.0 (style_of text) refl digit.1
           | inr plain ↦ by_symbol plain.0 (symbol_of text) refl plain.1
         ],
@@ -145,7 +145,7 @@ directive_told styles text c e =
         )
         placed (Some place) p g = inr (
           λ k. unplaced k.0 k.1.0 k.1.1,
-          elim (chosen (agrees (slice_get styles place) s) (Ok (record { 0 = place }))
+          elim (cond_cases (agrees (slice_get styles place) s) (Ok (record { 0 = place }))
               (refused {A = Commodity} cause.CommodityStyle) (Err c) g) [
                 | inl good ↦ absurd (not_both _ (record { 0 = place }) c refl good.1)
                 | inr bad ↦ inl (
@@ -219,7 +219,7 @@ format_told styles unit line c e = elim (cases_Bool (is_format line)) [
       where
         at : (o : Option ℕ) → format_at styles unit s o ≡ Some c → c ≡ cause.CommodityStyle
         at None g = cc
-        at (Some place) g = elim (chosen ((place == unit.0) && agrees (slice_get styles place) s) None
+        at (Some place) g = elim (cond_cases ((place == unit.0) && agrees (slice_get styles place) s) None
             (Some cause.CommodityStyle) (Some c) g) [
               | inl good ↦ absurd (let two = good.1 in cc)
               | inr bad ↦ (let two = bad.1 in cc)

@@ -37,7 +37,7 @@ use Rattle.journal_lines.specs.declared.line_kind.LineKind.{LineKind}
 use Rattle.journal_lines.specs.declared.line_kind.LineKind.TheVariants as kind
 use Rattle.journal_lines.proofs.CutLemmas.{trim_start_behind, trim_start_same, trim_start_first, trim_inside}
 use Rattle.journal_lines.proofs.CutLemmas.{all_joined, all_weaker, first_kept}
-use Rattle.journal_lines.proofs.HeaderLemmas.{StartsBlank, date_ends, chosen}
+use Rattle.journal_lines.proofs.HeaderLemmas.{StartsBlank, date_ends, cond_cases}
 use Rattle.journal_lines.proofs.HeaderFormLemmas.{remark_reads, in_row, split_start, blanks_front, end_blanks}
 use Rattle.journal_lines.proofs.HeaderFormLemmas.{split_end, blanks_end, remark_form, blank_no_semicolon}
 use Rattle.journal_format.specs.PostingParts.{outside}
@@ -101,7 +101,7 @@ sample_iff styles unit text = (to, at (style_of text) refl)
     placed : (sample : Style) → IsSample text sample → (o : Option ℕ) → place_of styles sample.symbol ≡ o
         → sampled_at styles sample o ≡ Ok unit → IsSampleOf styles unit text
     placed sample s None e k = absurd cc
-    placed sample s (Some place) e k = elim (chosen (agrees (slice_get styles place) sample) _ _ _ k) [
+    placed sample s (Some place) e k = elim (cond_cases (agrees (slice_get styles place) sample) _ _ _ k) [
       | inl good ↦ subst (λ (u : Commodity). IsSampleOf styles u text) (ok_is _ _ _ refl good.1)
           (sample_there styles text sample place s e good.0)
       | inr bad ↦ absurd (let no = bad.1 in cc)
@@ -260,9 +260,9 @@ named_iff styles unit text = (to, from)
     from : cond (length text == 0) (Err Directive)
         (cond (shows_digit text) (sampled styles (style_of text)) (named styles (symbol_of text))) ≡ Ok unit
         → (IsSampleOf styles unit text ⊎ IsSymbolOf styles unit text)
-    from e = elim (chosen (length text == 0) _ _ _ e) [
+    from e = elim (cond_cases (length text == 0) _ _ _ e) [
       | inl none ↦ absurd (let no = none.1 in cc)
-      | inr some ↦ elim (chosen (shows_digit text) _ _ _ some.1) [
+      | inr some ↦ elim (cond_cases (shows_digit text) _ _ _ some.1) [
         | inl digit ↦ inl ((sample_iff styles unit text).1 digit.1)
         | inr letters ↦ inr ((symbol_iff styles unit text).1 letters.1)
       ]
@@ -520,7 +520,7 @@ sample_none styles unit text = (to, at (style_of text) refl)
         → format_at styles unit sample o ≡ None → IsSampleOf styles unit text
     placed sample s None e k = absurd cc
     placed sample s (Some place) e k =
-        elim (chosen ((place == unit.0) && agrees (slice_get styles place) sample) _ _ _ k) [
+        elim (cond_cases ((place == unit.0) && agrees (slice_get styles place) sample) _ _ _ k) [
           | inl good ↦
               let parts = and_parts (place == unit.0) _ good.0 in
               subst (λ (n : ℕ). IsSampleOf styles (record { 0 = n }) text) (eqb-true place unit.0 parts.0)

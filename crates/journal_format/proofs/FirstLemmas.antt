@@ -19,14 +19,14 @@ AreNone [] = ⊤
 AreNone (f ∷ rest) = (¬ f.1) × AreNone rest
 
 -- a front of faults that are not there is passed over, and a first fault of a front is that of the whole
-pub skip : (fs rest : List LineFault) (c : Cause) → AreNone fs → IsFirst rest c → IsFirst (fs ++ rest) c
-skip [] rest c none h = h
-skip (f ∷ fs) rest c none h = inr (none.0, skip fs rest c none.1 h)
+pub first_behind_none : (fs rest : List LineFault) (c : Cause) → AreNone fs → IsFirst rest c → IsFirst (fs ++ rest) c
+first_behind_none [] rest c none h = h
+first_behind_none (f ∷ fs) rest c none h = inr (none.0, first_behind_none fs rest c none.1 h)
 
-pub front : (fs rest : List LineFault) (c : Cause) → IsFirst fs c → IsFirst (fs ++ rest) c
-front [] rest c h = absurd h
-front (f ∷ fs) rest c (inl h) = inl h
-front (f ∷ fs) rest c (inr h) = inr (h.0, front fs rest c h.1)
+pub first_in_front : (fs rest : List LineFault) (c : Cause) → IsFirst fs c → IsFirst (fs ++ rest) c
+first_in_front [] rest c h = absurd h
+first_in_front (f ∷ fs) rest c (inl h) = inl h
+first_in_front (f ∷ fs) rest c (inr h) = inr (h.0, first_in_front fs rest c h.1)
 
 -- answers that are refused
 abbrev pub refused : {A : Type 0} → Cause → Result A Cause

@@ -24,8 +24,8 @@ use Rattle.journal_format.specs.Printable.{is_remark_text, is_amount, is_price_o
 use Rattle.journal_format.specs.Printable.{is_posting, IsPrintable}
 use Rattle.journal_format.specs.Growth.{StaysPrintable}
 
-stays : (styles more : List Style) → StaysUnderMore styles more
-stays styles more = styles_grow.stays styles more
+stays_under_more : (styles more : List Style) → StaysUnderMore styles more
+stays_under_more styles more = styles_grow.stays styles more
 
 pub declared_amount : (styles : List Style) (unit : Commodity) (q : ℤ) → is_amount styles unit q ≡ true
     → IsDeclared styles unit q
@@ -36,23 +36,23 @@ declared_amount styles unit q h =
 amount_stays : (styles more : List Style) (unit : Commodity) (q : ℤ) → is_amount styles unit q ≡ true
     → is_amount (styles ++ more) unit q ≡ true
 amount_stays styles more unit q h =
-    let d = (stays styles more).declared unit q (declared_amount styles unit q h) in
+    let d = (stays_under_more styles more).declared unit q (declared_amount styles unit q h) in
     and_from (nat_lt unit.0 (length (styles ++ more))) (nat_le (unsigned_abs q) limit)
     (lt-ltb unit.0 (length (styles ++ more)) d.known) (le-leb (unsigned_abs q) limit d.size)
 
 amount_same : (styles more : List Style) (unit : Commodity) (q : ℤ) → is_amount styles unit q ≡ true
     → printed_in (styles ++ more) unit q ≡ printed_in styles unit q
-amount_same styles more unit q h = (stays styles more).printed unit q (declared_amount styles unit q h)
+amount_same styles more unit q h = (stays_under_more styles more).printed unit q (declared_amount styles unit q h)
 
 price_stays : (styles more : List Style) (o : Option Price) → is_price_or_none styles o ≡ true
     → is_price_or_none (styles ++ more) o ≡ true
 price_stays styles more None h = refl
-price_stays styles more (Some p) h = (stays styles more).prices p h
+price_stays styles more (Some p) h = (stays_under_more styles more).prices p h
 
 price_same : (styles more : List Style) (o : Option Price) → is_price_or_none styles o ≡ true
     → price_text (styles ++ more) o ≡ price_text styles o
 price_same styles more None h = refl
-price_same styles more (Some p) h = ap (λ (xs : List ℕ). 32 ∷ xs) ((stays styles more).printed_prices p h)
+price_same styles more (Some p) h = ap (λ (xs : List ℕ). 32 ∷ xs) ((stays_under_more styles more).printed_prices p h)
 
 claim_stays : (styles more : List Style) (o : Option Claim) → is_claim_or_none styles o ≡ true
     → is_claim_or_none (styles ++ more) o ≡ true

@@ -40,26 +40,26 @@ front_lead : (styles : List Style) {last : Bool} (front part : List (List ℕ)) 
 front_lead styles front part done h lines few = pieces_lead styles h (all_parts is_line front part lines).0 few
 
 -- after pieces, lines that run from their state
-onward : (styles : List Style) (before front part : List (List ℕ)) (s t : State) → before ≡ front ++ part
+run_front_part : (styles : List Style) (before front part : List (List ℕ)) (s t : State) → before ≡ front ++ part
     → run styles 1 front begin ≡ Ok s → run styles (length front + 1) part s ≡ Ok t → run styles 1 before begin ≡ Ok t
-onward styles before front part s t e r k =
+run_front_part styles before front part s t e r k =
     let from : 1 + length front ≡ length front + 1 = omega arith in
     ap (λ (xs : List (List ℕ)). run styles 1 xs begin) e ∙
     (run-append styles 1 front part begin s r ∙ (ap (λ (n : ℕ). run styles n part s) from ∙ k))
 
-pub reached : (styles : List Style) (before : List (List ℕ)) (done : List Located) (place : Open)
+pub open_place_reached : (styles : List Style) (before : List (List ℕ)) (done : List Located) (place : Open)
     → StandsOpen styles before done place → list_all is_line before ≡ true → count_of done place ≤ 5000
     → (n : ℕ) × ((run styles 1 before begin ≡ Ok (record { done = done; context = context_of place n }))
     × (place_at before (context_of place n) ≡ place))
 unfolding entry_run directive_run skipped_run
-reached styles before done nothing h lines few =
+open_place_reached styles before done nothing h lines few =
     let k = pieces_lead styles h lines few in
     let outside = k.bare refl in
     let done_is : k.leads.to.done ≡ done =
     sym (append-nil k.leads.to.done) ∙
     (ap (λ (c : Context). k.leads.to.done ++ opened c) (sym outside) ∙ k.leads.all) in
     (0, (k.leads.runs ∙ (λ i. Ok (record { done = done_is i; context = outside i })), refl))
-reached styles before done (entry part t) h lines few =
+open_place_reached styles before done (entry part t) h lines few =
     let right = subst (λ (xs : List (List ℕ)). list_all is_line xs ≡ true) h.lines lines in
     let k = front_lead styles h.front h.part done h.before right (omega (arith, few)) in
     let s = k.leads.to in
@@ -67,7 +67,7 @@ reached styles before done (entry part t) h lines few =
     k.leads.free (subst (λ (xs : List Located). length xs < 5000) (sym k.leads.all) (omega (arith, few))) in (
       length h.front + 1,
       (
-        onward styles before h.front h.part s m.to h.lines k.leads.runs m.runs ∙ ap
+        run_front_part styles before h.front h.part s m.to h.lines k.leads.runs m.runs ∙ ap
             (λ (xs : List Located). Ok (record { done = xs; context = at.Entry (length h.front + 1) t })) k.leads.all,
         ap (λ (xs : List (List ℕ)). entry xs t) part_is,
       ),
@@ -78,7 +78,7 @@ reached styles before done (entry part t) h lines few =
         let less : (length h.front + 1) - 1 ≡ length h.front = omega arith in
         ap (λ (m : ℕ). drop m before) less ∙
         (ap (drop (length h.front)) h.lines ∙ (drop_at h.front h.part (length h.front) refl ∙ h.holds.0))
-reached styles before done (directive unit) h lines few =
+open_place_reached styles before done (directive unit) h lines few =
     let right = subst (λ (xs : List (List ℕ)). list_all is_line xs ≡ true) h.lines lines in
     let k = front_lead styles h.front h.part done h.before right few in
     let s = k.leads.to in
@@ -86,12 +86,12 @@ reached styles before done (directive unit) h lines few =
     k.leads.free in (
       0,
       (
-        onward styles before h.front h.part s m.to h.lines k.leads.runs m.runs ∙ ap
+        run_front_part styles before h.front h.part s m.to h.lines k.leads.runs m.runs ∙ ap
             (λ (xs : List Located). Ok (record { done = xs; context = at.Commodities unit })) k.leads.all,
         refl,
       ),
     )
-reached styles before done skipped h lines few =
+open_place_reached styles before done skipped h lines few =
     let right = subst (λ (xs : List (List ℕ)). list_all is_line xs ≡ true) h.lines lines in
     let k = front_lead styles h.front h.part done h.before right few in
     let s = k.leads.to in
@@ -99,12 +99,12 @@ reached styles before done skipped h lines few =
     k.leads.free in (
       0,
       (
-        onward styles before h.front h.part s m.to h.lines k.leads.runs m.runs ∙ ap
+        run_front_part styles before h.front h.part s m.to h.lines k.leads.runs m.runs ∙ ap
             (λ (xs : List Located). Ok (record { done = xs; context = at.Skipping })) k.leads.all,
         refl,
       ),
     )
-reached styles before done block h lines few =
+open_place_reached styles before done block h lines few =
     let right = subst (λ (xs : List (List ℕ)). list_all is_line xs ≡ true) h.lines lines in
     let k = front_lead styles h.front h.part done h.before right few in
     let s = k.leads.to in
@@ -112,8 +112,8 @@ reached styles before done block h lines few =
     k.leads.free in (
       0,
       (
-        onward styles before h.front h.part s (record { done = list_of s; context = at.Block }) h.lines k.leads.runs r
-            ∙ ap (λ (xs : List Located). Ok (record { done = xs; context = at.Block })) k.leads.all,
+        run_front_part styles before h.front h.part s (record { done = list_of s; context = at.Block }) h.lines
+            k.leads.runs r ∙ ap (λ (xs : List Located). Ok (record { done = xs; context = at.Block })) k.leads.all,
         refl,
       ),
     )
@@ -123,8 +123,8 @@ pub one_place : (styles : List Style) (before : List (List ℕ)) (d e : List Loc
     → list_all is_line before ≡ true → StandsOpen styles before d p → count_of d p ≤ 5000 → StandsOpen styles before e q
     → count_of e q ≤ 5000 → (d ≡ e) × (p ≡ q)
 one_place styles before d e p q right h few k less =
-    let a = reached styles before d p h right few in
-    let b = reached styles before e q k right less in
+    let a = open_place_reached styles before d p h right few in
+    let b = open_place_reached styles before e q k right less in
     let same : record { done = d; context = context_of p a.0 } ≡ record { done = e; context = context_of q b.0 } =
     ok_same (record { done = d; context = context_of p a.0 }) (record { done = e; context = context_of q b.0 })
     (sym a.1.0 ∙ b.1.0) in

@@ -16,7 +16,7 @@ use Rattle.journal_lines.specs.Header.{HeaderParts, length_of}
 use Rattle.journal_lines.specs.HeaderReading.{header_of, is_cut_long, cut_header}
 use Rattle.journal_lines.specs.HeaderFaults.{HasLongPart, HasNoDate, HasOpenCode}
 use Rattle.journal_lines.proofs.HeaderFaultLemmas.{long_of, long_alone, date_fault, code_fault}
-use Rattle.journal_lines.proofs.HeaderLemmas.{chosen}
+use Rattle.journal_lines.proofs.HeaderLemmas.{cond_cases}
 use Rattle.journal_format.specs.Line.{is_text, is_line}
 use Rattle.journal_format.specs.declared.posting.Posting.{Posting}
 use Rattle.journal_format.specs.declared.txn.Txn.{Txn}
@@ -35,10 +35,10 @@ use Rattle.journal_format.specs.LineFaults.{IsFirst, posting_part_faults, IsSeco
 use Rattle.journal_format.specs.LineFaults.{format_faults}
 use Rattle.journal_format.specs.Place.{Open, indented_faults, kind_faults, HasCause}
 use Rattle.journal_format.specs.Place.Open.{nothing, entry, directive, skipped, block}
-use Rattle.journal_format.proofs.LeadLemmas.{begins, header_short}
+use Rattle.journal_format.proofs.LeadLemmas.{header_begins, header_short}
 use Rattle.journal_format.proofs.KeepLemmas.{HoldsAt, header_entry, entry_push}
-use Rattle.journal_format.proofs.FirstLemmas.{AreNone, skip, front, refused, one_err, not_both}
-use Rattle.journal_format.proofs.CauseLemmas.{or_cases, frame, header_told, directive_told, format_told}
+use Rattle.journal_format.proofs.FirstLemmas.{AreNone, first_behind_none, first_in_front, refused, one_err, not_both}
+use Rattle.journal_format.proofs.CauseLemmas.{or_cases, frame_first_fault, header_told, directive_told, format_told}
 use Rattle.journal_format.proofs.PostingFaultLemmas.{posting_told, posting_none}
 
 too_long : {A : Type 0} (c : Cause) → refused {A = A} cause.TooLong ≡ Err c → c ≡ cause.TooLong
@@ -52,7 +52,7 @@ body_told : (styles : List Style) (done : List Located) (n : ℕ) (t : Txn) (c :
     → within styles (Ok (record { done = done; context = at.Entry n t })) ≡ Err c
     → (1_000_000 < length (body_text styles t)) × (c ≡ cause.TooLong)
 body_told styles done n t c e =
-    elim (chosen (nat_lt 1_000_000 (length (body_text styles t))) (refused {A = State} cause.TooLong) _ (Err c) e) [
+    elim (cond_cases (nat_lt 1_000_000 (length (body_text styles t))) (refused {A = State} cause.TooLong) _ (Err c) e) [
       | inl great ↦ (ltb-true 1_000_000 (length (body_text styles t)) great.0, too_long {A = State} c great.1)
       | inr small ↦ absurd (not_both _ _ c refl small.1)
     ]
@@ -68,12 +68,12 @@ header_first : (styles : List Style) → (done : List Located) (n : ℕ) (line :
     ∷ (cause.TooLong, PassesBody styles [] line) ∷ []) c
 header_first styles done n line c k right short (Err d) q f =
     let same = same_err {A = State} d c f in
-    front ((cause.Date, HasNoDate line) ∷ (cause.Header, HasOpenCode line) ∷ [])
+    first_in_front ((cause.Date, HasNoDate line) ∷ (cause.Header, HasOpenCode line) ∷ [])
     ((cause.TooLong, PassesBody styles [] line) ∷ []) c
     (header_told line c (λ long. (let two = sym short ∙ long_alone line long in absurd cc))
     (q ∙ ap (λ (x : Cause). Err x) same))
 header_first styles done n line c k right short (Ok h) q f =
-    let b = begins h h.comment (λ text is. header_short line h text right q is) in
+    let b = header_begins h h.comment (λ text is. header_short line h text right q is) in
     let great = body_told styles done n b.to c
     (ap (λ (x : Result Txn Cause). within styles (behind done (entered n x))) (sym b.gives) ∙ f) in
     inr (
@@ -96,30 +96,30 @@ kind_told : (styles : List Style) → (s : State) (n : ℕ) (line : List ℕ) (c
     → IsFirst (kind_faults styles (length (list_of s)) place line k) c
 kind_told styles s n line c place kind.Indented q indented e = indented refl e
 kind_told styles s n line c place kind.Blank q indented e =
-    frame styles line [] [] false (Ok (record { done = list_of s; context = at.Outside })) c (λ o. absurd cc) (λ o. tt)
-    (λ o l t f. absurd
+    frame_first_fault styles line [] [] false (Ok (record { done = list_of s; context = at.Outside })) c
+    (λ o. absurd cc) (λ o. tt) (λ o l t f. absurd
     (not_both (Ok (record { done = list_of s; context = at.Outside }))
     (record { done = list_of s; context = at.Outside }) c refl f)) e
 kind_told styles s n line c place kind.Comment q indented e =
-    frame styles line [] [] false (Ok (record { done = list_of s; context = at.Outside })) c (λ o. absurd cc) (λ o. tt)
-    (λ o l t f. absurd
+    frame_first_fault styles line [] [] false (Ok (record { done = list_of s; context = at.Outside })) c
+    (λ o. absurd cc) (λ o. tt) (λ o l t f. absurd
     (not_both (Ok (record { done = list_of s; context = at.Outside }))
     (record { done = list_of s; context = at.Outside }) c refl f)) e
 kind_told styles s n line c place kind.Block q indented e =
-    frame styles line [] [] false (Ok (record { done = list_of s; context = at.Block })) c (λ o. absurd cc) (λ o. tt)
-    (λ o l t f. absurd
+    frame_first_fault styles line [] [] false (Ok (record { done = list_of s; context = at.Block })) c (λ o. absurd cc)
+    (λ o. tt) (λ o l t f. absurd
     (not_both (Ok (record { done = list_of s; context = at.Block }))
     (record { done = list_of s; context = at.Block }) c refl f)) e
 kind_told styles s n line c place kind.Skipped q indented e =
-    frame styles line [] [] false (Ok (record { done = list_of s; context = at.Skipping })) c (λ o. absurd cc) (λ o. tt)
-    (λ o l t f. absurd
+    frame_first_fault styles line [] [] false (Ok (record { done = list_of s; context = at.Skipping })) c
+    (λ o. absurd cc) (λ o. tt) (λ o l t f. absurd
     (not_both (Ok (record { done = list_of s; context = at.Skipping }))
     (record { done = list_of s; context = at.Skipping }) c refl f)) e
 kind_told styles s n line c place kind.Unknown q indented e =
-    frame styles line [] ((cause.Directive, ⊤) ∷ []) false (Err cause.Directive) c (λ o. absurd cc) (λ o. tt)
-    (λ o l t f. inl (tt, sym (same_err {A = State} cause.Directive c f))) e
+    frame_first_fault styles line [] ((cause.Directive, ⊤) ∷ []) false (Err cause.Directive) c (λ o. absurd cc)
+    (λ o. tt) (λ o l t f. inl (tt, sym (same_err {A = State} cause.Directive c f))) e
 kind_told styles s n line c place kind.Commodity q indented e =
-    frame styles line [] (directive_faults styles (behind_word (front_of line))) false
+    frame_first_fault styles line [] (directive_faults styles (behind_word (front_of line))) false
     (by_kind styles s n line kind.Commodity) c (λ o. absurd cc) (λ o. tt)
     (λ o l t f. named (commodity_of styles line) refl f) e
   where
@@ -131,7 +131,7 @@ kind_told styles s n line c place kind.Commodity q indented e =
     named (Err d) p f = directive_told styles (behind_word (front_of line)) c
         (p ∙ ap (λ (x : Cause). Err x) (same_err {A = State} d c f))
 kind_told styles s n line c place kind.Header q indented e =
-    frame styles line
+    frame_first_fault styles line
     ((cause.TooLong, 5000 ≤ length (list_of s)) ∷ (cause.TooLong, HasLongPart line) ∷ [])
     ((cause.Date, HasNoDate line) ∷ (cause.Header, HasOpenCode line) ∷ (cause.TooLong, PassesBody styles [] line) ∷ [])
     (nat_le 5000 (length (list_of s)) || is_cut_long (cut_header line)) (by_kind styles s n line kind.Header) c passed
@@ -204,11 +204,13 @@ remark_first styles done m part t line c h k sign short (Err d) q f = inl (secon
     second : (o : Option (List ℕ)) → comment_of line ≡ o → with_remark t o ≡ Err d
         → IsSecondMark t line × (c ≡ cause.Marks)
     second None p g = absurd cc
-    second (Some text) p g = elim (chosen (nat_lt 900 (length text)) (refused {A = Txn} cause.TooLong) _ (Err d) g) [
-      | inl long ↦ absurd (let two = sym short ∙ (ap (λ (o : Option (List ℕ)). nat_lt 900 (length_of o)) p ∙ long.0) in
-          cc)
-      | inr fits ↦ remarks t.postings refl fits.1
-    ]
+    second (Some text) p g =
+        elim (cond_cases (nat_lt 900 (length text)) (refused {A = Txn} cause.TooLong) _ (Err d) g) [
+          | inl long ↦ absurd (let two = sym short
+              ∙ (ap (λ (o : Option (List ℕ)). nat_lt 900 (length_of o)) p ∙ long.0) in
+              cc)
+          | inr fits ↦ remarks t.postings refl fits.1
+        ]
       where
         remarks : (ps : List Posting) → t.postings ≡ ps → remarked t ps text ≡ Err d
             → IsSecondMark t line × (c ≡ cause.Marks)
@@ -254,7 +256,7 @@ posting_first styles done m part t line c h k other short room f = by_posting (p
         let is : entry_line styles t line ≡ with_posting t (Ok p) = entry_is ∙ ap (with_posting t) q in
         let great = body_told styles done m (record t { postings = t.postings ++ p ∷ [] }) c
         (ap (λ (x : Result Txn Cause). within styles (behind done (entered m x))) (sym is) ∙ f) in
-        skip (posting_part_faults styles line) ((cause.TooLong, PassesBody styles part line) ∷ []) c
+        first_behind_none (posting_part_faults styles line) ((cause.TooLong, PassesBody styles part line) ∷ []) c
         (posting_none styles line p q)
         (inl (
           (
@@ -268,7 +270,7 @@ posting_first styles done m part t line c h k other short room f = by_posting (p
         let is : entry_line styles t line ≡ with_posting t (Err d) = entry_is ∙ ap (with_posting t) q in
         let same = same_err {A = State} d c
         (ap (λ (x : Result Txn Cause). within styles (behind done (entered m x))) (sym is) ∙ f) in
-        front (posting_part_faults styles line) ((cause.TooLong, PassesBody styles part line) ∷ []) c
+        first_in_front (posting_part_faults styles line) ((cause.TooLong, PassesBody styles part line) ∷ []) c
         (posting_told styles line c short (q ∙ ap (λ (x : Cause). Err x) same))
 
 -- the row of an indented line, by its context
@@ -282,7 +284,7 @@ row styles done context n line =
 outside_told : (styles : List Style) (done : List Located) (n : ℕ) (line : List ℕ) (c : Cause)
     → row styles done at.Outside n line ≡ Err c → IsFirst (indented_faults styles nothing line (is_remark line)) c
 outside_told styles done n line c e =
-    frame styles line [] ((cause.StrayLine, is_remark line ≡ false) ∷ []) false
+    frame_first_fault styles line [] ((cause.StrayLine, is_remark line ≡ false) ∷ []) false
     (by_kind styles (record { done = done; context = at.Outside }) n line kind.Indented) c (λ o. absurd cc)
     (λ o. tt)
     (λ o l t f. stray (is_remark line) refl f) e
@@ -297,15 +299,15 @@ outside_told styles done n line c e =
 skipping_told : (styles : List Style) (done : List Located) (n : ℕ) (line : List ℕ) (c : Cause)
     → row styles done at.Skipping n line ≡ Err c → IsFirst (indented_faults styles skipped line (is_remark line)) c
 skipping_told styles done n line c e =
-    frame styles line [] [] false (Ok (record { done = done; context = at.Skipping })) c (λ o. absurd cc) (λ o. tt)
-    (λ o l t f. absurd (not_both (Ok (record { done = done; context = at.Skipping }))
+    frame_first_fault styles line [] [] false (Ok (record { done = done; context = at.Skipping })) c (λ o. absurd cc)
+    (λ o. tt) (λ o l t f. absurd (not_both (Ok (record { done = done; context = at.Skipping }))
     (record { done = done; context = at.Skipping }) c refl f)) e
 
 below_told : (styles : List Style) (done : List Located) (unit : Commodity) (n : ℕ) (line : List ℕ) (c : Cause)
     → row styles done (at.Commodities unit) n line ≡ Err c
     → IsFirst (indented_faults styles (directive unit) line (is_remark line)) c
 below_told styles done unit n line c e =
-    frame styles line [] (format_faults styles unit line) false
+    frame_first_fault styles line [] (format_faults styles unit line) false
     (by_kind styles (record { done = done; context = at.Commodities unit }) n line kind.Indented) c (λ o. absurd cc)
     (λ o. tt)
     (λ o l t f. format (format_fault styles unit line) refl f) e
@@ -327,7 +329,7 @@ entry_told styles done m part t n line c h k e = by_sign (is_remark line) refl
     long = nat_lt 900 (length_of (comment_of line))
 
     by_sign : (b : Bool) → is_remark line ≡ b → IsFirst (indented_faults styles (entry part t) line b) c
-    by_sign true q = frame styles line ((cause.TooLong, 900 < length_of (comment_of line)) ∷ [])
+    by_sign true q = frame_first_fault styles line ((cause.TooLong, 900 < length_of (comment_of line)) ∷ [])
         ((cause.Marks, IsSecondMark t line) ∷ (cause.TooLong, PassesBody styles part line) ∷ [])
         (nat_lt 900 (length_of (comment_of line)) || (not (is_remark line) && nat_le 1000 (length t.postings)))
         (by_kind styles (record { done = done; context = at.Entry m t }) n line kind.Indented) c
@@ -346,7 +348,7 @@ entry_told styles done m part t n line c h k e = by_sign (is_remark line) refl
             → IsFirst ((cause.TooLong, 900 < length_of (comment_of line)) ∷ []) cause.TooLong
         passed (inl o) = inl (ltb-true 900 (length_of (comment_of line)) o, refl)
         passed (inr o) = absurd (let two = rw q at o.1 in cc)
-    by_sign false q = frame styles line
+    by_sign false q = frame_first_fault styles line
         ((cause.TooLong, 1000 ≤ length t.postings) ∷ (cause.TooLong, 900 < length_of (comment_of line)) ∷ [])
         (posting_part_faults styles line ++ (cause.TooLong, PassesBody styles part line) ∷ [])
         (nat_lt 900 (length_of (comment_of line)) || (not (is_remark line) && nat_le 1000 (length t.postings)))
@@ -448,7 +450,8 @@ step_told styles before done at.Block n line c h few e = record {
   few = omega (arith, few, length-append done []);
   stands =
       record { last = h.last; front = h.front; part = h.part; before = h.before; holds = h.is_open; lines = h.lines };
-  first = frame styles line [] [] false (Ok (block_line done (is_block_end line))) c (λ o. absurd cc) (λ o. tt)
+  first =
+      frame_first_fault styles line [] [] false (Ok (block_line done (is_block_end line))) c (λ o. absurd cc) (λ o. tt)
       (λ o l t f. ended (is_block_end line) f) e;
 }
   where

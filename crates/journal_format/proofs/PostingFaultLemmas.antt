@@ -20,7 +20,7 @@ use Rattle.journal_lines.specs.Comment.{front_of, comment_of}
 use Rattle.journal_lines.specs.Header.{status_at, length_of}
 use Rattle.journal_lines.specs.Blank.{trim_start}
 use Rattle.journal_lines.specs.AccountName.{is_account}
-use Rattle.journal_lines.proofs.HeaderLemmas.{chosen, past}
+use Rattle.journal_lines.proofs.HeaderLemmas.{cond_cases, past}
 use Rattle.journal_format.specs.declared.posting.Posting.{Posting}
 use Rattle.journal_format.specs.PostingParts.{kind_at, is_virtual, name_of, part_of, claim_in, price_in, amount_in}
 use Rattle.journal_format.specs.PostingParts.{asserted_in}
@@ -47,10 +47,11 @@ not_there : (text : List ℕ) (fs rest : List LineFault) (c : Cause) → text �
 not_there text [] rest c none h = h
 not_there text (f ∷ fs) rest c none h = inr (λ k. k.0 none, not_there text fs rest c none h)
 
-passed : (text : List ℕ) (fs rest : List LineFault) (c : Cause) → AreNone fs → IsFirst rest c
+first_behind_none_there : (text : List ℕ) (fs rest : List LineFault) (c : Cause) → AreNone fs → IsFirst rest c
     → IsFirst (map (where_there text) fs ++ rest) c
-passed text [] rest c none h = h
-passed text (f ∷ fs) rest c none h = inr (λ k. none.0 k.1, passed text fs rest c none.1 h)
+first_behind_none_there text [] rest c none h = h
+first_behind_none_there text (f ∷ fs) rest c none h =
+    inr (λ k. none.0 k.1, first_behind_none_there text fs rest c none.1 h)
 
 -- the faults of an amount
 amount_none : (styles : List Style) (text : List ℕ) (a : Commodity × ℤ) → amount styles text ≡ Ok a
@@ -185,7 +186,7 @@ value_told : (styles : List Style) (status : Option Status) (name part : List �
     → value_of styles (cut_part status name part comment) ≡ Err c → IsFirst (value_faults styles part) c
 unfolding value_of
 value_told styles status name part comment c e =
-    elim (chosen (length (amount_in part) == 0) (without_amount (cut_part status name part comment)) _ (Err c) e) [
+    elim (cond_cases (length (amount_in part) == 0) (without_amount (cut_part status name part comment)) _ (Err c) e) [
       | inl bare ↦ without (nil_from_empty (amount_in part) bare.0) bare.1
       | inr some ↦ inr (
         λ k. some_of (amount_in part) some.0 k.0,
@@ -200,22 +201,24 @@ value_told styles status name part comment c e =
     cut = cut_part status name part comment
 
     without : amount_in part ≡ [] → without_amount cut ≡ Err c → IsFirst (value_faults styles part) c
-    without none f = elim (chosen (nat_lt 0 (length (price_in part))) (refused {A = Value} cause.Amount) _ (Err c) f) [
-      | inl priced ↦ inl (
-        (none, some_by (price_in part) priced.0),
-        sym (one_err (refused {A = Value} cause.Amount) cause.Amount c refl priced.1),
-      )
-      | inr plain ↦ inr (
-        λ k. k.1 (none_by (price_in part) plain.0),
-        elim (chosen (nat_lt 0 (length (claim_in part))) (refused {A = Value} cause.Assignment) _ (Err c) plain.1) [
-          | inl asserted ↦ inl (
-            (none, some_by (claim_in part) asserted.0),
-            sym (one_err (refused {A = Value} cause.Assignment) cause.Assignment c refl asserted.1),
+    without none f =
+        elim (cond_cases (nat_lt 0 (length (price_in part))) (refused {A = Value} cause.Amount) _ (Err c) f) [
+          | inl priced ↦ inl (
+            (none, some_by (price_in part) priced.0),
+            sym (one_err (refused {A = Value} cause.Amount) cause.Amount c refl priced.1),
           )
-          | inr nothing ↦ absurd (not_both _ _ c refl nothing.1)
-        ],
-      )
-    ]
+          | inr plain ↦ inr (
+            λ k. k.1 (none_by (price_in part) plain.0),
+            elim (cond_cases (nat_lt 0 (length (claim_in part))) (refused {A = Value} cause.Assignment) _ (Err c)
+                plain.1) [
+                  | inl asserted ↦ inl (
+                    (none, some_by (claim_in part) asserted.0),
+                    sym (one_err (refused {A = Value} cause.Assignment) cause.Assignment c refl asserted.1),
+                  )
+                  | inr nothing ↦ absurd (not_both _ _ c refl nothing.1)
+                ],
+          )
+        ]
 
     asserted : (a : Commodity × ℤ) (p : Option Price) (kind : ClaimKind) (r : Result (Commodity × ℤ) Cause)
         → with_claim a p kind r ≡ Err c → r ≡ Err c
@@ -224,7 +227,8 @@ value_told styles status name part comment c e =
 
     claims : (a : Commodity × ℤ) (p : Option Price) → claimed styles (claim_in part) a p ≡ Err c
         → IsFirst (map (where_there (claim_in part)) (amount_faults styles (asserted_in (claim_in part)))) c
-    claims a p f = elim (chosen (length (claim_in part) == 0) (Ok (record { amount = Some a; price = p; claim = None }))
+    claims a p f =
+        elim (cond_cases (length (claim_in part) == 0) (Ok (record { amount = Some a; price = p; claim = None }))
         _ (Err c) f) [
           | inl bare ↦ absurd (not_both _ _ c refl bare.1)
           | inr some ↦ there_last (claim_in part) (amount_faults styles (asserted_in (claim_in part))) c
@@ -237,7 +241,7 @@ value_told styles status name part comment c e =
         → with_price styles cut a r ≡ Err c
         → IsFirst (map (where_there (price_in part)) (price_faults styles (price_in part))
         ++ map (where_there (claim_in part)) (amount_faults styles (asserted_in (claim_in part)))) c
-    priced some a (Ok p) q f = passed (price_in part) (price_faults styles (price_in part))
+    priced some a (Ok p) q f = first_behind_none_there (price_in part) (price_faults styles (price_in part))
         (map (where_there (claim_in part)) (amount_faults styles (asserted_in (claim_in part)))) c
         (price_none styles (price_in part) p q) (claims a (Some p) f)
     priced some a (Err d) q f =
@@ -257,11 +261,11 @@ value_told styles status name part comment c e =
         ++ map (where_there (claim_in part)) (amount_faults styles (asserted_in (claim_in part)))) c some
         (amount_told styles (amount_in part) c
         (q ∙ ap (λ (x : Cause). Err x) (one_err (refused {A = Value} d) d c refl f)))
-    amounted some (Ok a) q f = passed (amount_in part) (amount_faults styles (amount_in part))
+    amounted some (Ok a) q f = first_behind_none_there (amount_in part) (amount_faults styles (amount_in part))
         (map (where_there (price_in part)) (price_faults styles (price_in part))
         ++ map (where_there (claim_in part)) (amount_faults styles (asserted_in (claim_in part)))) c
         (amount_none styles (amount_in part) a q)
-        (elim (chosen (length (price_in part) == 0) (claimed styles (claim_in part) a None) _ (Err c) f) [
+        (elim (cond_cases (length (price_in part) == 0) (claimed styles (claim_in part) a None) _ (Err c) f) [
           | inl bare ↦ not_there (price_in part) (price_faults styles (price_in part))
               (map (where_there (claim_in part)) (amount_faults styles (asserted_in (claim_in part)))) c
               (nil_from_empty (price_in part) bare.0) (claims a None bare.1)
@@ -273,27 +277,29 @@ pub posting_told : (styles : List Style) (line : List ℕ) (c : Cause) → nat_l
     → posting_of styles line ≡ Err c → IsFirst (posting_part_faults styles line) c
 unfolding judged_posting cut_posting
 posting_told styles line c short e =
-    elim (chosen (nat_lt 900 (length_of (comment_of line))) (refused {A = Posting} cause.TooLong) _ (Err c) e) [
+    elim (cond_cases (nat_lt 900 (length_of (comment_of line))) (refused {A = Posting} cause.TooLong) _ (Err c) e) [
       | inl long ↦ absurd (let two = sym short ∙ long.0 in cc)
-      | inr fits ↦ elim (chosen (is_virtual (name_of line)) (refused {A = Posting} cause.Virtual) _ (Err c) fits.1) [
-        | inl virtual ↦ inl (
-          virtual.0,
-          sym (one_err (refused {A = Posting} cause.Virtual) cause.Virtual c refl virtual.1),
-        )
-        | inr real ↦ inr (
-          λ k. (let two = sym real.0 ∙ k in absurd cc),
-          elim (chosen (not (is_account (name_of line))) (refused {A = Posting} cause.Account) _ (Err c) real.1) [
-            | inl ill ↦ inl (
-              λ k. (let two = sym ill.0 ∙ ap not k in absurd cc),
-              sym (one_err (refused {A = Posting} cause.Account) cause.Account c refl ill.1),
+      | inr fits ↦
+          elim (cond_cases (is_virtual (name_of line)) (refused {A = Posting} cause.Virtual) _ (Err c) fits.1) [
+            | inl virtual ↦ inl (
+              virtual.0,
+              sym (one_err (refused {A = Posting} cause.Virtual) cause.Virtual c refl virtual.1),
             )
-            | inr good ↦ inr (
-              λ k. k (kept (is_account (name_of line)) good.0),
-              valued (value_of styles cut) refl good.1,
+            | inr real ↦ inr (
+              λ k. (let two = sym real.0 ∙ k in absurd cc),
+              elim (cond_cases (not (is_account (name_of line))) (refused {A = Posting} cause.Account) _ (Err c)
+                  real.1) [
+                    | inl ill ↦ inl (
+                      λ k. (let two = sym ill.0 ∙ ap not k in absurd cc),
+                      sym (one_err (refused {A = Posting} cause.Account) cause.Account c refl ill.1),
+                    )
+                    | inr good ↦ inr (
+                      λ k. k (kept (is_account (name_of line)) good.0),
+                      valued (value_of styles cut) refl good.1,
+                    )
+                  ],
             )
-          ],
-        )
-      ]
+          ]
     ]
   where
     cut : PostingCut
@@ -327,7 +333,7 @@ value_none : (styles : List Style) (status : Option Status) (name part : List �
     → value_of styles (cut_part status name part comment) ≡ Ok v → AreNone (value_faults styles part)
 unfolding value_of
 value_none styles status name part comment v e =
-    elim (chosen (length (amount_in part) == 0) (without_amount (cut_part status name part comment)) _ (Ok v) e) [
+    elim (cond_cases (length (amount_in part) == 0) (without_amount (cut_part status name part comment)) _ (Ok v) e) [
       | inl bare ↦ without (nil_from_empty (amount_in part) bare.0) bare.1
       | inr some ↦ (
         λ k. some_of (amount_in part) some.0 k.0,
@@ -342,33 +348,36 @@ value_none styles status name part comment v e =
     prices = map (where_there (price_in part)) (price_faults styles (price_in part))
 
     without : amount_in part ≡ [] → without_amount cut ≡ Ok v → AreNone (value_faults styles part)
-    without none f = elim (chosen (nat_lt 0 (length (price_in part))) (refused {A = Value} cause.Amount) _ (Ok v) f) [
-      | inl priced ↦ absurd (not_both _ v cause.Amount priced.1 refl)
-      | inr plain ↦ elim (chosen (nat_lt 0 (length (claim_in part))) (refused {A = Value} cause.Assignment) _ (Ok v)
-          plain.1) [
-            | inl asserted ↦ absurd (not_both _ v cause.Assignment asserted.1 refl)
-            | inr nothing ↦ (
-              λ k. k.1 (none_by (price_in part) plain.0),
-              (
-                λ k. k.1 (none_by (claim_in part) nothing.0),
-                both_none (map (where_there (amount_in part)) (amount_faults styles (amount_in part)))
-                    (map (where_there (price_in part)) (price_faults styles (price_in part))
-                    ++ map (where_there (claim_in part)) (amount_faults styles (asserted_in (claim_in part))))
-                    (none_absent (amount_in part) (amount_faults styles (amount_in part)) none)
-                    (both_none (map (where_there (price_in part)) (price_faults styles (price_in part)))
-                    (map (where_there (claim_in part)) (amount_faults styles (asserted_in (claim_in part))))
-                    (none_absent (price_in part) (price_faults styles (price_in part))
-                    (none_by (price_in part) plain.0))
-                    (none_absent (claim_in part) (amount_faults styles (asserted_in (claim_in part)))
-                    (none_by (claim_in part) nothing.0))),
-              ),
-            )
-          ]
-    ]
+    without none f =
+        elim (cond_cases (nat_lt 0 (length (price_in part))) (refused {A = Value} cause.Amount) _ (Ok v) f) [
+          | inl priced ↦ absurd (not_both _ v cause.Amount priced.1 refl)
+          | inr plain ↦
+              elim (cond_cases (nat_lt 0 (length (claim_in part))) (refused {A = Value} cause.Assignment) _ (Ok v)
+              plain.1) [
+                | inl asserted ↦ absurd (not_both _ v cause.Assignment asserted.1 refl)
+                | inr nothing ↦ (
+                  λ k. k.1 (none_by (price_in part) plain.0),
+                  (
+                    λ k. k.1 (none_by (claim_in part) nothing.0),
+                    both_none (map (where_there (amount_in part)) (amount_faults styles (amount_in part)))
+                        (map (where_there (price_in part)) (price_faults styles (price_in part))
+                        ++ map (where_there (claim_in part)) (amount_faults styles (asserted_in (claim_in part))))
+                        (none_absent (amount_in part) (amount_faults styles (amount_in part)) none)
+                        (both_none (map (where_there (price_in part)) (price_faults styles (price_in part)))
+                        (map (where_there (claim_in part)) (amount_faults styles (asserted_in (claim_in part))))
+                        (none_absent (price_in part) (price_faults styles (price_in part))
+                        (none_by (price_in part) plain.0))
+                        (none_absent (claim_in part) (amount_faults styles (asserted_in (claim_in part)))
+                        (none_by (claim_in part) nothing.0))),
+                  ),
+                )
+              ]
+        ]
 
     claims : (a : Commodity × ℤ) (p : Option Price) → claimed styles (claim_in part) a p ≡ Ok v
         → AreNone (map (where_there (claim_in part)) (amount_faults styles (asserted_in (claim_in part))))
-    claims a p f = elim (chosen (length (claim_in part) == 0) (Ok (record { amount = Some a; price = p; claim = None }))
+    claims a p f =
+        elim (cond_cases (length (claim_in part) == 0) (Ok (record { amount = Some a; price = p; claim = None }))
         _ (Ok v) f) [
           | inl bare ↦ none_absent (claim_in part) (amount_faults styles (asserted_in (claim_in part)))
               (nil_from_empty (claim_in part) bare.0)
@@ -401,7 +410,7 @@ value_none styles status name part comment v e =
         (map (where_there (price_in part)) (price_faults styles (price_in part))
         ++ map (where_there (claim_in part)) (amount_faults styles (asserted_in (claim_in part))))
         (none_there (amount_in part) (amount_faults styles (amount_in part)) (amount_none styles (amount_in part) a q))
-        (elim (chosen (length (price_in part) == 0) (claimed styles (claim_in part) a None) _ (Ok v) f) [
+        (elim (cond_cases (length (price_in part) == 0) (claimed styles (claim_in part) a None) _ (Ok v) f) [
           | inl bare ↦ both_none (map (where_there (price_in part)) (price_faults styles (price_in part)))
               (map (where_there (claim_in part)) (amount_faults styles (asserted_in (claim_in part))))
               (none_absent (price_in part) (price_faults styles (price_in part))

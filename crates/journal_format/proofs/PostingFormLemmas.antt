@@ -38,7 +38,7 @@ use Rattle.journal_lines.proofs.AccountLemmas.{EndsName, name_whole, account_unb
 use Rattle.journal_lines.proofs.CutLemmas.{trim_start_behind, trim_start_same, trim_start_blanks, trim_end_same}
 use Rattle.journal_lines.proofs.CutLemmas.{trim_inside, all_joined, all_weaker, first_kept, trim_end_trimmed}
 use Rattle.journal_lines.proofs.CutLemmas.{trim_trimmed, trim_same}
-use Rattle.journal_lines.proofs.HeaderLemmas.{past, chosen}
+use Rattle.journal_lines.proofs.HeaderLemmas.{past, cond_cases}
 use Rattle.journal_lines.proofs.HeaderFormLemmas.{status_reads, remark_reads, in_row, split_start, blanks_front}
 use Rattle.journal_lines.proofs.HeaderFormLemmas.{end_blanks, split_end, blanks_end, status_form, remark_form}
 use Rattle.journal_lines.proofs.HeaderFormLemmas.{status_no_semicolon, blank_no_semicolon}
@@ -575,9 +575,9 @@ mark_nothing mark text h none =
     in
     sym (ap trim_end whole ∙ trim_end_same text (not-true _ last.1))
 
-nonempty : (xs : List ℕ) → (length xs == 0) ≡ false → 0 < length xs
-nonempty [] h = absurd cc
-nonempty (x ∷ xs) h = omega arith
+length_above_zero : (xs : List ℕ) → (length xs == 0) ≡ false → 0 < length xs
+length_above_zero [] h = absurd cc
+length_above_zero (x ∷ xs) h = omega arith
 
 -- blanks without blanks at their ends are nothing
 blanks_trimmed : (xs : List ℕ) → list_all is_blank xs ≡ true → is_trimmed xs ≡ true → xs ≡ []
@@ -627,14 +627,14 @@ record ClaimForm (styles : List Style) (text : List ℕ) (a : Commodity × ℤ) 
 
 claim_form : (styles : List Style) (text : List ℕ) (a : Commodity × ℤ) (p : Option Price) (v : Value)
     → (0 < length text → slice_index text 0 ≡ 61) → claimed styles text a p ≡ Ok v → ClaimForm styles text a p v
-claim_form styles text a p v sign h = elim (chosen (length text == 0) _ _ _ h) [
+claim_form styles text a p v sign h = elim (cond_cases (length text == 0) _ _ _ h) [
   | inl nothing ↦ record {
     claim = None;
     is = sym (ok_is _ _ _ refl nothing.1);
     none = λ e. nil_from_empty text nothing.0;
     some = λ k e. absurd cc;
   }
-  | inr something ↦ at (amount styles (trim_start behind)) refl something.1 (sign (nonempty text something.0))
+  | inr something ↦ at (amount styles (trim_start behind)) refl something.1 (sign (length_above_zero text something.0))
 ]
   where
     ok_is : (r : Result Value Cause) (x y : Value) → r ≡ Ok x → r ≡ Ok y → x ≡ y
@@ -730,7 +730,7 @@ pub value_form : (styles : List Style) (text : List ℕ) (v : Value) (status : O
     (comment : Option (List ℕ)) → is_trimmed text ≡ true
     → value_of styles (cut_part status name text comment) ≡ Ok v → IsAmountPart styles text v.amount v.price v.claim
 unfolding value_of
-value_form styles text v status name comment h r = elim (chosen (length inner == 0) _ _ _ r) [
+value_form styles text v status name comment h r = elim (cond_cases (length inner == 0) _ _ _ r) [
   | inl nothing ↦
       let one = past (nat_lt 0 (length price_text)) _ _ v nothing.1 in
       let two = past (nat_lt 0 (length claim_text)) _ _ v one.1 in
@@ -781,7 +781,7 @@ value_form styles text v status name comment h r = elim (chosen (length inner ==
         → with_amount styles (cut_part status name text comment) r ≡ Ok v
         → IsAmountPart styles text v.amount v.price v.claim
     with_one (Err c) e k = absurd cc
-    with_one (Ok a) e k = elim (chosen (length price_text == 0) _ _ _ k) [
+    with_one (Ok a) e k = elim (cond_cases (length price_text == 0) _ _ _ k) [
       | inl bare ↦ amount_form styles text v a None h e (λ z. nil_from_empty price_text bare.0) (λ q z. absurd cc)
           (claim_form styles claim_text a None v (outside_mark 61 false text) bare.1)
       | inr costs ↦ with_cost a e (price styles price_text) refl costs.1

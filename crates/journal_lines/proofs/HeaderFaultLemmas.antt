@@ -47,8 +47,8 @@ nothing_has_no_gap text e ([], ([], (rest, w))) = refl
 nothing_has_no_gap text e ([], (b ∷ bs, (rest, w))) = absurd (omega (arith, ap length (sym e ∙ w)))
 nothing_has_no_gap text e (a ∷ more, (gap, (rest, w))) = absurd (omega (arith, ap length (sym e ∙ w)))
 
-regroup : (a b c d e f : List ℕ) → (a ++ (b ++ (c ++ (d ++ e)))) ++ f ≡ a ++ (b ++ (c ++ (d ++ (e ++ f))))
-regroup a b c d e f = simp append_assoc
+append_assoc_six : (a b c d e f : List ℕ) → (a ++ (b ++ (c ++ (d ++ e)))) ++ f ≡ a ++ (b ++ (c ++ (d ++ (e ++ f))))
+append_assoc_six a b c d e f = simp append_assoc
 
 word_solid : (front : List ℕ) → list_all (λ b. not (is_blank b)) (first_word front) ≡ true
 unfolding first_word
@@ -67,7 +67,8 @@ cut_of line = record {
   remark = remark.remark;
   written = remark.written ∙ (ap (λ (xs : List ℕ). xs ++ remark.remark)
       (date_split front ∙ ap (λ (xs : List ℕ). first_word front ++ (gap ++ xs)) status.written)
-      ∙ regroup (first_word front) gap (status_text (status_at dated)) status.gap (behind_status dated) remark.remark);
+      ∙ append_assoc_six (first_word front) gap (status_text (status_at dated)) status.gap (behind_status dated)
+      remark.remark);
   solid = word_solid front;
   blanks = blanks_joined gap status.gap (blanks_front behind) status.blanks;
   apart = λ no_gap. at (nothing_apart front no_gap);
@@ -126,7 +127,7 @@ cut_alone line word text comment c =
     (all_joined (λ b. not (b == 59)) c.status_gap text
     (all_weaker is_blank (λ b. not (b == 59)) c.status_gap blank_no_semicolon gaps.1) own.1))) in
     let whole : line ≡ front ++ c.remark =
-    c.written ∙ sym (regroup word c.gap (status_text c.status) c.status_gap text c.remark) in
+    c.written ∙ sym (append_assoc_six word c.gap (status_text c.status) c.status_gap text c.remark) in
     let remark = remark_reads front c.remark comment no c.commented in
     let front_is : front_of line ≡ front = ap front_of whole ∙ remark.0 in
     let comment_is : comment_of line ≡ comment = ap comment_of whole ∙ remark.1 in

@@ -27,7 +27,7 @@ use Rattle.journal_lines.proofs.CutLemmas.{trim_end_same, trim_inside, all_trim_
 use Rattle.journal_lines.proofs.CutLemmas.{comment_behind, all_weaker, all_joined, trim_trimmed, trim_start_first}
 use Rattle.journal_lines.proofs.CutLemmas.{trim_end_trimmed}
 use Rattle.journal_lines.proofs.DateLemmas.{parts_of_date, reads_date, date_reads}
-use Rattle.journal_lines.proofs.HeaderLemmas.{StartsBlank, date_ends, chosen, past, CodedOk, coded_ok, so_read}
+use Rattle.journal_lines.proofs.HeaderLemmas.{StartsBlank, date_ends, cond_cases, past, CodedOk, coded_ok, so_read}
 use Rattle.journal_lines.proofs.HeaderLemmas.{all_behind_date, all_behind_status, front_none, date_first, status_first}
 
 -- ---- what a date is made of
@@ -154,9 +154,9 @@ status_reads (Some Pending) gap rest g first =
     (rw start refl, rw start (trim_start_behind gap rest g))
 
 -- the line before its comment
-pub regroup : (a b c d e f g h i : List ℕ)
+pub append_assoc_nine : (a b c d e f g h i : List ℕ)
     → a ++ (b ++ (c ++ (d ++ (e ++ (f ++ (g ++ (h ++ i))))))) ≡ (a ++ (b ++ (c ++ (d ++ (e ++ (f ++ (g ++ h))))))) ++ i
-regroup a b c d e f g h i = simp append_assoc
+append_assoc_nine a b c d e f g h i = simp append_assoc
 
 pub front_cut : (front rest : List ℕ) → has_no 59 front ≡ true → front_of (front ++ 59 ∷ rest) ≡ front
 unfolding front_of
@@ -260,7 +260,7 @@ cut_is line parts r =
     (all_joined (λ b. not (b == 59)) parts.description r.end_gap r.uncommented
     (all_weaker is_blank (λ b. not (b == 59)) r.end_gap blank_no_semicolon last.1))))))) in
     let whole : line ≡ front ++ r.remark =
-    r.written ∙ regroup r.date r.gap (status_text parts.status) r.status_gap (code_text parts.code) r.code_gap
+    r.written ∙ append_assoc_nine r.date r.gap (status_text parts.status) r.status_gap (code_text parts.code) r.code_gap
     parts.description r.end_gap r.remark in
     let remark = remark_reads front r.remark parts.comment no r.commented in
     let front_is : front_of line ≡ front = ap front_of whole ∙ remark.0 in
@@ -385,9 +385,9 @@ pub record CodeForm (text : List ℕ) (coded : Coded) : Type 0 where
 pub code_form : (text : List ℕ) (coded : Coded) → code_at text ≡ Some coded → CodeForm text coded
 unfolding code_at
 code_form text coded h =
-    elim (chosen (slice_index text 0 == 40) (closed_code (drop 1 text)) (Some (record { code = None; rest = text }))
+    elim (cond_cases (slice_index text 0 == 40) (closed_code (drop 1 text)) (Some (record { code = None; rest = text }))
     (Some coded) h) [
-      | inl bracket ↦ elim (chosen (nat_lt (position_or_len (λ b. b == 41) (drop 1 text)) (length (drop 1 text)))
+      | inl bracket ↦ elim (cond_cases (nat_lt (position_or_len (λ b. b == 41) (drop 1 text)) (length (drop 1 text)))
           (Some (with_code (drop 1 text))) None (Some coded) bracket.1) [
             | inl closed ↦ (let same : with_code (drop 1 text) ≡ coded = (let closed_is = closed.1 in cc) in
                 subst (λ (c : Coded). CodeForm text c) same (of_code text bracket.0 (ltb-true _ _ closed.0)))
@@ -559,7 +559,8 @@ form_of_parts line day coded date code long short =
       end_gap = end_blanks coded.rest;
       remark = remark.remark;
       written = remark.written ∙ (ap (λ (xs : List ℕ). xs ++ remark.remark) front_is
-          ∙ sym (regroup (first_word front) gap (status_text (status_at dated)) status.gap (code_text coded.code)
+          ∙ sym (append_assoc_nine (first_word front) gap (status_text (status_at dated)) status.gap
+          (code_text coded.code)
           closing.gap (trim_end coded.rest) (end_blanks coded.rest) remark.remark));
       is_date = reads_date (first_word front) day date;
       blanks = blanks_joined gap (status.gap ++ (closing.gap ++ end_blanks coded.rest)) (blanks_front behind)

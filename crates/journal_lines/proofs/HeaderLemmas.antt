@@ -308,16 +308,16 @@ header_short day status code text date k d =
     of_text (b ∷ bs) = omega arith
 
 -- the result of a test
-pub chosen : {A : Type 0} (b : Bool) (x y z : A) → cond b x y ≡ z → ((b ≡ true) × (x ≡ z)) ⊎ ((b ≡ false) × (y ≡ z))
-chosen true x y z h = inl (refl, h)
-chosen false x y z h = inr (refl, h)
+pub cond_cases : {A : Type 0} (b : Bool) (x y z : A) → cond b x y ≡ z → ((b ≡ true) × (x ≡ z)) ⊎ ((b ≡ false) × (y ≡ z))
+cond_cases true x y z h = inl (refl, h)
+cond_cases false x y z h = inr (refl, h)
 
 -- A comment that is read is well formed.
 pub read_comment : (line text : List ℕ) → list_all is_clean line ≡ true → comment_of line ≡ Some text
     → nat_lt 900 (length text) ≡ false → is_comment text ≡ true
 unfolding comment_of
 read_comment line text clean e short =
-    elim (chosen (nat_lt (position_or_len (λ b. b == 59) line) (length line))
+    elim (cond_cases (nat_lt (position_or_len (λ b. b == 59) line) (length line))
     (Some (trim (after_first (λ b. b == 59) line))) None (Some text) e) [
       | inl found ↦
           let q : trim (after_first (λ b. b == 59) line) ≡ text = (let found_is = found.1 in cc) in
@@ -386,8 +386,8 @@ pub coded_ok : (text : List ℕ) (coded : Coded) → is_blank (slice_index text 
     → CodedOk text coded
 unfolding code_at
 coded_ok text coded solid h =
-    elim (chosen (slice_index text 0 == 40) _ _ _ h) [
-      | inl bracket ↦ elim (chosen (nat_lt (position_or_len (λ b. b == 41) (drop 1 text)) (length (drop 1 text)))
+    elim (cond_cases (slice_index text 0 == 40) _ _ _ h) [
+      | inl bracket ↦ elim (cond_cases (nat_lt (position_or_len (λ b. b == 41) (drop 1 text)) (length (drop 1 text)))
           (Some (with_code text)) None (Some coded) bracket.1) [
             | inl closed ↦ (let same : with_code text ≡ coded =
                 (let closed_is = closed.1 in cc) in subst (λ (c : Coded). CodedOk text c) same (of_code text))

@@ -116,8 +116,8 @@ without_feed : (xs end : List ℕ) → 0 < length xs
 without_feed xs end some (inl e) = inl e
 without_feed xs end some (inr e) = inr (e.0, (omega (arith, some, ap length e.1.0), ap ends_in_return e.1.0 ∙ e.1.1))
 
-regroup : (line end rest : List ℕ) → (line ++ end) ++ (10 ∷ rest) ≡ line ++ ((end ++ 10 ∷ []) ++ rest)
-regroup line end rest = simp append_assoc
+append_assoc_newline : (line end rest : List ℕ) → (line ++ end) ++ (10 ∷ rest) ≡ line ++ ((end ++ 10 ∷ []) ++ rest)
+append_assoc_newline line end rest = simp append_assoc
 
 -- a text is its lines, each with its end
 made_up : (n : ℕ) (text : List ℕ) → length text ≤ n → MakeUp (lines text) text
@@ -157,7 +157,7 @@ made_up (suc n) (x ∷ xs) h =
         let front : BeginsWith (without_return (take i text)) text = record {
           end = cut.0 ++ 10 ∷ [];
           rest = drop (i + 1) text;
-          written = whole ∙ (ap (λ (xs : List ℕ). xs ++ (10 ∷ drop (i + 1) text)) cut.1.0 ∙ regroup
+          written = whole ∙ (ap (λ (xs : List ℕ). xs ++ (10 ∷ drop (i + 1) text)) cut.1.0 ∙ append_assoc_newline
               (without_return (take i text)) cut.0 (drop (i + 1) text));
           one =
               no_feed (take i text) (ap (λ (k : ℕ). has_no 10 (take k text)) place.1 ∙ before_none (λ b. b == 10) text);

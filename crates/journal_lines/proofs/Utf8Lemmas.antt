@@ -28,7 +28,7 @@ use Rattle.journal_lines.specs.Printed.{indent, header_status, header_code, head
 use Rattle.journal_lines.specs.AccountName.{ends_name, name_end}
 use Rattle.journal_lines.proofs.CutLemmas.{trim_start_behind, trim_start_same, trim_end_same, trim_end_blank}
 use Rattle.journal_lines.proofs.CutLemmas.{all_weaker}
-use Rattle.journal_lines.proofs.HeaderLemmas.{past, chosen}
+use Rattle.journal_lines.proofs.HeaderLemmas.{past, cond_cases}
 pub use Rattle.money_core.proofs.Utf8Lemmas.{utf8_joined, is_low, utf8_low}
 
 -- a text may be cut before an ASCII byte, and at its end
@@ -157,7 +157,8 @@ front_utf8 line h = before_utf8 (λ b. b == 59) (λ b. sign_low 59 b (omega arit
 pub comment_utf8 : (line text : List ℕ) → is_utf8 line ≡ true → comment_of line ≡ Some text → is_utf8 text ≡ true
 unfolding comment_of
 comment_utf8 line text h e = elim
-    (chosen (nat_lt (position_or_len (λ b. b == 59) line) (length line)) (Some (trim (after_first (λ b. b == 59) line)))
+    (cond_cases (nat_lt (position_or_len (λ b. b == 59) line) (length line))
+    (Some (trim (after_first (λ b. b == 59) line)))
     None (Some text) e) [
       | inl found ↦
           (let q : trim (after_first (λ b. b == 59) line) ≡ text = (let found_is = found.1 in cc) in
@@ -185,7 +186,7 @@ record CodedUtf8 (coded : Coded) : Type 0 where
 
 coded_utf8 : (text : List ℕ) (coded : Coded) → is_utf8 text ≡ true → code_at text ≡ Some coded → CodedUtf8 coded
 unfolding code_at
-coded_utf8 text coded h e = elim (chosen (slice_index text 0 == 40) (closed_code (drop 1 text)) _ (Some coded) e) [
+coded_utf8 text coded h e = elim (cond_cases (slice_index text 0 == 40) (closed_code (drop 1 text)) _ (Some coded) e) [
   | inl starts ↦ closed (inner text h starts.0) starts.1
   | inr none ↦ (let same : record { code = None; rest = text } ≡ coded =
       (let none_is = none.1 in cc) in subst CodedUtf8 same (record { code = refl; rest = h }))
@@ -196,7 +197,7 @@ coded_utf8 text coded h e = elim (chosen (slice_index text 0 == 40) (closed_code
     inner (x ∷ xs) k s = behind_utf8 (x ∷ xs) 0 k (omega arith) (sign_low 40 x (omega arith) s)
 
     closed : is_utf8 (drop 1 text) ≡ true → closed_code (drop 1 text) ≡ Some coded → CodedUtf8 coded
-    closed k c = elim (chosen (nat_lt (position_or_len (λ b. b == 41) (drop 1 text)) (length (drop 1 text))) _ None
+    closed k c = elim (cond_cases (nat_lt (position_or_len (λ b. b == 41) (drop 1 text)) (length (drop 1 text))) _ None
         (Some coded) c) [
           | inl found ↦
               (let made : Coded = record {

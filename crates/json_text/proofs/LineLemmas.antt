@@ -21,8 +21,8 @@ unfolding lines_of
 by_last true b = refl
 by_last false b = refl
 
-shifted : (n b : ℕ) (text : List ℕ) → onto_first b (cut_at n text) ≡ cut_at (1 + n) (b ∷ text)
-shifted n b text =
+onto_first_cut_at : (n b : ℕ) (text : List ℕ) → onto_first b (cut_at n text) ≡ cut_at (1 + n) (b ∷ text)
+onto_first_cut_at n b text =
     let e : suc n ≡ 1 + n = omega arith in
     let f : suc (n + 1) ≡ 1 + n + 1 = omega arith in
     ap₂ (λ (j k : ℕ). take j (b ∷ text) ∷ lines_of (drop k (b ∷ text))) e f
@@ -31,7 +31,7 @@ by_more : (ends : Bool) (b : ℕ) (text : List ℕ) → lines_of text ≡ cut_at
     → (if ends then [] ∷ lines_of text else onto_first b (lines_of text))
     ≡ cut_at (cond (not ends) (1 + line_end text) 0) (b ∷ text)
 by_more true b text ih = refl
-by_more false b text ih = ap (onto_first b) ih ∙ shifted (line_end text) b text
+by_more false b text ih = ap (onto_first b) ih ∙ onto_first_cut_at (line_end text) b text
 
 pub first_line : (b : ℕ) (bs : List ℕ)
     → lines_of (b ∷ bs) ≡ take (line_end (b ∷ bs)) (b ∷ bs) ∷ lines_of (drop (line_end (b ∷ bs) + 1) (b ∷ bs))

@@ -140,14 +140,14 @@ pub record SymbolFront (text : List ℕ) (cut : Cut) : Type 0 where
   pub whole : text ≡ written ++ cut.rest
   pub writes : WritesSymbol cut.symbol written
 
-pub tested : {A : Type 0} (b : Bool) (x y : A) → cond b (Some x) None ≡ Some y → (b ≡ true) × (x ≡ y)
-tested true x y h = (refl, same_Some x y h)
-tested false x y h = absurd cc
+pub Some_only_if_true : {A : Type 0} (b : Bool) (x y : A) → cond b (Some x) None ≡ Some y → (b ≡ true) × (x ≡ y)
+Some_only_if_true true x y h = (refl, same_Some x y h)
+Some_only_if_true false x y h = absurd cc
 
 bare_front : (text : List ℕ) (cut : Cut) → cut_bare text ≡ Some cut → SymbolFront text cut
 bare_front text cut h =
     let n = end_of Symbol text in
-    let t = tested (is_bare (take n text)) (record { symbol = take n text; rest = drop n text }) cut h in
+    let t = Some_only_if_true (is_bare (take n text)) (record { symbol = take n text; rest = drop n text }) cut h in
     subst (SymbolFront text) t.1 (record
     { written = take n text; whole = front_whole Symbol text; writes = inl (t.0, refl) })
 
@@ -155,7 +155,7 @@ quoted_front : (text : List ℕ) (cut : Cut) → cut_quoted text ≡ Some cut �
 quoted_front text cut h =
     let p : ℕ → Bool = λ b. b == 34 in
     let n = position_or_len p text in
-    let t = tested (nat_lt n (length text) && is_symbol (before_first p text))
+    let t = Some_only_if_true (nat_lt n (length text) && is_symbol (before_first p text))
     (record { symbol = before_first p text; rest = after_first p text }) cut h in
     let both = and_parts (nat_lt n (length text)) _ t.0 in
     let inside = ltb-true n (length text) both.0 in
@@ -198,7 +198,7 @@ whole_symbol symbol text = (λ h. there (cut_symbol text) refl h, λ w. back w)
         → WritesSymbol symbol text
     there None e k = absurd cc
     there (Some cut) e k =
-        let t = tested (length cut.rest == 0) cut.symbol symbol k in
+        let t = Some_only_if_true (length cut.rest == 0) cut.symbol symbol k in
         let front = symbol_front text cut e in
         let whole : text ≡ front.written =
         front.whole ∙ (ap (λ (xs : List ℕ). front.written ++ xs) (empty cut.rest t.0) ∙ append-nil front.written) in
@@ -621,7 +621,7 @@ right_back text parts h = go (cut_symbol (skip_blanks rest)) refl h
         → IsRightAmount text parts
     go None e k = absurd cc
     go (Some cut) e k =
-        let t = tested (length cut.rest == 0) (of_cut cut) parts k in
+        let t = Some_only_if_true (length cut.rest == 0) (of_cut cut) parts k in
         let front = symbol_front (skip_blanks rest) cut e in
         let before = sign_front text in
         let blanks = take (end_of Blank rest) rest in

@@ -137,14 +137,14 @@ printed_price_stays : (styles more : List Style) (p : Price) → is_price styles
 unfolding printed_price
 printed_price_stays styles more p h = ap (λ (o : Option Style). printed_cost o p) (same_style styles more p h)
 
-appends : (styles : List Style) (style : Style) (answer : Result Declared Cause) → Appends styles style answer
-appends styles style (Ok (New unit)) = (style ∷ [], refl)
-appends styles style (Ok (Same unit)) = ([], sym (append-nil styles))
-appends styles style (Err cause) = ([], sym (append-nil styles))
+declared_appends : (styles : List Style) (style : Style) (answer : Result Declared Cause) → Appends styles style answer
+declared_appends styles style (Ok (New unit)) = (style ∷ [], refl)
+declared_appends styles style (Ok (Same unit)) = ([], sym (append-nil styles))
+declared_appends styles style (Err cause) = ([], sym (append-nil styles))
 
 pub styles_grow : StylesGrow
 styles_grow = record {
-  appends = appends;
+  appends = declared_appends;
   stays = λ styles more. record {
     found = unit_stays styles more;
     read = amount_stays styles more;

@@ -239,13 +239,13 @@ not_both r x y h k = cc
 abbrev Answer : Type 0
 Answer = Result (Commodity × ℤ) Cause
 
-says : (styles : List Style) (text : List ℕ) (r : Answer) → r ≡ amount styles text → Says styles text r
-says styles text r e = subst (Says styles text) (sym e) (says_amount styles text)
+says_answer : (styles : List Style) (text : List ℕ) (r : Answer) → r ≡ amount styles text → Says styles text r
+says_answer styles text r e = subst (Says styles text) (sym e) (says_amount styles text)
 
 pub reads_iff : (styles : List Style) (text : List ℕ) (r : Answer) → r ≡ amount styles text → (place : ℕ) (units : ℤ)
     → (r ≡ Ok (record { 0 = place }, units)) ↔ WritesAmount styles text place units
 reads_iff styles text r e place units =
-    (λ h. to (says styles text r e) h, λ w. e ∙ writes_back styles text place units w)
+    (λ h. to (says_answer styles text r e) h, λ w. e ∙ writes_back styles text place units w)
   where
     to : Says styles text r → r ≡ Ok (record { 0 = place }, units) → WritesAmount styles text place units
     to (writes p u k w) h =
@@ -260,7 +260,7 @@ reads_iff styles text r e place units =
 
 pub malformed_iff : (styles : List Style) (text : List ℕ) (r : Answer) → r ≡ amount styles text
     → (r ≡ Err Amount) ↔ (HasNoForm styles text ⊎ IsOverLimit styles text)
-malformed_iff styles text r e = (λ h. to (says styles text r e) h, back)
+malformed_iff styles text r e = (λ h. to (says_answer styles text r e) h, back)
   where
     to : Says styles text r → r ≡ Err Amount → HasNoForm styles text ⊎ IsOverLimit styles text
     to (writes p u k w) h = absurd (not_both r _ _ k h)
@@ -275,7 +275,7 @@ malformed_iff styles text r e = (λ h. to (says styles text r e) h, back)
 
 pub unknown_iff : (styles : List Style) (text : List ℕ) (r : Answer) → r ≡ amount styles text
     → (r ≡ Err UnknownCommodity) ↔ NamesUndeclared styles text
-unknown_iff styles text r e = (λ h. to (says styles text r e) h, λ w. e ∙ unknown_back styles text w)
+unknown_iff styles text r e = (λ h. to (says_answer styles text r e) h, λ w. e ∙ unknown_back styles text w)
   where
     to : Says styles text r → r ≡ Err UnknownCommodity → NamesUndeclared styles text
     to (writes p u k w) h = absurd (not_both r _ _ k h)
@@ -286,7 +286,7 @@ unknown_iff styles text r e = (λ h. to (says styles text r e) h, λ w. e ∙ un
 
 pub decimals_iff : (styles : List Style) (text : List ℕ) (r : Answer) → r ≡ amount styles text
     → (r ≡ Err Decimals) ↔ HasFurtherDecimals styles text
-decimals_iff styles text r e = (λ h. to (says styles text r e) h, λ w. e ∙ further_back styles text w)
+decimals_iff styles text r e = (λ h. to (says_answer styles text r e) h, λ w. e ∙ further_back styles text w)
   where
     to : Says styles text r → r ≡ Err Decimals → HasFurtherDecimals styles text
     to (writes p u k w) h = absurd (not_both r _ _ k h)
@@ -297,7 +297,7 @@ decimals_iff styles text r e = (λ h. to (says styles text r e) h, λ w. e ∙ f
 
 pub one_of_causes : (styles : List Style) (text : List ℕ) (r : Answer) → r ≡ amount styles text
     → IfErr r (λ cause. (cause ≡ Amount) ⊎ (cause ≡ UnknownCommodity) ⊎ (cause ≡ Decimals))
-one_of_causes styles text r e = go (says styles text r e)
+one_of_causes styles text r e = go (says_answer styles text r e)
   where
     go : Says styles text r → IfErr r (λ cause. (cause ≡ Amount) ⊎ (cause ≡ UnknownCommodity) ⊎ (cause ≡ Decimals))
     go (writes p u k w) = rw k tt

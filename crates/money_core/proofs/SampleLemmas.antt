@@ -92,11 +92,11 @@ amount_symbol mark text parts a =
     ]
 
 -- Two tests that were passed.
-passed : {A : Type 0} (b c : Bool) (x y : A) → cond b None (cond c None (Some x)) ≡ Some y
+Some_past_two_tests : {A : Type 0} (b c : Bool) (x y : A) → cond b None (cond c None (Some x)) ≡ Some y
     → (b ≡ false) × (c ≡ false) × (x ≡ y)
-passed true c x y h = absurd cc
-passed false true x y h = absurd cc
-passed false false x y h = (refl, refl, same_Some x y h)
+Some_past_two_tests true c x y h = absurd cc
+Some_past_two_tests false true x y h = absurd cc
+Some_past_two_tests false false x y h = (refl, refl, same_Some x y h)
 
 unsigned_is : (sign : Sign) → is_signed sign ≡ false → sign ≡ Absent
 unsigned_is Absent h = refl
@@ -113,8 +113,8 @@ style_spelled text style h = go (amount_parts text) refl h
     with_mark parts None e s m k = absurd cc
     with_mark parts (Some mark) e s m k =
         let decimals = length (fraction_part mark parts.number) in
-        let t = passed (nat_lt 6 decimals) (nat_lt limit (quantity mark decimals parts.number)) (style_with parts mark)
-        style k in
+        let t = Some_past_two_tests (nat_lt 6 decimals) (nat_lt limit (quantity mark decimals parts.number))
+        (style_with parts mark) style k in
         let shown = and_parts (is_number mark parts.number) _ (shown_shows mark parts.number m) in
         subst (IsSample text) t.2 (record {
           parts = parts;

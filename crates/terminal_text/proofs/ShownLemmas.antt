@@ -199,22 +199,22 @@ from_same n (c ∷ cs) h few =
     (codes " ..") (shown_from (n + len_utf8 c) cs) (encode_utf8_all cs)
     (lt-ltb n most_shown (omega arith)) parts.0 (from_same (n + len_utf8 c) cs parts.1 (omega arith))
 
-pick : (t : Bool) (xs ys : List ℕ) → t ≡ true → (if t then xs else ys) ≡ xs
-pick true xs ys e = refl
-pick false xs ys e = absurd cc
+if_true_is : (t : Bool) (xs ys : List ℕ) → t ≡ true → (if t then xs else ys) ≡ xs
+if_true_is true xs ys e = refl
+if_true_is false xs ys e = absurd cc
 
 pub text_same : (text : List ℕ) → IsShown text → length text ≤ most_shown → shown_text text ≡ text
 unfolding shown_text
 text_same text h few =
     let back = encodes-chars text h.utf8 in
     let small : 0 + length (encode_utf8_all (chars text)) ≤ most_shown = omega (arith, ap length back, few) in
-    pick (is_utf8 text) (shown_from 0 (chars text)) (shown_bytes text) (is_utf8-from_IsUtf8 text h.utf8)
+    if_true_is (is_utf8 text) (shown_from 0 (chars text)) (shown_bytes text) (is_utf8-from_IsUtf8 text h.utf8)
     ∙ from_same 0 (chars text) h.all small ∙ back
 
 -- which of the two ways a text is shown
 pub shown_chars : (text : List ℕ) → is_utf8 text ≡ true → shown_text text ≡ shown_from 0 (chars text)
 unfolding shown_text
-shown_chars text e = pick (is_utf8 text) (shown_from 0 (chars text)) (shown_bytes text) e
+shown_chars text e = if_true_is (is_utf8 text) (shown_from 0 (chars text)) (shown_bytes text) e
 
 others_at : (text : List ℕ) (t : Bool) → is_utf8 text ≡ t → ¬ (IsUtf8 text)
     → (if t then shown_from 0 (chars text) else shown_bytes text) ≡ shown_bytes text
@@ -234,9 +234,9 @@ next_from n cs i c h =
     ∙ ap (λ (x : ℕ). if nat_lt n most_shown then shown_char x ++ shown_from (n + len_utf8 x) (drop (i + 1) cs)
     else codes " ..") (sym h.1)
 
-other : (t : Bool) (xs ys : List ℕ) → t ≡ false → (if t then xs else ys) ≡ ys
-other true xs ys e = absurd cc
-other false xs ys e = refl
+if_false_is : (t : Bool) (xs ys : List ℕ) → t ≡ false → (if t then xs else ys) ≡ ys
+if_false_is true xs ys e = absurd cc
+if_false_is false xs ys e = refl
 
 pub chars_next : (cs ys : List ℕ) (c n m : ℕ) (old new start : List ℕ)
     → (length ys < length cs) × (c ≡ get_or cs (length ys) c) → n < most_shown → m ≡ n + len_utf8 c
@@ -249,7 +249,7 @@ chars_next cs ys c n m old new start h few count pushed before =
     ∙ ap (λ (k : ℕ). (old ++ shown_char c) ++ shown_from (n + len_utf8 c) (drop k cs)) (length_push ys c)
     ∙ append_assoc old (shown_char c) rest
     ∙ ap (λ (xs : List ℕ). old ++ xs) (sym (next_from n cs (length ys) c h
-    ∙ pick (nat_lt n most_shown) (shown_char c ++ rest) (codes " ..") (lt-ltb n most_shown few)))
+    ∙ if_true_is (nat_lt n most_shown) (shown_char c ++ rest) (codes " ..") (lt-ltb n most_shown few)))
     ∙ before
 
 pub chars_cut : (cs ys : List ℕ) (c n : ℕ) (old new start : List ℕ)
@@ -258,8 +258,8 @@ pub chars_cut : (cs ys : List ℕ) (c n : ℕ) (old new start : List ℕ)
 chars_cut cs ys c n old new start h many pushed before =
     pushed
     ∙ ap (λ (xs : List ℕ). old ++ xs) (sym (next_from n cs (length ys) c h
-    ∙ other (nat_lt n most_shown) (shown_char c ++ shown_from (n + len_utf8 c) (drop (length ys + 1) cs)) (codes " ..")
-    (le-ltb n most_shown many)))
+    ∙ if_false_is (nat_lt n most_shown) (shown_char c ++ shown_from (n + len_utf8 c) (drop (length ys + 1) cs))
+    (codes " ..") (le-ltb n most_shown many)))
     ∙ before
 
 pub chars_end : (cs ys : List ℕ) (n : ℕ) (old start : List ℕ) → length ys ≡ length cs

@@ -4,7 +4,7 @@ use Rattle.std.proofs.lemmas.Grind.{common_steps}
 use Rattle.std.proofs.lemmas.List.{take-append-le}
 use Rattle.std.proofs.KnownBytes.{Consumes-trans, Consumes-nil}
 use Rattle.std.specs.Io.KnownBytes.{Consumes}
-use Rattle.http_request.proofs.HeadLemmas.{all_before, head_found, never_full, nothing}
+use Rattle.http_request.proofs.HeadLemmas.{all_before, head_found, never_full, HasNoRequest-nil}
 use Rattle.http_request.proofs.head.read_head.Goals as goal
 
 pub returns-in-Ok-Complete-clause-found : goal.returns-in-Ok-Complete-clause-found
@@ -45,6 +45,6 @@ reading-init g c = record {
   read = subst (λ (t : List ℕ). Consumes (g.R.Read.remaining c.args.reader.now) (g.R.Read.remaining c.args.reader.now)
       t) (sym c.requires) (Consumes-nil (g.R.Read.remaining c.args.reader.now));
   within = rw c.requires (omega arith);
-  none = subst HasNoRequest (sym c.requires) nothing;
+  none = subst HasNoRequest (sym c.requires) HasNoRequest-nil;
   may = inl c.requires;
 }

@@ -4,7 +4,7 @@ use Rattle.std.specs.List.{prefix_len}
 use Rattle.std.proofs.lemmas.Int.{to_z-of_z}
 use Rattle.day_sums.specs.declared.points.Point.{Point}
 use Rattle.day_sums.specs.Points.{Ascends, SamePoints, is_before, is_there, base_at}
-use Rattle.day_sums.proofs.OpenLemmas.{opened, inserted, ascends_opened, same_opened}
+use Rattle.day_sums.proofs.OpenLemmas.{opened, inserted_is_opened, ascends_opened, same_opened}
 use Rattle.day_sums.proofs.points.Points.open.Goals as goal
 
 -- the points have the number's point in its place
@@ -13,7 +13,7 @@ now c =
     let ps = c.self.inside.points.items in
     let n = c.count_before-place.result in
     let at = to_z-of_z w64 c.args.at (search rules) in
-    inserted c.args.at c.sum_before-sum.result ps c.insert.new.self.items n
+    inserted_is_opened c.args.at c.sum_before-sum.result ps c.insert.new.self.items n
     (c.count_before-place.ensures.value ∙ ap (λ (a : ℤ). prefix_len (is_before a) c.deref.result.now) at ∙ ap
     (λ (qs : List Point). prefix_len (is_before c.args.at) qs) c.deref.ensures.value)
     (ap (λ (qs : List Point). is_there c.args.at qs n) (sym c.deref-2.ensures.value) ∙ ap
