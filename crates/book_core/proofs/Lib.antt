@@ -8,6 +8,7 @@ pub mod CommodityLemmas
 pub mod ClaimLemmas
 pub mod HoldLemmas
 pub mod VerdictLemmas
+pub mod FilledLemmas
 pub mod GoodBookLemmas
 pub mod NamedLemmas
 pub mod BalanceLemmas

@@ -1,7 +1,8 @@
 //! The ledger that keeps its assertions, and examines those that new entries reach.
 
-ghost use Rattle.std.specs.Prelude.{◌≡◌, ◌≤◌, ◌++◌, length, None, OnOk};
+ghost use Rattle.std.specs.Prelude.{◌≡◌, ◌≤◌, ◌++◌, length, None, OnOk, IfOk};
 ghost use Rattle.std.specs.List.{AllByRecursion};
+ghost use Rattle.std.specs.Result.{IsOkUnless};
 ghost use Rattle.book_core.specs.Claim.{failure, claims_of, counted};
 ghost use Rattle.book_core.specs.GoodBook.{IsWithin, IsFit, Checks};
 ghost use Rattle.book_core.specs.Examine.{examined, ArePlaces};
@@ -22,7 +23,7 @@ use crate::reached::reached_places;
 use crate::refusal::{Count, Failure, Refusal};
 use crate::sums::Sums;
 use crate::turnover_table::passes_by;
-use money_core::{Cause, Day, Text, Unit};
+use money_core::{Cause, Day, Items, Text, Unit};
 use std::alloc::Global;
 use std::marker::Model;
 
@@ -35,6 +36,8 @@ use std::marker::Model;
 /// and `==*` as much for each commodity. Where there are many of both, it takes sums of the new entries, and passes
 /// over none of them; and where an entry has many assertions, it takes sums of its legs for those on one account alone.
 /// `add` is, for each leg and each account that takes it in, a search and the days of one row after the entry's own.
+/// `of` is an `add` of each entry and, for each assertion, a few searches and the legs of its own entry up to its own:
+/// the sums by which it judges are the ledger's own.
 #[derive(Drop)]
 pub struct DayLedger {
     entries: Vec<Entry>,
@@ -85,6 +88,31 @@ impl DayLedger {
     {
         let book = self.book_with(NewEntries::plain(new));
         first_at(&book, places, count)
+    }
+
+    /// The ledger of entries within the limits, whatever their assertions say.
+    fn filled(alloc: Global, entries: Vec<Entry>) -> Result<Self, Cause>
+        requires fit { AllByRecursion IsFit entries.items }
+        requires room { IsWithin entries.items }
+        ensures value { IfOk result (λ ledger. ledger ≡ entries.items) }
+        ensures memory { IsOkUnless result Cause.OutOfMemory }
+    {
+        let mut ledger = DayLedger::empty(alloc);
+        'entries: for entry in entries {
+            ledger.add(entry)?;
+        }
+        Ok(ledger)
+    }
+
+    /// The first failure by place among all assertions.
+    fn first_failure(&self) -> Result<Option<Failure>, Cause>
+        ensures first { IfOk result (λ first. first ≡ failure self.now) }
+        ensures memory { IsOkUnless result Cause.OutOfMemory }
+    {
+        let alloc = *self.entries.allocator();
+        let places = reached_places(alloc, &[], &ClaimIndex::empty(alloc), &self.entries)?;
+        let book = self.book_with(NewEntries::plain(&[]));
+        first_by_sums(alloc, &book, &places, &mut Count { claims: 0 })
     }
 }
 
@@ -152,6 +180,28 @@ impl Ledger for DayLedger {
         match first {
             Some(failure) => Err(Refusal::ClaimFailed(failure)),
             None => Ok(()),
+        }
+    }
+
+    fn of(alloc: Global, entries: Items<Entry>) -> Result<Self, Refusal> {
+        let list = entries.into_vec();
+        if list.len() > MAX_ENTRIES {
+            return Err(Refusal::Plain(Cause::Full));
+        }
+        if passes_by(&[], &[], &list) {
+            return Err(Refusal::Plain(Cause::Limit));
+        }
+        let ledger = match DayLedger::filled(alloc, list) {
+            Ok(ledger) => ledger,
+            Err(cause) => return Err(Refusal::Plain(cause)),
+        };
+        let first = match ledger.first_failure() {
+            Ok(first) => first,
+            Err(cause) => return Err(Refusal::Plain(cause)),
+        };
+        match first {
+            Some(failure) => Err(Refusal::ClaimFailed(failure)),
+            None => Ok(ledger),
         }
     }
 

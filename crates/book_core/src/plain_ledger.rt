@@ -1,7 +1,8 @@
 //! The ledger that keeps the list of entries and adds it up at each question.
 
-ghost use Rattle.std.specs.Prelude.{◌≡◌, ◌≢◌, ◌≤◌, ◌++◌, List, None, OnOk};
+ghost use Rattle.std.specs.Prelude.{◌≡◌, ◌≢◌, ◌≤◌, ◌++◌, List, None, OnOk, IfOk};
 ghost use Rattle.std.specs.List.{AllByRecursion};
+ghost use Rattle.std.specs.Result.{IsOkUnless};
 ghost use Rattle.book_core.specs.Balance.{balance};
 ghost use Rattle.book_core.specs.Claim.{failure, claims_of, counted};
 ghost use Rattle.book_core.specs.GoodBook.{IsWithin, IsFit, Checks};
@@ -17,7 +18,7 @@ use crate::entry::Entry;
 use crate::ledger::Ledger;
 use crate::refusal::{Count, Refusal};
 use crate::turnover::passes_limit;
-use money_core::{Cause, Day, Text, Unit};
+use money_core::{Cause, Day, Items, Text, Unit};
 use std::alloc::Global;
 use std::marker::Model;
 
@@ -86,6 +87,22 @@ fn balance_through(entries: &[Entry], reach: Reach, account: &str, unit: Unit, d
     balance_over(&book, &through(reach, account, unit, day))
 }
 
+impl PlainLedger {
+    /// The ledger of entries within the limits, whatever their assertions say.
+    fn filled(alloc: Global, entries: Vec<Entry>) -> Result<Self, Cause>
+        requires fit { AllByRecursion IsFit entries.items }
+        requires room { IsWithin entries.items }
+        ensures value { IfOk result (λ ledger. ledger ≡ entries.items) }
+        ensures memory { IsOkUnless result Cause.OutOfMemory }
+    {
+        let mut ledger = PlainLedger::empty(alloc);
+        'entries: for entry in entries {
+            ledger.add(entry)?;
+        }
+        Ok(ledger)
+    }
+}
+
 impl Ledger for PlainLedger {
     ghost book = { λ b. b };
 
@@ -124,6 +141,18 @@ impl Ledger for PlainLedger {
         ensures most { count.new.claims ≤ counted count.old.claims (claims_of (self.now ++ new.now)) }
     {
         check_lists(&self.entries, new, count)
+    }
+
+    fn of(alloc: Global, entries: Items<Entry>) -> Result<Self, Refusal> {
+        let list = entries.into_vec();
+        match check_lists(&[], &list, &mut Count { claims: 0 }) {
+            Ok(()) => {}
+            Err(refusal) => return Err(refusal),
+        }
+        match PlainLedger::filled(alloc, list) {
+            Ok(ledger) => Ok(ledger),
+            Err(cause) => Err(Refusal::Plain(cause)),
+        }
     }
 
     // All room is made before either list changes.

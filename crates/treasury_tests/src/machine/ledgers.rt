@@ -2,7 +2,7 @@
 
 use super::{Given, HALL, JANUARY_5, Reply, enter_all, perform_all, sizes, start};
 use book_core::{Count, Entry, Ledger, PlainLedger, Refusal};
-use money_core::{Cause, Day, Text, Unit};
+use money_core::{Cause, Day, Items, Text, Unit};
 use std::alloc::Global;
 use std::process::Abort;
 use treasury_core::{Answer, State};
@@ -40,6 +40,11 @@ impl Ledger for Exhausted {
 
     fn check(&self, new: &[Entry], count: &mut Count) -> Result<(), Refusal> {
         let _ = self.ledger.check(new, count);
+        Err(Refusal::Plain(Cause::OutOfMemory))
+    }
+
+    fn of(alloc: Global, entries: Items<Entry>) -> Result<Self, Refusal> {
+        let _ = (alloc, entries);
         Err(Refusal::Plain(Cause::OutOfMemory))
     }
 
