@@ -1,10 +1,10 @@
 -- what is added leaves a good state good
-use Rattle.std.proofs.Common.{◌≡◌, ◌<◌, ℕ, Bool, true, false, ◌||◌, cond, List, [], ◌∷◌, ◌++◌, length, refl, ap, ◌∙◌}
-use Rattle.std.proofs.Common.{sym, subst, arith, append-nil, length-append, Option, Some, None, Ok}
-use Rattle.std.specs.Prelude.{filter}
+use Rattle.std.proofs.Common.{◌≡◌, ◌<◌, ℕ, Bool, true, false, ◌||◌, List, [], ◌∷◌, ◌++◌, length, refl, ap, ◌∙◌}
+use Rattle.std.proofs.Common.{sym, subst, arith, length-append, Option, Some, None, Ok}
 use Rattle.std.specs.List.{list_any, AllByRecursion}
+use Rattle.std.specs.Option.{option_or}
 use Rattle.std.specs.Str.{bytes_eq}
-use Rattle.std.proofs.lemmas.List.Elements.{filter-append}
+use Rattle.std.proofs.lemmas.List.Folds.{find-append}
 use Rattle.std.proofs.lemmas.Int.{ints}
 use Rattle.std.proofs.lemmas.Bool.{or_parts}
 use Rattle.std.proofs.Math.Bool.{or-false}
@@ -26,7 +26,8 @@ use Rattle.treasury_state.specs.declared.record.Record.{Record}
 use Rattle.treasury_state.specs.declared.transfer.Transfer.{Transfer}
 use Rattle.treasury_state.specs.Federation.{Branch, Federation, is_branch_name, has_name, has_branch, records_of}
 use Rattle.treasury_state.specs.Federation.{lock_of, entries, book_of, is_locked}
-use Rattle.treasury_state.specs.Mark.{held, HaveOwnMarks, is_transfer_mark, is_closing_mark, is_of_transfer}
+use Rattle.treasury_state.specs.Mark.{has_mark, is_held, held, HaveOwnMarks, is_transfer_mark, is_closing_mark}
+use Rattle.treasury_state.specs.Mark.{is_of_transfer}
 use Rattle.treasury_state.specs.Transfer.{is_transit, asked}
 use Rattle.treasury_state.specs.Joined.{new_branch, with_records, with_lock, changed, with_style, with_branch}
 use Rattle.treasury_state.specs.Joined.{with_entered, with_locked}
@@ -99,7 +100,11 @@ good_branch f name good named free room = record {
   transfers = all_weaker (IsGoodTransfer f.branches) (IsGoodTransfer (f.branches ++ new_branch name ∷ [])) f.transfers
       (λ t h. other_branches f.branches _ t (known_after f.branches name) h) good.transfers;
   carried = all-append (IsCarried f.transfers) f.branches (new_branch name ∷ []) good.carried (
-    (λ m. ap (λ (rs : List Record). held rs m) (sym (asked_none f.branches f.transfers name free good.transfers))),
+    record {
+      there = subst (λ (rows : List Record). AllByRecursion (λ (r : Record). held [] r.mark ≡ Some r) rows)
+          (sym (asked_none f.branches f.transfers name free good.transfers)) tt;
+      asked_for = tt;
+    },
     tt,
   );
 }
@@ -201,22 +206,22 @@ all_within : (lock other : Option Day) (rs : List Record) → other ≡ lock →
 all_within lock other rs e h = subst (λ (o : Option Day). AllByRecursion (IsWithinLock o) rs) (sym e)
     (all_weaker (IsOwnEntry lock) (IsWithinLock lock) rs (λ r k. k.closed) h)
 
-none_filtered_at : (t : Bool) (r : Record) (xs : List Record) → t ≡ false → xs ≡ [] → cond t (r ∷ xs) xs ≡ []
-none_filtered_at true r xs e h = absurd cc
-none_filtered_at false r xs e h = h
-
-none_filtered : (lock : Option Day) (rs : List Record) → AllByRecursion (IsOwnEntry lock) rs
-    → filter is_of_transfer rs ≡ []
-none_filtered lock [] h = refl
-none_filtered lock (r ∷ rs) h =
-    none_filtered_at (is_of_transfer r) r (filter is_of_transfer rs) h.0.apart (none_filtered lock rs h.1)
-
 carried_entered : (ts : List Transfer) (lock : Option Day) (rs : List Record) (b : Branch)
     → AllByRecursion (IsOwnEntry lock) rs → IsCarried ts b → IsCarried ts (with_records rs b)
-carried_entered ts lock rs b own h m =
-    ap (λ (xs : List Record). held xs m)
-    (filter-append is_of_transfer b.records rs ∙ ap (λ (xs : List Record). filter is_of_transfer b.records ++ xs)
-    (none_filtered lock rs own) ∙ append-nil (filter is_of_transfer b.records)) ∙ h m
+carried_entered ts lock rs b own h = record {
+  there = all_weaker (λ (r : Record). held b.records r.mark ≡ Some r)
+      (λ (r : Record). held (b.records ++ rs) r.mark ≡ Some r) (asked ts b.name)
+      (λ r k. find-append (has_mark r.mark) b.records rs ∙ ap (λ (o : Option Record). option_or o (held rs r.mark)) k)
+      h.there;
+  asked_for = all-append (λ (r : Record). is_of_transfer r ≡ true → is_held (asked ts b.name) r.mark ≡ true) b.records
+      rs h.asked_for
+      (all_weaker (IsOwnEntry lock)
+      (λ (r : Record). is_of_transfer r ≡ true → is_held (asked ts b.name) r.mark ≡ true) rs
+      (λ r k of. absurd (let no : true ≡ false = sym of ∙ k.apart in cc)) own);
+}
+
+carried_locked : (ts : List Transfer) (day : Day) (b : Branch) → IsCarried ts b → IsCarried ts (with_lock day b)
+carried_locked ts day b h = record { there = h.there; asked_for = h.asked_for }
 
 -- a change of a branch leaves the names
 pub same_names : (g : Branch → Branch) (name : List ℕ) (bs : List Branch) → ((b : Branch) → (g b).name ≡ b.name)
@@ -261,7 +266,7 @@ good_locked f name day good number forward = record {
   ids = good.ids;
   transfers = transfers-changed (with_lock day) name f.branches f.transfers (λ b. refl) good.transfers;
   carried = all-changed (IsCarried f.transfers) (IsCarried f.transfers) (with_lock day) name f.branches good.names
-      (λ b n e l h. h) (λ b n h. h) good.carried;
+      (λ b n e l h. carried_locked f.transfers day b h) (λ b n h. h) good.carried;
 }
 
 -- records that come in with a lock: closings are within the new one
@@ -293,7 +298,8 @@ closed_at_once f name day rs good number forward marks new own passes = record {
   ids = good.ids;
   transfers = transfers-changed (closing_change rs day) name f.branches f.transfers (λ b. refl) good.transfers;
   carried = all-changed (IsCarried f.transfers) (IsCarried f.transfers) (closing_change rs day) name f.branches
-      good.names (λ b n e l h. carried_entered f.transfers (Some day) rs b own h) (λ b n h. h) good.carried;
+      good.names (λ b n e l h. carried_locked f.transfers day _ (carried_entered f.transfers (Some day) rs b own h))
+      (λ b n h. h) good.carried;
 }
 
 pub good_closed : (f : Federation) (name : List ℕ) (day : Day) (rs : List Record) → IsGoodState f → IsDayNumber day

@@ -56,16 +56,6 @@ gets ts ts' d r h own new after =
       named = h.named;
     }
 
--- one that gets none
-pub keeps : (ts ts' : List Transfer) (d : Branch) → asked ts' d.name ≡ asked ts d.name → IsInStep ts d → IsInStep ts' d
-keeps ts ts' d e h = record {
-  own_marks = h.own_marks;
-  asked_for = λ m.
-      h.asked_for m ∙ ap (λ (xs : List Record). held xs m) (sym e);
-  clear = h.clear;
-  named = h.named;
-}
-
 -- nothing is received under a key that no receipt of a transfer has
 none_own : (t : Transfer) (key : List ℕ) (b : Bool) (ps : List Part) → HasNoColon t.id
     → list_any (λ (x : Part). bytes_eq x.key key) ps ≡ false → held (in_records t b ps) (in_mark t.id key) ≡ None

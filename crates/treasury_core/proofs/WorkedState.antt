@@ -172,7 +172,10 @@ good = record {
   branches = (north, (south, tt));
   ids = (tt, tt);
   transfers = (good_transfer, tt);
-  carried = (λ mark. refl, (λ mark. refl, tt));
+  carried = (
+    record { there = (refl, tt); asked_for = (λ of. refl, tt) },
+    (record { there = (refl, tt); asked_for = (λ of. refl, (λ no. absurd cc, tt)) }, tt),
+  );
 }
 
 -- 33 branches

@@ -29,6 +29,7 @@ use Rattle.treasury_state.proofs.AskedLemmas.{HaveOwnIds, none_append, none_out_
 use Rattle.treasury_state.proofs.SkipLemmas.{skip}
 use Rattle.treasury_state.proofs.WayLemmas.{never_both}
 use Rattle.treasury_state.proofs.FilterLemmas.{held-filter}
+use Rattle.treasury_state.proofs.CarriedLemmas.{carried_agree}
 use Rattle.treasury_state.proofs.FairLemmas.{found, good_marked}
 use Rattle.treasury_state.proofs.OrderLemmas.{own_ids}
 use Rattle.treasury_state.proofs.DispatchLemmas.{IsWhole, all_whole}
@@ -151,7 +152,7 @@ asked_held : (styles : List Style) (ts : List Transfer) (b : Branch) (name m : L
     → b.name ≡ name → is_transfer_mark m ≡ true → held (asked ts name) m ≡ None → is_held b.records m ≡ false
 asked_held styles ts b name m whole named transfer none =
     unheld b.records m (sym (held-filter b.records m transfer) ∙
-    (whole.carried m ∙ (ap (λ (n : List ℕ). held (asked ts n) m) named ∙ none)))
+    (carried_agree ts b whole.carried m ∙ (ap (λ (n : List ℕ). held (asked ts n) m) named ∙ none)))
 
 pub not_elsewhere : (f : Federation) (from to : List ℕ) (r : Record) → IsGoodState f → has_branch f from ≡ true
     → has_branch f to ≡ true → bytes_eq from to ≡ false → IsAmong r (records_of f from) → is_of_transfer r ≡ true

@@ -26,7 +26,7 @@ use Rattle.treasury_state.specs.Transfer.{posting, transit_account}
 use Rattle.treasury_state.specs.Good.{IsGoodRecord, IsGoodTransfer, IsGoodState, IsShort}
 use Rattle.treasury_state.proofs.AskedLemmas.{HaveOwnIds}
 use Rattle.treasury_state.proofs.DispatchLemmas.{IsWhole, all_whole, dispatch_written}
-use Rattle.treasury_state.proofs.FairLemmas.{found, good_marked}
+use Rattle.treasury_state.proofs.FairLemmas.{found}
 use Rattle.treasury_state.proofs.HolderLemmas.{held_all}
 use Rattle.treasury_state.proofs.RecordLemmas.{short_day}
 use Rattle.treasury_state.proofs.OrderLemmas.{own_ids}
@@ -34,7 +34,6 @@ use Rattle.treasury_state.proofs.SkipLemmas.{same_transfer}
 use Rattle.treasury_state.proofs.AmountLemmas.{amount_of}
 use Rattle.treasury_state.proofs.TransferRowLemmas.{name_found}
 use Rattle.treasury_rows.specs.Drafted.{IsFault, IsReading, HasShortReceipt, HaveShortDays, IsNamed}
-use Rattle.treasury_rows.proofs.CarriedLemmas.{stand_of}
 
 -- a name is read from its place
 abbrev pub IsNameAt : List Branch → ℕ → List ℕ → Type 0
@@ -118,12 +117,10 @@ receipts_written f t good here fair =
     let b = found (IsWhole f.styles f.transfers) f.branches t.target
     (all_whole f.styles f.transfers f.branches good.branches good.carried) fair.target in
     let P = IsGoodRecord f.styles in
-    let stand =
-    stand_of f.transfers b.branch (good_marked f.branches f.transfers good.transfers) good.ids b.holds.carried in
     let each : AllByRecursion P (asked f.transfers b.branch.name) =
     all_weaker (λ (r : Record). held b.branch.records r.mark ≡ Some r) P (asked f.transfers b.branch.name)
     (λ r h. subst (λ (o : Option Record). IfSome o P) h (held_all P b.branch.records r.mark b.holds.good.records))
-    stand in
+    b.holds.carried.there in
     all_mapped P (receipt_record t) (receipts_of t)
     (asked_receipts P t f.transfers here
     (subst (λ (n : List ℕ). AllByRecursion P (asked f.transfers n)) b.named each))

@@ -14,6 +14,7 @@ use Rattle.treasury_state.specs.Transfer.{out_mark}
 use Rattle.treasury_state.specs.Good.{IsGoodRecord, IsGoodBranch, IsGoodTransfer, IsCarried, IsGoodState}
 use Rattle.treasury_state.proofs.LookupLemmas.{first_held}
 use Rattle.treasury_state.proofs.SkipLemmas.{same_transfer, pass_out}
+use Rattle.treasury_state.proofs.CarriedLemmas.{carried_agree}
 use Rattle.treasury_state.proofs.FairLemmas.{found}
 
 -- a branch that is good and carries what transfers ask for
@@ -71,6 +72,6 @@ dispatch_written f t good here fair =
     let b = found (IsWhole f.styles f.transfers) f.branches t.source
     (all_whole f.styles f.transfers f.branches good.branches good.carried) fair.source in
     let at : held (filter is_of_transfer b.branch.records) (out_mark t) ≡ Some (dispatch_record t) =
-    b.holds.carried (out_mark t) ∙ (ap (λ (n : List ℕ). held (asked f.transfers n) (out_mark t)) b.named ∙ asked_out t
-    f.transfers here) in
+    carried_agree f.transfers b.branch b.holds.carried (out_mark t)
+    ∙ (ap (λ (n : List ℕ). held (asked f.transfers n) (out_mark t)) b.named ∙ asked_out t f.transfers here) in
     held_holds (IsGoodRecord f.styles) (out_mark t) (dispatch_record t) b.branch.records at b.holds.good.records

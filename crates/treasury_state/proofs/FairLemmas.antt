@@ -22,6 +22,7 @@ use Rattle.treasury_state.specs.Transfer.{open_amount, transit_account, AddsUp}
 use Rattle.treasury_state.specs.Good.{IsGoodBranch, IsGoodTransfer, IsCarried, IsGoodState}
 use Rattle.treasury_state.specs.Fair.{HasNoColon, IsMarked, IsFair}
 use Rattle.treasury_state.proofs.OrderLemmas.{own_ids}
+use Rattle.treasury_state.proofs.CarriedLemmas.{carried_agree}
 use Rattle.treasury_state.proofs.WayLemmas.{IsInStep, AddUp, adds_up, open_sum_low}
 
 -- no byte of a name is a colon
@@ -88,7 +89,12 @@ names_good f h = names_of HasNoColon f.branches (λ b is. no_colon b.name is.nam
 pub in_step : (styles : List Style) (ts : List Transfer) (b : Branch) → IsGoodBranch styles b → IsCarried ts b
     → IsInStep ts b
 in_step styles ts b good carried =
-    record { own_marks = good.marks; asked_for = carried; clear = good.off_transit; named = no_colon b.name good.named }
+    record {
+      own_marks = good.marks;
+      asked_for = carried_agree ts b carried;
+      clear = good.off_transit;
+      named = no_colon b.name good.named;
+    }
 
 pub all_in_step : (styles : List Style) (ts : List Transfer) (bs : List Branch)
     → AllByRecursion (IsGoodBranch styles) bs → AllByRecursion (IsCarried ts) bs → AllByRecursion (IsInStep ts) bs

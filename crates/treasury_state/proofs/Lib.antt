@@ -14,6 +14,7 @@ pub mod WayLemmas
 pub mod SkipLemmas
 pub mod FilterLemmas
 pub mod OrderLemmas
+pub mod CarriedLemmas
 pub mod FairLemmas
 pub mod RecordLemmas
 pub mod DispatchLemmas

@@ -324,13 +324,13 @@ good_parts = record {
 
 -- a dispatch that its source's book lacks, a receipt that no transfer has, and one of an open transfer
 pub not_dispatched : IsCarried (received ∷ []) (branch (codes "north") None []) → ⊥
-not_dispatched carried = let no : None ≡ Some sent = carried (codes "out:T-1") in absurd cc
+not_dispatched carried = let no : None ≡ Some sent = carried.there.0 in absurd cc
 
 pub of_no_transfer : IsCarried [] (branch (codes "south") None (got ∷ [])) → ⊥
-of_no_transfer carried = let no : Some got ≡ None = carried (codes "in:T-1") in absurd cc
+of_no_transfer carried = let no : false ≡ true = carried.asked_for.0 refl in absurd cc
 
 pub not_received : IsCarried (transfer None ∷ []) (branch (codes "south") None (got ∷ [])) → ⊥
-not_received carried = let no : Some got ≡ None = carried (codes "in:T-1") in absurd cc
+not_received carried = let no : false ≡ true = carried.asked_for.0 refl in absurd cc
 
 -- ---- rows
 

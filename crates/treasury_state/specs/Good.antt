@@ -1,6 +1,6 @@
 -- When a state is good, and which commands fit (own rules; docs/RULES.md, "Branches", "Books", "Marks and repeats",
 -- "Transfers").
-use Rattle.std.specs.Prelude.{◌≡◌, ◌≤◌, ℕ, true, false, List, [], ◌∷◌, length, filter, pos, int_le, Option, Some, None}
+use Rattle.std.specs.Prelude.{◌≡◌, ◌≤◌, true, false, List, [], ◌∷◌, length, pos, int_le, Option, Some, None}
 use Rattle.std.specs.Prelude.{Ok, ⊤, FitsSigned, IfSome}
 use Rattle.std.specs.Int.{w32}
 use Rattle.std.specs.List.{list_any, AllByRecursion}
@@ -19,7 +19,7 @@ use Rattle.treasury_state.specs.declared.transfer.Receipt.{Receipt}
 use Rattle.treasury_state.specs.declared.transfer.Transfer.{Transfer}
 use Rattle.treasury_state.specs.Federation.{Branch, Federation, is_branch_name, most_branches, has_name, entries}
 use Rattle.treasury_state.specs.Federation.{is_locked}
-use Rattle.treasury_state.specs.Mark.{held, HaveOwnMarks, is_of_transfer, is_closing, close_mark}
+use Rattle.treasury_state.specs.Mark.{is_held, held, HaveOwnMarks, is_of_transfer, is_closing, close_mark}
 use Rattle.treasury_state.specs.Transfer.{is_id, is_reserved, is_transit, is_key, sum_of, rest_part, asked}
 
 -- a record whose transaction has its mark and can be printed, and whose entry is what that transaction does
@@ -103,9 +103,12 @@ pub record IsGoodTransfer (bs : List Branch) (t : Transfer) : Type 0 where
   pub parts : HasGoodParts t
   pub rest : IsGoodRest t t.receipt
 
--- looked up by their marks, a branch's records of transfers are just those that the transfers ask for
-abbrev pub IsCarried : List Transfer → Branch → Type 0
-IsCarried ts b = (mark : List ℕ) → held (filter is_of_transfer b.records) mark ≡ held (asked ts b.name) mark
+-- A branch has the records that the transfers ask for, and no others of transfers: each that is asked for is found by
+-- its mark, and each record with the mark of a transfer has the mark of one that is asked for.
+pub record IsCarried (ts : List Transfer) (b : Branch) : Type 0 where
+  pub there : AllByRecursion (λ (r : Record). held b.records r.mark ≡ Some r) (asked ts b.name)
+  pub asked_for : AllByRecursion (λ (r : Record). is_of_transfer r ≡ true → is_held (asked ts b.name) r.mark ≡ true)
+      b.records
 
 -- a good state: each style is one that a sample has, and no symbol stands twice; at most 32 branches, each good, no
 -- name twice; transfers in byte order of their IDs, no ID twice, each good, with its dispatch in its source's book and

@@ -2,8 +2,8 @@ use Rattle.std.proofs.Common.{◌≡◌, ◌∙◌, ap, sym, subst, true, false}
 use Rattle.treasury_state.specs.Federation.{Branch}
 use Rattle.treasury_state.specs.Mark.{HaveOwnMarks}
 use Rattle.treasury_state.specs.Transfer.{asked}
-use Rattle.treasury_rows.proofs.CarriedLemmas.{Stand, AreAsked, own_asked, carried_from, stand_of, asked_of, moved}
-use Rattle.treasury_rows.proofs.CarriedLemmas.{when_none}
+use Rattle.treasury_state.proofs.CarriedLemmas.{own_asked}
+use Rattle.treasury_rows.proofs.CarriedLemmas.{Stand, AreAsked, moved, when_none}
 use Rattle.treasury_rows.proofs.judging.carried.is_carried.Goals as goal
 
 pub returns-in_default-clause-value : goal.returns-in_default-clause-value
@@ -29,8 +29,7 @@ returns-then-not-are_held-clause-value c =
       (λ h. absurd (let k : false ≡ true = h in cc)),
       (λ carried. absurd (let k : true ≡ false =
           sym (c.are_held.ensures.1
-          (moved Stand _ _ _ _ records rows (stand_of ts b c.requires.marked c.requires.ids carried))) ∙
-          c.if-not-are_held.true in cc)),
+          (moved Stand _ _ _ _ records rows carried.there)) ∙ c.if-not-are_held.true in cc)),
     )
 
 pub returns-clause-value : goal.returns-clause-value
@@ -43,8 +42,9 @@ returns-clause-value c =
     c.in_ok-rows.ensures.value ∙ ap (asked ts) (c.as_str.ensures ∙ ap (λ (x : Branch). x.name) c.branch.view_is) in
     let rows : c.items-2.result.now ≡ asked ts b.name = c.items-2.ensures ∙ asks in
     let others : c.items-3.result.now ≡ asked ts b.name = c.items-3.ensures ∙ asks in (
-      (λ h. carried_from ts b (moved Stand _ _ _ _ (sym records) (sym rows)
-          (c.are_held.ensures.0 c.if-not-are_held.false))
-          (moved AreAsked _ _ _ _ (sym others) (sym records) (c.are_asked.ensures.0 h))),
-      (λ carried. c.are_asked.ensures.1 (moved AreAsked _ _ _ _ others records (asked_of ts b carried))),
+      (λ h. record {
+        there = moved Stand _ _ _ _ (sym records) (sym rows) (c.are_held.ensures.0 c.if-not-are_held.false);
+        asked_for = moved AreAsked _ _ _ _ (sym others) (sym records) (c.are_asked.ensures.0 h);
+      }),
+      (λ carried. c.are_asked.ensures.1 (moved AreAsked _ _ _ _ others records carried.asked_for)),
     )
