@@ -36,8 +36,8 @@ Reads request dry =
     ≡ Some (record { request = request; is_dry_run = dry }))
     × (depth (object (with_dry_run dry (with_request request no_members))) ≡ 1)
 
-clash : true ≡ false → ⊥
-clash e = absurd cc
+true_is_not_false : true ≡ false → ⊥
+true_is_not_false e = absurd cc
 
 pub object_reads : (request : Request) (dry : Bool) → HasDayNumbers request → (is_report request ≡ true → dry ≡ false)
     → Reads request dry
@@ -64,23 +64,23 @@ object_reads (Close branch day (Some names) None) true days sendable = (rw (day_
 object_reads (Close branch day (Some names) (Some into)) false days sendable = (rw (day_reads day days) refl, refl)
 object_reads (Close branch day (Some names) (Some into)) true days sendable = (rw (day_reads day days) refl, refl)
 object_reads (Register branch account None) false days sendable = (refl, refl)
-object_reads (Register branch account None) true days sendable = absurd (clash (sendable refl))
+object_reads (Register branch account None) true days sendable = absurd (true_is_not_false (sendable refl))
 object_reads (Register branch account (Some tag)) false days sendable = (refl, refl)
-object_reads (Register branch account (Some tag)) true days sendable = absurd (clash (sendable refl))
+object_reads (Register branch account (Some tag)) true days sendable = absurd (true_is_not_false (sendable refl))
 object_reads (Journal branch) false days sendable = (refl, refl)
-object_reads (Journal branch) true days sendable = absurd (clash (sendable refl))
+object_reads (Journal branch) true days sendable = absurd (true_is_not_false (sendable refl))
 object_reads Branches false days sendable = (refl, refl)
-object_reads Branches true days sendable = absurd (clash (sendable refl))
+object_reads Branches true days sendable = absurd (true_is_not_false (sendable refl))
 object_reads Commodities false days sendable = (refl, refl)
-object_reads Commodities true days sendable = absurd (clash (sendable refl))
+object_reads Commodities true days sendable = absurd (true_is_not_false (sendable refl))
 object_reads (Accounts branch) false days sendable = (refl, refl)
-object_reads (Accounts branch) true days sendable = absurd (clash (sendable refl))
+object_reads (Accounts branch) true days sendable = absurd (true_is_not_false (sendable refl))
 object_reads (Balance branch day) false days sendable = (rw (day_reads day days) refl, refl)
-object_reads (Balance branch day) true days sendable = absurd (clash (sendable refl))
+object_reads (Balance branch day) true days sendable = absurd (true_is_not_false (sendable refl))
 object_reads (Transit day) false days sendable = (rw (day_reads day days) refl, refl)
-object_reads (Transit day) true days sendable = absurd (clash (sendable refl))
+object_reads (Transit day) true days sendable = absurd (true_is_not_false (sendable refl))
 object_reads (Transfers day) false days sendable = (rw (day_reads day days) refl, refl)
-object_reads (Transfers day) true days sendable = absurd (clash (sendable refl))
+object_reads (Transfers day) true days sendable = absurd (true_is_not_false (sendable refl))
 
 -- a text that is read as the object of a request spells it
 pub text_spells : {Z : Type 0} (s : Spelled) (text : String Z) (d : Data) → HasDayNumbers s.request → IsSendable s

@@ -66,5 +66,5 @@ told_refused (Ok heard) status body is line told = (told.0, told.1 ∙ sym (ap n
 told_refused (Err cause) status body is line told = tt
 
 -- a test that failed did not pass
-pub failed : (b : Bool) → b ≡ false → b ≡ true → ⊥
-failed b fails passes = true_is_false (sym passes ∙ fails)
+pub not_true_and_false : (b : Bool) → b ≡ false → b ≡ true → ⊥
+not_true_and_false b fails passes = true_is_false (sym passes ∙ fails)

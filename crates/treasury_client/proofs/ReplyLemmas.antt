@@ -29,12 +29,12 @@ no_cr : (x : ℕ) (xs : List ℕ) → IsOnLine (x ∷ xs) → x ≡ 13 → ⊥
 no_cr x xs line is =
     let clash : true ≡ false = subst (λ (n : ℕ). list_any (λ byte. byte == 13) (n ∷ xs) ≡ false) is line in absurd cc
 
-later : (b : Bool) (rest : Bool) → (b || rest) ≡ false → rest ≡ false
-later false rest h = h
-later true rest h = let clash : true ≡ false = h in absurd cc
+or_false_right : (b : Bool) (rest : Bool) → (b || rest) ≡ false → rest ≡ false
+or_false_right false rest h = h
+or_false_right true rest h = let clash : true ≡ false = h in absurd cc
 
 on_line_rest : (x : ℕ) (xs : List ℕ) → IsOnLine (x ∷ xs) → IsOnLine xs
-on_line_rest x xs line = later (x == 13) (list_any (λ byte. byte == 13) xs) line
+on_line_rest x xs line = or_false_right (x == 13) (list_any (λ byte. byte == 13) xs) line
 
 -- a text is cut at its first CR in one way
 pub one_cut : (a b rest behind : List ℕ) → IsOnLine a → EndsLine rest → IsOnLine b → a ++ rest ≡ b ++ 13 ∷ behind
@@ -95,8 +95,8 @@ one_reply bytes status kind body status2 kind2 body2 one two =
 -- ---- how a call is put together
 
 -- with one more piece after what there was
-pub pushed : (old new piece front : List ℕ) → new ≡ old ++ piece → old ≡ front → new ≡ front ++ piece
-pushed old new piece front is was = is ∙ ap (λ (t : List ℕ). t ++ piece) was
+pub pushed_behind_front : (old new piece front : List ℕ) → new ≡ old ++ piece → old ≡ front → new ≡ front ++ piece
+pushed_behind_front old new piece front is was = is ∙ ap (λ (t : List ℕ). t ++ piece) was
 
 pub three_alike : (f : List ℕ → List ℕ → List ℕ → List ℕ) (a b d a2 b2 d2 : List ℕ) → a ≡ a2 → b ≡ b2 → d ≡ d2
     → f a b d ≡ f a2 b2 d2

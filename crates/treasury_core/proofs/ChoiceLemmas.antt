@@ -42,28 +42,29 @@ pub record IsChoice (c : Choice) : Type 0 where
   pub apart : is_selected c.accounts (target_in c.into) ≡ false
   pub short : length (list_text (listed c.accounts)) ≤ 880
 
-sure : (b : Bool) → not b ≡ false → b ≡ true
-sure true e = refl
-sure false e = absurd cc
+true_from_not_false : (b : Bool) → not b ≡ false → b ≡ true
+true_from_not_false true e = refl
+true_from_not_false false e = absurd cc
 
 not_more : (n m : ℕ) → nat_lt m n ≡ false → n ≤ m
 not_more n m h = grind (arith, nat_tests)
 
-passed : (b : Bool) (e : Refusal) (o : Option Refusal) → (if b then Some e else o) ≡ None → (b ≡ false) × (o ≡ None)
-passed true e o h = absurd cc
-passed false e o h = (refl, h)
+None_only_if_false : (b : Bool) (e : Refusal) (o : Option Refusal) → (if b then Some e else o) ≡ None → (b ≡ false)
+    × (o ≡ None)
+None_only_if_false true e o h = absurd cc
+None_only_if_false false e o h = (refl, h)
 
-pub allowed : (c : Choice) → choice_refusal c ≡ None → IsChoice c
-allowed c h =
-    let one = passed _ _ _ h in
-    let two = passed _ _ _ one.1 in
-    let three = passed _ _ _ two.1 in
-    let four = passed _ _ _ three.1 in
-    let five = passed _ _ _ four.1 in
-    let six = passed _ _ _ five.1 in
+pub choice_allowed : (c : Choice) → choice_refusal c ≡ None → IsChoice c
+choice_allowed c h =
+    let one = None_only_if_false _ _ _ h in
+    let two = None_only_if_false _ _ _ one.1 in
+    let three = None_only_if_false _ _ _ two.1 in
+    let four = None_only_if_false _ _ _ three.1 in
+    let five = None_only_if_false _ _ _ four.1 in
+    let six = None_only_if_false _ _ _ five.1 in
     record {
-      formed = sure _ one.0;
-      target = sure _ two.0;
+      formed = true_from_not_false _ one.0;
+      target = true_from_not_false _ two.0;
       off_transit = three.0;
       clear = four.0;
       apart = five.0;
@@ -73,14 +74,14 @@ allowed c h =
 -- ---- nothing that is selected is on transit
 
 -- of two texts that go on with a colon to one, one is inside the other
-fronts : (f top r s : List ℕ) → top ++ 58 ∷ s ≡ f ++ 58 ∷ r → IsInside f top ⊎ IsInside top f
-fronts [] [] r s e = inl (inl refl)
-fronts [] (c ∷ cs) r s e = inl (inr (cs, let same : c ≡ 58 = cc in ap (λ (x : ℕ). x ∷ cs) same))
-fronts (c ∷ cs) [] r s e = inr (inr (cs, let same : 58 ≡ c = cc in ap (λ (x : ℕ). x ∷ cs) (sym same)))
-fronts (c ∷ cs) (b ∷ bs) r s e =
+one_inside_other : (f top r s : List ℕ) → top ++ 58 ∷ s ≡ f ++ 58 ∷ r → IsInside f top ⊎ IsInside top f
+one_inside_other [] [] r s e = inl (inl refl)
+one_inside_other [] (c ∷ cs) r s e = inl (inr (cs, let same : c ≡ 58 = cc in ap (λ (x : ℕ). x ∷ cs) same))
+one_inside_other (c ∷ cs) [] r s e = inr (inr (cs, let same : 58 ≡ c = cc in ap (λ (x : ℕ). x ∷ cs) (sym same)))
+one_inside_other (c ∷ cs) (b ∷ bs) r s e =
     let head : b ≡ c = cc in
     let rest : bs ++ 58 ∷ s ≡ cs ++ 58 ∷ r = cc in
-    longer (fronts cs bs r s rest) head
+    longer (one_inside_other cs bs r s rest) head
   where
     longer : IsInside cs bs ⊎ IsInside bs cs → b ≡ c → IsInside (c ∷ cs) (b ∷ bs) ⊎ IsInside (b ∷ bs) (c ∷ cs)
     longer (inl (inl e)) h = inl (inl (cc))
@@ -113,21 +114,21 @@ only_assets top (inr p) = inr (before_colon (codes "assets") top (codes "transit
     (refl, (refl, (refl, (refl, (refl, (refl, tt)))))) (refl, (refl, (refl, (refl, (refl, (refl, (refl, tt)))))))
     (sym p.1))
 
-above : (top : List ℕ) → (top ≡ transit) ⊎ (top ≡ codes "assets") → holds_transit top ≡ true
-above top (inl e) = ap holds_transit e
-above top (inr e) = ap holds_transit e
+holds_transit_at_top : (top : List ℕ) → (top ≡ transit) ⊎ (top ≡ codes "assets") → holds_transit top ≡ true
+holds_transit_at_top top (inl e) = ap holds_transit e
+holds_transit_at_top top (inr e) = ap holds_transit e
 
 -- an account inside another and on transit: the other is on transit, or it is `assets`
 transit_above : (top account : List ℕ) → IsInside top account → IsInside transit account → holds_transit top ≡ true
 transit_above top account (inl e) on =
     or_right (bytes_eq top (codes "assets")) (is_reserved top)
     (ap is_reserved (sym e) ∙ (is_inside_decides transit account).1 on)
-transit_above top account (inr p) (inl e) = above top (only_assets top (inr (p.0, sym e ∙ p.1)))
-transit_above top account (inr p) (inr q) = by_case (fronts transit top q.0 p.0 (sym p.1 ∙ q.1))
+transit_above top account (inr p) (inl e) = holds_transit_at_top top (only_assets top (inr (p.0, sym e ∙ p.1)))
+transit_above top account (inr p) (inr q) = by_case (one_inside_other transit top q.0 p.0 (sym p.1 ∙ q.1))
   where
     by_case : IsInside transit top ⊎ IsInside top transit → holds_transit top ≡ true
     by_case (inl h) = or_right (bytes_eq top (codes "assets")) (is_reserved top) ((is_inside_decides transit top).1 h)
-    by_case (inr h) = above top (only_assets top h)
+    by_case (inr h) = holds_transit_at_top top (only_assets top h)
 
 among_apart : (names : List (List ℕ)) (account : List ℕ) → list_any holds_transit names ≡ false
     → is_among names account ≡ true → is_reserved account ≡ true → ⊥
@@ -210,9 +211,9 @@ name_text name h =
     let w = account_whole name p.0 in
     record { clean = w.clean; utf8 = p.1; solid = solid_name name w.bytes (no_gaps name p.0) }
 
-behind : (y : ℕ) (xs : List ℕ) → is_blank y ≡ false → ends_solid xs ≡ true → ends_solid (y ∷ xs) ≡ true
-behind y [] k e = not_from_false _ k
-behind y (x ∷ xs) k e = e
+ends_solid-cons : (y : ℕ) (xs : List ℕ) → is_blank y ≡ false → ends_solid xs ≡ true → ends_solid (y ∷ xs) ≡ true
+ends_solid-cons y [] k e = not_from_false _ k
+ends_solid-cons y (x ∷ xs) k e = e
 
 text_joined : (xs : List ℕ) (y : ℕ) (ys : List ℕ) → IsText xs → IsText (y ∷ ys) → IsText (xs ++ y ∷ ys)
 text_joined xs y ys h k = record {
@@ -226,7 +227,7 @@ semicolon_text : (xs : List ℕ) → IsText xs → IsText (59 ∷ xs)
 semicolon_text xs h = record {
   clean = and_from _ _ refl h.clean;
   utf8 = utf8_joined (59 ∷ []) xs (utf8_low (59 ∷ []) refl) h.utf8;
-  solid = behind 59 xs refl h.solid;
+  solid = ends_solid-cons 59 xs refl h.solid;
 }
 
 more_text : (name : List ℕ) (names : List (List ℕ)) → IsText name → list_all is_account_text names ≡ true
@@ -243,8 +244,8 @@ list_is_text (name ∷ names) h =
     let p = and_parts (is_account_text name) (list_all is_account_text names) h in
     more_text name names (name_text name p.0) p.1
 
-small : (n : ℕ) → n ≤ 900 → nat_le n 900 ≡ true
-small n h = grind (arith, nat_tests)
+at_most_900 : (n : ℕ) → n ≤ 900 → nat_le n 900 ≡ true
+at_most_900 n h = grind (arith, nat_tests)
 
 accounts_note : (names : List (List ℕ)) → list_all is_account_text names ≡ true → length (list_text names) ≤ 880
     → is_note (codes "accounts:" ++ list_text names) ≡ true
@@ -254,7 +255,7 @@ accounts_note names h few =
     let text = codes "accounts:" ++ list_text names in
     let last : ends_solid text ≡ true = colon_first (list_text names) t.solid in
     let trimmed : is_trimmed text ≡ true = and_from _ _ refl (not_from_false _ (solid_last text (omega arith) last)) in
-    let short : nat_le (length text) 900 ≡ true = small (length text) (omega (arith, few)) in
+    let short : nat_le (length text) 900 ≡ true = at_most_900 (length text) (omega (arith, few)) in
     and_from _ _ (and_from _ _ (and_from _ _ (and_from _ _ trimmed t.clean) short)
     (utf8_joined (codes "accounts:") (list_text names) (utf8_low (codes "accounts:") refl) t.utf8)) refl
   where
@@ -270,7 +271,7 @@ into_note account h =
     let text = codes "into:" ++ account in
     let last : ends_solid text ≡ true = colon_first account t.solid in
     let trimmed : is_trimmed text ≡ true = and_from _ _ refl (not_from_false _ (solid_last text (omega arith) last)) in
-    let short : nat_le (length text) 900 ≡ true = small (length text) (omega (arith, w.short)) in
+    let short : nat_le (length text) 900 ≡ true = at_most_900 (length text) (omega (arith, w.short)) in
     and_from _ _ (and_from _ _ (and_from _ _ (and_from _ _ trimmed t.clean) short)
     (utf8_joined (codes "into:") account (utf8_low (codes "into:") refl) t.utf8)) refl
   where
@@ -318,15 +319,16 @@ list_size : (name : List ℕ) (names : List (List ℕ)) → length (list_text (n
 list_size name names =
     omega (arith, length-append name (flat_map (λ (next : List ℕ). 59 ∷ next) names), more_size names)
 
-more : (n m : ℕ) → m < n → true ≡ nat_lt m n
-more n m h = grind (arith, nat_tests)
+nat_lt_is_true : (n m : ℕ) → m < n → true ≡ nat_lt m n
+nat_lt_is_true n m h = grind (arith, nat_tests)
 
 no_more : (n m : ℕ) → n ≤ m → false ≡ nat_lt m n
 no_more n m h = grind (arith, nat_tests)
 
 pub is_long : (names : List (List ℕ)) → 881 < sizes names → true ≡ nat_lt 880 (length (list_text names))
 is_long [] h = absurd (omega (arith, h))
-is_long (name ∷ names) h = more (length (list_text (name ∷ names))) 880 (omega (arith, h, list_size name names))
+is_long (name ∷ names) h =
+    nat_lt_is_true (length (list_text (name ∷ names))) 880 (omega (arith, h, list_size name names))
 
 pub is_short : (names : List (List ℕ)) → sizes names ≤ 881 → false ≡ nat_lt 880 (length (list_text names))
 is_short [] h = refl

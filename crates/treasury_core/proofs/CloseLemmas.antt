@@ -96,23 +96,24 @@ told_at : (f : Federation) (x : Close) (t : Txn) (o : Option Txn) → choice_ref
 told_at f x t None chosen e a h = absurd cc
 told_at f x t (Some s) chosen e a h = told_txn f x t s (nat_lt posting_limit (length s.postings)) chosen refl e a h
 
-pub told : (f : Federation) (x : Close) (t : Txn) (r : Result Txn Refusal) → r ≡ Ok t → has_branch f x.branch ≡ true
+pub closing_told : (f : Federation) (x : Close) (t : Txn) (r : Result Txn Refusal) → r ≡ Ok t
+    → has_branch f x.branch ≡ true
     → choice_refusal x.choice ≡ None → (r ≡ closing_reply f x.branch x.day x.choice) ⊎ (r ≡ Err (Plain OutOfMemory))
     → IsTold f x t
-told f x t r is here chosen (inl e) =
+closing_told f x t r is here chosen (inl e) =
     let a : closing_answer (closing_in f x.branch x.day x.choice) ≡ Ok t =
     sym (of_branch f x.branch x.day x.choice here chosen) ∙ (sym e ∙ is) in
     told_at f x t (closing_in f x.branch x.day x.choice) chosen refl a a
-told f x t r is here chosen (inr e) = absurd (let k : Ok t ≡ Err (Plain OutOfMemory) = sym is ∙ e in cc)
+closing_told f x t r is here chosen (inr e) = absurd (let k : Ok t ≡ Err (Plain OutOfMemory) = sym is ∙ e in cc)
 
-pub refused : (f : Federation) (x : Close) (held : List Record) (e : Refusal) (r : Result Txn Refusal) → r ≡ Err e
-    → has_branch f x.branch ≡ true → choice_refusal x.choice ≡ None
+pub closing_refused : (f : Federation) (x : Close) (held : List Record) (e : Refusal) (r : Result Txn Refusal)
+    → r ≡ Err e → has_branch f x.branch ≡ true → choice_refusal x.choice ≡ None
     → (r ≡ closing_reply f x.branch x.day x.choice) ⊎ (r ≡ Err (Plain OutOfMemory))
     → (e ≡ Plain OutOfMemory) ⊎ (entering_refusal held x.day (closing_answer (closing_in f x.branch x.day x.choice))
     ≡ Some e)
-refused f x held e r is here chosen (inl k) =
+closing_refused f x held e r is here chosen (inl k) =
     inr (ap (entering_refusal held x.day) (sym (of_branch f x.branch x.day x.choice here chosen) ∙ (sym k ∙ is)))
-refused f x held e r is here chosen (inr k) = inl (same_refusal e (Plain OutOfMemory) (sym is ∙ k))
+closing_refused f x held e r is here chosen (inr k) = inl (same_refusal e (Plain OutOfMemory) (sym is ∙ k))
   where
     same_refusal : (a b : Refusal) → ◌≡◌ {A = Result Txn Refusal} (Err a) (Err b) → a ≡ b
     same_refusal a b h = cc

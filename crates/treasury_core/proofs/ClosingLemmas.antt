@@ -93,9 +93,9 @@ selected_apart select b =
 -- ---- which accounts are selected
 
 -- names of which one is selected and the other is not
-differ : (select : List ℕ → Bool) (a name : List ℕ) (s : Bool) → select a ≡ s → select name ≡ not s
+names_apart_by_select : (select : List ℕ → Bool) (a name : List ℕ) (s : Bool) → select a ≡ s → select name ≡ not s
     → bytes_eq a name ≡ false
-differ select a name s on off = by_test (bytes_eq a name) refl
+names_apart_by_select select a name s on off = by_test (bytes_eq a name) refl
   where
     never : (s : Bool) → s ≡ not s → ⊥
     never true e = cc
@@ -109,21 +109,21 @@ unselected_at : (select : List ℕ → Bool) (a name : List ℕ) (rest : List (L
     → list_any (bytes_eq a) rest ≡ false → (t : Bool) → select name ≡ t
     → list_any (bytes_eq a) (cond t (name ∷ rest) rest) ≡ false
 unselected_at select a name rest e h true s =
-    ap (λ (b : Bool). b || list_any (bytes_eq a) rest) (differ select a name false e s) ∙ h
+    ap (λ (b : Bool). b || list_any (bytes_eq a) rest) (names_apart_by_select select a name false e s) ∙ h
 unselected_at select a name rest e h false s = h
 
-pub unselected : (select : List ℕ → Bool) (a : List ℕ) (names : List (List ℕ)) → select a ≡ false
+pub unselected_not_in_filter : (select : List ℕ → Bool) (a : List ℕ) (names : List (List ℕ)) → select a ≡ false
     → list_any (bytes_eq a) (filter select names) ≡ false
-unselected select a [] e = refl
-unselected select a (name ∷ names) e =
-    unselected_at select a name (filter select names) e (unselected select a names e) (select name) refl
+unselected_not_in_filter select a [] e = refl
+unselected_not_in_filter select a (name ∷ names) e =
+    unselected_at select a name (filter select names) e (unselected_not_in_filter select a names e) (select name) refl
 
 kept_at : (select : List ℕ → Bool) (a name : List ℕ) (names rest : List (List ℕ)) → select a ≡ true
     → list_any (bytes_eq a) rest ≡ list_any (bytes_eq a) names → (t : Bool) → select name ≡ t
     → list_any (bytes_eq a) (cond t (name ∷ rest) rest) ≡ (bytes_eq a name || list_any (bytes_eq a) names)
 kept_at select a name names rest e h true s = ap (λ (b : Bool). bytes_eq a name || b) h
 kept_at select a name names rest e h false s =
-    h ∙ sym (ap (λ (b : Bool). b || list_any (bytes_eq a) names) (differ select a name true e s))
+    h ∙ sym (ap (λ (b : Bool). b || list_any (bytes_eq a) names) (names_apart_by_select select a name true e s))
 
 selected_kept : (select : List ℕ → Bool) (a : List ℕ) (names : List (List ℕ)) → select a ≡ true
     → list_any (bytes_eq a) (filter select names) ≡ list_any (bytes_eq a) names
@@ -185,16 +185,16 @@ none_of_both a (x ∷ xs) ys e =
     let rest = none_of_both a xs ys both.1 in
     (ap (λ (t : Bool). t || has_leg a xs) both.0 ∙ rest.0, rest.1)
 
-uncounted : (u r w : Bool) (q : ℤ) → r ≡ false → (if (u && r) && w then q else pos 0) ≡ pos 0
-uncounted true r w q e = ap (λ (t : Bool). if t && w then q else pos 0) e
-uncounted false r w q e = refl
+zero_of_other_account : (u r w : Bool) (q : ℤ) → r ≡ false → (if (u && r) && w then q else pos 0) ≡ pos 0
+zero_of_other_account true r w q e = ap (λ (t : Bool). if t && w then q else pos 0) e
+zero_of_other_account false r w q e = refl
 
 absent_legs : (a : List ℕ) (unit : Commodity) (limit : Until) (day : Day) (n k : ℕ) (legs : List Leg)
     → has_leg a legs ≡ false → total (counts Own a unit limit) (posted_legs day n k legs) ≡ pos 0
 absent_legs a unit limit day n k [] e = refl
 absent_legs a unit limit day n k (x ∷ xs) e =
     let both = or_parts (bytes_eq a x.account) (has_leg a xs) e in
-    let own = uncounted (nat_eq x.unit.0 unit.0) (bytes_eq x.account a)
+    let own = zero_of_other_account (nat_eq x.unit.0 unit.0) (bytes_eq x.account a)
     (is_until limit (record { day = day; entry = n; leg = k })) x.qty (other_bytes a x.account both.0) in
     let rest = absent_legs a unit limit day n (k + 1) xs both.1 in
     omega (arith, ints, own, rest)
@@ -231,13 +231,13 @@ unmoved_legs styles unit (x ∷ xs) past h =
     unmoved_at x.unit.0 (length styles) unit.0 (unsigned_abs x.qty) (moved unit xs) h.0.known past
     (unmoved_legs styles unit xs past h.1) (nat_eq x.unit.0 unit.0) refl
 
-unmoved : (styles : List Style) (unit : Commodity) (rs : List Record) → length styles ≤ unit.0
+turnover_undeclared : (styles : List Style) (unit : Commodity) (rs : List Record) → length styles ≤ unit.0
     → AllByRecursion (IsGoodRecord styles) rs → turnover unit (entries rs) ≡ 0
-unmoved styles unit [] past h = refl
-unmoved styles unit (r ∷ rs) past h =
+turnover_undeclared styles unit [] past h = refl
+turnover_undeclared styles unit (r ∷ rs) past h =
     let own = unmoved_legs styles unit r.entry.legs past
     (entry_declared styles r.txn r.entry h.0.printable.postings h.0.legs) in
-    let rest = unmoved styles unit rs past h.1 in
+    let rest = turnover_undeclared styles unit rs past h.1 in
     let split = moved-append unit r.entry.legs (legs_of (entries rs)) in
     omega (arith, own, rest, split)
 
@@ -247,7 +247,7 @@ IsKnown m b = (unit : Commodity) → m ≤ unit.0 → turnover unit b ≡ 0
 
 pub book_known : (f : Federation) (name : List ℕ) → IsGoodState f → IsKnown (length f.styles) (book_of f name)
 book_known f name good unit past =
-    unmoved f.styles unit (records_of f name) past
+    turnover_undeclared f.styles unit (records_of f name) past
     (of_branch (λ xs. AllByRecursion (IsGoodRecord f.styles) xs) f.styles f.branches name tt (λ b h. h.records)
     good.branches)
 
@@ -370,7 +370,8 @@ moves_target : (m : ℕ) (b : List Entry) → IsKnown m b
     moves m b day into select into unit ≡ held_in b day unit (selected select b)
 moves_target m b known day into select unit out =
     let all = moves_is m b known day into select into unit in
-    let none = held_none into b day unit (selected select b) (unselected select into (book_accounts b) out) in
+    let none = held_none into b day unit (selected select b)
+    (unselected_not_in_filter select into (book_accounts b) out) in
     let own = ap (λ (t : Bool). if t then held_in b day unit (selected select b) else pos 0) (bytes_eq-refl into) in
     omega (arith, ints, all, own, none)
 
@@ -417,18 +418,18 @@ moved_on select into f name day t a unit later h on past =
 day_through : (day : Day) → int_le day.0 day.0 ≡ true
 day_through day = let h : day.0 ≤ℤ day.0 = omega (arith, ints) in int_le-true day.0 day.0 h
 
-pub closed : (select : List ℕ → Bool) (into : List ℕ) (f : Federation) (name : List ℕ) (day : Day) (t : Txn)
+pub balance_of_closed : (select : List ℕ → Bool) (into : List ℕ) (f : Federation) (name : List ℕ) (day : Day) (t : Txn)
     (a : List ℕ) (unit : Commodity) → IsClosing select into f name day t → select a ≡ true →
     balance Own (closed_book f name t) a unit (Through day) ≡ pos 0
-closed select into f name day t a unit h on =
+balance_of_closed select into f name day t a unit h on =
     let moved = moved_on select into f name day t a unit day h on (day_through day) in omega (arith, ints, moved)
 
-pub gained : (select : List ℕ → Bool) (into : List ℕ) (f : Federation) (name : List ℕ) (day : Day) (t : Txn)
+pub balance_of_gaining : (select : List ℕ → Bool) (into : List ℕ) (f : Federation) (name : List ℕ) (day : Day) (t : Txn)
     (unit : Commodity) (later : Day) → IsClosing select into f name day t → int_le day.0 later.0 ≡ true →
     balance Own (closed_book f name t) into unit (Through later)
     ≡ balance Own (book_of f name) into unit (Through later)
     +ℤ held_in (book_of f name) day unit (selected select (book_of f name))
-gained select into f name day t unit later h past =
+balance_of_gaining select into f name day t unit later h past =
     let b = book_of f name in
     let is = closed_balance select into f name day t h into unit later in
     let when = ap (λ (s : Bool). if s then moves (length f.styles) b day into select into unit else pos 0) past in

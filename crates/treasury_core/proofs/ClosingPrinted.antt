@@ -71,7 +71,7 @@ use Rattle.treasury_core.specs.Closing.{through, zero_claim, posting_of, selecte
 use Rattle.treasury_core.specs.Closing.{gaining_account, closing_postings, closing_txn, closing_in}
 use Rattle.treasury_core.specs.Closed.{IsClosing}
 use Rattle.treasury_core.proofs.ProductLemmas.{line_small, same_size}
-use Rattle.treasury_core.proofs.ChoiceLemmas.{allowed, comments_print, few_chosen}
+use Rattle.treasury_core.proofs.ChoiceLemmas.{choice_allowed, comments_print, few_chosen}
 use Rattle.treasury_core.proofs.ClosingSums.{picked-value, spread, picked_closed, held_all, AreApart, closed_small}
 use Rattle.treasury_core.proofs.ClosingSums.{abs_value, same_spread}
 use Rattle.treasury_core.proofs.ClosingLemmas.{book_known, selected_apart, closing_balanced, from_closing}
@@ -504,7 +504,7 @@ pub closing_printable : (f : Federation) (name : List ℕ) (day : Day) (c : Choi
     → IsDayNumber day → choice_refusal c ≡ None → closing_in f name day c ≡ Some t → length t.postings ≤ posting_limit
     → IsPrintable f.styles t
 closing_printable f name day c t good number chosen closes few =
-    let h = allowed c chosen in
+    let h = choice_allowed c chosen in
     let b = book_of f name in
     let select = is_selected c.accounts in
     let into = target_in c.into in

@@ -33,7 +33,7 @@ use Rattle.treasury_core.specs.Closing.{chosen_answer, closing_reply, closed_acc
 use Rattle.treasury_core.specs.Closing.{closing_txn, closing_record}
 use Rattle.treasury_core.specs.Closed.{IsClosing}
 use Rattle.treasury_core.proofs.ClosingPrinted.{closing_printable, each_spread, each_closed, closing_legs}
-use Rattle.treasury_core.proofs.ChoiceLemmas.{IsChoice, allowed, selected_off}
+use Rattle.treasury_core.proofs.ChoiceLemmas.{IsChoice, choice_allowed, selected_off}
 use Rattle.treasury_core.proofs.ClosingLemmas.{from_closing}
 use Rattle.treasury_core.proofs.KeepLemmas.{IsOwnEntry}
 
@@ -172,7 +172,7 @@ pub is_closing_of : (f : Federation) (name : List ℕ) (day : Day) (c : Choice) 
     → choice_refusal c ≡ None → closing_in f name day c ≡ Some t
     → IsClosing (is_selected c.accounts) (target_in c.into) f name day t
 is_closing_of f name day c t good chosen closes =
-    record { good = good; apart = (allowed c chosen).apart; comments = choice_comments c; closes = closes }
+    record { good = good; apart = (choice_allowed c chosen).apart; comments = choice_comments c; closes = closes }
 
 pub closing_record_good : (f : Federation) (name : List ℕ) (day : Day) (c : Choice) (t : Txn) → IsGoodState f
     → IsDayNumber day → choice_refusal c ≡ None → closing_in f name day c ≡ Some t → length t.postings ≤ posting_limit
@@ -192,7 +192,7 @@ closing_record_own f name day c t chosen closes =
       apart = refl;
       clear = ap (λ (s : Txn). list_any is_transit (written_legs s.postings)) (is_made f name day c t closes)
           ∙ legs_apart (made f name day c).postings
-          (all_apart c (allowed c chosen) (book_of f name) day (length f.styles)
+          (all_apart c (choice_allowed c chosen) (book_of f name) day (length f.styles)
           (selected (is_selected c.accounts) (book_of f name))
           (all_selected (is_selected c.accounts) (book_accounts (book_of f name))));
       closed = λ e. record {

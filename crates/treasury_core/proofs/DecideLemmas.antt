@@ -32,12 +32,12 @@ reply_there : (f : Federation) (name : List ℕ) (file : List Located) (b : Bran
 unfolding reply
 reply_there f name file b there = rw (there.any, there.records, there.lock) refl
 
-pub enters : (f : Federation) (name : List ℕ) (file : List Located) (b : Branch) (new : List Record)
+pub decides_entered : (f : Federation) (name : List ℕ) (file : List Located) (b : Branch) (new : List Record)
     (p : Answer × List Addition) → IsThere f.branches name b → new ≡ new_in b.records (records_in_file f.styles file)
     → file_refusal f.styles b.locked b.records file ≡ None → p.0 ≡ Entered (length new) (length file - length new)
     → p.1 ≡ map (λ (r : Record). add.Record name r) new → Decides f (cmd.Enter name file) (Ok p)
 unfolding added
-enters f name file b new p there same none answer adds = (
+decides_entered f name file b new p there same none answer adds = (
   reply_there f name file b there ∙ ap
       (unless (entered (length (new_in b.records (records_in_file f.styles file))) (length file))) none
       ∙ ap (λ (xs : List Record). let r : Result Answer Refusal =
@@ -55,15 +55,16 @@ pub enters_by : (f : Federation) (name : List ℕ) (file : List Located) (b : Br
     × (p.1 ≡ map (λ (r : Record). add.Record name r) new)) (λ e. e ≡ Plain OutOfMemory)
     → Decides f (cmd.Enter name file) r
 enters_by f name file b new styles (Ok p) same there value none h =
-    enters f name file b new p there (value ∙ ap (λ (ss : List Style). new_in b.records (records_in_file ss file)) same)
+    decides_entered f name file b new p there
+    (value ∙ ap (λ (ss : List Style). new_in b.records (records_in_file ss file)) same)
     (sym (ap (λ (ss : List Style). file_refusal ss b.locked b.records file) same) ∙ none) h.0 h.1
 enters_by f name file b new styles (Err e) same there value none h = inl h
 
-pub refuses : (f : Federation) (name : List ℕ) (file : List Located) (b : Branch) (e : Refusal)
+pub decides_enter_refusal : (f : Federation) (name : List ℕ) (file : List Located) (b : Branch) (e : Refusal)
     → IsThere f.branches name b → (e ≡ Plain OutOfMemory) ⊎ (file_refusal f.styles b.locked b.records file ≡ Some e)
     → Decides f (cmd.Enter name file) (Err e)
-refuses f name file b e there (inl h) = inl h
-refuses f name file b e there (inr h) =
+decides_enter_refusal f name file b e there (inl h) = inl h
+decides_enter_refusal f name file b e there (inr h) =
     inr (reply_there f name file b there ∙ ap
     (unless (entered (length (new_in b.records (records_in_file f.styles file))) (length file))) h)
 
@@ -73,7 +74,7 @@ pub refuses_by : (f : Federation) (name : List ℕ) (file : List Located) (b : B
     → Decides f (cmd.Enter name file) (Err e)
 refuses_by f name file b styles e same there (inl h) = inl h
 refuses_by f name file b styles e same there (inr h) =
-    refuses f name file b e there
+    decides_enter_refusal f name file b e there
     (inr (sym (ap (λ (ss : List Style). file_refusal ss b.locked b.records file) same) ∙ h))
 
 pub reply_missing : (f : Federation) (name : List ℕ) (file : List Located) → has_branch f name ≡ false

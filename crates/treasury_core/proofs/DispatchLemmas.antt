@@ -25,7 +25,7 @@ use Rattle.treasury_state.proofs.FairLemmas.{in_step, good_marked}
 use Rattle.treasury_state.proofs.OrderLemmas.{own_ids}
 use Rattle.treasury_state.proofs.DispatchLemmas.{IsWhole, all_whole}
 use Rattle.treasury_core.proofs.PassLemmas.{inserted_elsewhere, inserted_here, received_elsewhere, received_here}
-use Rattle.treasury_core.proofs.ReceiveLemmas.{gets, no_receipt, IsReceipt, good_with, asks_more}
+use Rattle.treasury_core.proofs.ReceiveLemmas.{in_step_with_record, no_receipt, IsReceipt, good_with, asks_more}
 use Rattle.treasury_core.proofs.TransferLemmas.{sorted_inserted, sorted_received, other_branches, all-inserted}
 use Rattle.treasury_core.proofs.TransferLemmas.{all-received}
 use Rattle.treasury_core.proofs.ChangeLemmas.{length-changed, names-changed, all-changed}
@@ -39,7 +39,7 @@ gets_record : (styles : List Style) (ts ts' : List Transfer) (b : Branch) (r : R
     → ((m : List ℕ) → held (asked ts' b.name) m ≡ cond (bytes_eq r.mark m) (Some r) (held (asked ts b.name) m))
     → AllByRecursion IsMarked ts' → AreAscending ts' → IsWhole styles ts' (with_records (r ∷ []) b)
 gets_record styles ts ts' b r h new own other passes free after marked ids =
-    let got = gets ts ts' b r (in_step styles ts b h.good h.carried) own free after in
+    let got = in_step_with_record ts ts' b r (in_step styles ts b h.good h.carried) own free after in
     record {
       good = branch_entered styles (r ∷ []) b h.good got.own_marks (new, tt)
           ((λ e. absurd (let k : true ≡ false = sym own ∙ e in cc)), tt)

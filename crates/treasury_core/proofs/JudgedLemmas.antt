@@ -17,20 +17,20 @@ use Rattle.treasury_state.specs.declared.record.Record.{Record}
 use Rattle.treasury_state.specs.Mark.{held, HaveOwnMarks, is_repeat}
 use Rattle.treasury_state.proofs.HeldLemmas.{none_tail, own_push}
 use Rattle.treasury_state.proofs.LookupLemmas.{same_some}
-use Rattle.treasury_state.proofs.HolderLemmas.{unheld, holding}
+use Rattle.treasury_state.proofs.HolderLemmas.{is_held_if_None, is_held_if_Some}
 use Rattle.treasury_core.specs.Step.{barred, refused_in, new_in}
 use Rattle.treasury_core.specs.Judged.{new_unless, judged}
 
 fresh_at : (t s u : Bool) → t ≡ false → u ≡ false → ((t && s) || u) ≡ false
 fresh_at t s u e h = rw (e, h) refl
 
-pub unrepeated : (styles : List Style) (rs : List Record) (r : Record) → held rs r.mark ≡ None
+pub is_repeat_unheld : (styles : List Style) (rs : List Record) (r : Record) → held rs r.mark ≡ None
     → is_repeat styles rs r ≡ false
-unrepeated styles [] r e = refl
-unrepeated styles (h ∷ hs) r e =
+is_repeat_unheld styles [] r e = refl
+is_repeat_unheld styles (h ∷ hs) r e =
     let k = none_tail h (held hs r.mark) (bytes_eq h.mark r.mark) e in
     fresh_at (bytes_eq h.mark r.mark) (bytes_eq (body_text styles h.txn) (body_text styles r.txn))
-    (is_repeat styles hs r) k.0 (unrepeated styles hs r k.1)
+    (is_repeat styles hs r) k.0 (is_repeat_unheld styles hs r k.1)
 
 repeating_at : (styles : List Style) (h x r : Record) (hs : List Record) (t : Bool) → bytes_eq h.mark r.mark ≡ t
     → held hs h.mark ≡ None → cond t (Some h) (held hs r.mark) ≡ Some x
@@ -39,21 +39,21 @@ repeating_at : (styles : List Style) (h x r : Record) (hs : List Record) (t : Bo
     ≡ bytes_eq (body_text styles x.txn) (body_text styles r.txn)
 repeating_at styles h x r hs true g n e k =
     let none : held hs r.mark ≡ None = ap (held hs) (sym (same_bytes h.mark r.mark g)) ∙ n in
-    ap (λ (u : Bool). bytes_eq (body_text styles h.txn) (body_text styles r.txn) || u) (unrepeated styles hs r none)
-    ∙ or-false (bytes_eq (body_text styles h.txn) (body_text styles r.txn))
+    ap (λ (u : Bool). bytes_eq (body_text styles h.txn) (body_text styles r.txn) || u)
+    (is_repeat_unheld styles hs r none) ∙ or-false (bytes_eq (body_text styles h.txn) (body_text styles r.txn))
     ∙ ap (λ (y : Record). bytes_eq (body_text styles y.txn) (body_text styles r.txn)) (same_some h x e)
 repeating_at styles h x r hs false g n e k = k e
 
-pub repeating : (styles : List Style) (rs : List Record) (r x : Record) → HaveOwnMarks rs → held rs r.mark ≡ Some x
+pub is_repeat_held : (styles : List Style) (rs : List Record) (r x : Record) → HaveOwnMarks rs → held rs r.mark ≡ Some x
     → is_repeat styles rs r ≡ bytes_eq (body_text styles x.txn) (body_text styles r.txn)
-repeating styles [] r x own e = absurd cc
-repeating styles (h ∷ hs) r x own e =
-    repeating_at styles h x r hs (bytes_eq h.mark r.mark) refl own.0 e (repeating styles hs r x own.1)
+is_repeat_held styles [] r x own e = absurd cc
+is_repeat_held styles (h ∷ hs) r x own e =
+    repeating_at styles h x r hs (bytes_eq h.mark r.mark) refl own.0 e (is_repeat_held styles hs r x own.1)
 
 -- a transaction that is new
-free : (o : Option Refusal) → new_unless o ≡ Ok true → o ≡ None
-free None e = refl
-free (Some refusal) e = absurd cc
+new_unless_None : (o : Option Refusal) → new_unless o ≡ Ok true → o ≡ None
+new_unless_None None e = refl
+new_unless_None (Some refusal) e = absurd cc
 
 not_free : (o : Option Refusal) → new_unless o ≡ Ok false → ⊥
 not_free None e = cc
@@ -88,18 +88,18 @@ pub record IsTaken (styles : List Style) (lock : Option Day) (rs : List Record) 
 taken_by : (styles : List Style) (lock : Option Day) (rs rest : List Record) (r : Record) (o : Option Record)
     → held rs r.mark ≡ o → judged styles lock r o ≡ Ok true → IsTaken styles lock rs r rest
 taken_by styles lock rs rest r None h e =
-    let fresh = free (barred lock r) e in
+    let fresh = new_unless_None (barred lock r) e in
     record {
       absent = h;
-      refused = rw (unrepeated styles rs r h, unheld rs r.mark h, fresh) refl;
-      new = rw (unheld rs r.mark h) refl;
+      refused = rw (is_repeat_unheld styles rs r h, is_held_if_None rs r.mark h, fresh) refl;
+      new = rw (is_held_if_None rs r.mark h) refl;
     }
 taken_by styles lock rs rest r (Some x) h e =
     absurd (by_text (bytes_eq (body_text styles x.txn) (body_text styles r.txn)) e)
 
-pub taken : (styles : List Style) (lock : Option Day) (rs rest : List Record) (r : Record)
+pub judged_taken : (styles : List Style) (lock : Option Day) (rs rest : List Record) (r : Record)
     → judged styles lock r (held rs r.mark) ≡ Ok true → IsTaken styles lock rs r rest
-taken styles lock rs rest r e = taken_by styles lock rs rest r (held rs r.mark) refl e
+judged_taken styles lock rs rest r e = taken_by styles lock rs rest r (held rs r.mark) refl e
 
 -- where it is a repeat
 pub record IsPassed (styles : List Style) (lock : Option Day) (rs : List Record) (r : Record)
@@ -112,27 +112,28 @@ passed_by : (styles : List Style) (lock : Option Day) (rs rest : List Record) (r
 passed_by styles lock rs rest r None own h e = absurd (not_free (barred lock r) e)
 passed_by styles lock rs rest r (Some x) own h e =
     let same =
-    repeating styles rs r x own h ∙ same_text (bytes_eq (body_text styles x.txn) (body_text styles r.txn)) e in
-    record { refused = rw same refl; new = rw (holding rs r.mark x h) refl }
+    is_repeat_held styles rs r x own h ∙ same_text (bytes_eq (body_text styles x.txn) (body_text styles r.txn)) e in
+    record { refused = rw same refl; new = rw (is_held_if_Some rs r.mark x h) refl }
 
-pub passed : (styles : List Style) (lock : Option Day) (rs rest : List Record) (r : Record) → HaveOwnMarks rs
+pub judged_passed : (styles : List Style) (lock : Option Day) (rs rest : List Record) (r : Record) → HaveOwnMarks rs
     → judged styles lock r (held rs r.mark) ≡ Ok false → IsPassed styles lock rs r rest
-passed styles lock rs rest r own e = passed_by styles lock rs rest r (held rs r.mark) own refl e
+judged_passed styles lock rs rest r own e = passed_by styles lock rs rest r (held rs r.mark) own refl e
 
 -- where it is refused
 stopped_by : (styles : List Style) (lock : Option Day) (rs rest : List Record) (r : Record) (refusal : Refusal)
     (o : Option Record) → HaveOwnMarks rs → held rs r.mark ≡ o → judged styles lock r o ≡ Err refusal
     → refused_in styles lock rs (r ∷ rest) ≡ Some refusal
 stopped_by styles lock rs rest r refusal None own h e =
-    rw (unrepeated styles rs r h, unheld rs r.mark h, held_back (barred lock r) refusal e) refl
+    rw (is_repeat_unheld styles rs r h, is_held_if_None rs r.mark h, held_back (barred lock r) refusal e) refl
 stopped_by styles lock rs rest r refusal (Some x) own h e =
     let other = other_text (bytes_eq (body_text styles x.txn) (body_text styles r.txn)) refusal e in
-    rw (repeating styles rs r x own h ∙ other.0, holding rs r.mark x h) other.1
+    rw (is_repeat_held styles rs r x own h ∙ other.0, is_held_if_Some rs r.mark x h) other.1
 
-pub stopped : (styles : List Style) (lock : Option Day) (rs rest : List Record) (r : Record) (refusal : Refusal)
+pub judged_stopped : (styles : List Style) (lock : Option Day) (rs rest : List Record) (r : Record) (refusal : Refusal)
     → HaveOwnMarks rs → judged styles lock r (held rs r.mark) ≡ Err refusal
     → refused_in styles lock rs (r ∷ rest) ≡ Some refusal
-stopped styles lock rs rest r refusal own e = stopped_by styles lock rs rest r refusal (held rs r.mark) own refl e
+judged_stopped styles lock rs rest r refusal own e =
+    stopped_by styles lock rs rest r refusal (held rs r.mark) own refl e
 
 -- the next one is new: what is kept of the rest
 pub next_refused : (styles : List Style) (lock : Option Day) (base new more rest items : List Record) (r : Record)
@@ -176,5 +177,6 @@ pub by_cause : (styles : List Style) (base new : List Record) (r : Record) (rest
     → (refusal ≡ Plain OutOfMemory) ⊎ (all ≡ Some refusal)
 by_cause styles base new r rest items lock refusal all found split own h (inl e) = inl e
 by_cause styles base new r rest items lock refusal all found split own h (inr e) =
-    inr (sym h ∙ (ap (refused_in styles lock (base ++ new)) split ∙ stopped styles lock (base ++ new) rest r refusal own
+    inr (sym h ∙ (ap (refused_in styles lock (base ++ new)) split
+    ∙ judged_stopped styles lock (base ++ new) rest r refusal own
     (ap (judged styles lock r) (sym found) ∙ e)))

@@ -20,13 +20,13 @@ use Rattle.treasury_state.specs.Joined.{inserted, received, with_receipt}
 use Rattle.treasury_state.specs.Fair.{HasNoColon, IsMarked}
 use Rattle.treasury_state.proofs.MarkLemmas.{id_no_colon}
 use Rattle.treasury_state.proofs.AskedLemmas.{none_out_at, none_in_at}
-use Rattle.treasury_state.proofs.SkipLemmas.{skip, pass_out, same_transfer}
+use Rattle.treasury_state.proofs.SkipLemmas.{held-append, pass_out, same_transfer}
 
 pub pass_in : (x : Transfer) (rest : List Record) (id key : List ℕ) (a b : Bool) (ps : List Part) → HasNoColon x.id
     → HasNoColon id → bytes_eq x.id id ≡ false
     → held (out_records x a ++ (in_records x b ps ++ rest)) (in_mark id key) ≡ held rest (in_mark id key)
 pass_in x rest id key a b ps h k e =
-    skip (out_records x a) (in_records x b ps ++ rest) (in_mark id key) (none_out_at x id key a) ∙ skip
+    held-append (out_records x a) (in_records x b ps ++ rest) (in_mark id key) (none_out_at x id key a) ∙ held-append
     (in_records x b ps) rest (in_mark id key) (none_in_at x id key b ps h k e)
 
 -- the same look-up after the same front
@@ -174,7 +174,7 @@ swap_marks : (t : Transfer) (a : Bool) (rest rest' : List Record) (id key m : Li
 swap_marks t a rest rest' id key m v true e h =
     let P : List ℕ → Type 0 = λ k. held rest' k ≡ Some v → held (out_records t a ++ rest') k ≡ Some v in
     subst P (same_bytes (in_mark id key) m e)
-    (λ g. skip (out_records t a) rest' (in_mark id key) (none_out_at t id key a) ∙ g) h
+    (λ g. held-append (out_records t a) rest' (in_mark id key) (none_out_at t id key a) ∙ g) h
 swap_marks t a rest rest' id key m v false e h = front_at (out_records t a) rest rest' m h
 
 in_here : (p : Part) (t : Transfer) (name : List ℕ) (rest : List Record) (m : List ℕ) → Asks p t

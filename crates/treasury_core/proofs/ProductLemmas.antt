@@ -230,10 +230,10 @@ pub record IsDescribed (text : List ℕ) : Type 0 where
   pub few : length text ≤ 500
 
 -- `transfer ID to NAME`, `transfer ID from NAME`
-described : (middle id name : List ℕ) → list_all is_clean middle ≡ true → has_no 59 middle ≡ true
+description_of_transfer : (middle id name : List ℕ) → list_all is_clean middle ≡ true → has_no 59 middle ≡ true
     → list_all is_low middle ≡ true → length middle ≤ 60 → IsWord id → IsWord name
     → IsDescribed (codes "transfer " ++ (id ++ (middle ++ name)))
-described middle id name clean free low l v w =
+description_of_transfer middle id name clean free low l v w =
     let first = codes "transfer " in
     let text = first ++ (id ++ (middle ++ name)) in
     let whole : text ≡ (first ++ (id ++ middle)) ++ name =
@@ -279,7 +279,7 @@ part_described id name key v w few k =
     let whole : middle ++ key ≡ codes " from " ++ (name ++ (codes " part " ++ key)) =
     ap (λ (xs : List ℕ). codes " from " ++ xs) (append_assoc name (codes " part ") key) in
     subst (λ (xs : List ℕ). IsDescribed (codes "transfer " ++ (id ++ xs))) whole
-    (described middle id key (middle_all is_clean (λ b p. p.clean) name refl refl w)
+    (description_of_transfer middle id key (middle_all is_clean (λ b p. p.clean) name refl refl w)
     (middle_all (λ b. not (b == 59)) (λ b p. p.no_semicolon) name refl refl w)
     (middle_all is_low (λ b p. p.low) name refl refl w) (omega (arith, size, few)) v k)
 
@@ -287,7 +287,7 @@ in_described : (id name key : List ℕ) (b : Bool) → (b ≡ false → is_key k
     → length name ≤ 32 → IsDescribed (codes "transfer " ++ (id ++ (codes " from " ++ (name ++ text_tail b key))))
 in_described id name key true h v w few =
     subst (λ (xs : List ℕ). IsDescribed (codes "transfer " ++ (id ++ (codes " from " ++ xs)))) (sym (append-nil name))
-    (described (codes " from ") id name refl refl refl (omega arith) v w)
+    (description_of_transfer (codes " from ") id name refl refl refl (omega arith) v w)
 in_described id name key false h v w few = part_described id name key v w few (key_word key (h refl)).0
 
 -- ---- the transit account
@@ -448,7 +448,7 @@ dispatch_good styles t are h =
     (transit_account t.source t.target) t.payer t.unit t.qty are (record {
       mark_fits = mark_of_id (codes "out:") t.id refl (omega arith) id;
       day_fits = h.day;
-      described = described (codes " to ") t.id t.target refl refl refl (omega arith) id target.0;
+      described = description_of_transfer (codes " to ") t.id t.target refl refl refl (omega arith) id target.0;
       first = transit_is_account t.source t.target source.0 target.0 source.1 target.1;
       first_utf8 = transit_is_utf8 t.source t.target source.0 target.0;
       second = h.payer;

@@ -39,11 +39,11 @@ all_push P [] r h p = (p, tt)
 all_push P (x ∷ xs) r h p = (h.0, all_push P xs r h.1 p)
 
 -- a branch that gets a transfer's record
-pub gets : (ts ts' : List Transfer) (d : Branch) (r : Record) → IsInStep ts d → is_of_transfer r ≡ true
+pub in_step_with_record : (ts ts' : List Transfer) (d : Branch) (r : Record) → IsInStep ts d → is_of_transfer r ≡ true
     → held (asked ts d.name) r.mark ≡ None
     → ((m : List ℕ) → held (asked ts' d.name) m ≡ cond (bytes_eq r.mark m) (Some r) (held (asked ts d.name) m))
     → IsInStep ts' (with_records (r ∷ []) d)
-gets ts ts' d r h own new after =
+in_step_with_record ts ts' d r h own new after =
     let absent : held (filter is_of_transfer d.records) r.mark ≡ None = h.asked_for r.mark ∙ new in
     record {
       own_marks = own_push d.records r h.own_marks (sym (held-filter d.records r.mark own) ∙ absent);

@@ -42,7 +42,7 @@ use Rattle.treasury_state.specs.Joined.{with_entered, with_locked, with_received
 use Rattle.treasury_state.specs.Good.{IsGoodBranch, IsGoodRecord, IsGoodTransfer, IsGoodState}
 use Rattle.treasury_state.proofs.MarkLemmas.{not_all}
 use Rattle.treasury_state.proofs.PartLemmas.{small_from}
-use Rattle.treasury_state.proofs.FairLemmas.{known, names_of}
+use Rattle.treasury_state.proofs.FairLemmas.{known_name_holds, names_of}
 use Rattle.treasury_state.proofs.HeldLemmas.{own_push}
 use Rattle.treasury_state.proofs.DispatchLemmas.{dispatch_written}
 use Rattle.treasury_state.proofs.FoundLemmas.{found_transfer, amount_small}
@@ -79,15 +79,15 @@ IsDone (Entered new repeated) = ⊤
 IsDone Repeated = ⊥
 
 -- a case that does not apply
-passes : (t : Bool) (e : Refusal) (x : Result Answer Refusal) (a : Answer) → (if t then Err e else x) ≡ Ok a
+Ok_only_if_false : (t : Bool) (e : Refusal) (x : Result Answer Refusal) (a : Answer) → (if t then Err e else x) ≡ Ok a
     → (t ≡ false) × (x ≡ Ok a)
-passes true e x a h = absurd cc
-passes false e x a h = (refl, h)
+Ok_only_if_false true e x a h = absurd cc
+Ok_only_if_false false e x a h = (refl, h)
 
-pub holds : (t : Bool) (e : Refusal) (x : Result Answer Refusal) (a : Answer) → (if not t then Err e else x) ≡ Ok a
-    → (t ≡ true) × (x ≡ Ok a)
-holds true e x a h = (refl, h)
-holds false e x a h = absurd cc
+pub Ok_only_if_true : (t : Bool) (e : Refusal) (x : Result Answer Refusal) (a : Answer)
+    → (if not t then Err e else x) ≡ Ok a → (t ≡ true) × (x ≡ Ok a)
+Ok_only_if_true true e x a h = (refl, h)
+Ok_only_if_true false e x a h = absurd cc
 
 not_repeated : (t : Bool) (x : Result Answer Refusal) (a : Answer) → IsDone a → (if t then Ok Repeated else x) ≡ Ok a
     → (t ≡ false) × (x ≡ Ok a)
@@ -105,9 +105,9 @@ done_branch : (f : Federation) (name : List ℕ) (a : Answer) → IsDone a → I
     → reply f (cmd.Branch name) ≡ Ok a → IsGoodState (done f (cmd.Branch name))
 unfolding reply done
 done_branch f name a d good h =
-    let one = holds (is_branch_name name) _ _ a h in
+    let one = Ok_only_if_true (is_branch_name name) _ _ a h in
     let two = not_repeated (has_branch f name) _ a d one.1 in
-    let three = passes (nat_le 32 (length f.branches)) _ _ a two.1 in
+    let three = Ok_only_if_false (nat_le 32 (length f.branches)) _ _ a two.1 in
     good_branch f name good one.0 two.0 (leb-false 32 (length f.branches) three.0)
 
 declared_new : (f : Federation) (style : Style) (a : Answer) (r : Result Declared Cause) → IsDone a
@@ -130,9 +130,9 @@ pub lock_forward : (f : Federation) (name : List ℕ) (day : Day) (a : Answer) �
     → reply f (cmd.Lock name day) ≡ Ok a → goes_back (lock_of f name) day ≡ false
 unfolding reply
 lock_forward f name day a d h =
-    let there = holds (has_branch f name) _ _ a h in
+    let there = Ok_only_if_true (has_branch f name) _ _ a h in
     let other = not_repeated (is_lock (lock_of f name) day) _ a d there.1 in
-    (passes (goes_back (lock_of f name) day) _ _ a other.1).0
+    (Ok_only_if_false (goes_back (lock_of f name) day) _ _ a other.1).0
 
 done_lock : (f : Federation) (name : List ℕ) (day : Day) (a : Answer) → IsDone a → IsGoodState f → IsDayNumber day
     → reply f (cmd.Lock name day) ≡ Ok a → IsGoodState (done f (cmd.Lock name day))
@@ -159,11 +159,11 @@ pub record IsAccepted (f : Federation) (name : List ℕ) (file : List Located) :
   pub taken : refused_in f.styles (lock_of f name) (records_of f name) (records_in_file f.styles file) ≡ None
   pub passes : verdict (book_of f name ++ entries (new_records f name file)) ≡ None
 
-pub accepted : (f : Federation) (name : List ℕ) (file : List Located) (a : Answer)
+pub file_accepted : (f : Federation) (name : List ℕ) (file : List Located) (a : Answer)
     → reply f (cmd.Enter name file) ≡ Ok a → IsAccepted f name file
 unfolding reply
-accepted f name file a h =
-    let there = holds (has_branch f name) _ _ a h in
+file_accepted f name file a h =
+    let there = Ok_only_if_true (has_branch f name) _ _ a h in
     let none = no_refusal _ a _ there.1 in
     let first = neither_refusal (unbalanced f.styles file) _ none in
     let second = neither_refusal (refused_in f.styles (lock_of f name) (records_of f name)
@@ -174,7 +174,7 @@ pub accepted_new : (f : Federation) (name : List ℕ) (file : List Located) (a :
     → reply f (cmd.Enter name file) ≡ Ok a
     → AllByRecursion (IsNew (lock_of f name) (records_of f name)) (new_records f name file)
 accepted_new f name file a h = all_fresh f.styles (lock_of f name) (records_of f name) (records_in_file f.styles file)
-    (accepted f name file a h).taken
+    (file_accepted f name file a h).taken
 
 pub new_good : (f : Federation) (name : List ℕ) (file : List Located) → Fits f.styles (cmd.Enter name file)
     → AllByRecursion (IsGoodRecord f.styles) (new_records f name file)
@@ -190,12 +190,13 @@ done_enter f name file a good fits h =
     (own-new (records_of f name) (records_in_file f.styles file) (own_marks_of f name good))
     (new_good f name file fits)
     (own_entries (lock_of f name) (records_of f name) (new_records f name file) (accepted_new f name file a h))
-    (accepted f name file a h).passes
+    (file_accepted f name file a h).passes
 
 -- a refusal that does not come
-misses : (t : Bool) (e : Refusal) (o : Option Refusal) → (if t then Some e else o) ≡ None → (t ≡ false) × (o ≡ None)
-misses true e o h = absurd cc
-misses false e o h = (refl, h)
+None_only_if_false : (t : Bool) (e : Refusal) (o : Option Refusal) → (if t then Some e else o) ≡ None → (t ≡ false)
+    × (o ≡ None)
+None_only_if_false true e o h = absurd cc
+None_only_if_false false e o h = (refl, h)
 
 keeps_to : (t : Bool) (e : Refusal) (o : Option Refusal) → (if not t then Some e else o) ≡ None
     → (t ≡ true) × (o ≡ None)
@@ -219,20 +220,21 @@ no_transfer : (o : Option Transfer) → is_some o ≡ false → o ≡ None
 no_transfer None h = refl
 no_transfer (Some t) h = absurd cc
 
-pub sent : (f : Federation) (d : Dispatch) (a : Answer) → IsDone a → reply f (cmd.Dispatch d) ≡ Ok a → IsSent f d
+pub dispatch_sent : (f : Federation) (d : Dispatch) (a : Answer) → IsDone a → reply f (cmd.Dispatch d) ≡ Ok a
+    → IsSent f d
 unfolding reply
-sent f d a is h =
-    let source = holds (has_branch f d.source) _ _ a h in
-    let target = holds (has_branch f d.target) _ _ a source.1 in
-    let apart = passes (bytes_eq d.source d.target) _ _ a target.1 in
-    let id = holds (is_id d.id) _ _ a apart.1 in
+dispatch_sent f d a is h =
+    let source = Ok_only_if_true (has_branch f d.source) _ _ a h in
+    let target = Ok_only_if_true (has_branch f d.target) _ _ a source.1 in
+    let apart = Ok_only_if_false (bytes_eq d.source d.target) _ _ a target.1 in
+    let id = Ok_only_if_true (is_id d.id) _ _ a apart.1 in
     let fresh = not_repeated (is_dispatched_so d (transfer_at f d.id)) _ a is id.1 in
-    let free = passes (is_some (transfer_at f d.id)) _ _ a fresh.1 in
+    let free = Ok_only_if_false (is_some (transfer_at f d.id)) _ _ a fresh.1 in
     let none = no_refusal Done a _ free.1 in
     let account = keeps_to (is_account_text d.account) _ _ none in
-    let clear = misses (is_reserved d.account) _ _ account.1 in
-    let amount = misses (int_le d.qty (pos 0)) _ _ clear.1 in
-    let unlocked = misses (is_locked (lock_of f d.source) d.day) _ _ amount.1 in
+    let clear = None_only_if_false (is_reserved d.account) _ _ account.1 in
+    let amount = None_only_if_false (int_le d.qty (pos 0)) _ _ clear.1 in
+    let unlocked = None_only_if_false (is_locked (lock_of f d.source) d.day) _ _ amount.1 in
     record {
       source = source.0;
       target = target.0;
@@ -268,7 +270,7 @@ amount_is styles unit q h = and_from (nat_lt unit.0 (length styles)) (nat_le (un
 
 -- the name of a branch that is there is well formed
 name_known : (f : Federation) (name : List ℕ) → IsGoodState f → has_branch f name ≡ true → is_branch_name name ≡ true
-name_known f name good h = known (λ (n : List ℕ). is_branch_name n ≡ true) f.branches name
+name_known f name good h = known_name_holds (λ (n : List ℕ). is_branch_name n ≡ true) f.branches name
     (names_of (λ (n : List ℕ). is_branch_name n ≡ true) f.branches (λ b k. k.named) good.branches) h
 
 -- the record of a dispatch can be printed, and has its entry
@@ -292,7 +294,7 @@ done_dispatch : (f : Federation) (d : Dispatch) (a : Answer) → IsDone a → Is
     → reply f (cmd.Dispatch d) ≡ Ok a → IsGoodState (done f (cmd.Dispatch d))
 unfolding done
 done_dispatch f d a is good fits h =
-    let s = sent f d a is h in
+    let s = dispatch_sent f d a is h in
     let positive = positive_from d.qty s.positive in
     let fair : IsGoodTransfer f.branches (transfer_of d) =
     record {
@@ -365,21 +367,21 @@ open_at : (f : Federation) (t : Transfer) (r : Receive) (a : Answer) (o : Option
     → held_reply f t r o ≡ Ok a → IsOpen f t r o
 open_at f t r a (Some p) is h = absurd (let k = (not_repeated (is_received_so t r p) _ a is h).1 in cc)
 open_at f t r a None is h =
-    let some = passes (has_nothing_left t r.part) _ _ a h in
+    let some = Ok_only_if_false (has_nothing_left t r.part) _ _ a h in
     (refl, no_refusal Done a _ some.1)
 
 taken_at : (f : Federation) (r : Receive) (a : Answer) (o : Option Transfer) → IsDone a → has_bad_key r.part ≡ false
     → transfer_at f r.id ≡ o → receipt_reply f r o ≡ Ok a → IsTaken f r
 taken_at f r a None is bad e h = absurd cc
 taken_at f r a (Some t) is bad e h =
-    let target = holds (bytes_eq t.target r.branch) _ _ a h in
+    let target = Ok_only_if_true (bytes_eq t.target r.branch) _ _ a h in
     let fresh = open_at f t r a (find (has_key (key_of r.part)) (receipts_of t)) is target.1 in
     let account = keeps_to (is_account_text r.account) _ _ fresh.1 in
-    let clear = misses (is_reserved r.account) _ _ account.1 in
-    let some = misses (int_le (qty_of t r.part) (pos 0)) _ _ clear.1 in
-    let enough = misses (is_too_much t r.part) _ _ some.1 in
-    let late = misses (int_lt r.day.0 t.day.0) _ _ enough.1 in
-    let unlocked = misses (is_locked (lock_of f r.branch) r.day) _ _ late.1 in
+    let clear = None_only_if_false (is_reserved r.account) _ _ account.1 in
+    let some = None_only_if_false (int_le (qty_of t r.part) (pos 0)) _ _ clear.1 in
+    let enough = None_only_if_false (is_too_much t r.part) _ _ some.1 in
+    let late = None_only_if_false (int_lt r.day.0 t.day.0) _ _ enough.1 in
+    let unlocked = None_only_if_false (is_locked (lock_of f r.branch) r.day) _ _ late.1 in
     record {
       transfer = t;
       found = e;
@@ -390,12 +392,13 @@ taken_at f r a (Some t) is bad e h =
       passes = unlocked.1;
     }
 
-pub taken : (f : Federation) (r : Receive) (a : Answer) → IsDone a → reply f (cmd.Receive r) ≡ Ok a → IsTaken f r
+pub receipt_taken : (f : Federation) (r : Receive) (a : Answer) → IsDone a → reply f (cmd.Receive r) ≡ Ok a
+    → IsTaken f r
 unfolding reply
-taken f r a is h =
-    let branch = holds (has_branch f r.branch) _ _ a h in
-    let id = holds (is_id r.id) _ _ a branch.1 in
-    let bad = passes (has_bad_key r.part) _ _ a id.1 in
+receipt_taken f r a is h =
+    let branch = Ok_only_if_true (has_branch f r.branch) _ _ a h in
+    let id = Ok_only_if_true (is_id r.id) _ _ a branch.1 in
+    let bad = Ok_only_if_false (has_bad_key r.part) _ _ a id.1 in
     taken_at f r a (transfer_at f r.id) is bad.0 refl bad.1
 
 -- and so is what is received of it
@@ -445,7 +448,7 @@ done_receive : (f : Federation) (r : Receive) (a : Answer) → IsDone a → IsGo
     → reply f (cmd.Receive r) ≡ Ok a → IsGoodState (done f (cmd.Receive r))
 unfolding done
 done_receive f r a is good fits h =
-    let got = taken f r a is h in
+    let got = receipt_taken f r a is h in
     subst (λ (o : Option Transfer). IsGoodState (with_receipt_of f r o)) (sym got.found)
     (received_good f r a good fits got)
 
@@ -460,11 +463,11 @@ pub record IsShut (f : Federation) (x : Close) : Type 0 where
   pub few : length txn.postings ≤ posting_limit
   pub passes : verdict (book_of f x.branch ++ entries (closing_record x.day txn ∷ [])) ≡ None
 
-limited : (held : List Record) (day : Day) (t : Txn) (b : Bool)
+closing_within_limit : (held : List Record) (day : Day) (t : Txn) (b : Bool)
     → entering_refusal held day (if b then Err (Plain Limit) else Ok t) ≡ None
     → (b ≡ false) × (verdict (entries held ++ entries (closing_record day t ∷ [])) ≡ None)
-limited held day t true h = absurd cc
-limited held day t false h = (refl, h)
+closing_within_limit held day t true h = absurd cc
+closing_within_limit held day t false h = (refl, h)
 
 shut_at : (f : Federation) (x : Close) (o : Option Txn) → has_branch f x.branch ≡ true
     → held (records_of f x.branch) (close_mark x.day) ≡ None → choice_refusal x.choice ≡ None
@@ -473,7 +476,7 @@ shut_at : (f : Federation) (x : Close) (o : Option Txn) → has_branch f x.branc
     → entering_refusal (records_of f x.branch) x.day (closing_answer o) ≡ None → IsShut f x
 shut_at f x None there fresh chosen unlocked e h = absurd cc
 shut_at f x (Some t) there fresh chosen unlocked e h =
-    let parts = limited (records_of f x.branch) x.day t (nat_lt posting_limit (length t.postings)) h in
+    let parts = closing_within_limit (records_of f x.branch) x.day t (nat_lt posting_limit (length t.postings)) h in
     record {
       txn = t;
       there = there;
@@ -502,13 +505,13 @@ closed_fresh f x None a is h = (refl, no_refusal Done a _ h)
 closed_fresh f x (Some r) a is h =
     absurd (not_again (pointwise bytes_eq r.txn.comments (choice_comments x.choice)) a is h)
 
-pub shut : (f : Federation) (x : Close) (a : Answer) → IsDone a → reply f (cmd.Close x) ≡ Ok a → IsShut f x
+pub closing_shut : (f : Federation) (x : Close) (a : Answer) → IsDone a → reply f (cmd.Close x) ≡ Ok a → IsShut f x
 unfolding reply
-shut f x a is h =
-    let there = holds (has_branch f x.branch) _ _ a h in
+closing_shut f x a is h =
+    let there = Ok_only_if_true (has_branch f x.branch) _ _ a h in
     let fresh = closed_fresh f x (held (records_of f x.branch) (close_mark x.day)) a is there.1 in
     let parts = neither_refusal (choice_refusal x.choice) _ fresh.1 in
-    let unlocked = misses (is_locked (lock_of f x.branch) x.day) _ _ parts.1 in
+    let unlocked = None_only_if_false (is_locked (lock_of f x.branch) x.day) _ _ parts.1 in
     shut_at f x (closing_in f x.branch x.day x.choice) there.0 fresh.0 parts.0 unlocked.0 refl unlocked.1
 
 -- a day that is not locked is after the lock day
@@ -520,7 +523,7 @@ done_close : (f : Federation) (x : Close) (a : Answer) → IsDone a → IsGoodSt
     → reply f (cmd.Close x) ≡ Ok a → IsGoodState (done f (cmd.Close x))
 unfolding done
 done_close f x a is good fits h =
-    let s = shut f x a is h in
+    let s = closing_shut f x a is h in
     let r = closing_record x.day s.txn in
     let marks = own_push (records_of f x.branch) r (own_marks_of f x.branch good) s.fresh in
     subst (λ (o : Option Txn). IsGoodState
@@ -543,15 +546,15 @@ done_good f (cmd.Close x) a is good fits h = done_close f x a is good fits h
 abbrev no_memory : Result Answer Refusal
 no_memory = Err (Plain OutOfMemory)
 
-pub replied : (f : Federation) (c : Command) (a : Answer) → Replies f c (Ok a) → reply f c ≡ Ok a
-replied f c a (inl e) = sym e
-replied f c a (inr e) = absurd (let k : Ok a ≡ no_memory = e in cc)
+pub reply_if_Ok : (f : Federation) (c : Command) (a : Answer) → Replies f c (Ok a) → reply f c ≡ Ok a
+reply_if_Ok f c a (inl e) = sym e
+reply_if_Ok f c a (inr e) = absurd (let k : Ok a ≡ no_memory = e in cc)
 
 pub after_good : (f : Federation) (c : Command) (r : Result Answer Refusal) → IsGoodState f → Fits f.styles c
     → Replies f c r → IsGoodState (after f c r)
-after_good f c (Ok Done) good fits h = done_good f c Done tt good fits (replied f c Done h)
+after_good f c (Ok Done) good fits h = done_good f c Done tt good fits (reply_if_Ok f c Done h)
 after_good f c (Ok (Entered new repeated)) good fits h =
-    done_good f c (Entered new repeated) tt good fits (replied f c (Entered new repeated) h)
+    done_good f c (Entered new repeated) tt good fits (reply_if_Ok f c (Entered new repeated) h)
 after_good f c (Ok Repeated) good fits h = good
 after_good f c (Err refusal) good fits h = good
 

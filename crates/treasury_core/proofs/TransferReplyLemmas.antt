@@ -55,24 +55,24 @@ same_find {id} {other} {ts} {us} {o} e f h =
     ap (λ (x : List ℕ). find (has_id x) ts) e ∙ (ap (find (has_id other)) f ∙ h)
 
 -- what is done already
-pub repeats : (f : Federation) (c : Command) (r : Result (Answer × List Addition) Refusal) → reply f c ≡ Ok Repeated
-    → r ≡ Ok (Repeated, []) → Decides f c r
-repeats f c r told h = subst (Decides f c) (sym h) (told, refl)
+pub decides_repeated : (f : Federation) (c : Command) (r : Result (Answer × List Addition) Refusal)
+    → reply f c ≡ Ok Repeated → r ≡ Ok (Repeated, []) → Decides f c r
+decides_repeated f c r told h = subst (Decides f c) (sym h) (told, refl)
 
 -- what is done, or its refusal
-pub settles : (f : Federation) (c : Command) (adds : List Addition) (o : Option Refusal)
+pub decides_done_or_refused : (f : Federation) (c : Command) (adds : List Addition) (o : Option Refusal)
     (found : Result (List Addition) Refusal) (r : Result (Answer × List Addition) Refusal)
     → reply f c ≡ unless Done o → added f c ≡ adds
     → MatchResult r (λ p. (p.0 ≡ Done) × (found ≡ Ok p.1)) (λ e. found ≡ Err e)
     → IfOk found (λ x. x ≡ adds) → OnOk found (o ≡ None) → IfErr found (λ e. (e ≡ Plain OutOfMemory) ⊎ (o ≡ Some e))
     → Decides f c r
-settles f c adds o found (Ok p) told adds_ m value passes err =
+decides_done_or_refused f c adds o found (Ok p) told adds_ m value passes err =
     let same : p.1 ≡ adds = subst (λ (x : Result (List Addition) Refusal). IfOk x (λ y. y ≡ adds)) m.1 value in
     let none : o ≡ None = subst (λ (x : Result (List Addition) Refusal). OnOk x (o ≡ None)) m.1 passes in (
       told ∙ ap (unless Done) none ∙ ap (λ (a : Answer). let x : Result Answer Refusal = Ok a in x) (sym m.0),
       same ∙ (sym adds_ ∙ ap (λ (a : Answer). delta f c (Ok a)) (sym m.0)),
     )
-settles f c adds o found (Err e) told adds_ m value passes err =
+decides_done_or_refused f c adds o found (Err e) told adds_ m value passes err =
     by_case (subst (λ (x : Result (List Addition) Refusal). IfErr x (λ y. (y ≡ Plain OutOfMemory) ⊎ (o ≡ Some y))) m
     err)
   where
@@ -154,18 +154,18 @@ pub record IsClaimed (f : Federation) (r : Receive) : Type 0 where
   pub id : is_id r.id ≡ true
   pub key : has_bad_key r.part ≡ false
 
-claimed : (f : Federation) (r : Receive) (o : Option Transfer) → IsClaimed f r → transfer_at f r.id ≡ o
+reply_claimed : (f : Federation) (r : Receive) (o : Option Transfer) → IsClaimed f r → transfer_at f r.id ≡ o
     → reply f (cmd.Receive r) ≡ receipt_reply f r o
 unfolding reply
-claimed f r o h at = rw (h.branch, h.id, h.key, at) refl
+reply_claimed f r o h at = rw (h.branch, h.id, h.key, at) refl
 
 pub no_transfer : (f : Federation) (r : Receive) → IsClaimed f r → transfer_at f r.id ≡ None
     → reply f (cmd.Receive r) ≡ Err (Plain UnknownTransfer)
-no_transfer f r h at = claimed f r None h at
+no_transfer f r h at = reply_claimed f r None h at
 
 pub wrong_branch : (f : Federation) (r : Receive) (t : Transfer) → IsClaimed f r → transfer_at f r.id ≡ Some t
     → bytes_eq t.target r.branch ≡ false → reply f (cmd.Receive r) ≡ Err (Plain WrongBranch)
-wrong_branch f r t h at other = claimed f r (Some t) h at ∙ rw other refl
+wrong_branch f r t h at other = reply_claimed f r (Some t) h at ∙ rw other refl
 
 -- whether the receipt of a key is what is asked for, if it has one
 abbrev pub so_held : Transfer → Receive → Option Bool
@@ -233,9 +233,9 @@ pub record IsAimed (f : Federation) (r : Receive) (t : Transfer) : Type 0 where
   pub at : transfer_at f r.id ≡ Some t
   pub own : bytes_eq t.target r.branch ≡ true
 
-aimed : (f : Federation) (r : Receive) (t : Transfer) → IsAimed f r t
+reply_aimed : (f : Federation) (r : Receive) (t : Transfer) → IsAimed f r t
     → reply f (cmd.Receive r) ≡ held_reply f t r (find (has_key (key_of r.part)) (receipts_of t))
-aimed f r t h = claimed f r (Some t) h.claimed h.at ∙ rw h.own refl
+reply_aimed f r t h = reply_claimed f r (Some t) h.claimed h.at ∙ rw h.own refl
 
 held_at : (f : Federation) (t : Transfer) (r : Receive) (o : Option Part) (b : Bool)
     → option_map (is_received_so t r) o ≡ Some b
@@ -251,26 +251,27 @@ none_at t r (Some p) e = absurd cc
 
 pub received_so : (f : Federation) (r : Receive) (t : Transfer) → IsAimed f r t → so_held t r ≡ Some true
     → reply f (cmd.Receive r) ≡ Ok Repeated
-received_so f r t h so = aimed f r t h ∙ held_at f t r (find (has_key (key_of r.part)) (receipts_of t)) true so
+received_so f r t h so = reply_aimed f r t h ∙ held_at f t r (find (has_key (key_of r.part)) (receipts_of t)) true so
 
 pub received_other : (f : Federation) (r : Receive) (t : Transfer) → IsAimed f r t → so_held t r ≡ Some false
     → reply f (cmd.Receive r) ≡ Err (Plain AlreadyReceived)
-received_other f r t h so = aimed f r t h ∙ held_at f t r (find (has_key (key_of r.part)) (receipts_of t)) false so
+received_other f r t h so =
+    reply_aimed f r t h ∙ held_at f t r (find (has_key (key_of r.part)) (receipts_of t)) false so
 
 -- the reply where the key has no receipt
-unheld : (f : Federation) (r : Receive) (t : Transfer) → IsAimed f r t → so_held t r ≡ None
+reply_unheld : (f : Federation) (r : Receive) (t : Transfer) → IsAimed f r t → so_held t r ≡ None
     → reply f (cmd.Receive r) ≡ held_reply f t r None
-unheld f r t h none =
-    aimed f r t h ∙ ap (held_reply f t r) (none_at t r (find (has_key (key_of r.part)) (receipts_of t)) none)
+reply_unheld f r t h none =
+    reply_aimed f r t h ∙ ap (held_reply f t r) (none_at t r (find (has_key (key_of r.part)) (receipts_of t)) none)
 
 pub received_all : (f : Federation) (r : Receive) (t : Transfer) → IsAimed f r t → so_held t r ≡ None
     → has_nothing_left t r.part ≡ true → reply f (cmd.Receive r) ≡ Err (Plain AlreadyReceived)
-received_all f r t h none nothing = unheld f r t h none ∙ rw nothing refl
+received_all f r t h none nothing = reply_unheld f r t h none ∙ rw nothing refl
 
 pub received_new : (f : Federation) (r : Receive) (t : Transfer) (b : Branch) → IsAimed f r t → so_held t r ≡ None
     → has_nothing_left t r.part ≡ false → IsThere f.branches r.branch b
     → reply f (cmd.Receive r) ≡ unless Done (receipt_refusal b.locked b.records t r)
-received_new f r t b h none some there = unheld f r t h none ∙ rw (some, there.records, there.lock) refl
+received_new f r t b h none some there = reply_unheld f r t h none ∙ rw (some, there.records, there.lock) refl
 
 pub receipt_adds : (f : Federation) (r : Receive) (t : Transfer) → transfer_at f r.id ≡ Some t
     → added f (cmd.Receive r)

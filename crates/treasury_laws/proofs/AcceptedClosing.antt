@@ -32,11 +32,12 @@ use Rattle.treasury_core.specs.Closed.{closed_book, IsClosing}
 use Rattle.treasury_core.specs.Step.{reply, done, added, after, step, closing_records}
 use Rattle.treasury_core.specs.Run.{Turn, IsRun, state_after}
 use Rattle.treasury_core.proofs.ChangeLemmas.{any-changed}
-use Rattle.treasury_core.proofs.ChoiceLemmas.{allowed}
-use Rattle.treasury_core.proofs.ClosingLemmas.{closed, unselected, IsKnown, book_known, moves, moves_is}
+use Rattle.treasury_core.proofs.ChoiceLemmas.{choice_allowed}
+use Rattle.treasury_core.proofs.ClosingLemmas.{balance_of_closed, unselected_not_in_filter, IsKnown, book_known, moves}
+use Rattle.treasury_core.proofs.ClosingLemmas.{moves_is}
 use Rattle.treasury_core.proofs.ClosingLemmas.{closed_balance}
 use Rattle.treasury_core.proofs.ClosingReply.{is_closing_of}
-use Rattle.treasury_core.proofs.ReplyLemmas.{shut}
+use Rattle.treasury_core.proofs.ReplyLemmas.{closing_shut}
 use Rattle.treasury_core.proofs.CloseLemmas.{closing_adds}
 use Rattle.treasury_core.proofs.ClosingSums.{held_none}
 use Rattle.treasury_laws.specs.History.{records_among}
@@ -51,7 +52,7 @@ moves_other : (m : ℕ) (b : List Entry) → IsKnown m b
     moves m b day into select a unit ≡ pos 0
 moves_other m b known day into select a unit off apart =
     let all = moves_is m b known day into select a unit in
-    let none = held_none a b day unit (selected select b) (unselected select a (book_accounts b) off) in
+    let none = held_none a b day unit (selected select b) (unselected_not_in_filter select a (book_accounts b) off) in
     let own = ap (λ (t : Bool). if t then held_in b day unit (selected select b) else pos 0) apart in
     omega (arith, ints, all, own, none)
 
@@ -134,7 +135,7 @@ done_lock_there f x other n =
 pub closing_locked : (f : Federation) (x : Close) → reply f (cmd.Close x) ≡ Ok Done
     → lock_of (step f (cmd.Close x)).next x.branch ≡ Some x.day
 closing_locked f x h =
-    ap (λ (g : Federation). lock_of g x.branch) (next_is f x h) ∙ done_lock f x (shut f x Done tt h).there
+    ap (λ (g : Federation). lock_of g x.branch) (next_is f x h) ∙ done_lock f x (closing_shut f x Done tt h).there
 
 -- its records
 added_among : (f : Federation) (x : Close) (other : List ℕ) (t : Txn) → closing_in f x.branch x.day x.choice ≡ Some t
@@ -160,14 +161,14 @@ own_records f x t h e = next_records f x x.branch t h e ∙ ap
 pub closing_adds_one : (f : Federation) (x : Close) → reply f (cmd.Close x) ≡ Ok Done
     → (t : Txn) × ((closing_in f x.branch x.day x.choice ≡ Some t)
     × (records_of (step f (cmd.Close x)).next x.branch ≡ records_of f x.branch ++ closing_record x.day t ∷ []))
-closing_adds_one f x h = let s = shut f x Done tt h in (s.txn, (s.closes, own_records f x s.txn h s.closes))
+closing_adds_one f x h = let s = closing_shut f x Done tt h in (s.txn, (s.closes, own_records f x s.txn h s.closes))
 
 pub closing_elsewhere : (f : Federation) (x : Close) (other : List ℕ) → reply f (cmd.Close x) ≡ Ok Done
     → bytes_eq x.branch other ≡ false
     → (records_of (step f (cmd.Close x)).next other ≡ records_of f other)
     × (lock_of (step f (cmd.Close x)).next other ≡ lock_of f other)
 closing_elsewhere f x other h n =
-    let s = shut f x Done tt h in (
+    let s = closing_shut f x Done tt h in (
       next_records f x other s.txn h s.closes ∙
           (ap (λ (b : Bool). records_of f other ++ own_or b (closing_record x.day s.txn ∷ [])) n ∙ append-nil
           (records_of f other)),
@@ -185,9 +186,9 @@ pub closing_zero : (f : Federation) (x : Close) (account : List ℕ) (unit : Com
     → reply f (cmd.Close x) ≡ Ok Done → is_selected x.choice.accounts account ≡ true
     → balance Own (book_of (step f (cmd.Close x)).next x.branch) account unit (Through x.day) ≡ pos 0
 closing_zero f x account unit good h is =
-    let s = shut f x Done tt h in
+    let s = closing_shut f x Done tt h in
     ap (λ (b : List Entry). balance Own b account unit (Through x.day)) (next_book f x s.txn h s.closes)
-    ∙ closed (is_selected x.choice.accounts) (target_in x.choice.into) f x.branch x.day s.txn account unit
+    ∙ balance_of_closed (is_selected x.choice.accounts) (target_in x.choice.into) f x.branch x.day s.txn account unit
     (is_closing_of f x.branch x.day x.choice s.txn good s.chosen s.closes) is
 
 pub closing_untouched : (f : Federation) (x : Close) (account : List ℕ) (unit : Commodity) (on : Day) → IsGoodState f
@@ -196,7 +197,7 @@ pub closing_untouched : (f : Federation) (x : Close) (account : List ℕ) (unit 
     → balance Own (book_of (step f (cmd.Close x)).next x.branch) account unit (Through on)
     ≡ balance Own (book_of f x.branch) account unit (Through on)
 closing_untouched f x account unit on good h other apart =
-    let s = shut f x Done tt h in
+    let s = closing_shut f x Done tt h in
     ap (λ (b : List Entry). balance Own b account unit (Through on)) (next_book f x s.txn h s.closes)
     ∙ untouched (is_selected x.choice.accounts) (target_in x.choice.into) f x.branch x.day s.txn account unit on
     (is_closing_of f x.branch x.day x.choice s.txn good s.chosen s.closes) other apart
@@ -204,7 +205,7 @@ closing_untouched f x account unit on good h other apart =
 -- the target is not selected
 pub closing_apart : (f : Federation) (x : Close) → reply f (cmd.Close x) ≡ Ok Done
     → is_selected x.choice.accounts (target_in x.choice.into) ≡ false
-closing_apart f x h = (allowed x.choice (shut f x Done tt h).chosen).apart
+closing_apart f x h = (choice_allowed x.choice (closing_shut f x Done tt h).chosen).apart
 
 pub closing_stays : (f : Federation) (x : Close) (turns : List Turn) (account : List ℕ) (unit : Commodity)
     → IsGoodState f → reply f (cmd.Close x) ≡ Ok Done → IsRun (step f (cmd.Close x)).next turns

@@ -26,14 +26,14 @@ use Rattle.treasury_state.specs.Good.{IsGoodState}
 use Rattle.treasury_state.specs.Fair.{IsMarked}
 use Rattle.treasury_state.proofs.MarkLemmas.{id_no_colon}
 use Rattle.treasury_state.proofs.AskedLemmas.{HaveOwnIds, none_append, none_out_at, out_of_in, no_out, no_in}
-use Rattle.treasury_state.proofs.SkipLemmas.{skip}
+use Rattle.treasury_state.proofs.SkipLemmas.{held-append}
 use Rattle.treasury_state.proofs.WayLemmas.{never_both}
 use Rattle.treasury_state.proofs.FilterLemmas.{held-filter}
 use Rattle.treasury_state.proofs.CarriedLemmas.{carried_agree}
-use Rattle.treasury_state.proofs.FairLemmas.{found, good_marked}
+use Rattle.treasury_state.proofs.FairLemmas.{branch_found, good_marked}
 use Rattle.treasury_state.proofs.OrderLemmas.{own_ids}
 use Rattle.treasury_state.proofs.DispatchLemmas.{IsWhole, all_whole}
-use Rattle.treasury_state.proofs.HolderLemmas.{unheld}
+use Rattle.treasury_state.proofs.HolderLemmas.{is_held_if_None}
 use Rattle.treasury_state.proofs.OpenLemmas.{good_records}
 use Rattle.treasury_core.specs.declared.command.Command.TheVariants as cmd
 use Rattle.treasury_core.specs.Step.{number_in, unbalanced, recorded_in, records_from, records_in_file, refusal_of}
@@ -79,8 +79,8 @@ pass_other : (t : Transfer) (rest : List Record) (m : List ℕ) (a b : Bool) (ps
     → bytes_eq (out_mark t) m ≡ false → held (map (receipt_record t) ps) m ≡ None
     → held (out_records t a ++ (in_records t b ps ++ rest)) m ≡ held rest m
 pass_other t rest m a b ps e f =
-    skip (out_records t a) (in_records t b ps ++ rest) m (none_out t m a e) ∙ skip (in_records t b ps) rest m
-    (none_in t m b ps f)
+    held-append (out_records t a) (in_records t b ps ++ rest) m (none_out t m a e)
+    ∙ held-append (in_records t b ps) rest m (none_in t m b ps f)
 
 -- the mark of a receipt is one of its transfer
 mark_at : (t : Transfer) (p : Part) (m : List ℕ) (r : Record) (o : Option Record) (c : Bool)
@@ -118,11 +118,11 @@ one_of_in t ts from to key m true false marked own e f n same =
 one_of_in t ts from to key m true true marked own e f n same =
     absurd (let k : true ≡ false = sym (rw (e, f) refl) ∙ n in cc)
 
-later : (t : Transfer) (ts : List Transfer) (from to m : List ℕ) → bytes_eq (out_mark t) m ≡ false
+IsInOne-cons : (t : Transfer) (ts : List Transfer) (from to m : List ℕ) → bytes_eq (out_mark t) m ≡ false
     → held (map (receipt_record t) (receipts_of t)) m ≡ None → IsInOne ts from to m → IsInOne (t ∷ ts) from to m
-later t ts from to m e f (inl h) =
+IsInOne-cons t ts from to m e f (inl h) =
     inl (pass_other t (asked ts from) m (bytes_eq t.source from) (bytes_eq t.target from) (receipts_of t) e f ∙ h)
-later t ts from to m e f (inr h) =
+IsInOne-cons t ts from to m e f (inr h) =
     inr (pass_other t (asked ts to) m (bytes_eq t.source to) (bytes_eq t.target to) (receipts_of t) e f ∙ h)
 
 in_one_at : (t : Transfer) (ts : List Transfer) (from to m : List ℕ) (x : Bool) (o : Option Record)
@@ -136,7 +136,7 @@ in_one_at t ts from to m false (Some r) e f marked own apart h =
     let key = mark_in t (receipts_of t) m r f in
     one_of_in t ts from to key.0 m (bytes_eq t.target from) (bytes_eq t.target to) marked own refl refl
     (never_both t.target from to apart) key.1
-in_one_at t ts from to m false None e f marked own apart h = later t ts from to m e f h
+in_one_at t ts from to m false None e f marked own apart h = IsInOne-cons t ts from to m e f h
 
 in_one : (ts : List Transfer) (from to m : List ℕ) → AllByRecursion IsMarked ts → HaveOwnIds ts
     → bytes_eq from to ≡ false → IsInOne ts from to m
@@ -151,7 +151,7 @@ in_one (t ∷ ts) from to m marked own apart =
 asked_held : (styles : List Style) (ts : List Transfer) (b : Branch) (name m : List ℕ) → IsWhole styles ts b
     → b.name ≡ name → is_transfer_mark m ≡ true → held (asked ts name) m ≡ None → is_held b.records m ≡ false
 asked_held styles ts b name m whole named transfer none =
-    unheld b.records m (sym (held-filter b.records m transfer) ∙
+    is_held_if_None b.records m (sym (held-filter b.records m transfer) ∙
     (carried_agree ts b whole.carried m ∙ (ap (λ (n : List ℕ). held (asked ts n) m) named ∙ none)))
 
 pub not_elsewhere : (f : Federation) (from to : List ℕ) (r : Record) → IsGoodState f → has_branch f from ≡ true
@@ -159,8 +159,8 @@ pub not_elsewhere : (f : Federation) (from to : List ℕ) (r : Record) → IsGoo
     → is_held (records_of f to) r.mark ≡ false
 not_elsewhere f from to r good here there apart among transfer =
     let whole = all_whole f.styles f.transfers f.branches good.branches good.carried in
-    let a = found (IsWhole f.styles f.transfers) f.branches from whole here in
-    let b = found (IsWhole f.styles f.transfers) f.branches to whole there in
+    let a = branch_found (IsWhole f.styles f.transfers) f.branches from whole here in
+    let b = branch_found (IsWhole f.styles f.transfers) f.branches to whole there in
     let own : IsAmong r a.branch.records = subst (IsAmong r) a.same among in
     let holds : is_held a.branch.records r.mark ≡ true =
     among_any (λ (x : Record). bytes_eq x.mark r.mark) a.branch.records r (bytes_eq-refl r.mark) own in

@@ -21,7 +21,7 @@ use Rattle.treasury_core.specs.Step.{with_receipt_of, closing_records}
 use Rattle.treasury_core.specs.Run.{Turn, Replies, after_turn, IsRun, state_after}
 use Rattle.treasury_core.specs.declared.command.Receive.{Receive}
 use Rattle.treasury_core.specs.Closing.{closing_in}
-use Rattle.treasury_core.proofs.ReplyLemmas.{replied, accepted_new, after_good, run_good}
+use Rattle.treasury_core.proofs.ReplyLemmas.{reply_if_Ok, accepted_new, after_good, run_good}
 use Rattle.treasury_core.proofs.ChangeLemmas.{KeepsName}
 use Rattle.treasury_laws.specs.History.{IsRefusedOrRepeated, records_among, Grows, HasGrown}
 use Rattle.treasury_laws.specs.Headline.{RefusalsLeave, Brings, FilesBring, Closes, ClosingsClose, KeepsBooks}
@@ -34,15 +34,16 @@ use Rattle.treasury_laws.proofs.AcceptedClosing.{closing_stays, closing_untouche
 
 -- ---- refusals and repeats
 
-left : (f : Federation) (c : Command) (r : Result Answer Refusal) → IsRefusedOrRepeated r → after f c r ≡ f
-left f c (Ok Done) h = absurd h
-left f c (Ok (Entered new repeated)) h = absurd h
-left f c (Ok Repeated) h = refl
-left f c (Err refusal) h = refl
+after_refused_or_repeated : (f : Federation) (c : Command) (r : Result Answer Refusal) → IsRefusedOrRepeated r
+    → after f c r ≡ f
+after_refused_or_repeated f c (Ok Done) h = absurd h
+after_refused_or_repeated f c (Ok (Entered new repeated)) h = absurd h
+after_refused_or_repeated f c (Ok Repeated) h = refl
+after_refused_or_repeated f c (Err refusal) h = refl
 
 refusals_leave : (f : Federation) (turns : List Turn) → RefusalsLeave f turns
 refusals_leave f [] = tt
-refusals_leave f (t ∷ ts) = (left f t.command t.reply, refusals_leave (after_turn f t) ts)
+refusals_leave f (t ∷ ts) = (after_refused_or_repeated f t.command t.reply, refusals_leave (after_turn f t) ts)
 
 -- ---- accepted files
 
@@ -61,7 +62,7 @@ module _ (f : Federation) (name : List ℕ) (file : List Located) (new repeated 
   brings_reply : Replies f (cmd.Enter name file) (Ok (Entered new repeated))
       → Brings f name file new repeated (after f (cmd.Enter name file) (Ok (Entered new repeated)))
   brings_reply h =
-      let is = replied f (cmd.Enter name file) (Entered new repeated) h in
+      let is = reply_if_Ok f (cmd.Enter name file) (Entered new repeated) h in
       subst (λ (r : Result Answer Refusal). Brings f name file new repeated (after f (cmd.Enter name file) r)) is
       (brings_step is)
 
@@ -97,7 +98,7 @@ module _ (f : Federation) (x : Close) (later : List Turn) (good : IsGoodState f)
   closes_reply : Replies f (cmd.Close x) (Ok Done) → IsRun (after f (cmd.Close x) (Ok Done)) later
       → Closes f x (after f (cmd.Close x) (Ok Done)) (state_after (after f (cmd.Close x) (Ok Done)) later)
   closes_reply h =
-      let is = replied f (cmd.Close x) Done h in
+      let is = reply_if_Ok f (cmd.Close x) Done h in
       subst (λ (r : Result Answer Refusal). IsRun (after f (cmd.Close x) r) later
       → Closes f x (after f (cmd.Close x) r) (state_after (after f (cmd.Close x) r) later)) is (closes_step is)
 
@@ -134,8 +135,8 @@ keeps_books f turns good run =
       files = files_bring f turns run;
     }
 
-stays : {X : Type 0} (xs : List X) → Grows xs xs
-stays xs = ([], sym (append-nil xs))
+Grows-refl : {X : Type 0} (xs : List X) → Grows xs xs
+Grows-refl xs = ([], sym (append-nil xs))
 
 pub grows_twice : {X : Type 0} (xs ys zs : List X) → Grows xs ys → Grows ys zs → Grows xs zs
 grows_twice xs ys zs h k = (h.0 ++ k.0, k.1 ∙ (ap (λ us. us ++ k.0) h.1 ∙ append_assoc xs h.0 k.0))
@@ -155,66 +156,67 @@ names_push : (bs : List Branch) (name : List ℕ) → names_of (bs ++ new_branch
 names_push [] name = refl
 names_push (b ∷ bs) name = ap (λ (ns : List (List ℕ)). b.name ∷ ns) (names_push bs name)
 
-unchanged : (xs ys : List (List ℕ)) → ys ≡ xs → Grows xs ys
-unchanged xs ys e = subst (Grows xs) (sym e) (stays xs)
+grows_if_same : (xs ys : List (List ℕ)) → ys ≡ xs → Grows xs ys
+grows_if_same xs ys e = subst (Grows xs) (sym e) (Grows-refl xs)
 
 received_names : (f : Federation) (r : Receive) (o : Option Transfer)
     → Grows (names_of f.branches) (names_of (with_receipt_of f r o).branches)
-received_names f r None = stays (names_of f.branches)
-received_names f r (Some t) = unchanged (names_of f.branches) _
+received_names f r None = Grows-refl (names_of f.branches)
+received_names f r (Some t) = grows_if_same (names_of f.branches) _
     (same_names (with_records (receipt_record t (receipt_of t r) ∷ [])) r.branch f.branches (λ b. refl))
 
 done_names : (f : Federation) (c : Command) → Grows (names_of f.branches) (names_of (done f c).branches)
 unfolding done
 done_names f (cmd.Branch name) = (name ∷ [], names_push f.branches name)
-done_names f (cmd.Commodity style) = stays (names_of f.branches)
+done_names f (cmd.Commodity style) = Grows-refl (names_of f.branches)
 done_names f (cmd.Enter name file) =
-    unchanged (names_of f.branches) _ (same_names (with_records (new_records f name file)) name f.branches (λ b. refl))
+    grows_if_same (names_of f.branches) _
+    (same_names (with_records (new_records f name file)) name f.branches (λ b. refl))
 done_names f (cmd.Dispatch d) =
-    unchanged (names_of f.branches) _
+    grows_if_same (names_of f.branches) _
     (same_names (with_records (dispatch_record (transfer_of d) ∷ [])) d.source f.branches (λ b. refl))
 done_names f (cmd.Receive r) = received_names f r (transfer_at f r.id)
 done_names f (cmd.Lock name day) =
-    unchanged (names_of f.branches) _ (same_names (with_lock day) name f.branches (λ b. refl))
+    grows_if_same (names_of f.branches) _ (same_names (with_lock day) name f.branches (λ b. refl))
 done_names f (cmd.Close x) =
     let rs = closing_records x.day (closing_in f x.branch x.day x.choice) in
-    unchanged (names_of f.branches) _
+    grows_if_same (names_of f.branches) _
     (same_names (with_lock x.day) x.branch (changed (with_records rs) x.branch f.branches) (λ b. refl) ∙ same_names
     (with_records rs) x.branch f.branches (λ b. refl))
 
 received_styles : (f : Federation) (r : Receive) (o : Option Transfer) → Grows f.styles (with_receipt_of f r o).styles
-received_styles f r None = stays f.styles
-received_styles f r (Some t) = stays f.styles
+received_styles f r None = Grows-refl f.styles
+received_styles f r (Some t) = Grows-refl f.styles
 
 done_styles : (f : Federation) (c : Command) → Grows f.styles (done f c).styles
 unfolding done
-done_styles f (cmd.Branch name) = stays f.styles
+done_styles f (cmd.Branch name) = Grows-refl f.styles
 done_styles f (cmd.Commodity style) = (style ∷ [], refl)
-done_styles f (cmd.Enter name file) = stays f.styles
-done_styles f (cmd.Dispatch d) = stays f.styles
+done_styles f (cmd.Enter name file) = Grows-refl f.styles
+done_styles f (cmd.Dispatch d) = Grows-refl f.styles
 done_styles f (cmd.Receive r) = received_styles f r (transfer_at f r.id)
-done_styles f (cmd.Lock name day) = stays f.styles
-done_styles f (cmd.Close x) = stays f.styles
+done_styles f (cmd.Lock name day) = Grows-refl f.styles
+done_styles f (cmd.Close x) = Grows-refl f.styles
 
 after_styles : (f : Federation) (c : Command) (r : Result Answer Refusal) → Grows f.styles (after f c r).styles
 after_styles f c (Ok Done) = done_styles f c
 after_styles f c (Ok (Entered new repeated)) = done_styles f c
-after_styles f c (Ok Repeated) = stays f.styles
-after_styles f c (Err refusal) = stays f.styles
+after_styles f c (Ok Repeated) = Grows-refl f.styles
+after_styles f c (Err refusal) = Grows-refl f.styles
 
 after_names : (f : Federation) (c : Command) (r : Result Answer Refusal)
     → Grows (names_of f.branches) (names_of (after f c r).branches)
 after_names f c (Ok Done) = done_names f c
 after_names f c (Ok (Entered new repeated)) = done_names f c
-after_names f c (Ok Repeated) = stays (names_of f.branches)
-after_names f c (Err refusal) = stays (names_of f.branches)
+after_names f c (Ok Repeated) = Grows-refl (names_of f.branches)
+after_names f c (Err refusal) = Grows-refl (names_of f.branches)
 
 pub run_grown : (f : Federation) (turns : List Turn) → IsRun f turns → HasGrown f (state_after f turns)
 run_grown f [] r = record {
-  styles = stays f.styles;
-  branches = stays (names_of f.branches);
+  styles = Grows-refl f.styles;
+  branches = Grows-refl (names_of f.branches);
   records = λ name.
-      stays (records_of f name);
+      Grows-refl (records_of f name);
 }
 run_grown f (t ∷ ts) r =
     let g = after_turn f t in

@@ -22,7 +22,7 @@ use Rattle.treasury_core.specs.declared.command.Command.TheVariants.{Enter}
 use Rattle.treasury_core.specs.Step.{unless, entered, unbalanced, refused_in, records_in_file, new_records}
 use Rattle.treasury_core.specs.Step.{enter_refusal, reply, after}
 use Rattle.treasury_core.specs.Run.{Replies}
-use Rattle.treasury_core.proofs.ReplyLemmas.{accepted}
+use Rattle.treasury_core.proofs.ReplyLemmas.{file_accepted}
 use Rattle.treasury_laws.specs.Sound.{BreaksAssertion}
 
 -- what holds of all elements holds of one
@@ -45,7 +45,7 @@ not_accepted : (f : Federation) (name : List ℕ) (file : List Located) (r : Res
 not_accepted f name file (Ok a) h broken =
     let b = book_of f name ++ entries (new_records f name file) in
     absurd (not_none (book_of f name) (entries (new_records f name file)) broken
-    (failure_from b (accepted f name file a h).passes))
+    (failure_from b (file_accepted f name file a h).passes))
 not_accepted f name file (Err refusal) h broken = (refl, refl)
 
 pub late_entry_refused : (f : Federation) (name : List ℕ) (file : List Located) (r : Result Answer Refusal)
@@ -56,10 +56,10 @@ late_entry_refused f name file r broken (inr memory) =
     subst (λ (s : Result Answer Refusal). IsErr s × (after f (Enter name file) s ≡ f)) (sym memory) (refl, refl)
 
 -- where nothing else is wrong, it is the first assertion that fails which is named
-named : (b : List Entry) (o : Option Failure) → failure b ≡ o → (o ≡ None → ⊥)
+first_failure_named : (b : List Entry) (o : Option Failure) → failure b ≡ o → (o ≡ None → ⊥)
     → (first : Failure) × ((o ≡ Some first) × IsFirstFailure b first)
-named b None h some = absurd (some refl)
-named b (Some first) h some = (first, (refl, failure_first b first h))
+first_failure_named b None h some = absurd (some refl)
+first_failure_named b (Some first) h some = (first, (refl, failure_first b first h))
 
 by_check : (f : Federation) (name : List ℕ) (file : List Located) → unbalanced f.styles file ≡ None
     → refused_in f.styles (lock_of f name) (records_of f name) (records_in_file f.styles file) ≡ None
@@ -88,7 +88,8 @@ pub late_entry_named : (f : Federation) (name : List ℕ) (file : List Located) 
     × IsFirstFailure (book_of f name ++ entries (new_records f name file)) first)
 late_entry_named f name file there balanced taken within broken =
     let b = book_of f name ++ entries (new_records f name file) in
-    let some = named b (failure b) refl (not_none (book_of f name) (entries (new_records f name file)) broken) in
+    let some = first_failure_named b (failure b) refl
+    (not_none (book_of f name) (entries (new_records f name file)) broken) in
     let why = by_check f name file balanced taken ∙ verdict_claims b within.few (over_none b within.small) ∙ ap
     (option_map ClaimFailed) some.1.0 in
     (some.0, (replied_by f name file (ClaimFailed some.0) there why, some.1.1))

@@ -34,8 +34,9 @@ use Rattle.treasury_core.specs.Step.{receipt_additions, with_receipt_of, closing
 use Rattle.treasury_core.specs.Run.{Turn, Replies, after_turn, IsRun, state_after}
 use Rattle.treasury_core.proofs.ClosingReply.{made_on}
 use Rattle.treasury_core.proofs.KeepLemmas.{later_lock}
-use Rattle.treasury_core.proofs.ReplyLemmas.{IsDone, replied, lock_forward, accepted_new, sent, taken, unlocked_forward}
-use Rattle.treasury_core.proofs.ReplyLemmas.{shut}
+use Rattle.treasury_core.proofs.ReplyLemmas.{IsDone, reply_if_Ok, lock_forward, accepted_new, dispatch_sent}
+use Rattle.treasury_core.proofs.ReplyLemmas.{receipt_taken, unlocked_forward}
+use Rattle.treasury_core.proofs.ReplyLemmas.{closing_shut}
 use Rattle.treasury_laws.specs.History.{records_among}
 use Rattle.treasury_laws.proofs.HistoryLemmas.{own_or, after_records, among-records, among-closed}
 
@@ -116,14 +117,14 @@ done_locked f (cmd.Close x) a name d is e h =
     let rs = closing_records x.day (closing_in f x.branch x.day x.choice) in
     locked_stays (changed (with_records rs) x.branch f.branches) x.day d x.branch name
     (ap (λ (o : Option Day). goes_back o x.day) (lock-entered rs f.branches x.branch x.branch) ∙ unlocked_forward
-    (lock_of f x.branch) x.day (shut f x a is e).unlocked)
+    (lock_of f x.branch) x.day (closing_shut f x a is e).unlocked)
     (ap (λ (o : Option Day). is_locked o d) (lock-entered rs f.branches x.branch name) ∙ h)
 
 after_locked : (f : Federation) (c : Command) (r : Result Answer Refusal) (name : List ℕ) (d : Day) → Replies f c r
     → is_locked (lock_of f name) d ≡ true → is_locked (lock_of (after f c r) name) d ≡ true
-after_locked f c (Ok Done) name d r h = done_locked f c Done name d tt (replied f c Done r) h
+after_locked f c (Ok Done) name d r h = done_locked f c Done name d tt (reply_if_Ok f c Done r) h
 after_locked f c (Ok (Entered new repeated)) name d r h =
-    done_locked f c (Entered new repeated) name d tt (replied f c (Entered new repeated) r) h
+    done_locked f c (Entered new repeated) name d tt (reply_if_Ok f c (Entered new repeated) r) h
 after_locked f c (Ok Repeated) name d r h = h
 after_locked f c (Err refusal) name d r h = h
 
@@ -191,9 +192,9 @@ added_nothing f (cmd.Dispatch d) a name day reach account unit is e h =
     ap (moved name day reach account unit)
     (append-nil (own_or (bytes_eq d.source name) (dispatch_record (transfer_of d) ∷ [])))
     ∙ own_nothing f d.source name (dispatch_record (transfer_of d) ∷ []) day reach account unit h
-    ((sent f d a is e).unlocked, tt)
+    ((dispatch_sent f d a is e).unlocked, tt)
 added_nothing f (cmd.Receive r) a name day reach account unit is e h =
-    let got = taken f r a is e in
+    let got = receipt_taken f r a is e in
     let x = receipt_record got.transfer (receipt_of got.transfer r) in
     subst (λ (o : Option Transfer).
     moved name day reach account unit (records_among name (receipt_additions r o)) ≡ pos 0) (sym got.found)
@@ -201,7 +202,7 @@ added_nothing f (cmd.Receive r) a name day reach account unit is e h =
     ∙ own_nothing f r.branch name (x ∷ []) day reach account unit h (got.unlocked, tt))
 added_nothing f (cmd.Lock other on) a name day reach account unit is e h = balance-nil reach account unit (Through day)
 added_nothing f (cmd.Close x) a name day reach account unit is e h =
-    let got = shut f x a is e in
+    let got = closing_shut f x a is e in
     let rs = closing_records x.day (closing_in f x.branch x.day x.choice) in
     ap (moved name day reach account unit) (among-closed x.branch x.day rs name)
     ∙ own_nothing f x.branch name rs day reach account unit h
@@ -216,9 +217,9 @@ delta_nothing : (f : Federation) (c : Command) (r : Result Answer Refusal) (name
     (account : List ℕ) (unit : Commodity) → Replies f c r → is_locked (lock_of f name) day ≡ true
     → balance reach (entries (records_among name (delta f c r))) account unit (Through day) ≡ pos 0
 delta_nothing f c (Ok Done) name day reach account unit r h =
-    added_nothing f c Done name day reach account unit tt (replied f c Done r) h
+    added_nothing f c Done name day reach account unit tt (reply_if_Ok f c Done r) h
 delta_nothing f c (Ok (Entered new repeated)) name day reach account unit r h =
-    added_nothing f c (Entered new repeated) name day reach account unit tt (replied f c (Entered new repeated) r) h
+    added_nothing f c (Entered new repeated) name day reach account unit tt (reply_if_Ok f c (Entered new repeated) r) h
 delta_nothing f c (Ok Repeated) name day reach account unit r h = balance-nil reach account unit (Through day)
 delta_nothing f c (Err refusal) name day reach account unit r h = balance-nil reach account unit (Through day)
 

@@ -39,7 +39,7 @@ use Rattle.treasury_core.specs.Step.{enter_refusal}
 use Rattle.treasury_core.specs.declared.command.Command.TheVariants.{Enter}
 use Rattle.treasury_core.proofs.FileLemmas.{length-new, length-records}
 use Rattle.treasury_core.proofs.JoinedLemmas.{with_none}
-use Rattle.treasury_core.proofs.ReplyLemmas.{accepted}
+use Rattle.treasury_core.proofs.ReplyLemmas.{file_accepted}
 use Rattle.treasury_laws.specs.History.{IsAmong, IsOwn, IsOwnJournal, AreAmong}
 use Rattle.treasury_laws.proofs.HistoryLemmas.{records-entered}
 
@@ -148,24 +148,24 @@ abbrev count_of : Result Answer Refusal → ℕ
 count_of (Ok a) = count_in a
 count_of (Err e) = 1
 
-counted : (new : List Record) (n repeated : ℕ) (t : Bool) (e : Refusal) (o : Option Refusal)
+entered_none_new : (new : List Record) (n repeated : ℕ) (t : Bool) (e : Refusal) (o : Option Refusal)
     → (if not t then Err e else answer_of new n o) ≡ Ok (Entered 0 repeated) → length new ≡ 0
-counted new n repeated true e None h = ap count_of h
-counted new n repeated true e (Some r) h = absurd cc
-counted new n repeated false e o h = absurd cc
+entered_none_new new n repeated true e None h = ap count_of h
+entered_none_new new n repeated true e (Some r) h = absurd cc
+entered_none_new new n repeated false e o h = absurd cc
 
-stays : (f : Federation) (name : List ℕ) (file : List Located) → new_records f name file ≡ []
+done_without_new : (f : Federation) (name : List ℕ) (file : List Located) → new_records f name file ≡ []
     → done f (cmd.Enter name file) ≡ f
 unfolding done
-stays f name file h = ap (λ (xs : List Record). with_entered f name xs) h ∙ with_none f name
+done_without_new f name file h = ap (λ (xs : List Record). with_entered f name xs) h ∙ with_none f name
 
 pub none_new_stays : (f : Federation) (name : List ℕ) (file : List Located) (repeated : ℕ)
     → reply f (cmd.Enter name file) ≡ Ok (Entered 0 repeated) → (step f (cmd.Enter name file)).next ≡ f
 unfolding reply
 none_new_stays f name file repeated h =
     ap (λ (r : Result Answer Refusal). after f (cmd.Enter name file) r) h
-    ∙ stays f name file (no_records (new_records f name file)
-    (counted (new_records f name file) (length file) repeated (has_branch f name) (Plain UnknownBranch)
+    ∙ done_without_new f name file (no_records (new_records f name file)
+    (entered_none_new (new_records f name file) (length file) repeated (has_branch f name) (Plain UnknownBranch)
     (enter_refusal f name file) h))
 
 -- what an accepted file counts
@@ -178,20 +178,20 @@ abbrev repeats_of : Result Answer Refusal → ℕ
 repeats_of (Ok a) = repeats_in a
 repeats_of (Err e) = 0
 
-counts : (new : List Record) (n m repeated : ℕ) (t : Bool) (e : Refusal) (o : Option Refusal)
+entered_counts : (new : List Record) (n m repeated : ℕ) (t : Bool) (e : Refusal) (o : Option Refusal)
     → (if not t then Err e else answer_of new n o) ≡ Ok (Entered m repeated)
     → (length new ≡ m) × (n - length new ≡ repeated)
-counts new n m repeated true e None h = (ap count_of h, ap repeats_of h)
-counts new n m repeated true e (Some r) h = absurd cc
-counts new n m repeated false e o h = absurd cc
+entered_counts new n m repeated true e None h = (ap count_of h, ap repeats_of h)
+entered_counts new n m repeated true e (Some r) h = absurd cc
+entered_counts new n m repeated false e o h = absurd cc
 
 pub accepted_counts : (f : Federation) (name : List ℕ) (file : List Located) (new repeated : ℕ)
     → reply f (cmd.Enter name file) ≡ Ok (Entered new repeated)
     → (length (new_records f name file) ≡ new) × (new + repeated ≡ length file)
 unfolding reply
 accepted_counts f name file new repeated h =
-    let counted_ = counts (new_records f name file) (length file) new repeated (has_branch f name) (Plain UnknownBranch)
-    (enter_refusal f name file) h in
+    let counted_ = entered_counts (new_records f name file) (length file) new repeated (has_branch f name)
+    (Plain UnknownBranch) (enter_refusal f name file) h in
     let few = length-new (records_of f name) (records_in_file f.styles file) in
     let all = length-records f.styles [] file in
     (counted_.0, omega (arith, counted_.0, counted_.1, few, all))
@@ -244,7 +244,7 @@ done_records : (f : Federation) (name : List ℕ) (file : List Located) (a : Ans
     → records_of (done f (Enter name file)) name ≡ records_of f name ++ new_records f name file
 unfolding done
 done_records f name file a h =
-    records-entered (new_records f name file) f.branches name name (accepted f name file a h).there
+    records-entered (new_records f name file) f.branches name name (file_accepted f name file a h).there
     ∙ ap (λ (t : Bool). records_of f name ++ (if t then new_records f name file else [])) (bytes_eq-refl name)
 
 pub entered_records : (f : Federation) (name : List ℕ) (file : List Located) (new repeated : ℕ)

@@ -34,13 +34,13 @@ use Rattle.treasury_state.specs.Transfer.{has_id}
 use Rattle.treasury_state.specs.Good.{IsGoodRecord, IsGoodTransfer, IsGoodState}
 use Rattle.treasury_state.specs.Rows.{truth, unit_row, branch_row, branch_rows_from, entry_row, entry_rows_from}
 use Rattle.treasury_state.specs.Rows.{entry_rows_in, transfer_row, part_row, part_rows, rows}
-use Rattle.treasury_state.proofs.RestLemmas.{numbered, heads, tails}
+use Rattle.treasury_state.proofs.RestLemmas.{numbered, same_heads, same_tails}
 use Rattle.treasury_state.proofs.UnitRowLemmas.{same_style}
 use Rattle.treasury_state.proofs.EntryRowLemmas.{IsBodyOf, ReadsRow, printable_unmarked, body_reads, record_only}
 use Rattle.treasury_state.proofs.BranchRowLemmas.{AreGood, own_rows, other_rows}
 use Rattle.treasury_state.proofs.AskedLemmas.{HaveOwnIds}
 use Rattle.treasury_state.proofs.OrderLemmas.{own_ids}
-use Rattle.treasury_state.proofs.TransferRowLemmas.{unnumbered, name_found}
+use Rattle.treasury_state.proofs.TransferRowLemmas.{numbered_const, name_found}
 use Rattle.treasury_state.proofs.PartRowLemmas.{IsOf, same_part, own_rows as part_own_rows}
 use Rattle.treasury_state.proofs.PartRowLemmas.{other_rows as part_other_rows}
 use Rattle.treasury_laws.proofs.JoinedLemmas.{good_records}
@@ -54,9 +54,9 @@ same_numbered g Q f n [] [] h k e = refl
 same_numbered g Q f n [] (y ∷ ys) h k e = absurd cc
 same_numbered g Q f n (x ∷ xs) [] h k e = absurd cc
 same_numbered g Q f n (x ∷ xs) (y ∷ ys) h k e =
-    let first = f n x y h.0 k.0 (heads (g n x) (g n y) (numbered g (n + 1) xs) (numbered g (n + 1) ys) e) in
+    let first = f n x y h.0 k.0 (same_heads (g n x) (g n y) (numbered g (n + 1) xs) (numbered g (n + 1) ys) e) in
     let others = same_numbered g Q f (n + 1) xs ys h.1 k.1
-    (tails (g n x) (g n y) (numbered g (n + 1) xs) (numbered g (n + 1) ys) e) in
+    (same_tails (g n x) (g n y) (numbered g (n + 1) xs) (numbered g (n + 1) ys) e) in
     ap (λ z. z ∷ xs) first ∙ ap (λ zs. y ∷ zs) others
 
 all_any : {X : Type 0} (xs : List X) → AllByRecursion (λ x. Unit {0}) xs
@@ -83,8 +83,8 @@ same_unit : (n : ℕ) (s t : Style) → Unit {0} → Unit {0} → unit_row n s �
 same_unit n s t h k e =
     same_style s t (ap (λ (r : UnitRow). r.symbol) e) (same_truth s.left t.left (ap (λ (r : UnitRow). r.leftside) e))
     (same_truth s.spaced t.spaced (ap (λ (r : UnitRow). r.spaced) e))
-    (same_mark s.mark t.mark (heads (decimal_byte s.mark) (decimal_byte t.mark) [] [] (ap (λ (r : UnitRow). r.mark) e)))
-    (same_pos s.decimals t.decimals (ap (λ (r : UnitRow). r.decimals) e))
+    (same_mark s.mark t.mark (same_heads (decimal_byte s.mark) (decimal_byte t.mark) [] []
+    (ap (λ (r : UnitRow). r.mark) e))) (same_pos s.decimals t.decimals (ap (λ (r : UnitRow). r.decimals) e))
     (same_truth s.grouped t.grouped (ap (λ (r : UnitRow). r.grouped) e))
 
 -- records
@@ -106,7 +106,7 @@ reads_of styles are b n s good =
       only = λ x p.
           let e = one_list styles text (located 1 x ∷ []) (located 1 own ∷ []) (body_reads styles are text x p)
           (body_reads styles are text own (body_of styles s good)) in
-          ap (λ (y : Located). y.txn) (heads (located 1 x) (located 1 own) [] [] e);
+          ap (λ (y : Located). y.txn) (same_heads (located 1 x) (located 1 own) [] [] e);
       mark = refl;
     }
 
@@ -127,8 +127,8 @@ same_split P [] b [] d h i j k e = (refl, e)
 same_split P [] b (y ∷ c) d h i j k e = absurd ((subst (AllByRecursion (λ r. P r → ⊥)) e i).0 j.0)
 same_split P (x ∷ a) b [] d h i j k e = absurd ((subst (AllByRecursion (λ r. P r → ⊥)) (sym e) k).0 h.0)
 same_split P (x ∷ a) b (y ∷ c) d h i j k e =
-    let rest = same_split P a b c d h.1 i j.1 k (tails x y (a ++ b) (c ++ d) e) in
-    (ap (λ z. z ∷ a) (heads x y (a ++ b) (c ++ d) e) ∙ ap (λ zs. y ∷ zs) rest.0, rest.1)
+    let rest = same_split P a b c d h.1 i j.1 k (same_tails x y (a ++ b) (c ++ d) e) in
+    (ap (λ z. z ∷ a) (same_heads x y (a ++ b) (c ++ d) e) ∙ ap (λ zs. y ∷ zs) rest.0, rest.1)
 
 same_lock : (o p : Option Day) → option_map (λ (d : Day). d.0) o ≡ option_map (λ (d : Day). d.0) p → o ≡ p
 same_lock None None e = refl
@@ -150,7 +150,8 @@ same_branches styles are n [] [] g h e f = refl
 same_branches styles are n [] (y ∷ cs) g h e f = absurd cc
 same_branches styles are n (x ∷ bs) [] g h e f = absurd cc
 same_branches styles are n (x ∷ bs) (y ∷ cs) g h e f =
-    let row = heads (branch_row n x) (branch_row n y) (branch_rows_from (n + 1) bs) (branch_rows_from (n + 1) cs) e in
+    let row = same_heads (branch_row n x) (branch_row n y) (branch_rows_from (n + 1) bs) (branch_rows_from (n + 1) cs)
+    e in
     let split = same_split (λ (r : EntryRow). r.branch ≡ pos n) (entry_rows_from styles n 1 x.records)
     (entry_rows_in styles (n + 1) bs) (entry_rows_from styles n 1 y.records) (entry_rows_in styles (n + 1) cs)
     (own_rows styles n 1 x.records) (other_rows styles n (n + 1) bs (omega arith)) (own_rows styles n 1 y.records)
@@ -160,7 +161,7 @@ same_branches styles are n (x ∷ bs) (y ∷ cs) g h e f =
     let first = same_branch x y (ap (λ (r : BranchRow). r.name) row)
     (same_lock x.locked y.locked (ap (λ (r : BranchRow). r.locked) row)) records in
     let others = same_branches styles are (n + 1) bs cs g.1 h.1
-    (tails (branch_row n x) (branch_row n y) (branch_rows_from (n + 1) bs) (branch_rows_from (n + 1) cs) e) split.1
+    (same_tails (branch_row n x) (branch_row n y) (branch_rows_from (n + 1) bs) (branch_rows_from (n + 1) cs) e) split.1
     in
     ap (λ z. z ∷ bs) first ∙ ap (λ zs. y ∷ zs) others
 
@@ -222,8 +223,9 @@ same_row bs t u h k e parts =
     parts
     (same_receipt t.receipt u.receipt (ap (λ (r : TransferRow). r.received) e) (ap (λ (r : TransferRow). r.payee) e))
 
-there : (bs : List Branch) (ts : List Transfer) → AllByRecursion (IsGoodTransfer bs) ts → AllByRecursion (IsThere bs) ts
-there bs ts h = all_weaker (IsGoodTransfer bs) (IsThere bs) ts (λ t k. (k.source, k.target)) h
+transfer_branches_there : (bs : List Branch) (ts : List Transfer) → AllByRecursion (IsGoodTransfer bs) ts
+    → AllByRecursion (IsThere bs) ts
+transfer_branches_there bs ts h = all_weaker (IsGoodTransfer bs) (IsThere bs) ts (λ t k. (k.source, k.target)) h
 
 -- the rows of parts at the front are those of the first transfer, and the others those of the next ones
 same_front : (id : List ℕ) (ps qs : List Part) (ts us : List Transfer) → list_any (has_id id) ts ≡ false
@@ -233,7 +235,7 @@ same_front id ps qs ts us h k e =
     let split = same_split (IsOf id) (map (part_row id) ps) (part_rows ts) (map (part_row id) qs) (part_rows us)
     (part_own_rows id ps) (part_other_rows id ts h) (part_own_rows id qs) (part_other_rows id us k) e in (
       same_numbered (λ (n : ℕ). part_row id) (λ p. Unit {0}) (λ n p q h k f. same_part id p q f) 0 ps qs (all_any ps)
-          (all_any qs) (unnumbered (part_row id) 0 ps ∙ (split.0 ∙ sym (unnumbered (part_row id) 0 qs))),
+          (all_any qs) (numbered_const (part_row id) 0 ps ∙ (split.0 ∙ sym (numbered_const (part_row id) 0 qs))),
       split.1,
     )
 
@@ -244,14 +246,15 @@ same_transfers bs [] [] h k m n e f = refl
 same_transfers bs [] (u ∷ us) h k m n e f = absurd cc
 same_transfers bs (t ∷ ts) [] h k m n e f = absurd cc
 same_transfers bs (t ∷ ts) (u ∷ us) h k m n e f =
-    let row = heads (transfer_row bs t) (transfer_row bs u) (map (transfer_row bs) ts) (map (transfer_row bs) us) e in
+    let row = same_heads (transfer_row bs t) (transfer_row bs u) (map (transfer_row bs) ts) (map (transfer_row bs) us)
+    e in
     let id : t.id ≡ u.id = ap (λ (r : TransferRow). r.id) row in
     let here : map (part_row t.id) t.parts ++ part_rows ts ≡ map (part_row t.id) u.parts ++ part_rows us =
     f ∙ ap (λ (k : List ℕ). map (part_row k) u.parts ++ part_rows us) (sym id) in
     let both = same_front t.id t.parts u.parts ts us m.0 (ap (λ (k : List ℕ). list_any (has_id k) us) id ∙ n.0) here in
     let first = same_row bs t u h.0 k.0 row both.0 in
     let others = same_transfers bs ts us h.1 k.1 m.1 n.1
-    (tails (transfer_row bs t) (transfer_row bs u) (map (transfer_row bs) ts) (map (transfer_row bs) us) e) both.1
+    (same_tails (transfer_row bs t) (transfer_row bs u) (map (transfer_row bs) ts) (map (transfer_row bs) us) e) both.1
     in
     ap (λ (x : Transfer). x ∷ ts) first ∙ ap (λ (xs : List Transfer). u ∷ xs) others
 
@@ -265,13 +268,13 @@ same_state f g good other e =
     let branches = same_branches g.styles other.styles 0 f.branches g.branches records (good_records g other)
     (ap (λ (p : Parts). p.branches) e) entered in
     let mine = subst (λ (bs : List Branch). AllByRecursion (IsThere bs) f.transfers) branches
-    (there f.branches f.transfers good.transfers) in
+    (transfer_branches_there f.branches f.transfers good.transfers) in
     let sent = subst (λ (bs : List Branch).
     map (transfer_row bs) f.transfers ≡ map (transfer_row g.branches) g.transfers) branches
     (ap (λ (p : Parts). p.transfers) e) in
     let transfers = same_transfers g.branches f.transfers g.transfers mine
-    (there g.branches g.transfers other.transfers) (own_ids f.transfers good.ids) (own_ids g.transfers other.ids)
-    sent (ap (λ (p : Parts). p.receipts) e) in
+    (transfer_branches_there g.branches g.transfers other.transfers) (own_ids f.transfers good.ids)
+    (own_ids g.transfers other.ids) sent (ap (λ (p : Parts). p.receipts) e) in
     ap (λ (x : List Style). let y : Federation =
     record { styles = x; branches = f.branches; transfers = f.transfers } in y) styles
     ∙ ap (λ (x : List Branch). let y : Federation =

@@ -10,14 +10,14 @@ use Rattle.sqlite.specs.Files.{file_state}
 use Rattle.treasury_memory.specs.declared.disk.MemoryDisk.{MemoryDisk}
 use Rattle.treasury_memory.specs.contracts.disk.MemoryDiskDisk.TheImpl.{ghosts}
 
-both : (a b : Bool) → IsTrue a → IsTrue b → IsTrue (a && b)
-both true b p q = q
-both false b p q = p
+IsTrue_and : (a b : Bool) → IsTrue a → IsTrue b → IsTrue (a && b)
+IsTrue_and true b p q = q
+IsTrue_and false b p q = p
 
 always_clean : {D : Type 0} {g : Ghosts D} → ((disk : D) → IsTrue (g.is_clean disk)) → (conn : Held (FileStore D g))
     → HasCleanDisk (file_state conn)
 unfolding state
-always_clean right conn = no_doubt _ (both _ _ (right _) (right _))
+always_clean right conn = no_doubt _ (IsTrue_and _ _ (right _) (right _))
 
 -- so each clause that stands under `HasCleanDisk` holds outright
 pub memory_is_clean : (conn : Held (FileStore MemoryDisk ghosts)) → HasCleanDisk (file_state conn)

@@ -22,7 +22,7 @@ use Rattle.treasury_state.specs.Transfer.{transit_account, open_amount}
 use Rattle.treasury_state.specs.Good.{IsGoodState}
 use Rattle.treasury_state.specs.Fair.{IsFair}
 use Rattle.treasury_state.proofs.FairLemmas.{all_fair, names_good, adds_up_named}
-use Rattle.treasury_state.proofs.OpenLemmas.{unknown, good_book, open_amount-self}
+use Rattle.treasury_state.proofs.OpenLemmas.{open_amount_unknown, good_book, open_amount-self}
 use Rattle.treasury_state.proofs.WayLemmas.{open_sum_low}
 
 -- what counts, twice, less all that is of the commodity
@@ -102,9 +102,9 @@ apart_small : (f : Federation) (from to : List ℕ) (unit : Commodity) (day : Da
     → has_branch f from ≡ a → has_branch f to ≡ b → bytes_eq from to ≡ false
     → open_amount f.transfers from to unit day ≤ℤ pos 10000000000000000
 apart_small f from to unit day false b good h k e =
-    nothing _ (unknown f.transfers f.branches from to unit day good.transfers (rw h refl))
+    nothing _ (open_amount_unknown f.transfers f.branches from to unit day good.transfers (rw h refl))
 apart_small f from to unit day true false good h k e =
-    nothing _ (unknown f.transfers f.branches from to unit day good.transfers (rw (h, k) refl))
+    nothing _ (open_amount_unknown f.transfers f.branches from to unit day good.transfers (rw (h, k) refl))
 apart_small f from to unit day true true good h k e =
     two_halves _ _ _ (adds_up_named f from to good h k e unit day)
     (half_balance (book_of f from) (transit_account from to) unit day (good_book f from good))

@@ -19,7 +19,7 @@ use Rattle.treasury_state.specs.declared.rows.EntryRow.{EntryRow}
 use Rattle.treasury_state.specs.Federation.{Branch}
 use Rattle.treasury_state.specs.Good.{IsGoodRecord, IsShort}
 use Rattle.treasury_state.specs.Rows.{branch_row, branch_rows_from, entry_rows_from, entry_rows_in}
-use Rattle.treasury_state.proofs.RestLemmas.{heads, tails}
+use Rattle.treasury_state.proofs.RestLemmas.{same_heads, same_tails}
 use Rattle.treasury_state.proofs.BranchRowLemmas.{own_rows, other_rows}
 use Rattle.treasury_rows.specs.Drafted.{IsFault, IsKeepable}
 use Rattle.treasury_rows.proofs.DraftLemmas.{fault_of, all_middle}
@@ -54,7 +54,7 @@ pub stops_here : {T : Type 0} (P : T → Type 0) (rows : List T) (i : ℕ) (row 
     → row ≡ get_or rows i row → (P row → ⊥)
     → (y : T) (ys : List T) → drop i rows ≡ y ∷ ys → P y → ⊥
 stops_here P rows i row h is n y ys e p =
-    n (subst P (sym (heads row y (drop (i + 1) rows) ys (sym (drop_at rows i row h is) ∙ e))) p)
+    n (subst P (sym (same_heads row y (drop (i + 1) rows) ys (sym (drop_at rows i row h is) ∙ e))) p)
 
 pub stops_behind : {T : Type 0} (P : T → Type 0) (rows : List T) (i : ℕ) → length rows ≤ i → (y : T) (ys : List T)
     → drop i rows ≡ y ∷ ys → P y → ⊥
@@ -150,11 +150,11 @@ branch_at styles n count done bs (x ∷ rest) row rows left counts kept split na
       here = (
         all_middle (IsKeepable styles) done bs rest x kept split,
         (
-          heads (branch_row n x) row (branch_rows_from (n + 1) rest) rows named,
+          same_heads (branch_row n x) row (branch_rows_from (n + 1) rest) rows named,
           sym (ap (λ (k : ℕ). take k left) size ∙ (ap (take (length own)) whole ∙ take_front own others)),
         ),
       );
-      named = tails (branch_row n x) row (branch_rows_from (n + 1) rest) rows named;
+      named = same_tails (branch_row n x) row (branch_rows_from (n + 1) rest) rows named;
       entered = sym (ap (λ (k : ℕ). drop k left) size ∙ (ap (drop (length own)) whole ∙ drop_front own others));
     }
 

@@ -7,7 +7,7 @@ use Rattle.std.specs.List.{AllByRecursion}
 use Rattle.std.proofs.lemmas.List.{drop_all, length_push, take_more}
 use Rattle.money_core.specs.declared.cause.Cause.{Cause}
 use Rattle.money_core.proofs.ListLemmas.{drop_at}
-use Rattle.treasury_state.proofs.RestLemmas.{numbered, heads, tails}
+use Rattle.treasury_state.proofs.RestLemmas.{numbered, same_heads, same_tails}
 use Rattle.treasury_rows.specs.Drafted.{IsFault}
 
 -- a fault of a part is one of the whole
@@ -17,9 +17,10 @@ fault_of P Q e f (inl h) = inl h
 fault_of P Q e f (inr h) = inr (h.0, λ x p. let y = f x p in h.1 y.0 y.1)
 
 -- what the exit of a `?` returns
-pub exit : {X : Type 0} (A : X → Type 0) (F : Cause → Type 0) (r : Result X Cause) (e : Cause) → IsErrAnd r (λ y. y ≡ e)
-    → F e → MatchResult r A F
-exit A F r e h f = let p = err_from_is_err_and r h in subst (λ x. MatchResult x A F) (sym p.1) (subst F (sym p.2) f)
+pub exit_on_error : {X : Type 0} (A : X → Type 0) (F : Cause → Type 0) (r : Result X Cause) (e : Cause)
+    → IsErrAnd r (λ y. y ≡ e) → F e → MatchResult r A F
+exit_on_error A F r e h f =
+    let p = err_from_is_err_and r h in subst (λ x. MatchResult x A F) (sym p.1) (subst F (sym p.2) f)
 
 -- a list is what was read, and a rest with the rows that are left
 pub record Rest {X Y : Type 0} (g : ℕ → X → Y) (n : ℕ) (done xs : List X) (left : List Y) : Type 0 where
@@ -51,8 +52,8 @@ next_at g n done xs (x ∷ rest) row left s e = record {
   item = x;
   rest = rest;
   split = s;
-  here = heads (g n x) row (numbered g (n + 1) rest) left e;
-  later = tails (g n x) row (numbered g (n + 1) rest) left e;
+  here = same_heads (g n x) row (numbered g (n + 1) rest) left e;
+  later = same_tails (g n x) row (numbered g (n + 1) rest) left e;
 }
 
 pub front_item : {X Y : Type 0} (g : ℕ → X → Y) (P : List X → Type 0) (first : ℕ) (rows : List Y) (n i : ℕ)

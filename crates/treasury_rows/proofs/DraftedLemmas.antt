@@ -31,8 +31,8 @@ OnlyBranches parts styles bs = (xs : List Branch) → HaveRows styles parts.bran
 abbrev pub OnlyTransfers : Parts → List Branch → List Transfer → Type 0
 OnlyTransfers parts bs ts = (xs : List Transfer) → AreSent bs parts.transfers parts.receipts xs → xs ≡ ts
 
-keepable : (f : Federation) → IsGoodState f → AllByRecursion (IsKeepable f.styles) f.branches
-keepable f good = all_weaker (IsGoodBranch f.styles) (IsKeepable f.styles) f.branches
+branches_keepable : (f : Federation) → IsGoodState f → AllByRecursion (IsKeepable f.styles) f.branches
+branches_keepable f good = all_weaker (IsGoodBranch f.styles) (IsKeepable f.styles) f.branches
     (λ b h. record { short = h.short; records = h.records }) good.branches
 
 pub state_styles : (parts : Parts) (f : Federation) → IsGoodState f → rows f ≡ parts
@@ -43,7 +43,7 @@ pub state_branches : (parts : Parts) (styles : List Style) (f : Federation) → 
     → f.styles ≡ styles → HaveRows styles parts.branches parts.entries f.branches
 state_branches parts styles f good e s =
     subst (λ (ss : List Style). HaveRows ss parts.branches parts.entries f.branches) s
-    (keepable f good, (ap (λ (p : Parts). p.branches) e, ap (λ (p : Parts). p.entries) e))
+    (branches_keepable f good, (ap (λ (p : Parts). p.branches) e, ap (λ (p : Parts). p.entries) e))
 
 pub state_transfers : (parts : Parts) (bs : List Branch) (f : Federation) → IsGoodState f → rows f ≡ parts
     → f.branches ≡ bs → AreSent bs parts.transfers parts.receipts f.transfers

@@ -15,7 +15,8 @@ use Rattle.treasury_state.specs.declared.record.Record.{Record}
 use Rattle.treasury_state.specs.declared.rows.EntryRow.{EntryRow}
 use Rattle.treasury_state.specs.Good.{IsGoodRecord}
 use Rattle.treasury_state.specs.Rows.{entry_row}
-use Rattle.treasury_state.proofs.EntryRowLemmas.{IsOnly, IsBodyOf, body_reads, IsEntryRow, unmarked, ReadsRow, row_txn}
+use Rattle.treasury_state.proofs.EntryRowLemmas.{IsOnly, IsBodyOf, body_reads, IsEntryRow, body_is_unmarked, ReadsRow}
+use Rattle.treasury_state.proofs.EntryRowLemmas.{row_txn}
 use Rattle.treasury_state.proofs.EntryRowLemmas.{row_legs}
 use Rattle.treasury_rows.specs.Drafted.{IsFault}
 use Rattle.treasury_rows.proofs.DraftLemmas.{fault_of}
@@ -50,7 +51,7 @@ pub record_fault : (styles : List Style) (branch nr : ℕ) (row : EntryRow) (tex
     → IsFault (IsBodyOf styles text) e → IsFault (IsEntryRow styles branch nr row) e
 record_fault styles branch nr row text e same h =
     fault_of (IsEntryRow styles branch nr row) (IsBodyOf styles text) e
-    (λ r p. (marked r.txn None, unmarked styles branch nr row text same r p)) h
+    (λ r p. (marked r.txn None, body_is_unmarked styles branch nr row text same r p)) h
 
 pub bad_mark : (styles : List Style) (branch nr : ℕ) (row : EntryRow) (t : Txn) (own : List ℕ)
     → ReadsRow styles row t own → is_mark own ≡ false → IsFault (IsEntryRow styles branch nr row) Damaged

@@ -32,9 +32,9 @@ use Rattle.treasury_state.proofs.NotLemmas.{transfer_small}
 use Rattle.treasury_state.proofs.EachFoundLemmas.{all_found}
 
 -- ---- transfers in order, two by two
-pub ascends : (a b : Transfer) (ts : List Transfer) → is_before b.id a ≡ true → AreAscending (b ∷ ts)
+pub AreAscending-cons : (a b : Transfer) (ts : List Transfer) → is_before b.id a ≡ true → AreAscending (b ∷ ts)
     → AreAscending (a ∷ b ∷ ts)
-ascends a b ts e h = let less = is_less (name_cmp a.id b.id) e in ((less, all_after a.id b.id ts less h.0), h)
+AreAscending-cons a b ts e h = let less = is_less (name_cmp a.id b.id) e in ((less, all_after a.id b.id ts less h.0), h)
 
 -- from one place on, and from the next
 pub ascends_next : (ts : List Transfer) (i : ℕ) (a b : Transfer) → 1 ≤ i → i < length ts → a ≡ get_or ts (i - 1) a
@@ -50,7 +50,7 @@ ascends_next ts i a b low high ea eb e h =
     let two : drop (i - 1) ts ≡ a ∷ b ∷ rest =
     drop-cons ts (i - 1) a before ∙ (ap (λ (x : Transfer). x ∷ drop (suc (i - 1)) ts) (sym ea)
     ∙ (ap (λ (n : ℕ). a ∷ drop n ts) (back ∙ sym next) ∙ ap (λ (xs : List Transfer). a ∷ xs) one)) in (
-      λ k. h.0 (subst AreAscending (sym two) (ascends a b rest e (subst AreAscending one k))),
+      λ k. h.0 (subst AreAscending (sym two) (AreAscending-cons a b rest e (subst AreAscending one k))),
       λ k.
           subst AreAscending (sym one) (subst AreAscending two (h.1 k)).1,
     )
@@ -108,11 +108,11 @@ own_front (x ∷ xs) ys r h =
     ap (λ (b : Bool). cond b (Some x) (held xs r.mark)) (other_bytes r.mark x.mark (none_among xs ys r x.mark h.0)) ∙
     own_front xs ys r h.1
 
-unplaced : (rs : List Record) (m : List ℕ) (k : ℕ) → held rs m ≡ None → position_from (has_mark m) k rs ≡ None
-unplaced [] m k e = refl
-unplaced (r ∷ rs) m k e =
+position_of_unheld : (rs : List Record) (m : List ℕ) (k : ℕ) → held rs m ≡ None → position_from (has_mark m) k rs ≡ None
+position_of_unheld [] m k e = refl
+position_of_unheld (r ∷ rs) m k e =
     let n = none_tail r (held rs m) (bytes_eq r.mark m) e in
-    ap (λ (b : Bool). cond b (Some k) (position_from (has_mark m) (k + 1) rs)) n.0 ∙ unplaced rs m (k + 1) n.1
+    ap (λ (b : Bool). cond b (Some k) (position_from (has_mark m) (k + 1) rs)) n.0 ∙ position_of_unheld rs m (k + 1) n.1
 
 rest_is : (rs : List Record) (i : ℕ) (r : Record) → i < length rs → r ≡ get_or rs i r
     → rs ≡ take i rs ++ r ∷ drop (suc i) rs
@@ -126,7 +126,7 @@ front_is rs i r h e = take_more rs i r h ∙ ap (λ (x : Record). take i rs ++ x
 -- the mark of a record that stands after others is not theirs
 pub own_place : (rs : List Record) (i : ℕ) (r : Record) → i < length rs → r ≡ get_or rs i r → HaveOwnMarks rs
     → position_from (has_mark r.mark) 0 (take i rs) ≡ None
-own_place rs i r h e own = unplaced (take i rs) r.mark 0
+own_place rs i r h e own = position_of_unheld (take i rs) r.mark 0
     (own_front (take i rs) (drop (suc i) rs) r (subst HaveOwnMarks (rest_is rs i r h e) own))
 
 pub own_more : (rs : List Record) (i : ℕ) (r : Record) → i < length rs → r ≡ get_or rs i r → HaveOwnMarks (take i rs)
@@ -168,10 +168,10 @@ good_of f styles few names ids transfers whole = record {
       f.branches (λ b h. h.1) whole;
 }
 
-both : (P Q : Branch → Type 0) (bs : List Branch) → AllByRecursion P bs → AllByRecursion Q bs
+all_of_both : (P Q : Branch → Type 0) (bs : List Branch) → AllByRecursion P bs → AllByRecursion Q bs
     → AllByRecursion (λ (b : Branch). P b × Q b) bs
-both P Q [] h k = tt
-both P Q (b ∷ bs) h k = ((h.0, k.0), both P Q bs h.1 k.1)
+all_of_both P Q [] h k = tt
+all_of_both P Q (b ∷ bs) h k = ((h.0, k.0), all_of_both P Q bs h.1 k.1)
 
 pub whole_of : (f : Federation) → IsGoodState f → AreWhole f
-whole_of f good = both (IsGoodBranch f.styles) (IsCarried f.transfers) f.branches good.branches good.carried
+whole_of f good = all_of_both (IsGoodBranch f.styles) (IsCarried f.transfers) f.branches good.branches good.carried

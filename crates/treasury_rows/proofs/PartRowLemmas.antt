@@ -12,7 +12,7 @@ use Rattle.treasury_state.specs.declared.transfer.Transfer.{Transfer}
 use Rattle.treasury_state.specs.Federation.{Branch}
 use Rattle.treasury_state.specs.Good.{AreAscending}
 use Rattle.treasury_state.specs.Rows.{transfer_row, part_row, part_rows}
-use Rattle.treasury_state.proofs.RestLemmas.{heads, tails}
+use Rattle.treasury_state.proofs.RestLemmas.{same_heads, same_tails}
 use Rattle.treasury_state.proofs.OrderLemmas.{none_like}
 use Rattle.treasury_state.proofs.PartRowLemmas.{IsOf, IsOfOther, own_rows, other_rows}
 use Rattle.treasury_rows.specs.Drafted.{IsFault, IsNamed}
@@ -69,7 +69,7 @@ transfer_at : (bs : List Branch) (count : ℕ) (done ts rest : List Transfer) (r
     → map (transfer_row bs) rest ≡ row ∷ rows → part_rows rest ≡ left → TransferNext bs count done ts row rows left
 transfer_at bs count done ts [] row rows left counts named order split sent received = absurd cc
 transfer_at bs count done ts (x ∷ rest) row rows left counts named order split sent received =
-    let same : transfer_row bs x ≡ row = heads (transfer_row bs x) row (map (transfer_row bs) rest) rows sent in
+    let same : transfer_row bs x ≡ row = same_heads (transfer_row bs x) row (map (transfer_row bs) rest) rows sent in
     let id : x.id ≡ row.id = ap (λ (r : TransferRow). r.id) same in
     let own = map (part_row x.id) x.parts in
     let others = part_rows rest in
@@ -91,7 +91,7 @@ transfer_at bs count done ts (x ∷ rest) row rows left counts named order split
               (ap (λ (k : ℕ). take k left) size ∙ (ap (take (length own)) whole ∙ take_front own others)),
         ),
       );
-      sent = tails (transfer_row bs x) row (map (transfer_row bs) rest) rows sent;
+      sent = same_tails (transfer_row bs x) row (map (transfer_row bs) rest) rows sent;
       received = sym (ap (λ (k : ℕ). drop k left) size ∙ (ap (drop (length own)) whole ∙ drop_front own others));
     }
 

@@ -21,7 +21,7 @@ use Rattle.treasury_state.specs.declared.rows.Parts.{Parts}
 use Rattle.treasury_state.specs.Federation.{Branch, Federation, name_place}
 use Rattle.treasury_state.specs.Rows.{unit_rows, branch_rows_from, entry_rows_in}
 use Rattle.treasury_state.specs.Rows.{leg_rows_in, claim_rows_in, transfer_row, part_rows, rows}
-use Rattle.treasury_state.proofs.RestLemmas.{numbered, heads, tails}
+use Rattle.treasury_state.proofs.RestLemmas.{numbered, same_heads, same_tails}
 use Rattle.treasury_rows.specs.Drafted.{record_rows_from, record_rows_in}
 
 -- a test's answer
@@ -52,7 +52,7 @@ walk_next g first n i xs ys x y h is k at same walk =
     let back = drop_at ys i y k at in (
       λ e. walk.0 (ap (numbered g n) front ∙
           (ap (λ z. z ∷ numbered g (n + 1) (drop (i + 1) xs)) same ∙ (ap (λ zs. y ∷ zs) e ∙ sym back))),
-      λ e. tails (g n x) y (numbered g (n + 1) (drop (i + 1) xs)) (drop (i + 1) ys)
+      λ e. same_tails (g n x) y (numbered g (n + 1) (drop (i + 1) xs)) (drop (i + 1) ys)
           (sym (ap (numbered g n) front) ∙ (walk.1 e ∙ back)),
     )
 
@@ -60,7 +60,7 @@ pub walk_stop : {X Y : Type 0} (g : ℕ → X → Y) (first n i : ℕ) (xs : Lis
     → i < length xs → x ≡ get_or xs i x → i < length ys → y ≡ get_or ys i y → (g n x ≡ y → ⊥)
     → Walk g first n i xs ys → numbered g first xs ≡ ys → ⊥
 walk_stop g first n i xs ys x y h is k at other walk e =
-    other (heads (g n x) y (numbered g (n + 1) (drop (i + 1) xs)) (drop (i + 1) ys)
+    other (same_heads (g n x) y (numbered g (n + 1) (drop (i + 1) xs)) (drop (i + 1) ys)
     (sym (ap (numbered g n) (drop_at xs i x h is)) ∙ (walk.1 e ∙ drop_at ys i y k at)))
 
 pub walk_end : {X Y : Type 0} (g : ℕ → X → Y) (first n i : ℕ) (xs : List X) (ys : List Y) → length xs ≤ i
@@ -70,7 +70,7 @@ walk_end g first n i xs ys h k walk = walk.0 (ap (numbered g n) (drop_all i xs h
 -- lists that begin with the rows of records
 pub append_same : {T : Type 0} (own a b : List T) → own ++ a ≡ own ++ b → a ≡ b
 append_same [] a b e = e
-append_same (x ∷ own) a b e = append_same own a b (tails x x (own ++ a) (own ++ b) e)
+append_same (x ∷ own) a b e = append_same own a b (same_tails x x (own ++ a) (own ++ b) e)
 
 -- what more stands after all rows stands after those of the records that are left
 abbrev pub Behind : {T : Type 0} → (ℕ → Record → List T) → ℕ → ℕ → List Record → List T → List T → Type 0

@@ -26,7 +26,7 @@ use Rattle.treasury_state.specs.Transfer.{posting, transit_account}
 use Rattle.treasury_state.specs.Good.{IsGoodRecord, IsGoodTransfer, IsGoodState, IsShort}
 use Rattle.treasury_state.proofs.AskedLemmas.{HaveOwnIds}
 use Rattle.treasury_state.proofs.DispatchLemmas.{IsWhole, all_whole, dispatch_written}
-use Rattle.treasury_state.proofs.FairLemmas.{found}
+use Rattle.treasury_state.proofs.FairLemmas.{branch_found}
 use Rattle.treasury_state.proofs.HolderLemmas.{held_all}
 use Rattle.treasury_state.proofs.RecordLemmas.{short_day}
 use Rattle.treasury_state.proofs.OrderLemmas.{own_ids}
@@ -114,7 +114,7 @@ receipts_written : (f : Federation) (t : Transfer) → IsGoodState f → find (h
     → IsGoodTransfer f.branches t
     → AllByRecursion (λ (p : Part). IsGoodRecord f.styles (receipt_record t p)) (receipts_of t)
 receipts_written f t good here fair =
-    let b = found (IsWhole f.styles f.transfers) f.branches t.target
+    let b = branch_found (IsWhole f.styles f.transfers) f.branches t.target
     (all_whole f.styles f.transfers f.branches good.branches good.carried) fair.target in
     let P = IsGoodRecord f.styles in
     let each : AllByRecursion P (asked f.transfers b.branch.name) =

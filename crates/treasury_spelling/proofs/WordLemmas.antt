@@ -37,17 +37,17 @@ only_place app words is none =
     (ap (λ a. fault_of a words) (sym is) ∙ none (ap is_simple_and_free is ∙ known_is_simple))
 
 -- what clap takes, and names one place, is taken
-pub taken : (app : App) (words : List (List ℕ)) (m : ArgMatches) → app ≡ known
+pub words_taken : (app : App) (words : List (List ℕ)) (m : ArgMatches) → app ≡ known
     → (is_simple_and_free app ≡ true → fault_of app words ≡ []) → named words ≡ subcommand_rows_of m
     → [] ≡ place_objections (subcommand_rows_of m) → AreTaken words
-taken app words m is none met placed =
+words_taken app words m is none met placed =
     only_place app words is none ∙ (ap place_objections met ∙ sym placed)
 
 -- what clap takes, and names no place or two, is objected to by that
-pub misplaced : (app : App) (words : List (List ℕ)) (m : ArgMatches) (kind : ErrorKind) → app ≡ known
+pub words_misplaced : (app : App) (words : List (List ℕ)) (m : ArgMatches) (kind : ErrorKind) → app ≡ known
     → (is_simple_and_free app ≡ true → fault_of app words ≡ []) → named words ≡ subcommand_rows_of m
     → kind ∷ [] ≡ place_objections (subcommand_rows_of m) → objections words ≡ kind ∷ []
-misplaced app words m kind is none met placed =
+words_misplaced app words m kind is none met placed =
     only_place app words is none ∙ (ap place_objections met ∙ sym placed)
 
 pub misplaced_fails : (words : List (List ℕ)) (kind : ErrorKind) (error : Error) → objections words ≡ kind ∷ []
@@ -60,10 +60,10 @@ among_first : (kind : ErrorKind) (kinds rest : Kinds) → IsAmong kind kinds →
 among_first kind [] rest among = absurd among
 among_first kind (x ∷ xs) rest among = among
 
-objected : (kind : ErrorKind) (words : List (List ℕ)) → IsAmong kind (fault_of known words)
+words_objected : (kind : ErrorKind) (words : List (List ℕ)) → IsAmong kind (fault_of known words)
     → IsAmong kind (objections words)
 unfolding objections
-objected kind words among = among_first kind (fault_of known words) (place_objections (named words)) among
+words_objected kind words among = among_first kind (fault_of known words) (place_objections (named words)) among
 
 -- words that clap does not take fail for want of memory, or by one of the objections to them
 pub fails_by : (app : App) (words : List (List ℕ)) (kind : ErrorKind) → app ≡ known
@@ -73,7 +73,7 @@ fails_by app words kind is fails = widened (fails (ap is_simple_and_free is ∙ 
   widened : (kind ≡ OutOfMemory) ⊎ IsAmong kind (fault_of app words)
       → (kind ≡ OutOfMemory) ⊎ IsAmong kind (objections words)
   widened (inl memory) = inl memory
-  widened (inr among) = inr (objected kind words (subst (λ a. IsAmong kind (fault_of a words)) is among))
+  widened (inr among) = inr (words_objected kind words (subst (λ a. IsAmong kind (fault_of a words)) is among))
 
 -- words that are taken fail only for want of memory
 pub taken_fails : (words : List (List ℕ)) (kind : ErrorKind) → (kind ≡ OutOfMemory) ⊎ IsAmong kind (objections words)

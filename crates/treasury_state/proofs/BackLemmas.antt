@@ -27,7 +27,7 @@ use Rattle.treasury_state.specs.Federation.{Branch, Federation, entries}
 use Rattle.treasury_state.specs.Joined.{new_branch, with_records, with_lock, changed, joined_one, joined}
 use Rattle.treasury_state.specs.Good.{IsGoodBranch, IsGoodState}
 use Rattle.treasury_state.specs.Room.{HasRoom, IsRoomy}
-use Rattle.treasury_state.proofs.OrderLemmas.{uninserted, unreceived}
+use Rattle.treasury_state.proofs.OrderLemmas.{ascending_before_insert, ascending_before_receipt}
 use Rattle.treasury_state.proofs.EntriesLemmas.{entries-append}
 
 -- the front of styles
@@ -127,9 +127,9 @@ room_one f (add.Record name r) h =
       ids = h.ids;
     }
 room_one f (add.Dispatched t) h =
-    record { styles = h.styles; branches = h.branches; ids = uninserted t f.transfers h.ids }
+    record { styles = h.styles; branches = h.branches; ids = ascending_before_insert t f.transfers h.ids }
 room_one f (add.Received id p) h =
-    record { styles = h.styles; branches = h.branches; ids = unreceived id p f.transfers h.ids }
+    record { styles = h.styles; branches = h.branches; ids = ascending_before_receipt id p f.transfers h.ids }
 room_one f (add.Locked name day) h =
     record {
       styles = h.styles;
@@ -160,12 +160,12 @@ abbrev new_style : List Style → Result Declared Cause
 new_style styles = Ok (New (record { 0 = length styles }))
 
 -- what declaring such a style answers
-pub declares : (styles new : List Style) (style : Style) (r : Result Declared Cause) (x : Declared)
+pub declare_appends : (styles new : List Style) (style : Style) (r : Result Declared Cause) (x : Declared)
     → AreStyles (styles ++ style ∷ []) → (r ≡ declared styles style) ⊎ (r ≡ Err OutOfMemory) → r ≡ Ok x
     → new ≡ after styles style r
     → new ≡ styles ++ style ∷ []
-declares styles new style r x are (inl e) k h = h ∙ ap (after styles style) (e ∙ last_new styles style are)
-declares styles new style r x are (inr e) k h = absurd (let m : Ok x ≡ no_memory = sym k ∙ e in cc)
+declare_appends styles new style r x are (inl e) k h = h ∙ ap (after styles style) (e ∙ last_new styles style are)
+declare_appends styles new style r x are (inr e) k h = absurd (let m : Ok x ≡ no_memory = sym k ∙ e in cc)
 
 abbrev cause_in : Cause → Result Declared Cause → Cause
 cause_in d (Ok x) = d

@@ -17,7 +17,7 @@ use Rattle.treasury_state.specs.Good.{AreAscending, IsCarried}
 use Rattle.treasury_state.specs.Fair.{IsMarked}
 use Rattle.treasury_state.proofs.HeldLemmas.{not_held}
 use Rattle.treasury_state.proofs.LookupLemmas.{first_held}
-use Rattle.treasury_state.proofs.HolderLemmas.{held_all, unheld}
+use Rattle.treasury_state.proofs.HolderLemmas.{held_all, is_held_if_None}
 use Rattle.treasury_state.proofs.AskedLemmas.{asked_own}
 use Rattle.treasury_state.proofs.OrderLemmas.{own_ids}
 use Rattle.treasury_state.proofs.FilterLemmas.{held-filter}
@@ -133,7 +133,7 @@ none_by_row rs rows m (Some x) e of none are =
     at in
     let same = mark_is rs m x e in
     absurd (let k : true ≡ false = sym (here (ap is_transfer_mark same ∙ of)) ∙
-    (ap (is_held rows) same ∙ unheld rows m none) in cc)
+    (ap (is_held rows) same ∙ is_held_if_None rows m none) in cc)
 
 by_row : (rs rows : List Record) (m : List ℕ) (o : Option Record) → held rows m ≡ o → is_transfer_mark m ≡ true
     → Stand rs rows → AreAsked rows rs → held rs m ≡ o
@@ -158,7 +158,7 @@ asked_by : (rs rows : List Record) (r : Record) (t : Bool) → AreAlike rs rows 
 asked_by rs rows r true same h of e = refl
 asked_by rs rows r false same h of e =
     let none : held rs r.mark ≡ None = sym (held-filter rs r.mark of) ∙ (same r.mark ∙ not_held rows r.mark e) in
-    let k : true ≡ false = sym h ∙ unheld rs r.mark none in
+    let k : true ≡ false = sym h ∙ is_held_if_None rs r.mark none in
     absurd cc
 
 asked_back : (rs rows : List Record) → AreAlike rs rows → AreAsked rows rs

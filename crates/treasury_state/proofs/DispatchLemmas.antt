@@ -15,7 +15,7 @@ use Rattle.treasury_state.specs.Good.{IsGoodRecord, IsGoodBranch, IsGoodTransfer
 use Rattle.treasury_state.proofs.LookupLemmas.{first_held}
 use Rattle.treasury_state.proofs.SkipLemmas.{same_transfer, pass_out}
 use Rattle.treasury_state.proofs.CarriedLemmas.{carried_agree}
-use Rattle.treasury_state.proofs.FairLemmas.{found}
+use Rattle.treasury_state.proofs.FairLemmas.{branch_found}
 
 -- a branch that is good and carries what transfers ask for
 pub record IsWhole (styles : List Style) (ts : List Transfer) (b : Branch) : Type 0 where
@@ -69,7 +69,7 @@ held_holds P m r (x ∷ xs) e h =
 pub dispatch_written : (f : Federation) (t : Transfer) → IsGoodState f → find (has_id t.id) f.transfers ≡ Some t
     → IsGoodTransfer f.branches t → IsGoodRecord f.styles (dispatch_record t)
 dispatch_written f t good here fair =
-    let b = found (IsWhole f.styles f.transfers) f.branches t.source
+    let b = branch_found (IsWhole f.styles f.transfers) f.branches t.source
     (all_whole f.styles f.transfers f.branches good.branches good.carried) fair.source in
     let at : held (filter is_of_transfer b.branch.records) (out_mark t) ≡ Some (dispatch_record t) =
     carried_agree f.transfers b.branch b.holds.carried (out_mark t)

@@ -45,9 +45,9 @@ printable_unmarked styles t p = record {
   small = p.small;
 }
 
-pub unmarked : (styles : List Style) (branch nr : ℕ) (row : EntryRow) (text : List ℕ) → text ≡ row.body → (r : Record)
-    → IsEntryRow styles branch nr row r → IsBodyOf styles text (marked r.txn None)
-unmarked styles branch nr row text e r p =
+pub body_is_unmarked : (styles : List Style) (branch nr : ℕ) (row : EntryRow) (text : List ℕ) → text ≡ row.body
+    → (r : Record) → IsEntryRow styles branch nr row r → IsBodyOf styles text (marked r.txn None)
+body_is_unmarked styles branch nr row text e r p =
     (printable_unmarked styles r.txn p.0.printable, (refl, ap (λ (x : EntryRow). x.body) p.1 ∙ sym e))
 
 -- what is known once the body is read, and the mark copied
@@ -64,7 +64,7 @@ row_txn styles branch nr row t own h r p =
     let mark : r.mark ≡ own = ap (λ (x : EntryRow). x.mark) p.1 ∙ sym h.mark in
     set
     ∙ ap (λ (x : Txn). marked x (Some r.mark))
-    (h.only (marked r.txn None) (unmarked styles branch nr row h.text h.body r p))
+    (h.only (marked r.txn None) (body_is_unmarked styles branch nr row h.text h.body r p))
     ∙ ap (λ (m : List ℕ). marked t (Some m)) mark
 
 pub row_legs : (styles : List Style) (branch nr : ℕ) (row : EntryRow) (t : Txn) (own : List ℕ)

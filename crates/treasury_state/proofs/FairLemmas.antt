@@ -47,10 +47,10 @@ no_colon name h =
     no_colon_in name rest.1
 
 -- what holds of each branch holds of one that is there
-pub known : (P : List ℕ → Type 0) (bs : List Branch) (name : List ℕ) → AllByRecursion (λ (b : Branch). P b.name) bs
-    → list_any (has_name name) bs ≡ true → P name
-known P [] name h e = absurd cc
-known P (b ∷ bs) name h e = by_test (bytes_eq b.name name) refl e (known P bs name h.1)
+pub known_name_holds : (P : List ℕ → Type 0) (bs : List Branch) (name : List ℕ)
+    → AllByRecursion (λ (b : Branch). P b.name) bs → list_any (has_name name) bs ≡ true → P name
+known_name_holds P [] name h e = absurd cc
+known_name_holds P (b ∷ bs) name h e = by_test (bytes_eq b.name name) refl e (known_name_holds P bs name h.1)
   where
     by_test : (t : Bool) → bytes_eq b.name name ≡ t → (t || list_any (has_name name) bs) ≡ true
         → (list_any (has_name name) bs ≡ true → P name) → P name
@@ -69,8 +69,8 @@ fair_of bs t names h = record {
   positive = h.positive;
   apart = h.apart;
   payer = h.payer;
-  source = known HasNoColon bs t.source names h.source;
-  target = known HasNoColon bs t.target names h.target;
+  source = known_name_holds HasNoColon bs t.source names h.source;
+  target = known_name_holds HasNoColon bs t.target names h.target;
   rest = h.rest;
 }
 
@@ -109,10 +109,10 @@ pub record Found (P : Branch → Type 0) (bs : List Branch) (name : List ℕ) : 
   pub named : branch.name ≡ name
   pub same : records_in bs name ≡ branch.records
 
-pub found : (P : Branch → Type 0) (bs : List Branch) (name : List ℕ) → AllByRecursion P bs
+pub branch_found : (P : Branch → Type 0) (bs : List Branch) (name : List ℕ) → AllByRecursion P bs
     → list_any (has_name name) bs ≡ true → Found P bs name
-found P [] name h e = absurd cc
-found P (b ∷ bs) name h e = by_test (bytes_eq b.name name) refl e (found P bs name h.1)
+branch_found P [] name h e = absurd cc
+branch_found P (b ∷ bs) name h e = by_test (bytes_eq b.name name) refl e (branch_found P bs name h.1)
   where
     by_test : (t : Bool) → bytes_eq b.name name ≡ t → (t || list_any (has_name name) bs) ≡ true
         → (list_any (has_name name) bs ≡ true → Found P bs name) → Found P (b ∷ bs) name
@@ -145,8 +145,8 @@ pub adds_up_named : (f : Federation) (from to : List ℕ) → IsGoodState f → 
     → has_branch f to ≡ true → bytes_eq from to ≡ false → AddsUp f from to
 adds_up_named f from to good here there apart =
     let kept = all_in_step f.styles f.transfers f.branches good.branches good.carried in
-    let a = found (IsInStep f.transfers) f.branches from kept here in
-    let b = found (IsInStep f.transfers) f.branches to kept there in
+    let a = branch_found (IsInStep f.transfers) f.branches from kept here in
+    let b = branch_found (IsInStep f.transfers) f.branches to kept there in
     let differ : bytes_eq a.branch.name b.branch.name ≡ false =
     ap (λ x. bytes_eq x b.branch.name) a.named ∙ (ap (λ y. bytes_eq from y) b.named ∙ apart) in
     by_names f a.branch b.branch from to a.named b.named a.same b.same

@@ -29,9 +29,9 @@ there_at x b bs name false g e h =
       lock = ap (λ (t : Bool). if t then x.locked else lock_in bs name) g ∙ rest.lock;
     }
 
-pub there : (bs : List Branch) (name : List ℕ) (b : Branch) → branch_at bs name ≡ Some b → IsThere bs name b
-there [] name b e = absurd cc
-there (x ∷ bs) name b e = there_at x b bs name (bytes_eq x.name name) refl e (there bs name b)
+pub branch_at_Some : (bs : List Branch) (name : List ℕ) (b : Branch) → branch_at bs name ≡ Some b → IsThere bs name b
+branch_at_Some [] name b e = absurd cc
+branch_at_Some (x ∷ bs) name b e = there_at x b bs name (bytes_eq x.name name) refl e (branch_at_Some bs name b)
 
 -- a name without a branch
 pub record IsMissing (bs : List Branch) (name : List ℕ) : Type 0 where
@@ -49,6 +49,6 @@ missing_at x bs name false g e h =
       lock = ap (λ (t : Bool). if t then x.locked else lock_in bs name) g ∙ rest.lock;
     }
 
-pub missing : (bs : List Branch) (name : List ℕ) → branch_at bs name ≡ None → IsMissing bs name
-missing [] name e = record { none = refl; lock = refl }
-missing (x ∷ bs) name e = missing_at x bs name (bytes_eq x.name name) refl e (missing bs name)
+pub branch_at_None : (bs : List Branch) (name : List ℕ) → branch_at bs name ≡ None → IsMissing bs name
+branch_at_None [] name e = record { none = refl; lock = refl }
+branch_at_None (x ∷ bs) name e = missing_at x bs name (bytes_eq x.name name) refl e (branch_at_None bs name)

@@ -47,8 +47,8 @@ found_in : {X : Type 0} (p : X → Bool) (xs : List X) (i : ℕ) → position_fr
     → find p xs ≡ slice_get xs i
 found_in p xs i e = let f = found_from p 0 xs i e in f.2 ∙ ap (slice_get xs) (let g = f.1 in omega arith)
 
-pub found : (rs : List Record) (m : List ℕ) (i : ℕ) → mark_place rs m ≡ Some i → held rs m ≡ slice_get rs i
-found rs m i e = found_in (has_mark m) rs i e
+pub held_at_mark_place : (rs : List Record) (m : List ℕ) (i : ℕ) → mark_place rs m ≡ Some i → held rs m ≡ slice_get rs i
+held_at_mark_place rs m i e = found_in (has_mark m) rs i e
 
 pub found_branch : (bs : List Branch) (name : List ℕ) (i : ℕ) → branch_place bs name ≡ Some i
     → branch_at bs name ≡ slice_get bs i
@@ -64,8 +64,8 @@ absent_from : {X : Type 0} (p : X → Bool) (k : ℕ) (xs : List X) → position
 absent_from p k [] e = refl
 absent_from p k (x ∷ xs) e = absent_at p k x xs (p x) e (absent_from p (k + 1) xs)
 
-pub absent : (rs : List Record) (m : List ℕ) → mark_place rs m ≡ None → held rs m ≡ None
-absent rs m e = absent_from (has_mark m) 0 rs e
+pub held_without_mark_place : (rs : List Record) (m : List ℕ) → mark_place rs m ≡ None → held rs m ≡ None
+held_without_mark_place rs m e = absent_from (has_mark m) 0 rs e
 
 pub absent_branch : (bs : List Branch) (name : List ℕ) → branch_place bs name ≡ None → branch_at bs name ≡ None
 absent_branch bs name e = absent_from (has_name name) 0 bs e
@@ -86,12 +86,12 @@ place_push p k [] y = ap (λ (n : ℕ). cond (p y) (Some n) None) (omega arith)
 place_push p k (x ∷ xs) y = place_at p k xs y (p x) (place_push p (k + 1) xs y)
 
 -- an index that is told of the last
-pub pushed : {X : Type 0} (key : X → List ℕ) (old new : Index) (xs : List X) (y : X)
+pub index_pushed : {X : Type 0} (key : X → List ℕ) (old new : Index) (xs : List X) (y : X)
     → ((k : List ℕ) → get_by_text old k ≡ position_from (λ x. bytes_eq (key x) k) 0 xs)
     → ((k : List ℕ) → get_by_text new k
     ≡ option_or (get_by_text old k) (cond (bytes_eq (key y) k) (Some (length xs)) None)) → (k : List ℕ)
     → get_by_text new k ≡ position_from (λ x. bytes_eq (key x) k) 0 (xs ++ y ∷ [])
-pushed key old new xs y h put = λ k.
+index_pushed key old new xs y h put = λ k.
     put k
     ∙ ap (λ (o : Option ℕ). option_or o (cond (bytes_eq (key y) k) (Some (length xs)) None)) (h k)
     ∙ ap (λ (n : ℕ). option_or (position_from (λ x. bytes_eq (key x) k) 0 xs) (cond (bytes_eq (key y) k) (Some n) None))

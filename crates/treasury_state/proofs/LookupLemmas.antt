@@ -40,9 +40,9 @@ gone_at : (k : List ℕ) (r : Record) (rs : List Record) (t : Bool) → bytes_eq
 gone_at k r rs true e h = h
 gone_at k r rs false e h = ap (λ (b : Bool). cond b (Some r) (held (others k rs) k)) e ∙ h
 
-pub gone : (k : List ℕ) (rs : List Record) → held (others k rs) k ≡ None
-gone k [] = refl
-gone k (r ∷ rs) = gone_at k r rs (bytes_eq r.mark k) refl (gone k rs)
+pub held_others : (k : List ℕ) (rs : List Record) → held (others k rs) k ≡ None
+held_others k [] = refl
+held_others k (r ∷ rs) = gone_at k r rs (bytes_eq r.mark k) refl (held_others k rs)
 
 none_at : (k m : List ℕ) (r : Record) (rs : List Record) (t : Bool) → bytes_eq r.mark m ≡ false
     → held (others k rs) m ≡ None → held (if t then others k rs else r ∷ others k rs) m ≡ None
@@ -98,7 +98,7 @@ rest_same : (x : Record) (xs ys : List Record) (m : List ℕ) (t : Bool) → byt
     → held (x ∷ xs) m ≡ held ys m → held xs m ≡ held (others x.mark ys) m
 rest_same x xs ys m true e n h =
     let P : List ℕ → Type 0 = λ k. held xs k ≡ held (others x.mark ys) k in
-    subst P (same_bytes x.mark m e) (n ∙ sym (gone x.mark ys))
+    subst P (same_bytes x.mark m e) (n ∙ sym (held_others x.mark ys))
 rest_same x xs ys m false e n h =
     sym (ap (λ (b : Bool). cond b (Some x) (held xs m)) e) ∙ h ∙ sym (held-others x.mark m ys e)
 

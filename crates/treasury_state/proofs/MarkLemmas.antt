@@ -106,27 +106,27 @@ keys_differ k l a b e f no_both no_none = by_test (bytes_eq k l) refl
         by_both true false same x y = absurd cc
         by_both false true same x y = absurd cc
 
-split : (id other k l : List ℕ) (a b : Bool) → is_all k ≡ a → is_all l ≡ b → HasNoColon id → HasNoColon other
-    → bytes_eq (id ++ mark_tail a k) (other ++ mark_tail b l) ≡ (bytes_eq id other && bytes_eq k l)
-split id other k l true true e f h g =
+bytes_eq_mark_tails : (id other k l : List ℕ) (a b : Bool) → is_all k ≡ a → is_all l ≡ b → HasNoColon id
+    → HasNoColon other → bytes_eq (id ++ mark_tail a k) (other ++ mark_tail b l) ≡ (bytes_eq id other && bytes_eq k l)
+bytes_eq_mark_tails id other k l true true e f h g =
     ap (λ (x : List ℕ). bytes_eq x (other ++ [])) (append-nil id) ∙
     (ap (bytes_eq id) (append-nil other) ∙ sym (and_always (bytes_eq id other) (bytes_eq k l) (keys_same k l e f)))
-split id other k l true false e f h g =
+bytes_eq_mark_tails id other k l true false e f h g =
     ap (λ (x : List ℕ). bytes_eq x (other ++ 58 ∷ l)) (append-nil id)
     ∙ (no_colon_other id other l h ∙ sym
     (and_never (bytes_eq id other) (bytes_eq k l)
     (keys_differ k l true false e f (λ x y. absurd cc) (λ x y. absurd cc))))
-split id other k l false true e f h g =
+bytes_eq_mark_tails id other k l false true e f h g =
     ap (bytes_eq (id ++ 58 ∷ k)) (append-nil other)
     ∙ (other_no_colon id other k g ∙ sym
     (and_never (bytes_eq id other) (bytes_eq k l)
     (keys_differ k l false true e f (λ x y. absurd cc) (λ x y. absurd cc))))
-split id other k l false false e f h g = pair_eq id other k l h g
+bytes_eq_mark_tails id other k l false false e f h g = pair_eq id other k l h g
 
 -- two marks of receipts are the same only where ID and key are
 pub mark_eq : (id other k l : List ℕ) → HasNoColon id → HasNoColon other
     → bytes_eq (in_mark id k) (in_mark other l) ≡ (bytes_eq id other && bytes_eq k l)
-mark_eq id other k l h g = split id other k l (is_all k) (is_all l) refl refl h g
+mark_eq id other k l h g = bytes_eq_mark_tails id other k l (is_all k) (is_all l) refl refl h g
 
 -- ---- keys in order, and `all` after them, are of their own
 

@@ -9,19 +9,19 @@ use Rattle.treasury_state.specs.Good.{IsGoodTransfer, IsGoodState}
 use Rattle.treasury_state.proofs.DispatchLemmas.{dispatch_written}
 use Rattle.treasury_state.proofs.FoundLemmas.{found_transfer, amount_small}
 
-unequal : (t u : Bool) → u ≡ not t → u ≡ true → t ≡ false
-unequal true u e h = absurd (let k : false ≡ true = sym e ∙ h in cc)
-unequal false u e h = refl
+false_from_not : (t u : Bool) → u ≡ not t → u ≡ true → t ≡ false
+false_from_not true u e h = absurd (let k : false ≡ true = sym e ∙ h in cc)
+false_from_not false u e h = refl
 
-equal : (t u : Bool) → u ≡ not t → u ≡ false → t ≡ true
-equal true u e h = refl
-equal false u e h = absurd (let k : true ≡ false = sym e ∙ h in cc)
+true_from_not : (t u : Bool) → u ≡ not t → u ≡ false → t ≡ true
+true_from_not true u e h = refl
+true_from_not false u e h = absurd (let k : true ≡ false = sym e ∙ h in cc)
 
 pub not_true : {t u : Bool} → u ≡ not t → u ≡ true → t ≡ false
-not_true {t = t} {u = u} e h = unequal t u e h
+not_true {t = t} {u = u} e h = false_from_not t u e h
 
 pub not_false : {t u : Bool} → u ≡ not t → u ≡ false → t ≡ true
-not_false {t = t} {u = u} e h = equal t u e h
+not_false {t = t} {u = u} e h = true_from_not t u e h
 
 -- ---- receipts
 

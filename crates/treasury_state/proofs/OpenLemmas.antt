@@ -38,14 +38,14 @@ apart_at x ds from to u true true e f k n =
 apart_at x ds from to u true false e f k n = refl
 apart_at x ds from to u false b e f k n = refl
 
-pub unknown : (ts : List Transfer) (ds : List Branch) (from to : List ℕ) (u : Commodity) (d : Day)
+pub open_amount_unknown : (ts : List Transfer) (ds : List Branch) (from to : List ℕ) (u : Commodity) (d : Day)
     → AllByRecursion (IsGoodTransfer ds) ts → (list_any (has_name from) ds && list_any (has_name to) ds) ≡ false
     → open_amount ts from to u d ≡ pos 0
-unknown [] ds from to u d k n = refl
-unknown (x ∷ xs) ds from to u d k n =
+open_amount_unknown [] ds from to u d k n = refl
+open_amount_unknown (x ∷ xs) ds from to u d k n =
     let a = open_none x from to u d
     (apart_at x ds from to u (bytes_eq x.source from) (bytes_eq x.target to) refl refl k.0 n) in
-    let b = unknown xs ds from to u d k.1 n in
+    let b = open_amount_unknown xs ds from to u d k.1 n in
     omega (arith, ints)
 
 self_at : (x : Transfer) (from to : List ℕ) (u : Commodity) (a b : Bool) → bytes_eq x.source from ≡ a
@@ -66,8 +66,9 @@ open_amount-self (x ∷ xs) from to u d k n =
     let b = open_amount-self xs from to u d k.1 n in
     omega (arith, ints)
 
-two : (x y z : ℤ) → (x +ℤ y) ≡ z → x ≤ℤ pos 10000000000000000 → y ≤ℤ pos 10000000000000000 → z ≤ℤ pos 20000000000000000
-two x y z e h k = omega (arith, ints)
+sum_of_two_turnovers : (x y z : ℤ) → (x +ℤ y) ≡ z → x ≤ℤ pos 10000000000000000 → y ≤ℤ pos 10000000000000000
+    → z ≤ℤ pos 20000000000000000
+sum_of_two_turnovers x y z e h k = omega (arith, ints)
 
 zero_small : (z : ℤ) → z ≡ pos 0 → z ≤ℤ pos 20000000000000000
 zero_small z e = omega (arith, ints)
@@ -85,14 +86,14 @@ small_at : (f : Federation) (from to : List ℕ) (u : Commodity) (d : Day) (a b 
     → has_branch f from ≡ a → has_branch f to ≡ b → bytes_eq from to ≡ c
     → open_amount f.transfers from to u d ≤ℤ pos 20000000000000000
 small_at f from to u d false b c good h k e =
-    zero_small _ (unknown f.transfers f.branches from to u d good.transfers (rw h refl))
+    zero_small _ (open_amount_unknown f.transfers f.branches from to u d good.transfers (rw h refl))
 small_at f from to u d true false c good h k e =
-    zero_small _ (unknown f.transfers f.branches from to u d good.transfers (rw (h, k) refl))
+    zero_small _ (open_amount_unknown f.transfers f.branches from to u d good.transfers (rw (h, k) refl))
 small_at f from to u d true true true good h k e =
     zero_small _
     (open_amount-self f.transfers from to u d (all_fair f.branches f.transfers (names_good f good) good.transfers) e)
 small_at f from to u d true true false good h k e =
-    two _ _ _ (adds_up_named f from to good h k e u d)
+    sum_of_two_turnovers _ _ _ (adds_up_named f from to good h k e u d)
     (book_high (book_of f from) (good_book f from good) (transit_account from to) u d)
     (book_high (book_of f to) (good_book f to good) (transit_account from to) u d)
 

@@ -56,9 +56,10 @@ uninserted_at : (t x : Transfer) (xs : List Transfer) (c : Bool) → (AreAscendi
 uninserted_at t x xs true k h = (behind_one x.id t xs h.0, k h.1)
 uninserted_at t x xs false k h = h.1
 
-pub uninserted : (t : Transfer) (ts : List Transfer) → AreAscending (inserted t ts) → AreAscending ts
-uninserted t [] h = tt
-uninserted t (x ∷ xs) h = uninserted_at t x xs (is_lt (name_cmp x.id t.id)) (uninserted t xs) h
+pub ascending_before_insert : (t : Transfer) (ts : List Transfer) → AreAscending (inserted t ts) → AreAscending ts
+ascending_before_insert t [] h = tt
+ascending_before_insert t (x ∷ xs) h =
+    uninserted_at t x xs (is_lt (name_cmp x.id t.id)) (ascending_before_insert t xs) h
 
 behind_open : (id of : List ℕ) (r : Part) (ts : List Transfer) → AreBehind id (received of r ts) → AreBehind id ts
 behind_open id of r [] h = tt
@@ -75,6 +76,8 @@ unreceived_at : (id : List ℕ) (r : Part) (x : Transfer) (xs : List Transfer) (
 unreceived_at id r x xs true k h = h
 unreceived_at id r x xs false k h = (behind_open x.id id r xs h.0, k h.1)
 
-pub unreceived : (id : List ℕ) (r : Part) (ts : List Transfer) → AreAscending (received id r ts) → AreAscending ts
-unreceived id r [] h = tt
-unreceived id r (x ∷ xs) h = unreceived_at id r x xs (bytes_eq x.id id) (unreceived id r xs) h
+pub ascending_before_receipt : (id : List ℕ) (r : Part) (ts : List Transfer) → AreAscending (received id r ts)
+    → AreAscending ts
+ascending_before_receipt id r [] h = tt
+ascending_before_receipt id r (x ∷ xs) h =
+    unreceived_at id r x xs (bytes_eq x.id id) (ascending_before_receipt id r xs) h

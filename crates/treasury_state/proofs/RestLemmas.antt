@@ -15,10 +15,10 @@ pub rest_of : {Y : Type 0} → List Y → List Y
 rest_of [] = []
 rest_of (y ∷ ys) = ys
 
-pub heads : {Y : Type 0} (x y : Y) (xs ys : List Y) → x ∷ xs ≡ y ∷ ys → x ≡ y
+pub same_heads : {Y : Type 0} (x y : Y) (xs ys : List Y) → x ∷ xs ≡ y ∷ ys → x ≡ y
 unfolding first_of
-heads x y xs ys e = ap (first_of x) e
+same_heads x y xs ys e = ap (first_of x) e
 
-pub tails : {Y : Type 0} (x y : Y) (xs ys : List Y) → x ∷ xs ≡ y ∷ ys → xs ≡ ys
+pub same_tails : {Y : Type 0} (x y : Y) (xs ys : List Y) → x ∷ xs ≡ y ∷ ys → xs ≡ ys
 unfolding rest_of
-tails x y xs ys e = ap rest_of e
+same_tails x y xs ys e = ap rest_of e

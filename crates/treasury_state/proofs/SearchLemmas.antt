@@ -25,8 +25,8 @@ use Rattle.treasury_state.specs.Room.{is_before, is_key_before}
 use Rattle.treasury_state.proofs.OrderLemmas.{AreBehind, other_than, all_after, not_less}
 
 -- some transfer, for places past the end
-pub blank : Transfer
-blank = record {
+pub blank_transfer : Transfer
+blank_transfer = record {
   id = [];
   source = [];
   target = [];
@@ -45,22 +45,23 @@ behind_at id [] j d h l = absurd (omega (arith, l))
 behind_at id (t ∷ ts) zero d h l = h.0
 behind_at id (t ∷ ts) (suc j) d h l = behind_at id ts j d h.1 (omega (arith, l))
 
-pub parted : (id : List ℕ) (ts : List Transfer) → AreAscending ts → IsPartitionedBy (is_before id) ts
-parted id [] h i j d le l up = absurd (omega (arith, l))
-parted id (t ∷ ts) h zero zero d le l up = up
-parted id (t ∷ ts) h (suc i) zero d le l up = absurd (omega (arith, le))
-parted id (t ∷ ts) h zero (suc j) d le l up =
+pub partitioned_by_id : (id : List ℕ) (ts : List Transfer) → AreAscending ts → IsPartitionedBy (is_before id) ts
+partitioned_by_id id [] h i j d le l up = absurd (omega (arith, l))
+partitioned_by_id id (t ∷ ts) h zero zero d le l up = up
+partitioned_by_id id (t ∷ ts) h (suc i) zero d le l up = absurd (omega (arith, le))
+partitioned_by_id id (t ∷ ts) h zero (suc j) d le l up =
     ap is_lt (names_total.trans t.id (get_or ts j d).id id (behind_at t.id ts j d h.0 (omega (arith, l)))
     (is_less (name_cmp (get_or ts j d).id id) up))
-parted id (t ∷ ts) h (suc i) (suc j) d le l up = parted id ts h.1 i j d (omega (arith, le)) (omega (arith, l)) up
+partitioned_by_id id (t ∷ ts) h (suc i) (suc j) d le l up =
+    partitioned_by_id id ts h.1 i j d (omega (arith, le)) (omega (arith, l)) up
 
 -- their number
 pub prefix_at : (id : List ℕ) (ts : List Transfer) (n : ℕ) → n ≤ length ts
     → IsPartitionPoint (λ (t : Transfer). is_before id t ≡ true) (λ (t : Transfer). is_before id t ≡ false) ts n
     → prefix_len (is_before id) ts ≡ n
 prefix_at id ts n bound point =
-    prefix_len_is (is_before id) ts n blank bound (λ k l. point.0 k blank (omega arith) l)
-    (λ l. point.1 n blank (omega arith) l)
+    prefix_len_is (is_before id) ts n blank_transfer bound (λ k l. point.0 k blank_transfer (omega arith) l)
+    (λ l. point.1 n blank_transfer (omega arith) l)
 
 -- what stands at that place, if it has the ID
 abbrev pub picked : List ℕ → Option Transfer → Option Transfer
@@ -155,16 +156,16 @@ copied_at : (o : Option (Bor Transfer)) (ts : List Transfer) (i : ℕ) → is_so
 copied_at None ts i e h = sym (slice_get_past ts i (grind (arith, nat_tests)))
 copied_at (Some x) ts i e h = sym (slice_get_read ts (length ts) i x.now refl (grind (arith, nat_tests)) h)
 
-pub got : (id : List ℕ) (ts : List Transfer) (o : Option (Bor Transfer)) (i : ℕ) → AreAscending ts
+pub picked_is_find : (id : List ℕ) (ts : List Transfer) (o : Option (Bor Transfer)) (i : ℕ) → AreAscending ts
     → i ≡ prefix_len (is_before id) ts → is_some o ≡ nat_lt i (length ts) → IfSome o (λ x. x.now ≡ get_or ts i x.now)
     → picked id (option_copied o) ≡ find (has_id id) ts
-got id ts o i h place e k =
+picked_is_find id ts o i h place e k =
     ap (picked id) (copied_at o ts i e k) ∙ (ap (λ (n : ℕ). picked id (slice_get ts n)) place ∙ sym (found_at id ts h))
 
 -- what a receipt leaves, by what stands at that place
-pub past : (id : List ℕ) (r : Part) (ts : List Transfer) (i : ℕ) → AreAscending ts → i ≡ prefix_len (is_before id) ts
-    → length ts ≤ i → ts ≡ received id r ts
-past id r ts i h place l = sym (received_none id r ts
+pub received_past_end : (id : List ℕ) (r : Part) (ts : List Transfer) (i : ℕ) → AreAscending ts
+    → i ≡ prefix_len (is_before id) ts → length ts ≤ i → ts ≡ received id r ts
+received_past_end id r ts i h place l = sym (received_none id r ts
     (found_at id ts h ∙
     (ap (λ (n : ℕ). picked id (slice_get ts n)) (sym place) ∙ ap (picked id) (slice_get_past ts i l))))
 

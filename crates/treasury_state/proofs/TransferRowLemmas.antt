@@ -8,9 +8,9 @@ use Rattle.treasury_state.specs.Federation.{Branch, has_name, name_place}
 use Rattle.treasury_state.proofs.RestLemmas.{numbered}
 
 -- the rows of transfers have no number
-pub unnumbered : {X Y : Type 0} (g : X → Y) (n : ℕ) (xs : List X) → numbered (λ (k : ℕ). g) n xs ≡ map g xs
-unnumbered g n [] = refl
-unnumbered g n (x ∷ xs) = ap (λ ys. g x ∷ ys) (unnumbered g (n + 1) xs)
+pub numbered_const : {X Y : Type 0} (g : X → Y) (n : ℕ) (xs : List X) → numbered (λ (k : ℕ). g) n xs ≡ map g xs
+numbered_const g n [] = refl
+numbered_const g n (x ∷ xs) = ap (λ ys. g x ∷ ys) (numbered_const g (n + 1) xs)
 
 -- the branch of a name stands at its place
 pub name_found : (bs : List Branch) (name : List ℕ) → list_any (has_name name) bs ≡ true

@@ -141,15 +141,17 @@ on_way false true q z = refl
 on_way true false q z = omega (arith, ints)
 on_way true true q z = omega (arith, ints)
 
-both : (a1 b1 a2 b2 u d : Bool) (q z : ℤ) → (a1 && a2) ≡ false → (b1 && b2) ≡ false →
+shares_at_both_ends : (a1 b1 a2 b2 u d : Bool) (q z : ℤ) → (a1 && a2) ≡ false → (b1 && b2) ≡ false →
     ((if a1 then at_way a1 b2 u d q else pos 0) +ℤ (if b1 then back_of (u && (a1 && b2)) z else pos 0))
     +ℤ ((if a2 then at_way a1 b2 u d q else pos 0) +ℤ (if b2 then back_of (u && (a1 && b2)) z else pos 0))
     ≡ (if (a1 && b2) && u then (if d then q else pos 0) -ℤ z else pos 0)
-both false b1 a2 b2 u d q z e f = all_zero false b1 a2 b2 _ _ (out_no_source b2 u d q) (back_no_source b2 u z)
-both true b1 a2 false u d q z e f = all_zero true b1 a2 false _ _ (out_no_target true u d q) (back_no_target u z)
-both true true a2 true u d q z e f = absurd cc
-both true false true true u d q z e f = absurd cc
-both true false false true u d q z e f = on_way u d q z
+shares_at_both_ends false b1 a2 b2 u d q z e f =
+    all_zero false b1 a2 b2 _ _ (out_no_source b2 u d q) (back_no_source b2 u z)
+shares_at_both_ends true b1 a2 false u d q z e f =
+    all_zero true b1 a2 false _ _ (out_no_target true u d q) (back_no_target u z)
+shares_at_both_ends true true a2 true u d q z e f = absurd cc
+shares_at_both_ends true false true true u d q z e f = absurd cc
+shares_at_both_ends true false false true u d q z e f = on_way u d q z
 
 one_back : (s t u b : Bool) (q z : ℤ)
     → at_way s t u b (pos 0 -ℤ q) +ℤ back_of (u && (s && t)) z ≡ back_of (u && (s && t)) ((if b then q else pos 0) +ℤ z)
@@ -219,39 +221,41 @@ never_both x f t e = by_tests (bytes_eq x f) (bytes_eq x t) refl refl
     by_tests false b h k = refl
 
 -- what the records of a transfer for both branches move
-one : (f t : List ℕ) (u : Commodity) (d : Day) (x : Transfer) → IsFair x → HasNoColon f → bytes_eq f t ≡ false →
-    (total_of (share (transit_account f t) u d) (out_records x (bytes_eq x.source f))
+totals_of_transfer : (f t : List ℕ) (u : Commodity) (d : Day) (x : Transfer) → IsFair x → HasNoColon f
+    → bytes_eq f t ≡ false → (total_of (share (transit_account f t) u d) (out_records x (bytes_eq x.source f))
     +ℤ total_of (share (transit_account f t) u d) (in_records x (bytes_eq x.target f) (receipts_of x)))
     +ℤ (total_of (share (transit_account f t) u d) (out_records x (bytes_eq x.source t))
     +ℤ total_of (share (transit_account f t) u d) (in_records x (bytes_eq x.target t) (receipts_of x)))
     ≡ (if is_between f t u x then open_of x d else pos 0)
-one f t u d x h k apart =
+totals_of_transfer f t u d x h k apart =
     let a = sum_out f t u d x (bytes_eq x.source f) h k in
     let b = sum_back f t u d x (bytes_eq x.target f) h k in
     let c = sum_out f t u d x (bytes_eq x.source t) h k in
     let e = sum_back f t u d x (bytes_eq x.target t) h k in
-    rw (a, b, c, e) (both (bytes_eq x.source f) (bytes_eq x.target f) (bytes_eq x.source t) (bytes_eq x.target t)
+    rw (a, b, c, e) (shares_at_both_ends (bytes_eq x.source f) (bytes_eq x.target f) (bytes_eq x.source t)
+    (bytes_eq x.target t)
     (nat_eq x.unit.0 u.0) (int_le x.day.0 d.0) x.qty (received_by (receipts_of x) d) (never_both x.source f t apart)
     (never_both x.target f t apart))
 
 -- of all
-parts : (g : Record → ℤ) (xs ys zs : List Record)
+total_of-append_three : (g : Record → ℤ) (xs ys zs : List Record)
     → total_of g (xs ++ (ys ++ zs)) ≡ (total_of g xs +ℤ total_of g ys) +ℤ total_of g zs
-parts g xs ys zs = let a = total_of-append g xs (ys ++ zs) in let b = total_of-append g ys zs in omega (arith, ints)
+total_of-append_three g xs ys zs =
+    let a = total_of-append g xs (ys ++ zs) in let b = total_of-append g ys zs in omega (arith, ints)
 
-pub ways : (f t : List ℕ) (u : Commodity) (d : Day) (ts : List Transfer) → AllByRecursion IsFair ts → HasNoColon f
-    → bytes_eq f t ≡ false →
+pub totals_are_open_amount : (f t : List ℕ) (u : Commodity) (d : Day) (ts : List Transfer) → AllByRecursion IsFair ts
+    → HasNoColon f → bytes_eq f t ≡ false →
     total_of (share (transit_account f t) u d) (asked ts f) +ℤ total_of (share (transit_account f t) u d) (asked ts t)
     ≡ open_amount ts f t u d
-ways f t u d [] h k apart = refl
-ways f t u d (x ∷ xs) h k apart =
+totals_are_open_amount f t u d [] h k apart = refl
+totals_are_open_amount f t u d (x ∷ xs) h k apart =
     let g = share (transit_account f t) u d in
-    let a = parts g (out_records x (bytes_eq x.source f)) (in_records x (bytes_eq x.target f) (receipts_of x))
-    (asked xs f) in
-    let b = parts g (out_records x (bytes_eq x.source t)) (in_records x (bytes_eq x.target t) (receipts_of x))
-    (asked xs t) in
-    let i = ways f t u d xs h.1 k apart in
-    let o = one f t u d x h.0 k apart in
+    let a = total_of-append_three g (out_records x (bytes_eq x.source f))
+    (in_records x (bytes_eq x.target f) (receipts_of x)) (asked xs f) in
+    let b = total_of-append_three g (out_records x (bytes_eq x.source t))
+    (in_records x (bytes_eq x.target t) (receipts_of x)) (asked xs t) in
+    let i = totals_are_open_amount f t u d xs h.1 k apart in
+    let o = totals_of_transfer f t u d x h.0 k apart in
     omega (arith, ints)
 
 -- other records move nothing there
@@ -285,11 +289,11 @@ clear_all f t u d [] h = tt
 clear_all f t u d (r ∷ rs) h = (clear_share f t u d r h.0, clear_all f t u d rs h.1)
 
 -- the balance of the way in a branch's book is what the transfers ask for
-pub carried : (f t : List ℕ) (u : Commodity) (d : Day) (ts : List Transfer) (b : Branch) → AllByRecursion IsMarked ts
-    → HaveOwnIds ts → IsInStep ts b
+pub balance_is_asked_total : (f t : List ℕ) (u : Commodity) (d : Day) (ts : List Transfer) (b : Branch)
+    → AllByRecursion IsMarked ts → HaveOwnIds ts → IsInStep ts b
     → balance Own (entries b.records) (transit_account f t) u (Through d)
     ≡ total_of (share (transit_account f t) u d) (asked ts b.name)
-carried f t u d ts b marked ids h =
+balance_is_asked_total f t u d ts b marked ids h =
     balance-shares (transit_account f t) u d b.records
     ∙ sym (filter_total (share (transit_account f t) u d) is_of_transfer b.records
     (clear_all f t u d b.records h.clear))
@@ -304,10 +308,10 @@ pub adds_up : (ts : List Transfer) (f t : Branch) → HaveOwnIds ts → AllByRec
     → IsInStep ts t → bytes_eq f.name t.name ≡ false → AddUp ts f t
 adds_up ts f t ids fair hf ht apart u d =
     ap (λ (z : ℤ). z +ℤ balance Own (entries t.records) (transit_account f.name t.name) u (Through d))
-    (carried f.name t.name u d ts f (all_marked ts fair) ids hf)
+    (balance_is_asked_total f.name t.name u d ts f (all_marked ts fair) ids hf)
     ∙ ap (λ (z : ℤ). total_of (share (transit_account f.name t.name) u d) (asked ts f.name) +ℤ z)
-    (carried f.name t.name u d ts t (all_marked ts fair) ids ht)
-    ∙ ways f.name t.name u d ts fair hf.named apart
+    (balance_is_asked_total f.name t.name u d ts t (all_marked ts fair) ids ht)
+    ∙ totals_are_open_amount f.name t.name u d ts fair hf.named apart
 
 -- what is open is never negative
 -- through a day no more than in all

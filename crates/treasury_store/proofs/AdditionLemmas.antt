@@ -67,19 +67,19 @@ rows_under S N f = record {
 same_rows : {X : Type 0} (xs ys : List X) → xs ≡ ys → IsPermutation xs ys
 same_rows xs ys e = subst (IsPermutation xs) e (IsPermutation-refl xs)
 
-side : (p n : ℕ) → (p < n) ⊎ (n ≤ p)
-side p zero = inr (omega arith)
-side zero (suc n) = inl (omega arith)
-side (suc p) (suc n) = elim (side p n) [ inl l ↦ inl (omega (arith, l)) | inr l ↦ inr (omega (arith, l)) ]
+lt_or_le : (p n : ℕ) → (p < n) ⊎ (n ≤ p)
+lt_or_le p zero = inr (omega arith)
+lt_or_le zero (suc n) = inl (omega arith)
+lt_or_le (suc p) (suc n) = elim (lt_or_le p n) [ inl l ↦ inl (omega (arith, l)) | inr l ↦ inr (omega (arith, l)) ]
 
 -- an entry's row alone
 abbrev pub entry_alone : List Style → ℕ → ℕ → Record → List EntryRow
 entry_alone S b n r = entry_row S b n r ∷ []
 
-pub alone : (S : List Style) (bs : List Branch)
+pub rows_from_entry_alone : (S : List Style) (bs : List Branch)
     → rows_from (entry_alone S) 0 bs
     ≡ flat_map (λ (p : ℕ × Branch). entry_rows_from S p.0 1 p.1.records) (enumerate_from 0 bs)
-alone S bs = λ i. flat_map (λ (p : ℕ × Branch).
+rows_from_entry_alone S bs = λ i. flat_map (λ (p : ℕ × Branch).
     flat_map_single (λ (q : ℕ × Record). entry_row S p.0 q.0 q.1) (enumerate_from 1 p.1.records) i)
     (enumerate_from 0 bs)
 
@@ -133,10 +133,12 @@ taken_at bs id p x xs false all e own h =
     ∷ map (takes id p.day.0 p.payee) (map (transfer_row bs) xs)) e
     ∙ ap (λ l. transfer_row bs x ∷ l) h
 
-taken : (bs : List Branch) (id : List ℕ) (p : Part) (ts : List Transfer) → is_all p.key ≡ true → HaveOwnIds ts
+takes_is_received : (bs : List Branch) (id : List ℕ) (p : Part) (ts : List Transfer) → is_all p.key ≡ true
+    → HaveOwnIds ts
     → map (takes id p.day.0 p.payee) (map (transfer_row bs) ts) ≡ map (transfer_row bs) (received id p ts)
-taken bs id p [] all h = refl
-taken bs id p (x ∷ xs) all h = taken_at bs id p x xs (bytes_eq x.id id) all refl h.0 (taken bs id p xs all h.1)
+takes_is_received bs id p [] all h = refl
+takes_is_received bs id p (x ∷ xs) all h =
+    taken_at bs id p x xs (bytes_eq x.id id) all refl h.0 (takes_is_received bs id p xs all h.1)
 
 -- a part leaves the rows of transfers
 left_at : (bs : List Branch) (id : List ℕ) (p : Part) (x : Transfer) (xs : List Transfer) (c : Bool)
@@ -235,11 +237,11 @@ module _ (S : List Style) (N : List (List ℕ)) (f : Federation) (more : List (L
 
   -- where the name is among those of the branches, its place is the same; else it is past them
   pub place_same : (name : List ℕ) → place_in N name < length bs → place_in N name ≡ name_place bs name
-  place_same name h = let w = place_front name in elim (side (name_place bs name) (length bs))
+  place_same name h = let w = place_front name in elim (lt_or_le (name_place bs name) (length bs))
       [ inl l ↦ w.inside l | inr l ↦ absurd (omega (arith, w.past l, h)) ]
 
   place_past : (name : List ℕ) → length bs ≤ place_in N name → length bs ≤ name_place bs name
-  place_past name h = let w = place_front name in elim (side (name_place bs name) (length bs))
+  place_past name h = let w = place_front name in elim (lt_or_le (name_place bs name) (length bs))
       [ inl l ↦ absurd (omega (arith, w.inside l, l, h)) | inr l ↦ l ]
 
   count_of : length (records_each bs) ≡ length bs
@@ -254,8 +256,8 @@ module _ (S : List Style) (N : List (List ℕ)) (f : Federation) (more : List (L
     receipts = IsPermutation-refl (rows_under S N f).receipts;
     branches = subst (λ (n : ℕ). IsPermutation (branch_row n (new_branch name) ∷ branch_rows 0 bs)
         (branch_rows 0 (bs ++ new_branch name ∷ []))) (sym count_of) (one_more branch_row bs (new_branch name));
-    entries = same_rows _ _ (sym (sym (alone S (bs ++ new_branch name ∷ [])) ∙
-        (none_more (entry_alone S) bs name ∙ alone S bs)));
+    entries = same_rows _ _ (sym (sym (rows_from_entry_alone S (bs ++ new_branch name ∷ [])) ∙
+        (none_more (entry_alone S) bs name ∙ rows_from_entry_alone S bs)));
     legs = same_rows _ _ (sym (none_more leg_rows bs name));
     claims = same_rows _ _ (sym (none_more claim_rows bs name));
   }
@@ -281,8 +283,8 @@ module _ (S : List Style) (N : List (List ℕ)) (f : Federation) (more : List (L
       (record {
         units = IsPermutation-refl t.units;
         branches = same_rows _ _ (sym (branches-entered 0 (r ∷ []) name bs));
-        entries = subst₂ (λ xs ys. IsPermutation (entry_row S p (suc k) r ∷ xs) ys) (alone S bs)
-            (alone S (changed (with_records (r ∷ [])) name bs))
+        entries = subst₂ (λ xs ys. IsPermutation (entry_row S p (suc k) r ∷ xs) ys) (rows_from_entry_alone S bs)
+            (rows_from_entry_alone S (changed (with_records (r ∷ [])) name bs))
             (record_in (entry_alone S) 0 p k r name bs at low count);
         legs = record_in leg_rows 0 p k r name bs at low count;
         claims = record_in claim_rows 0 p k r name bs at low count;
@@ -301,7 +303,7 @@ module _ (S : List Style) (N : List (List ℕ)) (f : Federation) (more : List (L
       record_in_place name r (omega (arith, ltb-true (place_in N name) (length (records_each bs)) e, count_of))
   record_step name r false e =
       let past : length bs ≤ place_in N name =
-      elim (side (place_in N name) (length bs)) [
+      elim (lt_or_le (place_in N name) (length bs)) [
         | inl l ↦ absurd
             (true≢false (sym (lt-ltb (place_in N name) (length (records_each bs)) (omega (arith, l, count_of))) ∙ e))
         | inr l ↦ l
@@ -311,7 +313,7 @@ module _ (S : List Style) (N : List (List ℕ)) (f : Federation) (more : List (L
 
   lock_rows : (name : List ℕ) (day : Day)
       → map (locked (pos (place_in N name)) day.0) (branch_rows 0 bs) ≡ branch_rows 0 (changed (with_lock day) name bs)
-  lock_rows name day = elim (side (place_in N name) (length bs)) [
+  lock_rows name day = elim (lt_or_le (place_in N name) (length bs)) [
     | inl l ↦ branch_locked (place_in N name) 0 day name bs (let same = place_same name l in omega (arith, same))
     | inr l ↦ none_locked (place_in N name) 0 day.0 bs (inr (omega (arith, l))) ∙ ap (branch_rows 0)
         (sym (changed_past (with_lock day) name bs (place_past name l)))
@@ -325,8 +327,8 @@ module _ (S : List Style) (N : List (List ℕ)) (f : Federation) (more : List (L
     transfers = IsPermutation-refl (rows_under S N f).transfers;
     receipts = IsPermutation-refl (rows_under S N f).receipts;
     branches = same_rows _ _ (lock_rows name day);
-    entries = same_rows _ _ (sym (sym (alone S (changed (with_lock day) name bs)) ∙
-        (rows-locked (entry_alone S) 0 day name bs ∙ alone S bs)));
+    entries = same_rows _ _ (sym (sym (rows_from_entry_alone S (changed (with_lock day) name bs)) ∙
+        (rows-locked (entry_alone S) 0 day name bs ∙ rows_from_entry_alone S bs)));
     legs = same_rows _ _ (sym (rows-locked leg_rows 0 day name bs));
     claims = same_rows _ _ (sym (rows-locked claim_rows 0 day name bs));
   }
@@ -342,7 +344,7 @@ module _ (S : List Style) (N : List (List ℕ)) (f : Federation) (more : List (L
         entries = IsPermutation-refl t.entries;
         legs = IsPermutation-refl t.legs;
         claims = IsPermutation-refl t.claims;
-        transfers = same_rows _ _ (taken (named N) id p f.transfers e h);
+        transfers = same_rows _ _ (takes_is_received (named N) id p f.transfers e h);
         receipts = same_rows _ _ (sym (rest_leaves id p f.transfers e));
       }
   received_step id p false e h found =
@@ -388,7 +390,7 @@ module _ (S : List Style) (N : List (List ℕ)) (f : Federation) (more : List (L
   one_count : (name : List ℕ) (r : Record)
       → set (records_each bs) (place_in N name) (suc (get_or (records_each bs) (place_in N name) 0))
       ≡ records_each (changed (with_records (r ∷ [])) name bs)
-  one_count name r = elim (side (place_in N name) (length bs)) [
+  one_count name r = elim (lt_or_le (place_in N name) (length bs)) [
     | inl l ↦ ap (λ (p : ℕ). set (records_each bs) p (suc (get_or (records_each bs) p 0))) (place_same name l) ∙ sym
         (each-entered r name bs)
     | inr l ↦ set_past (records_each bs) (place_in N name) _ (omega (arith, l, count_of)) ∙ ap records_each
@@ -463,16 +465,16 @@ names_grow (x ∷ xs) names =
     grows_twice names (name_with names x) (names_with (name_with names x) xs) (name_grows names x)
     (names_grow xs (name_with names x))
 
-pub grown : (xs : List Addition) (f : Federation) (N : List (List ℕ)) → N ≡ names_of (joined f xs).branches
+pub names_grown : (xs : List Addition) (f : Federation) (N : List (List ℕ)) → N ≡ names_of (joined f xs).branches
     → Grows (names_of f.branches) N
-grown xs f N e = let w = names_grow xs (names_of f.branches) in (w.0, e ∙ (sym (names_joined xs f) ∙ w.1))
+names_grown xs f N e = let w = names_grow xs (names_of f.branches) in (w.0, e ∙ (sym (names_joined xs f) ∙ w.1))
 
 -- ---- all additions
 pub all_counted : (N : List (List ℕ)) (xs : List Addition) (f : Federation) → N ≡ names_of (joined f xs).branches
     → counted_all N (counts_of (numbers_of f)) xs ≡ counts_of (numbers_of (joined f xs))
 all_counted N [] f e = refl
 all_counted N (x ∷ xs) f e =
-    let w = grown (x ∷ xs) f N e in
+    let w = names_grown (x ∷ xs) f N e in
     ap (λ (c : Counts). counted_all N c xs) (count_step [] N f w.0 w.1 x) ∙ all_counted N xs (joined_one f x) e
 
 pub numbers_joined : (f : Federation) (xs : List Addition) → numbers_with (numbers_of f) xs ≡ numbers_of (joined f xs)
@@ -486,7 +488,7 @@ all_written : (S : List Style) (N : List (List ℕ)) (xs : List Addition) (f : F
     → Same (written (changes_from S N (counts_of (numbers_of f)) xs) (rows_under S N f)) (rows_under S N (joined f xs))
 all_written S N [] f e room found = same_refl (rows_under S N f)
 all_written S N (x ∷ xs) f e room found =
-    let w = grown (x ∷ xs) f N e in
+    let w = names_grown (x ∷ xs) f N e in
     let c = counts_of (numbers_of f) in
     let next = joined_one f x in
     let first = changes_by S N c x in
@@ -524,10 +526,12 @@ there_at : (n p : ℕ) (t u : Bool) → (t || u) ≡ true → (u ≡ true → p 
 there_at n p true u h k = omega arith
 there_at n p false u h k = omega (arith, k h)
 
-there : (name : List ℕ) (bs : List Branch) → list_any (has_name name) bs ≡ true → name_place bs name < length bs
-there name [] h = absurd (let no : false ≡ true = h in cc)
-there name (b ∷ bs) h =
-    there_at (length bs) (name_place bs name) (bytes_eq b.name name) (list_any (has_name name) bs) h (there name bs)
+name_place_inside : (name : List ℕ) (bs : List Branch) → list_any (has_name name) bs ≡ true
+    → name_place bs name < length bs
+name_place_inside name [] h = absurd (let no : false ≡ true = h in cc)
+name_place_inside name (b ∷ bs) h =
+    there_at (length bs) (name_place bs name) (bytes_eq b.name name) (list_any (has_name name) bs) h
+    (name_place_inside name bs)
 
 abbrev between : Transfer → ℕ → ℕ → TransferRow
 between t a b = record (transfer_row [] t) { source = pos a; target = pos b }
@@ -537,8 +541,8 @@ transfers_grown : (N more : List (List ℕ)) (bs : List Branch) (ts : List Trans
 transfers_grown N more held [] e h = refl
 transfers_grown N more held (t ∷ ts) e h =
     let f : Federation = record { styles = []; branches = held; transfers = [] } in
-    let source = (place_front [] N f more e t.source).inside (there t.source held h.0.source) in
-    let target = (place_front [] N f more e t.target).inside (there t.target held h.0.target) in
+    let source = (place_front [] N f more e t.source).inside (name_place_inside t.source held h.0.source) in
+    let target = (place_front [] N f more e t.target).inside (name_place_inside t.target held h.0.target) in
     λ i. between t (source i) (target i) ∷ transfers_grown N more held ts e h.1 i
 
 rows_before : (f : Federation) (more : List Style) (N others : List (List ℕ)) → IsGoodState f

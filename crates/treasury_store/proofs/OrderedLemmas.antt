@@ -39,7 +39,7 @@ use Rattle.treasury_state.specs.Rows.{part_row, part_rows, rows}
 use Rattle.treasury_tables.specs.Order.{entry_cmp, leg_cmp, claim_cmp, transfer_cmp, part_cmp, InOrder}
 use Rattle.treasury_tables.proofs.KeyedLemmas.{equal_is}
 use Rattle.treasury_store.proofs.NumberedLemmas.{rows_from, rows_in}
-use Rattle.treasury_store.proofs.AdditionLemmas.{entry_alone, alone}
+use Rattle.treasury_store.proofs.AdditionLemmas.{entry_alone, rows_from_entry_alone}
 
 -- ---- lists of blocks
 asc_append : {X : Type 0} (R : X → X → Type 0) (xs ys : List X) → IsAscending R xs → IsAscending R ys
@@ -79,12 +79,13 @@ all_of P h [] = tt
 all_of P h (x ∷ xs) = (h x, all_of P h xs)
 
 -- ---- numbers
-low : (n m : ℕ) → n < m → int_cmp (pos n) (pos m) ≡ Less
-low n m h = sym (int_cmp_is (pos n) (pos m) Less (omega (arith, ints, h)))
+int_cmp_less : (n m : ℕ) → n < m → int_cmp (pos n) (pos m) ≡ Less
+int_cmp_less n m h = sym (int_cmp_is (pos n) (pos m) Less (omega (arith, ints, h)))
 
 low_at : (n m : ℕ) (a b : ℤ) → n < m → a ≡ pos n → b ≡ pos m → int_cmp a b ≡ Less
 low_at n m a b h e f =
-    subst (λ (x : ℤ). int_cmp x b ≡ Less) (sym e) (subst (λ (y : ℤ). int_cmp (pos n) y ≡ Less) (sym f) (low n m h))
+    subst (λ (x : ℤ). int_cmp x b ≡ Less) (sym e)
+    (subst (λ (y : ℤ). int_cmp (pos n) y ≡ Less) (sym f) (int_cmp_less n m h))
 
 even_at : (n : ℕ) (a b : ℤ) → a ≡ pos n → b ≡ pos n → int_cmp a b ≡ Equal
 even_at n a b e f = sym (int_cmp_is a b Equal (e ∙ sym f))
@@ -190,10 +191,10 @@ claims_up styles all k (x ∷ xs) =
     let rest = claims_up styles all j xs in
     placed_rise k j x.claim (claims_among styles all j xs) (omega arith) rest.0 rest.1
 
-strictly : (xs : List Placed) → IsAscending IsNoEarlier xs → AreApart xs
+legs_ascend_strictly : (xs : List Placed) → IsAscending IsNoEarlier xs → AreApart xs
     → IsAscending (λ (x y : Placed). x.leg < y.leg) xs
-strictly [] h k = tt
-strictly (x ∷ xs) h k = (both xs h.0 k.0, strictly xs h.1 k.1)
+legs_ascend_strictly [] h k = tt
+legs_ascend_strictly (x ∷ xs) h k = (both xs h.0 k.0, legs_ascend_strictly xs h.1 k.1)
   where
     both : (ys : List Placed) → AllByRecursion (IsNoEarlier x) ys
         → AllByRecursion (λ (y : Placed). x.leg ≡ y.leg → ⊥) ys → AllByRecursion (λ (y : Placed). x.leg < y.leg) ys
@@ -218,7 +219,7 @@ claims_at b n (x ∷ xs) h = (behind xs h.0, claims_at b n xs h.1)
     behind (y ∷ ys) a = (
       then_less (int_cmp (pos b) (pos b)) _ (even_at b (pos b) (pos b) refl refl)
           (then_less (int_cmp (pos n) (pos n)) (int_cmp (pos x.leg) (pos y.leg)) (even_at n (pos n) (pos n) refl refl)
-          (low x.leg y.leg a.0)),
+          (int_cmp_less x.leg y.leg a.0)),
       behind ys a.1,
     )
 
@@ -230,7 +231,7 @@ in_place : (styles : List Style) (r : Record) → IsGoodRecord styles r → IsFi
 unfolding legs_of
 in_place styles r good fit =
     let is = entry_is (entry_of styles r.txn) r.entry (balancing_fault styles r.txn) good.legs in
-    strictly r.entry.claims (subst (λ (e : Entry). IsAscending IsNoEarlier e.claims) (sym is)
+    legs_ascend_strictly r.entry.claims (subst (λ (e : Entry). IsAscending IsNoEarlier e.claims) (sym is)
     (claims_up styles r.txn.postings 1 r.txn.postings).1) fit.apart
 
 all_in_place : (styles : List Style) (rs : List Record) → AllByRecursion (IsGoodRecord styles) rs
@@ -314,7 +315,8 @@ pub rows_in_order : (f : Federation) → IsGoodState f → InOrder (rows f)
 rows_in_order f good = record {
   units = numbered_rise unit_row (λ (u : UnitRow). u.nr) (λ n x. refl) f.styles;
   branches = numbered_rise branch_row (λ (b : BranchRow). b.nr) (λ n x. refl) f.branches;
-  entries = subst (IsAscending (EntryLess [])) (alone f.styles f.branches) (entries_rise f.styles f.branches);
+  entries =
+      subst (IsAscending (EntryLess [])) (rows_from_entry_alone f.styles f.branches) (entries_rise f.styles f.branches);
   legs = legs_rise f.branches;
   claims = claims_rise f.branches
       (all_weaker (IsGoodBranch f.styles) (λ (b : Branch). AllByRecursion AreInPlace b.records) f.branches

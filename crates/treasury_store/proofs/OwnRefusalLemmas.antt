@@ -72,25 +72,26 @@ unfolding IsOwnReply
 err_own e own = own
 
 -- a case of a reply, and of a fault
-refuses : (t : Bool) (e : Refusal) (r : Result Answer Refusal) → IsOwn e → IsOwnReply r
+own_if_Err : (t : Bool) (e : Refusal) (r : Result Answer Refusal) → IsOwn e → IsOwnReply r
     → IsOwnReply (if t then Err e else r)
 unfolding IsOwnReply
-refuses true e r own rest = own
-refuses false e r own rest = rest
+own_if_Err true e r own rest = own
+own_if_Err false e r own rest = rest
 
-answers : (t : Bool) (a : Answer) (r : Result Answer Refusal) → IsOwnReply r → IsOwnReply (if t then Ok a else r)
+own_if_Ok : (t : Bool) (a : Answer) (r : Result Answer Refusal) → IsOwnReply r → IsOwnReply (if t then Ok a else r)
 unfolding IsOwnReply
-answers true a r rest = tt
-answers false a r rest = rest
+own_if_Ok true a r rest = tt
+own_if_Ok false a r rest = rest
 
-faults : (t : Bool) (e : Refusal) (o : Option Refusal) → IsOwn e → IsOwnFault o → IsOwnFault (if t then Some e else o)
+own_if_Some : (t : Bool) (e : Refusal) (o : Option Refusal) → IsOwn e → IsOwnFault o
+    → IsOwnFault (if t then Some e else o)
 unfolding IsOwnFault
-faults true e o own rest = own
-faults false e o own rest = rest
+own_if_Some true e o own rest = own
+own_if_Some false e o own rest = rest
 
-passed : (t : Bool) (o p : Option Refusal) → IsOwnFault o → IsOwnFault p → IsOwnFault (if t then o else p)
-passed true o p one two = one
-passed false o p one two = two
+own_if_either : (t : Bool) (o p : Option Refusal) → IsOwnFault o → IsOwnFault p → IsOwnFault (if t then o else p)
+own_if_either true o p one two = one
+own_if_either false o p one two = two
 
 first_of : (o p : Option Refusal) → IsOwnFault o → IsOwnFault p → IsOwnFault (option_or o p)
 unfolding IsOwnFault
@@ -109,8 +110,8 @@ own_claim (Some failure) = refl
 
 own_verdict : (b : List Entry) → IsOwnFault (verdict b)
 unfolding verdict
-own_verdict b = faults (nat_lt most_entries (length b)) (Plain Full) _ refl
-    (faults (is_over b) (Plain Limit) _ refl (own_claim (failure b)))
+own_verdict b = own_if_Some (nat_lt most_entries (length b)) (Plain Full) _ refl
+    (own_if_Some (is_over b) (Plain Limit) _ refl (own_claim (failure b)))
 
 own_same : (t : Bool) (place : ℕ)
     → IsOwnReply (commodity_reply (if t then Ok (Same (record { 0 = place })) else Err CommodityExists))
@@ -146,16 +147,16 @@ own_unbalanced styles (x ∷ xs) = first_of _ _ (own_line x.line _) (own_unbalan
 
 own_barred : (lock : Option Day) (r : Record) → IsOwnFault (barred lock r)
 own_barred lock r =
-    faults (is_product_mark r.mark) (Plain ReservedMark) _ refl
-    (faults (list_any is_transit r.entry.legs) (Plain ReservedAccount) _ refl
-    (faults (is_locked lock r.entry.day) (Plain Locked) _ refl none_own))
+    own_if_Some (is_product_mark r.mark) (Plain ReservedMark) _ refl
+    (own_if_Some (list_any is_transit r.entry.legs) (Plain ReservedAccount) _ refl
+    (own_if_Some (is_locked lock r.entry.day) (Plain Locked) _ refl none_own))
 
 own_refused : (styles : List Style) (lock : Option Day) (held rs : List Record)
     → IsOwnFault (refused_in styles lock held rs)
 own_refused styles lock held [] = none_own
 own_refused styles lock held (r ∷ rs) =
-    passed (is_repeat styles held r) _ _ (own_refused styles lock held rs)
-    (first_of _ _ (faults (is_held held r.mark) (Plain MarkClash) _ refl (own_barred lock r))
+    own_if_either (is_repeat styles held r) _ _ (own_refused styles lock held rs)
+    (first_of _ _ (own_if_Some (is_held held r.mark) (Plain MarkClash) _ refl (own_barred lock r))
     (own_refused styles lock (held ++ r ∷ []) rs))
 
 own_file : (styles : List Style) (lock : Option Day) (held : List Record) (file : List Located)
@@ -165,31 +166,31 @@ own_file styles lock held file =
 
 own_dispatch : (lock : Option Day) (held : List Record) (d : Dispatch) → IsOwnFault (dispatch_refusal lock held d)
 own_dispatch lock held d =
-    faults (not (is_account_text d.account)) (Plain BadAccount) _ refl
-    (faults (is_reserved d.account) (Plain ReservedAccount) _ refl
-    (faults (int_le d.qty (pos 0)) (Plain BadAmount) _ refl
-    (faults (is_locked lock d.day) (Plain Locked) _ refl (own_verdict _))))
+    own_if_Some (not (is_account_text d.account)) (Plain BadAccount) _ refl
+    (own_if_Some (is_reserved d.account) (Plain ReservedAccount) _ refl
+    (own_if_Some (int_le d.qty (pos 0)) (Plain BadAmount) _ refl
+    (own_if_Some (is_locked lock d.day) (Plain Locked) _ refl (own_verdict _))))
 
 own_receipt : (lock : Option Day) (held : List Record) (t : Transfer) (r : Receive)
     → IsOwnFault (receipt_refusal lock held t r)
 own_receipt lock held t r =
-    faults (not (is_account_text r.account)) (Plain BadAccount) _ refl
-    (faults (is_reserved r.account) (Plain ReservedAccount) _ refl
-    (faults (int_le (qty_of t r.part) (pos 0)) (Plain BadAmount) _ refl
-    (faults (is_too_much t r.part) (Plain TooMuch) _ refl
-    (faults (int_lt r.day.0 t.day.0) (Plain TooEarly) _ refl
-    (faults (is_locked lock r.day) (Plain Locked) _ refl (own_verdict _))))))
+    own_if_Some (not (is_account_text r.account)) (Plain BadAccount) _ refl
+    (own_if_Some (is_reserved r.account) (Plain ReservedAccount) _ refl
+    (own_if_Some (int_le (qty_of t r.part) (pos 0)) (Plain BadAmount) _ refl
+    (own_if_Some (is_too_much t r.part) (Plain TooMuch) _ refl
+    (own_if_Some (int_lt r.day.0 t.day.0) (Plain TooEarly) _ refl
+    (own_if_Some (is_locked lock r.day) (Plain Locked) _ refl (own_verdict _))))))
 
 own_held : (f : Federation) (t : Transfer) (r : Receive) (o : Option Part) → IsOwnReply (held_reply f t r o)
-own_held f t r (Some p) = answers (is_received_so t r p) Repeated _ (err_own _ refl)
+own_held f t r (Some p) = own_if_Ok (is_received_so t r p) Repeated _ (err_own _ refl)
 own_held f t r None =
-    refuses (has_nothing_left t r.part) (Plain AlreadyReceived) _ refl
+    own_if_Err (has_nothing_left t r.part) (Plain AlreadyReceived) _ refl
     (own_unless Done _ (own_receipt (lock_of f r.branch) (records_of f r.branch) t r))
 
 own_received : (f : Federation) (r : Receive) (o : Option Transfer) → IsOwnReply (receipt_reply f r o)
 own_received f r None = err_own _ refl
 own_received f r (Some t) =
-    refuses (not (bytes_eq t.target r.branch)) (Plain WrongBranch) _ refl
+    own_if_Err (not (bytes_eq t.target r.branch)) (Plain WrongBranch) _ refl
     (own_held f t r (find (has_key (key_of r.part)) (receipts_of t)))
 
 abbrev IsOwnAnswer : Result Txn Refusal → Type 0
@@ -211,50 +212,52 @@ own_entering held day (Err e) own = own
 
 own_choice : (c : Choice) → IsOwnFault (choice_refusal c)
 own_choice c =
-    faults (not (list_all is_account_text (listed c.accounts))) (Plain BadAccount) _ refl
-    (faults (not (is_account_text (target_in c.into))) (Plain BadAccount) _ refl
-    (faults (list_any holds_transit (listed c.accounts)) (Plain ReservedAccount) _ refl
-    (faults (is_reserved (target_in c.into)) (Plain ReservedAccount) _ refl
-    (faults (is_selected c.accounts (target_in c.into)) (Plain BadAccount) _ refl
-    (faults (nat_lt list_limit (length (list_text (listed c.accounts)))) (Plain Limit) _ refl none_own)))))
+    own_if_Some (not (list_all is_account_text (listed c.accounts))) (Plain BadAccount) _ refl
+    (own_if_Some (not (is_account_text (target_in c.into))) (Plain BadAccount) _ refl
+    (own_if_Some (list_any holds_transit (listed c.accounts)) (Plain ReservedAccount) _ refl
+    (own_if_Some (is_reserved (target_in c.into)) (Plain ReservedAccount) _ refl
+    (own_if_Some (is_selected c.accounts (target_in c.into)) (Plain BadAccount) _ refl
+    (own_if_Some (nat_lt list_limit (length (list_text (listed c.accounts)))) (Plain Limit) _ refl none_own)))))
 
 own_close : (lock : Option Day) (held : List Record) (x : Close) (o : Option Txn)
     → IsOwnFault (close_refusal lock held x o)
 own_close lock held x o =
     first_of _ _ (own_choice x.choice)
-    (faults (is_locked lock x.day) (Plain Locked) _ refl
+    (own_if_Some (is_locked lock x.day) (Plain Locked) _ refl
     (own_entering held x.day (closing_answer o) (own_closed o)))
 
 own_closing : (f : Federation) (x : Close) (o : Option Record) → IsOwnReply (closed_reply f x o)
 own_closing f x None =
     own_unless Done _ (own_close (lock_of f x.branch) (records_of f x.branch) x (closing_in f x.branch x.day x.choice))
 own_closing f x (Some r) =
-    answers (pointwise bytes_eq r.txn.comments (choice_comments x.choice)) Repeated _ (err_own _ refl)
+    own_if_Ok (pointwise bytes_eq r.txn.comments (choice_comments x.choice)) Repeated _ (err_own _ refl)
 
 own_reply : (f : Federation) (c : Command) → IsOwnReply (reply f c)
 unfolding reply
 own_reply f (cmd.Branch name) =
-    refuses (not (is_branch_name name)) (Plain BranchName) _ refl (answers (has_branch f name) Repeated _
-    (refuses (nat_le most_branches (length f.branches)) (Plain Full) _ refl (ok_own Done)))
+    own_if_Err (not (is_branch_name name)) (Plain BranchName) _ refl (own_if_Ok (has_branch f name) Repeated _
+    (own_if_Err (nat_le most_branches (length f.branches)) (Plain Full) _ refl (ok_own Done)))
 own_reply f (cmd.Commodity style) = own_commodity f.styles style
 own_reply f (cmd.Enter name file) =
-    refuses (not (has_branch f name)) (Plain UnknownBranch) _ refl
+    own_if_Err (not (has_branch f name)) (Plain UnknownBranch) _ refl
     (own_unless _ _ (own_file f.styles (lock_of f name) (records_of f name) file))
 own_reply f (cmd.Dispatch d) =
-    refuses (not (has_branch f d.source)) (Plain UnknownBranch) _ refl
-    (refuses (not (has_branch f d.target)) (Plain UnknownBranch) _ refl
-    (refuses (bytes_eq d.source d.target) (Plain SameBranch) _ refl (refuses (not (is_id d.id)) (Plain BadId) _ refl
-    (answers (is_dispatched_so d (transfer_at f d.id)) Repeated _
-    (refuses (is_some (transfer_at f d.id)) (Plain MarkClash) _ refl
+    own_if_Err (not (has_branch f d.source)) (Plain UnknownBranch) _ refl
+    (own_if_Err (not (has_branch f d.target)) (Plain UnknownBranch) _ refl
+    (own_if_Err (bytes_eq d.source d.target) (Plain SameBranch) _ refl
+    (own_if_Err (not (is_id d.id)) (Plain BadId) _ refl
+    (own_if_Ok (is_dispatched_so d (transfer_at f d.id)) Repeated _
+    (own_if_Err (is_some (transfer_at f d.id)) (Plain MarkClash) _ refl
     (own_unless Done _ (own_dispatch (lock_of f d.source) (records_of f d.source) d)))))))
 own_reply f (cmd.Receive r) =
-    refuses (not (has_branch f r.branch)) (Plain UnknownBranch) _ refl
-    (refuses (not (is_id r.id)) (Plain BadId) _ refl
-    (refuses (has_bad_key r.part) (Plain BadId) _ refl (own_received f r (transfer_at f r.id))))
+    own_if_Err (not (has_branch f r.branch)) (Plain UnknownBranch) _ refl
+    (own_if_Err (not (is_id r.id)) (Plain BadId) _ refl
+    (own_if_Err (has_bad_key r.part) (Plain BadId) _ refl (own_received f r (transfer_at f r.id))))
 own_reply f (cmd.Lock name day) =
-    refuses (not (has_branch f name)) (Plain UnknownBranch) _ refl (answers (is_lock (lock_of f name) day) Repeated _
-    (refuses (goes_back (lock_of f name) day) (Plain LockBack) _ refl (ok_own Done)))
-own_reply f (cmd.Close x) = refuses (not (has_branch f x.branch)) (Plain UnknownBranch) _ refl
+    own_if_Err (not (has_branch f name)) (Plain UnknownBranch) _ refl
+    (own_if_Ok (is_lock (lock_of f name) day) Repeated _
+    (own_if_Err (goes_back (lock_of f name) day) (Plain LockBack) _ refl (ok_own Done)))
+own_reply f (cmd.Close x) = own_if_Err (not (has_branch f x.branch)) (Plain UnknownBranch) _ refl
     (own_closing f x (held (records_of f x.branch) (close_mark x.day)))
 
 own_is : (r : Result Answer Refusal) → IsOwnReply r → r ≡ Err (Plain Failed) → ⊥

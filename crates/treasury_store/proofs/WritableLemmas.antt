@@ -19,7 +19,7 @@ use Rattle.treasury_state.proofs.BackLemmas.{room_fit, room_within, room_back, g
 use Rattle.treasury_store.specs.Numbers.{Numbering, records_each, numbers_of}
 use Rattle.treasury_store.specs.Changes.{Counts, place_in, styles_with, names_with, counts_of, IsWritable, CanWrite}
 use Rattle.treasury_store.specs.Changes.{CanWriteFrom}
-use Rattle.treasury_store.proofs.AdditionLemmas.{styles_joined, names_joined, grown, place_same, count_step}
+use Rattle.treasury_store.proofs.AdditionLemmas.{styles_joined, names_joined, names_grown, place_same, count_step}
 
 -- each record is good under these styles
 abbrev ArePrinted : List Style → Branch → Type 0
@@ -115,7 +115,7 @@ all_fit : (styles : List Style) (N : List (List ℕ)) (xs : List Addition) (f : 
     → CanWriteFrom styles N (counts_of (numbers_of f)) xs
 all_fit styles N [] f e room printed = tt
 all_fit styles N (x ∷ xs) f e room printed =
-    let w = grown (x ∷ xs) f N e in
+    let w = names_grown (x ∷ xs) f N e in
     let next = joined_one f x in (
       one_fits styles N w.0 f x w.1 (room_back (x ∷ xs) f room) (room_back xs next room)
           (printed_back styles xs next printed),

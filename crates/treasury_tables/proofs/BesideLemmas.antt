@@ -53,13 +53,13 @@ last_got (x ∷ xs) y = last_got xs y
 abbrev above : {X : Type 0} → (X → ℕ) → ℕ → List X → ℕ
 above f = fold (λ n x. max n (f x + 1))
 
-grows : {X : Type 0} (f : X → ℕ) (xs : List X) (n : ℕ) → n ≤ above f n xs
-grows f [] n = omega arith
-grows f (x ∷ xs) n = omega (arith, grows f xs (max n (f x + 1)))
+above_grows : {X : Type 0} (f : X → ℕ) (xs : List X) (n : ℕ) → n ≤ above f n xs
+above_grows f [] n = omega arith
+above_grows f (x ∷ xs) n = omega (arith, above_grows f xs (max n (f x + 1)))
 
 low_all : {X : Type 0} (f : X → ℕ) (xs : List X) (n : ℕ) → AllByRecursion (λ x. f x < above f n xs) xs
 low_all f [] n = tt
-low_all f (x ∷ xs) n = (omega (arith, grows f xs (max n (f x + 1))), low_all f xs (max n (f x + 1)))
+low_all f (x ∷ xs) n = (omega (arith, above_grows f xs (max n (f x + 1))), low_all f xs (max n (f x + 1)))
 
 kept_below : (m n : ℕ) (ts : List Table) (a b : Trees) → m ≤ n → AllByRecursion (λ t. t.tree < m) ts
     → AllByRecursion (λ t. t.tree ≢ n → b t.tree ≡ a t.tree) ts → KeepsRows ts a b
@@ -101,14 +101,14 @@ gives_row s old new count has free bare h =
       row = ap (map (λ r. column r 1)) only;
       numbered = subst (IsShaped shape.Table) (sym put) (IsShaped-put_row (Int (pos 1) ∷ format_row) [] refl (tt, tt));
       others = kept_below (above (λ (t : Table). t.tree) (past_views s) s.tables) n s.tables old.now.trees new.now.trees
-          (grows (λ i. i.tree) s.indexes _) (low_all (λ (t : Table). t.tree) s.tables (past_views s))
+          (above_grows (λ i. i.tree) s.indexes _) (low_all (λ (t : Table). t.tree) s.tables (past_views s))
           (all_front _ s.tables _ a.others);
     }
 
 -- ---- all of it
-spared : (a b : Bool) → (a || b) ≡ false → a ≡ false
-spared true b h = absurd (cc)
-spared false b h = refl
+or_false_left : (a b : Bool) → (a || b) ≡ false → a ≡ false
+or_false_left true b h = absurd (cc)
+or_false_left false b h = refl
 
 no_format : (ts : List Table) → list_any (λ t. is_ours t.name) ts ≡ false
     → list_any (λ t. same_name t.name (codes "format")) ts ≡ false
@@ -120,7 +120,7 @@ no_format (t ∷ ts) none = go (is_ours t.name) refl none (no_format ts)
         → (same_name t.name (codes "format") || list_any (λ t. same_name t.name (codes "format")) ts) ≡ false
     go true e h more = absurd (cc)
     go false e h more = ap (λ b. b || list_any (λ t. same_name t.name (codes "format")) ts)
-        (spared (same_name t.name (codes "format")) _ e) ∙ more h
+        (or_false_left (same_name t.name (codes "format")) _ e) ∙ more h
 
 pub no_format_in : (s : Schema) → has_one s ≡ false → list_any (λ t. same_name t.name (codes "format")) s.tables ≡ false
 no_format_in s none = no_format s.tables none

@@ -28,9 +28,9 @@ turned_on : {X : Type 0} (xs ys : List X) → IsPermutation (fold (λ l x. x ∷
 turned_on [] ys = IsPermutation-refl ys
 turned_on (x ∷ xs) ys = IsPermutation-trans _ _ _ (turned_on xs (x ∷ ys)) (IsPermutation-middle xs x ys)
 
-turned : {X : Type 0} (xs ys zs all : List X) → IsPermutation ys zs → IsPermutation (xs ++ zs) all
+fold_cons_permutes : {X : Type 0} (xs ys zs all : List X) → IsPermutation ys zs → IsPermutation (xs ++ zs) all
     → IsPermutation (fold (λ l x. x ∷ l) ys xs) all
-turned xs ys zs all h k =
+fold_cons_permutes xs ys zs all h k =
     IsPermutation-trans _ _ _ (turned_on xs ys) (IsPermutation-trans _ _ _ (IsPermutation-append_right xs _ _ h) k)
 
 -- ---- entry
@@ -63,7 +63,7 @@ module _ (e1 e2 e3 e4 e5 e6 e7 e8 : EntryRow) where
               (sym (a.others.1.0 (omega arith))) holds.shows.units;
           branches = subst (λ rs. IsPermutation (map branch_row t.branches) (map shown_branch rs))
               (sym (a.others.1.1.0 (omega arith))) holds.shows.branches;
-          entries = turned (map entry_row entry_eights) (map entry_row t.entries) _ _ holds.shows.entries
+          entries = fold_cons_permutes (map entry_row entry_eights) (map entry_row t.entries) _ _ holds.shows.entries
               (entries_moved (map entry_row entry_eights) _ _ refl a.moved);
           legs = subst (λ rs. IsPermutation (map leg_row t.legs) (map shown_leg rs))
               (sym (a.others.1.1.1.1.0 (omega arith))) holds.shows.legs;
@@ -109,7 +109,7 @@ module _ (l1 l2 l3 l4 l5 l6 l7 l8 : LegRow) where
               (sym (a.others.1.1.0 (omega arith))) holds.shows.branches;
           entries = subst (λ rs. IsPermutation (map entry_row t.entries) (map shown_entry rs))
               (sym (a.others.1.1.1.0 (omega arith))) holds.shows.entries;
-          legs = turned (map leg_row leg_eights) (map leg_row t.legs) _ _ holds.shows.legs
+          legs = fold_cons_permutes (map leg_row leg_eights) (map leg_row t.legs) _ _ holds.shows.legs
               (legs_moved (map leg_row leg_eights) _ _ refl a.moved);
           claims = subst (λ rs. IsPermutation (map claim_row t.claims) (map shown_claim rs))
               (sym (a.others.1.1.1.1.1.0 (omega arith))) holds.shows.claims;
@@ -157,7 +157,7 @@ module _ (c1 c2 c3 c4 c5 c6 c7 c8 : ClaimRow) where
               (sym (a.others.1.1.1.0 (omega arith))) holds.shows.entries;
           legs = subst (λ rs. IsPermutation (map leg_row t.legs) (map shown_leg rs))
               (sym (a.others.1.1.1.1.0 (omega arith))) holds.shows.legs;
-          claims = turned (map claim_row claim_eights) (map claim_row t.claims) _ _ holds.shows.claims
+          claims = fold_cons_permutes (map claim_row claim_eights) (map claim_row t.claims) _ _ holds.shows.claims
               (claims_moved (map claim_row claim_eights) _ _ refl a.moved);
           transfers = subst (λ rs. IsPermutation (map transfer_row t.transfers) (map shown_transfer rs))
               (sym (a.others.1.1.1.1.1.1.0 (omega arith))) holds.shows.transfers;

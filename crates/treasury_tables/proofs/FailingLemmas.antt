@@ -52,13 +52,13 @@ module _ (sql : List ℕ) (old new : State) where
       )
 
 -- so the look changes nothing
-pub looked : {S : Type 0} (g : Ghosts S) (old new : Held S) (sql : List ℕ) (r : Result Outline Error)
+pub look_changes_nothing : {S : Type 0} (g : Ghosts S) (old new : Held S) (sql : List ℕ) (r : Result Outline Error)
     → (IsFaithful g new → IfOk r (λ s. (s.text ≡ sql) × IsUnchanged (state g old) (state g new)))
     → (IsFaithful g new
     → IfErr r (λ e. (params : Row) → IsNotRun (state g old) (state g new) sql params e))
     → (IsTrue (state g old).is_open → (state g old).now ≡ (state g old).committed)
     → Survives (state g old) (state g new) (λ _. ⊥) → ChangesNothing g old new
-looked g old new sql r ok err alone survives = record {
+look_changes_nothing g old new sql r ok err alone survives = record {
   same = λ clean is. back_of sql (state g old) (state g new) r (ok clean) (err clean) alone is;
   survives = survives;
 }

@@ -48,15 +48,15 @@ module _ {S : Type 0} (g : Ghosts S) (old new : Held S) (sql : List ℕ) (params
       answer (Err e) h = tt
 
 -- one statement, by what it does where it succeeds
-pub writes : {S : Type 0} (g : Ghosts S) (old new : Held S) (sql : List ℕ) (params : Row) (r : Result ℕ Error)
-    (e : Error)
+pub one_statement_writes : {S : Type 0} (g : Ghosts S) (old new : Held S) (sql : List ℕ) (params : Row)
+    (r : Result ℕ Error) (e : Error)
     → ((state g old).in_transaction ≡ false → (r ≡ Err e) × (new ≡ old))
     → (IsFaithful g new → IsTrue (state g old).in_transaction
     → ExecutesInside 0 sql params (state g old) (state g new) r)
     → Survives (state g old) (state g new) (λ _. ⊥) → (change : Tables → Tables)
     → ((count : ℕ) (t : Tables) → Holds (state g old).now t → Executes sql params (state g old) (state g new) (Ok count)
     → Holds (state g new).now (change t)) → Writes g old new r change
-writes g old new sql params r e ended runs survives change step = record {
+one_statement_writes g old new sql params r e ended runs survives change step = record {
   rows = λ clean. ran g old new sql params r e ended (runs clean) _ (λ count h t holds. step count t holds h);
   inside = λ clean. stays g old new sql params r e ended (runs clean);
   kept = λ clean. keeps g old new sql params r e ended (runs clean);
@@ -64,8 +64,8 @@ writes g old new sql params r e ended runs survives change step = record {
 }
 
 -- one CREATE, by what it does where it succeeds
-pub creates : {S : Type 0} (g : Ghosts S) (old new : Held S) (sql : List ℕ) (params : Row) (r : Result ℕ Error)
-    (e : Error)
+pub one_statement_creates : {S : Type 0} (g : Ghosts S) (old new : Held S) (sql : List ℕ) (params : Row)
+    (r : Result ℕ Error) (e : Error)
     → ((state g old).in_transaction ≡ false → (r ≡ Err e) × (new ≡ old))
     → (IsFaithful g new → IsTrue (state g old).in_transaction
     → ExecutesInside 0 sql params (state g old) (state g new) r)
@@ -73,7 +73,7 @@ pub creates : {S : Type 0} (g : Ghosts S) (old new : Held S) (sql : List ℕ) (p
     → ((count : ℕ) → has_counter (state g old).now.schema ≡ false
     → Executes sql params (state g old) (state g new) (Ok count) → Makes table (state g old).now (state g new).now)
     → Creates g old new r table
-creates g old new sql params r e ended runs survives table step = record {
+one_statement_creates g old new sql params r e ended runs survives table step = record {
   makes = λ clean. ran g old new sql params r e ended (runs clean) _ (λ count h none. step count none h);
   inside = λ clean. stays g old new sql params r e ended (runs clean);
   kept = λ clean. keeps g old new sql params r e ended (runs clean);
@@ -81,12 +81,12 @@ creates g old new sql params r e ended runs survives table step = record {
 }
 
 -- a commit leaves after a crash what was there before the transaction, or what it committed
-pub crashes : {S : Type 0} (g : Ghosts S) (old last end : Held S) (P : Database → Type 0)
+pub survives_commit : {S : Type 0} (g : Ghosts S) (old last end : Held S) (P : Database → Type 0)
     → Survives (state g (record old { in_transaction = true })) (state g last) (λ _. ⊥)
     → Survives (state g last) (state g end) (λ db. db ≡ (state g last).now.trees)
     → (IsFaithful g last → P (state g last).now)
     → Survives (state g old) (state g end) (λ trees. (db : Database) × (trees ≡ db.trees) × P db)
-crashes g old last end P inside commit is =
+survives_commit g old last end P inside commit is =
     survives_then (state g old) (state g last) (state g end) (λ _. ⊥) (λ db. db ≡ (state g last).now.trees)
     (λ trees. (db : Database) × (trees ≡ db.trees) × P db)
     (λ _ db none. absurd none) (λ clean db same. ((state g last).now, same, is (omega (arith, commit.clean))))

@@ -34,10 +34,10 @@ module _ (p : Change → Bool) (apart : (c d : Change) (t : Tables) → p c ≡ 
       go false e more = more ∙ ap (joined (filter (λ d. not (p d)) cs)) (past c e cs t)
 
 -- a kind apart from another is not touched where the other is taken out
-pub still : (p q : Change → Bool) → ((c : Change) → q c ≡ true → p c ≡ false) → (cs : List Change)
+pub filter_other_kind : (p q : Change → Bool) → ((c : Change) → q c ≡ true → p c ≡ false) → (cs : List Change)
     → filter q (filter (λ c. not (p c)) cs) ≡ filter q cs
-still p q apart [] = refl
-still p q apart (c ∷ cs) = go (p c) (q c) refl refl (still p q apart cs)
+filter_other_kind p q apart [] = refl
+filter_other_kind p q apart (c ∷ cs) = go (p c) (q c) refl refl (filter_other_kind p q apart cs)
   where
     go : (a b : Bool) → p c ≡ a → q c ≡ b → filter q (filter (λ d. not (p d)) cs) ≡ filter q cs
         → filter q (cond (not a) (c ∷ filter (λ d. not (p d)) cs) (filter (λ d. not (p d)) cs))
@@ -154,9 +154,9 @@ by_kinds cs t =
     let rest = filter (λ c. not (is_entry c)) cs in
     let last = filter (λ c. not (is_leg c)) rest in
     let u = joined (filter is_entry cs) t in
-    let legs : filter is_leg rest ≡ filter is_leg cs = still is_entry is_leg no_entry cs in
+    let legs : filter is_leg rest ≡ filter is_leg cs = filter_other_kind is_entry is_leg no_entry cs in
     let claims : filter is_claim last ≡ filter is_claim cs =
-    still is_leg is_claim no_leg rest ∙ still is_entry is_claim no_entry_either cs in
+    filter_other_kind is_leg is_claim no_leg rest ∙ filter_other_kind is_entry is_claim no_entry_either cs in
     by_kind is_entry entry_apart cs t
     ∙ (by_kind is_leg leg_apart rest u
     ∙ (by_kind is_claim claim_apart last (joined (filter is_leg rest) u)

@@ -39,7 +39,7 @@ use Rattle.treasury_tables.proofs.Texts.{transfer_rows_is, transfer_columns, tra
 use Rattle.treasury_tables.proofs.Texts.{part_rows_text, part_rows_is, part_columns, part_order, part_query}
 use Rattle.treasury_tables.proofs.QueryLemmas.{at, answer_is}
 use Rattle.treasury_tables.proofs.QueriedLemmas.{all_chosen}
-use Rattle.treasury_tables.proofs.ShownLemmas.{whole}
+use Rattle.treasury_tables.proofs.ShownLemmas.{map_identity}
 use Rattle.treasury_state.specs.declared.rows.UnitRow.{UnitRow}
 use Rattle.treasury_state.specs.declared.rows.BranchRow.{BranchRow}
 use Rattle.treasury_state.specs.declared.rows.EntryRow.{EntryRow}
@@ -81,7 +81,7 @@ module _ (schema : Schema) (tree : ℕ) (bare : (db : Trees) → overlay db [] t
       let columns_of = map shown (old.now.trees tree) in
       let all : map (λ (o : Output). o.1) (map keyed columns_of) ≡ columns_of =
       map-map (λ (o : Output). o.1) keyed columns_of ∙ (λ i. map (λ s. keyed_is s i) columns_of) ∙ sym
-      (whole columns_of) in
+      (map_identity columns_of) in
       subst₂ IsPermutation all (sym answer.3) (IsPermutation-map (λ (o : Output). o.1) _ _ answer.1)
 
   -- and rows whose keys rise in that order

@@ -40,7 +40,7 @@ use Rattle.treasury_tables.proofs.Steps.{updates}
 use Rattle.treasury_tables.proofs.Texts.{lock_text, lock_is, lock_filter, lock_terms, lock_query}
 use Rattle.treasury_tables.proofs.RowLemmas.{puts_permute, cast_int, cast_null, none_chosen, without_same}
 use Rattle.treasury_tables.proofs.RowLemmas.{numbered_given}
-use Rattle.treasury_tables.proofs.QueryLemmas.{at, matched, answer_is}
+use Rattle.treasury_tables.proofs.QueryLemmas.{at, matched_int, answer_is}
 use Rattle.treasury_tables.proofs.UpdatedLemmas.{picked, updated}
 use Rattle.treasury_state.specs.declared.rows.BranchRow.{BranchRow}
 
@@ -68,7 +68,7 @@ module _ (nr day : ℤ) where
   test r = go (column r 0)
     where
       go : (v : Value) → (is_true (binary (Compare Eq Binary) v (Int nr)) && true) ≡ is_eq (value_cmp v (Int nr))
-      go v = and-true _ ∙ matched v nr
+      go v = and-true _ ∙ matched_int v nr
 
   id_is : (b : BranchRow) → has_rowid nr (branch_row b) ≡ is_it b
   id_is b = ap is_eq (value_cmp-Int b.nr nr)

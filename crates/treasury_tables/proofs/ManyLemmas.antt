@@ -29,14 +29,14 @@ use Rattle.treasury_tables.proofs.RowLemmas.{puts_permute}
 use Rattle.treasury_tables.proofs.AddLemmas.{works_none}
 
 -- whatever rowids are chosen, the columns are those of the sources
-bare : (b : Bool) (n : ℤ) (r : Row) → drop 1 (if b then Int n ∷ drop 1 r else r) ≡ drop 1 r
-bare true n r = refl
-bare false n r = refl
+drop_chosen_rowid : (b : Bool) (n : ℤ) (r : Row) → drop 1 (if b then Int n ∷ drop 1 r else r) ≡ drop 1 r
+drop_chosen_rowid true n r = refl
+drop_chosen_rowid false n r = refl
 
 pub numbered_bare : (k : Rowids) (rows news : List Row) → map (drop 1) (numbered k rows news) ≡ map (drop 1) news
 numbered_bare k rows [] = refl
 numbered_bare k rows (r ∷ rs) =
-    ap₂ ◌∷◌ (bare (is_chosen k (rowid r)) (at_least k (next_rowid rows)) r)
+    ap₂ ◌∷◌ (drop_chosen_rowid (is_chosen k (rowid r)) (at_least k (next_rowid rows)) r)
     (numbered_bare k (put_row (with_rowid k rows r) rows) rs)
 
 -- the rows are put into the tree, under any rowids, and each other table of the schema has the rows that it had

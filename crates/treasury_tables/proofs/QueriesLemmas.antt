@@ -209,10 +209,10 @@ pub record Quiet {S : Type 0} (g : Ghosts S) (a b : Held S) : Type 0 where
       → ((state g b).now ≡ (state g a).now) × ((state g b).committed ≡ (state g a).committed)
   pub survives : KeepsTables g a b
 
-pub quiet : {S X : Type 0} {g : Ghosts S} {a b : Held S} {x : X} → Queries g a b (Ok x)
+pub queries_are_quiet : {S X : Type 0} {g : Ghosts S} {a b : Held S} {x : X} → Queries g a b (Ok x)
     → (IsFaithful g b → (state g a).now.schema ≡ store_schema → IsUnchanged (state g a) (state g b))
     → Quiet g a b
-quiet q same = record {
+queries_are_quiet q same = record {
   opened = q.opened;
   same = λ clean has.
       let kept = (same clean has).0 in (kept.now_is, kept.committed_is);

@@ -16,26 +16,26 @@ use Rattle.sqlite_value.specs.declared.keys.Key.{Key}
 use Rattle.sqlite_keyed.proofs.ListLemmas.{map-map}
 use Rattle.treasury_tables.proofs.Texts.{table_query}
 
-known : (b : Bool) → is_true (from_truth (Some b)) ≡ b
-known true = refl
-known false = refl
+is_true_from_truth : (b : Bool) → is_true (from_truth (Some b)) ≡ b
+is_true_from_truth true = refl
+is_true_from_truth false = refl
 
-pub matched : (v : Value) (n : ℤ) → is_true (binary (Compare Eq Binary) v (Int n)) ≡ is_eq (value_cmp v (Int n))
+pub matched_int : (v : Value) (n : ℤ) → is_true (binary (Compare Eq Binary) v (Int n)) ≡ is_eq (value_cmp v (Int n))
 unfolding binary value_cmp
-matched Null n = refl
-matched (Int m) n = known (is_eq (value_cmp (Int m) (Int n)))
-matched (Real x) n = known (is_eq (value_cmp (Real x) (Int n)))
-matched (Text t) n = known (is_eq (value_cmp (Text t) (Int n)))
-matched (Blob b) n = known (is_eq (value_cmp (Blob b) (Int n)))
+matched_int Null n = refl
+matched_int (Int m) n = is_true_from_truth (is_eq (value_cmp (Int m) (Int n)))
+matched_int (Real x) n = is_true_from_truth (is_eq (value_cmp (Real x) (Int n)))
+matched_int (Text t) n = is_true_from_truth (is_eq (value_cmp (Text t) (Int n)))
+matched_int (Blob b) n = is_true_from_truth (is_eq (value_cmp (Blob b) (Int n)))
 
 pub matched_text : (v : Value) (s : List ℕ)
     → is_true (binary (Compare Eq Binary) v (Text s)) ≡ is_eq (value_cmp v (Text s))
 unfolding binary value_cmp
 matched_text Null s = refl
-matched_text (Int m) s = known (is_eq (value_cmp (Int m) (Text s)))
-matched_text (Real x) s = known (is_eq (value_cmp (Real x) (Text s)))
-matched_text (Text t) s = known (is_eq (value_cmp (Text t) (Text s)))
-matched_text (Blob b) s = known (is_eq (value_cmp (Blob b) (Text s)))
+matched_text (Int m) s = is_true_from_truth (is_eq (value_cmp (Int m) (Text s)))
+matched_text (Real x) s = is_true_from_truth (is_eq (value_cmp (Real x) (Text s)))
+matched_text (Text t) s = is_true_from_truth (is_eq (value_cmp (Text t) (Text s)))
+matched_text (Blob b) s = is_true_from_truth (is_eq (value_cmp (Blob b) (Text s)))
 
 module _ (params : Row) where
   abbrev pub at : Row → Env

@@ -6,9 +6,9 @@ use Rattle.sqlite_keyed.proofs.ListLemmas.{map-map}
 use Rattle.sqlite.specs.Order.{Row, column}
 use Rattle.treasury_tables.specs.Rows.{shown_entry, shown_leg, shown_claim}
 
-pub whole : (rows : List Row) → rows ≡ map (λ r. r) rows
-whole [] = refl
-whole (r ∷ rows) = ap (λ l. r ∷ l) (whole rows)
+pub map_identity : (rows : List Row) → rows ≡ map (λ r. r) rows
+map_identity [] = refl
+map_identity (r ∷ rows) = ap (λ l. r ∷ l) (map_identity rows)
 
 -- ---- a row without its rowid
 abbrev front5 : Row → Row

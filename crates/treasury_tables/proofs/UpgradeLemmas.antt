@@ -60,9 +60,10 @@ no_other (x ∷ xs) = no_other xs
 two_stays : (r : Row) → column (recast (shown r)) 1 ≡ Int (pos 2)
 two_stays r = cast_int (pos 2)
 
-pub sets : (old new : State) (count : ℕ) → old.now.schema ≡ store_schema → versions old.now ≡ Int (pos 1) ∷ []
+pub second_sets_version : (old new : State) (count : ℕ) → old.now.schema ≡ store_schema
+    → versions old.now ≡ Int (pos 1) ∷ []
     → IsShaped shape.Table (old.now.trees 0) → Executes second_text [] old new (Ok count) → SetsVersion old.now new.now
-sets old new count has version table h =
+second_sets_version old new count has version table h =
     let command = Update 0 (record { lets = []; body = second_query }) in
     let w = runs_as second_text [] old new store_schema has command second_is.0 second_is.1 count h in
     let text = statement_of second_text (understood store_schema second_text) in
@@ -100,8 +101,8 @@ sets old new count has version table h =
     }
 
 -- ---- both statements
-pub upgraded : (a b c : Database) → a.schema ≡ first_schema → Makes receipt a b → SetsVersion b c → Upgrades a c
-upgraded a b c has made set =
+pub upgrades_by_both : (a b c : Database) → a.schema ≡ first_schema → Makes receipt a b → SetsVersion b c → Upgrades a c
+upgrades_by_both a b c has made set =
     let second : b.schema ≡ store_schema = made.schema ∙ ap (λ s. created s receipt) has in
     let kept = subst (λ s. KeepsRows s.tables a.trees b.trees) has made.others in
     let others = subst (λ s. AllByRecursion (λ (t : Table). t.tree ≢ format.tree → c.trees t.tree ≡ b.trees t.tree)

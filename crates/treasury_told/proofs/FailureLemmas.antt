@@ -23,7 +23,7 @@ use Rattle.book_core.specs.declared.place.Place.{Place}
 use Rattle.book_core.specs.Book.{Posted, posted_legs}
 use Rattle.journal_balance.specs.Legs.{legs_of}
 use Rattle.treasury_state.specs.declared.record.Record.{Record}
-use Rattle.treasury_state.proofs.RestLemmas.{heads, tails}
+use Rattle.treasury_state.proofs.RestLemmas.{same_heads, same_tails}
 use Rattle.treasury_told.specs.declared.explain.standing.Standing.{Standing}
 use Rattle.treasury_told.specs.declared.explain.touching.Watched.{Watched}
 use Rattle.treasury_told.specs.Standing.{entry_in, is_nobody}
@@ -183,7 +183,7 @@ legs_decides [] (y ∷ ys) = (λ e. absurd cc, λ e. absurd cc)
 legs_decides (x ∷ xs) [] = (λ e. absurd cc, λ e. absurd cc)
 legs_decides (x ∷ xs) (y ∷ ys) = Decides-like (same_leg x y && same_legs xs ys)
     (λ (e : (x ≡ y) × (xs ≡ ys)). ap (λ (l : Leg). l ∷ xs) e.0 ∙ ap (λ (ls : List Leg). y ∷ ls) e.1)
-    (λ e. (heads x y xs ys e, tails x y xs ys e))
+    (λ e. (same_heads x y xs ys e, same_tails x y xs ys e))
     (Decides-and (same_leg x y) (same_legs xs ys) (leg_decides x y) (legs_decides xs ys))
 
 pub legs_test : (xs ys : List Leg) (b : Bool) → IsTrue b ↔ (xs ≡ ys) → b ≡ same_legs xs ys

@@ -11,7 +11,7 @@ use Rattle.std.proofs.lemmas.List.{append-nil, map-append, length-map, take_more
 use Rattle.std.specs.HashMap.{get_by_text}
 use Rattle.std.specs.Option.{option_or}
 use Rattle.treasury_state.specs.Index.{IsIndexOf}
-use Rattle.treasury_state.proofs.IndexLemmas.{Index, pushed}
+use Rattle.treasury_state.proofs.IndexLemmas.{Index, index_pushed}
 use Rattle.std.proofs.lemmas.List.Sums.{count_by-le-length}
 use Rattle.money_core.specs.declared.cause.Cause.{Cause}
 use Rattle.money_core.specs.declared.cause.Cause.TheVariants.{OutOfMemory}
@@ -113,7 +113,7 @@ index_next records i r old new mark h e same before put =
     let xs = take i records in
     let long : length xs ≡ i = length-take-le i records (omega arith) in
     subst (IsIndexOf new) (sym (take_more records i r h ∙ ap (λ (y : Record). xs ++ y ∷ []) (sym e)))
-    (pushed (λ (x : Record). x.mark) old new xs r before (λ k. put k
+    (index_pushed (λ (x : Record). x.mark) old new xs r before (λ k. put k
     ∙ ap (λ (m : List ℕ). option_or (get_by_text old k) (cond (bytes_eq m k) (Some i) None)) same
     ∙ ap (λ (n : ℕ). option_or (get_by_text old k) (cond (bytes_eq r.mark k) (Some n) None)) (sym long)))
 
@@ -154,7 +154,7 @@ pub earlier_next : (old new : Index) (found more : List Standing) (s : Standing)
     → ((k : List ℕ) → get_by_text new k ≡ option_or (get_by_text old k) (cond (bytes_eq text k) (Some n) None))
     → (k : List ℕ) → get_by_text new k ≡ position_from (goes_by k) 0 more
 earlier_next old new found more s text n added same count before put = λ k.
-    pushed (λ (x : Standing). x.mark) old new found s before (λ m. put m
+    index_pushed (λ (x : Standing). x.mark) old new found s before (λ m. put m
     ∙ ap (λ (bs : List ℕ). option_or (get_by_text old m) (cond (bytes_eq bs m) (Some n) None)) same
     ∙ ap (λ (i : ℕ). option_or (get_by_text old m) (cond (bytes_eq s.mark m) (Some i) None)) count) k
     ∙ ap (position_from (goes_by k) 0) (sym added)

@@ -1,6 +1,6 @@
 use Rattle.std.proofs.Common.{◌++◌, codes, decimal, length, refl}
 use Rattle.treasury_client.proofs.ReplyLemmas.{length_cut, other_length, length_told}
-use Rattle.treasury_client.proofs.HeardLemmas.{failed}
+use Rattle.treasury_client.proofs.HeardLemmas.{not_true_and_false}
 use Rattle.treasury_client.proofs.reply.body_behind.Goals as goal
 
 pub returns-in-None-clause-missed : goal.returns-in-None-clause-missed
@@ -18,7 +18,7 @@ returns-else-is_decimal_of-clause-missed c = λ _ body fits same.
     let found = c.in-Some.ensures.found in
     other_length c.args.text.now c.in-Some.parts.0.now c.in-Some.parts.1.now c.in-Some-rest_behind.body.now body found.0
     found.1 found.2 c.in-Some-rest_behind.ensures
-    (λ is. failed c.is_decimal_of.result c.if-is_decimal_of.false (c.is_decimal_of.ensures.1 is)) fits same
+    (λ is. not_true_and_false c.is_decimal_of.result c.if-is_decimal_of.false (c.is_decimal_of.ensures.1 is)) fits same
 
 pub returns-then-is_decimal_of-clause-found : goal.returns-then-is_decimal_of-clause-found
 returns-then-is_decimal_of-clause-found c =

@@ -9,17 +9,18 @@ use Rattle.treasury_state.specs.declared.delta.Addition.{Addition}
 use Rattle.treasury_state.specs.declared.delta.Addition.TheVariants as add
 use Rattle.treasury_state.specs.Good.{IsGoodBranch}
 use Rattle.treasury_state.specs.Seen.{branch_of}
-use Rattle.treasury_state.proofs.FindLemmas.{there}
+use Rattle.treasury_state.proofs.FindLemmas.{branch_at_Some}
 use Rattle.treasury_state.proofs.HoldsLemmas.{found_holds}
 use Rattle.treasury_core.specs.Closing.{closing_reply, closing_record}
-use Rattle.treasury_core.proofs.CloseLemmas.{IsTold, told, refused, told_legs, told_fit, told_refusal, closing_adds}
+use Rattle.treasury_core.proofs.CloseLemmas.{IsTold, closing_told, closing_refused, told_legs, told_fit, told_refusal}
+use Rattle.treasury_core.proofs.CloseLemmas.{closing_adds}
 use Rattle.treasury_core.proofs.close.entered.Goals as goal
 
 pub returns-in-Err-clause-err : goal.returns-in-Err-clause-err
 returns-in-Err-clause-err g c =
     let f = c.args.state.now in
-    let here = (there f.branches c.args.close.now.branch (branch_of c.args.branch.now) c.requires.there).any in
-    refused f c.args.close.now c.args.branch.now.records c.in-Err.refusal (Err c.in-Err.refusal) refl here
+    let here = (branch_at_Some f.branches c.args.close.now.branch (branch_of c.args.branch.now) c.requires.there).any in
+    closing_refused f c.args.close.now c.args.branch.now.records c.in-Err.refusal (Err c.in-Err.refusal) refl here
     c.requires.chosen
     (subst (λ (n : List ℕ). (Err c.in-Err.refusal ≡ closing_reply f n c.args.close.now.day c.args.close.now.choice)
     ⊎ (Err c.in-Err.refusal ≡ Err (Plain OutOfMemory))) c.as_str.ensures c.in-Err.ensures.exact)
@@ -27,9 +28,9 @@ returns-in-Err-clause-err g c =
 pub closing_record-requires-clause-written : goal.closing_record-requires-clause-written
 closing_record-requires-clause-written g c =
     let f = c.args.state.now in
-    let here = (there f.branches c.args.close.now.branch (branch_of c.args.branch.now) c.requires.there).any in
+    let here = (branch_at_Some f.branches c.args.close.now.branch (branch_of c.args.branch.now) c.requires.there).any in
     let is : IsTold f c.args.close.now c.in-Ok.txn =
-    told f c.args.close.now c.in-Ok.txn (Ok c.in-Ok.txn) refl here c.requires.chosen
+    closing_told f c.args.close.now c.in-Ok.txn (Ok c.in-Ok.txn) refl here c.requires.chosen
     (subst (λ (n : List ℕ). (Ok c.in-Ok.txn ≡ closing_reply f n c.args.close.now.day c.args.close.now.choice)
     ⊎ (Ok c.in-Ok.txn ≡ Err (Plain OutOfMemory))) c.as_str.ensures c.in-Ok.ensures.exact) in
     told_legs f c.args.close.now c.in-Ok.txn c.styles.result.now c.styles.ensures c.is_good.ensures is
@@ -45,9 +46,9 @@ recorded-requires-clause-good g c =
 pub recorded-requires-clause-fit : goal.recorded-requires-clause-fit
 recorded-requires-clause-fit g c =
     let f = c.args.state.now in
-    let here = (there f.branches c.args.close.now.branch (branch_of c.args.branch.now) c.requires.there).any in
+    let here = (branch_at_Some f.branches c.args.close.now.branch (branch_of c.args.branch.now) c.requires.there).any in
     let is : IsTold f c.args.close.now c.in-Ok.txn =
-    told f c.args.close.now c.in-Ok.txn (Ok c.in-Ok.txn) refl here c.requires.chosen
+    closing_told f c.args.close.now c.in-Ok.txn (Ok c.in-Ok.txn) refl here c.requires.chosen
     (subst (λ (n : List ℕ). (Ok c.in-Ok.txn ≡ closing_reply f n c.args.close.now.day c.args.close.now.choice)
     ⊎ (Ok c.in-Ok.txn ≡ Err (Plain OutOfMemory))) c.as_str.ensures c.in-Ok.ensures.exact) in
     told_fit f c.args.close.now c.in-Ok.txn c.in-Ok-closing_record.row c.is_good.ensures c.requires.day is
@@ -57,9 +58,9 @@ pub returns-clause-value : goal.returns-clause-value
 returns-clause-value g c =
     let f = c.args.state.now in
     let name = c.args.close.now.branch in
-    let here = (there f.branches name (branch_of c.args.branch.now) c.requires.there).any in
+    let here = (branch_at_Some f.branches name (branch_of c.args.branch.now) c.requires.there).any in
     let is : IsTold f c.args.close.now c.in-Ok.txn =
-    told f c.args.close.now c.in-Ok.txn (Ok c.in-Ok.txn) refl here c.requires.chosen
+    closing_told f c.args.close.now c.in-Ok.txn (Ok c.in-Ok.txn) refl here c.requires.chosen
     (subst (λ (n : List ℕ). (Ok c.in-Ok.txn ≡ closing_reply f n c.args.close.now.day c.args.close.now.choice)
     ⊎ (Ok c.in-Ok.txn ≡ Err (Plain OutOfMemory))) c.as_str.ensures c.in-Ok.ensures.exact) in
     let same : add.Record name c.in-Ok-closing_record.row ∷ add.Locked c.in-Ok-copy.own c.args.close.now.day ∷ []
@@ -76,9 +77,9 @@ pub returns-clause-passes : goal.returns-clause-passes
 returns-clause-passes g c =
     let f = c.args.state.now in
     let name = c.args.close.now.branch in
-    let here = (there f.branches name (branch_of c.args.branch.now) c.requires.there).any in
+    let here = (branch_at_Some f.branches name (branch_of c.args.branch.now) c.requires.there).any in
     let is : IsTold f c.args.close.now c.in-Ok.txn =
-    told f c.args.close.now c.in-Ok.txn (Ok c.in-Ok.txn) refl here c.requires.chosen
+    closing_told f c.args.close.now c.in-Ok.txn (Ok c.in-Ok.txn) refl here c.requires.chosen
     (subst (λ (n : List ℕ). (Ok c.in-Ok.txn ≡ closing_reply f n c.args.close.now.day c.args.close.now.choice)
     ⊎ (Ok c.in-Ok.txn ≡ Err (Plain OutOfMemory))) c.as_str.ensures c.in-Ok.ensures.exact) in
     subst (λ (o : Option Refusal). OnOk c.recorded.result (o ≡ None))
@@ -90,9 +91,9 @@ pub returns-clause-err : goal.returns-clause-err
 returns-clause-err g c =
     let f = c.args.state.now in
     let name = c.args.close.now.branch in
-    let here = (there f.branches name (branch_of c.args.branch.now) c.requires.there).any in
+    let here = (branch_at_Some f.branches name (branch_of c.args.branch.now) c.requires.there).any in
     let is : IsTold f c.args.close.now c.in-Ok.txn =
-    told f c.args.close.now c.in-Ok.txn (Ok c.in-Ok.txn) refl here c.requires.chosen
+    closing_told f c.args.close.now c.in-Ok.txn (Ok c.in-Ok.txn) refl here c.requires.chosen
     (subst (λ (n : List ℕ). (Ok c.in-Ok.txn ≡ closing_reply f n c.args.close.now.day c.args.close.now.choice)
     ⊎ (Ok c.in-Ok.txn ≡ Err (Plain OutOfMemory))) c.as_str.ensures c.in-Ok.ensures.exact) in
     subst (λ (o : Option Refusal). IfErr c.recorded.result (λ e. (e ≡ Plain OutOfMemory) ⊎ (o ≡ Some e)))

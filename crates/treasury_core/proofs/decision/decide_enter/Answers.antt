@@ -3,7 +3,7 @@ use Rattle.money_core.specs.declared.style.Style.{Style}
 use Rattle.treasury_state.specs.Good.{IsGoodBranch}
 use Rattle.treasury_state.specs.Seen.{branch_of}
 use Rattle.treasury_state.specs.Federation.{branch_at}
-use Rattle.treasury_state.proofs.FindLemmas.{there, missing}
+use Rattle.treasury_state.proofs.FindLemmas.{branch_at_Some, branch_at_None}
 use Rattle.treasury_state.proofs.HoldsLemmas.{found_holds}
 use Rattle.treasury_core.specs.Step.{records_in_file}
 use Rattle.treasury_core.proofs.FileLemmas.{length-new, length-records}
@@ -16,7 +16,7 @@ returns-in_default g c =
     let name = c.args.name.now in
     let found : branch_at f.branches name ≡ None =
     ap (branch_at f.branches) (sym c.as_str.ensures) ∙ c.in_default.ensures.found in
-    inr (reply_missing f name c.args.file.now (missing f.branches name found).none)
+    inr (reply_missing f name c.args.file.now (branch_at_None f.branches name found).none)
 
 pub new_records-requires-clause-good : goal.new_records-requires-clause-good
 new_records-requires-clause-good g c =
@@ -46,7 +46,7 @@ returns-in-Ok g c =
     let found : branch_at f.branches name ≡ Some b =
     ap (branch_at f.branches) (sym c.as_str.ensures) ∙ c.in-Some.ensures.found in
     enters_by f name c.args.file.now b c.in-Ok.new c.styles.result.now _ c.styles.ensures
-    (there f.branches name b found) c.in-Ok.ensures.value c.in-Ok.ensures.passes c.entered.ensures
+    (branch_at_Some f.branches name b found) c.in-Ok.ensures.value c.in-Ok.ensures.passes c.entered.ensures
 
 pub returns-in-Err : goal.returns-in-Err
 returns-in-Err g c =
@@ -56,4 +56,4 @@ returns-in-Err g c =
     let found : branch_at f.branches name ≡ Some b =
     ap (branch_at f.branches) (sym c.as_str.ensures) ∙ c.in-Some.ensures.found in
     refuses_by f name c.args.file.now b c.styles.result.now c.in-Err.refusal c.styles.ensures
-    (there f.branches name b found) c.in-Err.ensures.err
+    (branch_at_Some f.branches name b found) c.in-Err.ensures.err

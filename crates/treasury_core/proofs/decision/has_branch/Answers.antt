@@ -1,9 +1,9 @@
 use Rattle.std.proofs.Common.{sym}
-use Rattle.treasury_state.proofs.FindLemmas.{there, missing}
+use Rattle.treasury_state.proofs.FindLemmas.{branch_at_Some, branch_at_None}
 use Rattle.treasury_core.proofs.decision.has_branch.Goals as goal
 
 pub returns-in-None : goal.returns-in-None
-returns-in-None g c = sym (missing _ c.args.name.now c.in-None.ensures.found).none
+returns-in-None g c = sym (branch_at_None _ c.args.name.now c.in-None.ensures.found).none
 
 pub returns-in-Some : goal.returns-in-Some
-returns-in-Some g c = sym (there _ c.args.name.now _ c.in-Some.ensures.found).any
+returns-in-Some g c = sym (branch_at_Some _ c.args.name.now _ c.in-Some.ensures.found).any

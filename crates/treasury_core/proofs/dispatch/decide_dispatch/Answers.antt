@@ -4,11 +4,12 @@ use Rattle.treasury_state.specs.Federation.{has_branch, branch_at}
 use Rattle.treasury_state.specs.Transfer.{is_id, transfer_at}
 use Rattle.treasury_state.specs.Good.{IsGoodBranch}
 use Rattle.treasury_state.specs.Seen.{branch_of}
-use Rattle.treasury_state.proofs.FindLemmas.{there, missing}
+use Rattle.treasury_state.proofs.FindLemmas.{branch_at_Some, branch_at_None}
 use Rattle.treasury_state.proofs.HoldsLemmas.{found_holds}
 use Rattle.treasury_core.specs.declared.command.Command.TheVariants.{Dispatch}
 use Rattle.treasury_core.specs.Step.{dispatch_refusal}
-use Rattle.treasury_core.proofs.TransferReplyLemmas.{IsAsked, same_test, same_find, repeats, settles, no_source}
+use Rattle.treasury_core.proofs.TransferReplyLemmas.{IsAsked, same_test, same_find, decides_repeated}
+use Rattle.treasury_core.proofs.TransferReplyLemmas.{decides_done_or_refused, no_source}
 use Rattle.treasury_core.proofs.TransferReplyLemmas.{no_target, same_branch, bad_id, dispatched_so, dispatched_other}
 use Rattle.treasury_core.proofs.TransferReplyLemmas.{dispatched_new, dispatch_adds}
 use Rattle.treasury_core.proofs.dispatch.decide_dispatch.Goals as goal
@@ -19,7 +20,7 @@ returns-in_default g c =
     let d = c.args.dispatch.now in
     let found : branch_at f.branches d.source ≡ None =
     ap (branch_at f.branches) (sym c.as_str.ensures) ∙ c.in_default.ensures.found in
-    inr (no_source f d (missing f.branches d.source found).none)
+    inr (no_source f d (branch_at_None f.branches d.source found).none)
 
 pub returns-then-not-has_branch : goal.returns-then-not-has_branch
 returns-then-not-has_branch g c =
@@ -28,7 +29,7 @@ returns-then-not-has_branch g c =
     let b = branch_of c.in-Some.source.now in
     let found : branch_at f.branches d.source ≡ Some b =
     ap (branch_at f.branches) (sym c.as_str.ensures) ∙ c.in-Some.ensures.found in
-    let source = (there f.branches d.source b found).any in
+    let source = (branch_at_Some f.branches d.source b found).any in
     inr (no_target f d source (ap (has_branch f) (sym c.as_str-2.ensures) ∙
     (sym c.has_branch.ensures ∙ c.if-not-has_branch.true)))
 
@@ -39,7 +40,7 @@ returns-then-eq g c =
     let b = branch_of c.in-Some.source.now in
     let found : branch_at f.branches d.source ≡ Some b =
     ap (branch_at f.branches) (sym c.as_str.ensures) ∙ c.in-Some.ensures.found in
-    let source = (there f.branches d.source b found).any in
+    let source = (branch_at_Some f.branches d.source b found).any in
     let target : has_branch f d.target ≡ true =
     ap (has_branch f) (sym c.as_str-2.ensures) ∙ (sym c.has_branch.ensures ∙ c.if-not-has_branch.false) in
     inr (same_branch f d source target
@@ -52,7 +53,7 @@ returns-then-not-is_id g c =
     let b = branch_of c.in-Some.source.now in
     let found : branch_at f.branches d.source ≡ Some b =
     ap (branch_at f.branches) (sym c.as_str.ensures) ∙ c.in-Some.ensures.found in
-    let source = (there f.branches d.source b found).any in
+    let source = (branch_at_Some f.branches d.source b found).any in
     let target : has_branch f d.target ≡ true =
     ap (has_branch f) (sym c.as_str-2.ensures) ∙ (sym c.has_branch.ensures ∙ c.if-not-has_branch.false) in
     let apart : bytes_eq d.source d.target ≡ false =
@@ -67,7 +68,7 @@ returns-then-is_dispatched_so g c =
     let b = branch_of c.in-Some.source.now in
     let found : branch_at f.branches d.source ≡ Some b =
     ap (branch_at f.branches) (sym c.as_str.ensures) ∙ c.in-Some.ensures.found in
-    let source = (there f.branches d.source b found).any in
+    let source = (branch_at_Some f.branches d.source b found).any in
     let target : has_branch f d.target ≡ true =
     ap (has_branch f) (sym c.as_str-2.ensures) ∙ (sym c.has_branch.ensures ∙ c.if-not-has_branch.false) in
     let apart : bytes_eq d.source d.target ≡ false =
@@ -82,7 +83,7 @@ returns-then-is_dispatched_so g c =
     let t = c.in-Some-find_transfer.transfer.now in
     let at : transfer_at f d.id ≡ Some t =
     same_find (sym c.as_str-6.ensures) (sym c.transfers.ensures) (sym c.in-Some-find_transfer.ensures) in
-    repeats f (Dispatch d) c.repeated.result
+    decides_repeated f (Dispatch d) c.repeated.result
     (dispatched_so f d t asked at (sym c.is_dispatched_so.ensures ∙ c.if-is_dispatched_so.true)) c.repeated.ensures
 
 pub returns-in-Some-find_transfer : goal.returns-in-Some-find_transfer
@@ -92,7 +93,7 @@ returns-in-Some-find_transfer g c =
     let b = branch_of c.in-Some.source.now in
     let found : branch_at f.branches d.source ≡ Some b =
     ap (branch_at f.branches) (sym c.as_str.ensures) ∙ c.in-Some.ensures.found in
-    let source = (there f.branches d.source b found).any in
+    let source = (branch_at_Some f.branches d.source b found).any in
     let target : has_branch f d.target ≡ true =
     ap (has_branch f) (sym c.as_str-2.ensures) ∙ (sym c.has_branch.ensures ∙ c.if-not-has_branch.false) in
     let apart : bytes_eq d.source d.target ≡ false =
@@ -125,7 +126,7 @@ returns g c =
     let b = branch_of c.in-Some.source.now in
     let found : branch_at f.branches d.source ≡ Some b =
     ap (branch_at f.branches) (sym c.as_str.ensures) ∙ c.in-Some.ensures.found in
-    let source = (there f.branches d.source b found).any in
+    let source = (branch_at_Some f.branches d.source b found).any in
     let target : has_branch f d.target ≡ true =
     ap (has_branch f) (sym c.as_str-2.ensures) ∙ (sym c.has_branch.ensures ∙ c.if-not-has_branch.false) in
     let apart : bytes_eq d.source d.target ≡ false =
@@ -139,6 +140,6 @@ returns g c =
     } in
     let at : transfer_at f d.id ≡ None =
     same_find (sym c.as_str-6.ensures) (sym c.transfers.ensures) (sym c.in_default-find_transfer.ensures) in
-    settles f (Dispatch d) _ (dispatch_refusal b.locked b.records d) c.judged.result c.settled.result
-    (dispatched_new f d b asked at (there f.branches d.source b found)) (dispatch_adds f d) c.settled.ensures
+    decides_done_or_refused f (Dispatch d) _ (dispatch_refusal b.locked b.records d) c.judged.result c.settled.result
+    (dispatched_new f d b asked at (branch_at_Some f.branches d.source b found)) (dispatch_adds f d) c.settled.ensures
     c.judged.ensures.value c.judged.ensures.passes c.judged.ensures.err

@@ -10,7 +10,8 @@ use Rattle.treasury_state.specs.Good.{IsGoodRecord}
 use Rattle.treasury_state.proofs.HolderLemmas.{held_all}
 use Rattle.treasury_core.specs.Step.{refused_in, new_in}
 use Rattle.treasury_core.specs.Judged.{judged}
-use Rattle.treasury_core.proofs.JudgedLemmas.{by_cause, taken, passed, next_refused, next_new, next_own, next_held}
+use Rattle.treasury_core.proofs.JudgedLemmas.{by_cause, judged_taken, judged_passed, next_refused, next_new, next_own}
+use Rattle.treasury_core.proofs.JudgedLemmas.{next_held}
 use Rattle.treasury_core.proofs.enter.new_of.Goals as goal
 
 pub is_new-requires-clause-holder : goal.is_new-requires-clause-holder
@@ -39,7 +40,7 @@ rows-preserved-in_default c =
     ap (judged styles c.args.lock row) (sym found) ∙ c.in-Ok-true.ensures.value ∙ ap
     (λ (b : Bool). let x : Result Bool Refusal = Ok b in x) c.in-Ok-true.field-0-test in
     let split = c.in-Some.ensures.steps.0 in
-    let t = taken styles c.args.lock (base ++ new) rest row is in
+    let t = judged_taken styles c.args.lock (base ++ new) rest row is in
     let all = subst (AllByRecursion (IsGoodRecord styles)) split c.rows.invariant.rest in
     record {
       refused = next_refused styles c.args.lock base new c.push_marked.new.records rest c.rows.row-iterator.rest.items
@@ -67,7 +68,7 @@ rows-preserved c =
     ap (judged styles c.args.lock row) (sym found) ∙ c.in-Ok-false.ensures.value ∙ ap
     (λ (b : Bool). let x : Result Bool Refusal = Ok b in x) c.in-Ok-false.field-0-test in
     let split = c.in-Some.ensures.steps.0 in
-    let p = passed styles c.args.lock (base ++ new) rest row c.rows.invariant.own is in
+    let p = judged_passed styles c.args.lock (base ++ new) rest row c.rows.invariant.own is in
     record {
       refused = sym p.refused ∙ ap (refused_in styles c.args.lock (base ++ new)) (sym split) ∙ c.rows.invariant.refused;
       all = ap (λ (xs : List Record). new ++ xs) (sym p.new ∙ ap (new_in (base ++ new)) (sym split)) ∙

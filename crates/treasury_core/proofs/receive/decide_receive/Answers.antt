@@ -4,13 +4,15 @@ use Rattle.treasury_state.specs.Transfer.{is_id, transfer_at}
 use Rattle.treasury_state.specs.Good.{IsGoodBranch}
 use Rattle.treasury_state.specs.Seen.{branch_of}
 use Rattle.treasury_state.specs.Federation.{branch_at}
-use Rattle.treasury_state.proofs.FindLemmas.{there, missing}
+use Rattle.treasury_state.proofs.FindLemmas.{branch_at_Some, branch_at_None}
 use Rattle.treasury_state.proofs.HoldsLemmas.{found_holds}
 use Rattle.treasury_state.proofs.NotLemmas.{not_true, not_false}
 use Rattle.treasury_core.specs.declared.command.Command.TheVariants.{Receive}
 use Rattle.treasury_core.specs.Step.{has_bad_key, has_nothing_left, receipt_refusal}
-use Rattle.treasury_core.proofs.TransferReplyLemmas.{IsClaimed, IsAimed, so_held, same_test, same_find, repeats}
-use Rattle.treasury_core.proofs.TransferReplyLemmas.{settles, no_branch, bad_receipt_id, bad_key, no_transfer}
+use Rattle.treasury_core.proofs.TransferReplyLemmas.{IsClaimed, IsAimed, so_held, same_test, same_find}
+use Rattle.treasury_core.proofs.TransferReplyLemmas.{decides_repeated}
+use Rattle.treasury_core.proofs.TransferReplyLemmas.{decides_done_or_refused, no_branch, bad_receipt_id, bad_key}
+use Rattle.treasury_core.proofs.TransferReplyLemmas.{no_transfer}
 use Rattle.treasury_core.proofs.TransferReplyLemmas.{wrong_branch, received_so, received_other, received_all}
 use Rattle.treasury_core.proofs.TransferReplyLemmas.{received_new, receipt_adds, transfer_good, asked_small}
 use Rattle.treasury_core.proofs.receive.decide_receive.Goals as goal
@@ -21,7 +23,7 @@ returns-in_default g c =
     let r = c.args.receive.now in
     let found : branch_at f.branches r.branch ≡ None =
     ap (branch_at f.branches) (sym c.as_str.ensures) ∙ c.in_default.ensures.found in
-    inr (no_branch f r (missing f.branches r.branch found).none)
+    inr (no_branch f r (branch_at_None f.branches r.branch found).none)
 
 pub returns-then-not-is_id : goal.returns-then-not-is_id
 returns-then-not-is_id g c =
@@ -30,7 +32,7 @@ returns-then-not-is_id g c =
     let b = branch_of c.in-Some.target.now in
     let found : branch_at f.branches r.branch ≡ Some b =
     ap (branch_at f.branches) (sym c.as_str.ensures) ∙ c.in-Some.ensures.found in
-    let branch = (there f.branches r.branch b found).any in
+    let branch = (branch_at_Some f.branches r.branch b found).any in
     inr (bad_receipt_id f r branch (ap is_id (sym (c.as_bytes.ensures.value ∙ c.as_str-2.ensures)) ∙
     (sym c.is_id.ensures ∙ c.if-not-is_id.true)))
 
@@ -41,7 +43,7 @@ returns-then-has_bad_key g c =
     let b = branch_of c.in-Some.target.now in
     let found : branch_at f.branches r.branch ≡ Some b =
     ap (branch_at f.branches) (sym c.as_str.ensures) ∙ c.in-Some.ensures.found in
-    let branch = (there f.branches r.branch b found).any in
+    let branch = (branch_at_Some f.branches r.branch b found).any in
     inr (bad_key f r branch (ap is_id (sym (c.as_bytes.ensures.value ∙ c.as_str-2.ensures)) ∙
     (sym c.is_id.ensures ∙ c.if-not-is_id.false)) (sym c.has_bad_key.ensures ∙ c.if-has_bad_key.true))
 
@@ -52,7 +54,7 @@ returns-in_default-find_transfer g c =
     let b = branch_of c.in-Some.target.now in
     let found : branch_at f.branches r.branch ≡ Some b =
     ap (branch_at f.branches) (sym c.as_str.ensures) ∙ c.in-Some.ensures.found in
-    let branch = (there f.branches r.branch b found).any in
+    let branch = (branch_at_Some f.branches r.branch b found).any in
     let claimed : IsClaimed f r = record {
       branch = branch;
       id = ap is_id (sym (c.as_bytes.ensures.value ∙ c.as_str-2.ensures)) ∙
@@ -69,7 +71,7 @@ returns-then-ne g c =
     let b = branch_of c.in-Some.target.now in
     let found : branch_at f.branches r.branch ≡ Some b =
     ap (branch_at f.branches) (sym c.as_str.ensures) ∙ c.in-Some.ensures.found in
-    let branch = (there f.branches r.branch b found).any in
+    let branch = (branch_at_Some f.branches r.branch b found).any in
     let claimed : IsClaimed f r = record {
       branch = branch;
       id = ap is_id (sym (c.as_bytes.ensures.value ∙ c.as_str-2.ensures)) ∙
@@ -134,7 +136,7 @@ returns-then-is_so g c =
     let b = branch_of c.in-Some.target.now in
     let found : branch_at f.branches r.branch ≡ Some b =
     ap (branch_at f.branches) (sym c.as_str.ensures) ∙ c.in-Some.ensures.found in
-    let branch = (there f.branches r.branch b found).any in
+    let branch = (branch_at_Some f.branches r.branch b found).any in
     let claimed : IsClaimed f r = record {
       branch = branch;
       id = ap is_id (sym (c.as_bytes.ensures.value ∙ c.as_str-2.ensures)) ∙
@@ -152,7 +154,7 @@ returns-then-is_so g c =
     let so : so_held t r ≡ Some true =
     sym c.held_so.ensures ∙
     (c.in-Some-held_so.is ∙ ap (λ (b : Bool). let o : Option Bool = Some b in o) c.if-is_so.true) in
-    repeats f (Receive r) c.repeated.result (received_so f r t aimed so) c.repeated.ensures
+    decides_repeated f (Receive r) c.repeated.result (received_so f r t aimed so) c.repeated.ensures
 
 pub returns-in-Some-held_so : goal.returns-in-Some-held_so
 returns-in-Some-held_so g c =
@@ -161,7 +163,7 @@ returns-in-Some-held_so g c =
     let b = branch_of c.in-Some.target.now in
     let found : branch_at f.branches r.branch ≡ Some b =
     ap (branch_at f.branches) (sym c.as_str.ensures) ∙ c.in-Some.ensures.found in
-    let branch = (there f.branches r.branch b found).any in
+    let branch = (branch_at_Some f.branches r.branch b found).any in
     let claimed : IsClaimed f r = record {
       branch = branch;
       id = ap is_id (sym (c.as_bytes.ensures.value ∙ c.as_str-2.ensures)) ∙
@@ -188,7 +190,7 @@ returns-then-has_nothing_left g c =
     let b = branch_of c.in-Some.target.now in
     let found : branch_at f.branches r.branch ≡ Some b =
     ap (branch_at f.branches) (sym c.as_str.ensures) ∙ c.in-Some.ensures.found in
-    let branch = (there f.branches r.branch b found).any in
+    let branch = (branch_at_Some f.branches r.branch b found).any in
     let claimed : IsClaimed f r = record {
       branch = branch;
       id = ap is_id (sym (c.as_bytes.ensures.value ∙ c.as_str-2.ensures)) ∙
@@ -213,7 +215,7 @@ returns g c =
     let b = branch_of c.in-Some.target.now in
     let found : branch_at f.branches r.branch ≡ Some b =
     ap (branch_at f.branches) (sym c.as_str.ensures) ∙ c.in-Some.ensures.found in
-    let branch = (there f.branches r.branch b found).any in
+    let branch = (branch_at_Some f.branches r.branch b found).any in
     let claimed : IsClaimed f r = record {
       branch = branch;
       id = ap is_id (sym (c.as_bytes.ensures.value ∙ c.as_str-2.ensures)) ∙
@@ -229,7 +231,7 @@ returns g c =
       own = same_test c.as_str-4.ensures c.as_str-5.ensures (not_false c.ne.ensures c.if-ne.false);
     } in
     let none : so_held t r ≡ None = sym c.held_so.ensures ∙ c.in_default-held_so.is in
-    settles f (Receive r) _ (receipt_refusal b.locked b.records t r) c.judged.result c.settled.result
+    decides_done_or_refused f (Receive r) _ (receipt_refusal b.locked b.records t r) c.judged.result c.settled.result
     (received_new f r t b aimed none (sym c.has_nothing_left.ensures ∙ c.if-has_nothing_left.false)
-    (there f.branches r.branch b found)) (receipt_adds f r t at)
+    (branch_at_Some f.branches r.branch b found)) (receipt_adds f r t at)
     c.settled.ensures c.judged.ensures.value c.judged.ensures.passes c.judged.ensures.err

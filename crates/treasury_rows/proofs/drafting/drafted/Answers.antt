@@ -1,19 +1,19 @@
 use Rattle.std.proofs.Common.{◌∙◌}
-use Rattle.treasury_rows.proofs.DraftLemmas.{exit}
+use Rattle.treasury_rows.proofs.DraftLemmas.{exit_on_error}
 use Rattle.treasury_rows.proofs.DraftedLemmas.{only_styles, only_branches, only_transfers, styles_damage}
 use Rattle.treasury_rows.proofs.DraftedLemmas.{branches_damage, transfers_damage, drafted_only}
 use Rattle.treasury_rows.proofs.drafting.drafted.Goals as goal
 
 pub returns-in_err-styles-clause-err : goal.returns-in_err-styles-clause-err
 returns-in_err-styles-clause-err c =
-    exit _ _ c.from_residual.result _ c.from_residual.ensures.1
+    exit_on_error _ _ c.from_residual.result _ c.from_residual.ensures.1
     (styles_damage c.args.parts.now c.items.result.now _ c.items.ensures c.in_err-styles.ensures)
 
 pub returns-in_err-branches-clause-err : goal.returns-in_err-branches-clause-err
 returns-in_err-branches-clause-err c =
     let parts = c.args.parts.now in
     let s = only_styles parts c.items.result.now c.in_ok-styles.styles c.items.ensures c.in_ok-styles.ensures in
-    exit _ _ c.from_residual-in_err-branches.result _ c.from_residual-in_err-branches.ensures.1
+    exit_on_error _ _ c.from_residual-in_err-branches.result _ c.from_residual-in_err-branches.ensures.1
     (branches_damage parts c.items-2.result.now c.items-3.result.now c.in_ok-styles.styles _ c.items-2.ensures
     c.items-3.ensures s c.in_err-branches.ensures.reads)
 
@@ -23,7 +23,7 @@ returns-in_err-transfers-clause-err c =
     let s = only_styles parts c.items.result.now c.in_ok-styles.styles c.items.ensures c.in_ok-styles.ensures in
     let b = only_branches parts c.items-2.result.now c.items-3.result.now c.in_ok-styles.styles
     c.in_ok-branches.branches c.items-2.ensures c.items-3.ensures c.in_ok-branches.ensures.reads in
-    exit _ _ c.from_residual-in_err-transfers.result _ c.from_residual-in_err-transfers.ensures.1
+    exit_on_error _ _ c.from_residual-in_err-transfers.result _ c.from_residual-in_err-transfers.ensures.1
     (transfers_damage parts c.items-5.result.now c.items-6.result.now c.items-4.result.now c.in_ok-branches.branches
     c.in_ok-styles.styles _ c.items-4.ensures c.items-5.ensures c.items-6.ensures s b c.in_err-transfers.ensures)
 

@@ -3,7 +3,7 @@ use Rattle.money_core.specs.declared.claim.ClaimKind.TheVariants.{Exact}
 use Rattle.book_core.specs.declared.claim.Placed.{Placed}
 use Rattle.treasury_state.specs.declared.rows.ClaimRow.{ClaimRow}
 use Rattle.treasury_state.specs.Rows.{claim_row}
-use Rattle.treasury_state.proofs.TransferRowLemmas.{unnumbered}
+use Rattle.treasury_state.proofs.TransferRowLemmas.{numbered_const}
 use Rattle.treasury_rows.proofs.SameRowLemmas.{says_no, says_yes, walk_next, walk_stop, walk_end, same_at}
 use Rattle.treasury_rows.proofs.same_rows.are_claim_rows.Goals as goal
 
@@ -25,7 +25,7 @@ returns-then-not-is_claim_row c =
     (same_at xs i no_claim (get_or xs i no_claim) c.loop-i-test.true) lt
     (same_at ys i no_row (get_or ys i no_row) lt)
     (λ h. let k : true ≡ false = sym (c.is_claim_row.ensures.1 h) ∙ c.if-not-is_claim_row.true in cc) c.loop-i.invariant
-    (unnumbered g 0 xs ∙ e))
+    (numbered_const g 0 xs ∙ e))
 
 pub loop-i-preserved : goal.loop-i-preserved
 loop-i-preserved c =
@@ -43,5 +43,5 @@ pub returns : goal.returns
 returns c =
     let g = claim_row c.args.branch c.args.entry in
     says_yes (map g c.args.claims.now ≡ c.args.list.now)
-    (sym (unnumbered g 0 c.args.claims.now) ∙ walk_end (λ (k : ℕ). g) 0 c.loop-i.i c.loop-i.i c.args.claims.now
+    (sym (numbered_const g 0 c.args.claims.now) ∙ walk_end (λ (k : ℕ). g) 0 c.loop-i.i c.loop-i.i c.args.claims.now
     c.args.list.now (omega arith) (omega arith) c.loop-i.invariant)

@@ -1,6 +1,6 @@
 use Rattle.std.proofs.Common.{◌≡◌, ◌<◌, ◌∙◌, ℕ, length, sym, true, false, arith, map}
 use Rattle.treasury_state.specs.Rows.{part_row}
-use Rattle.treasury_state.proofs.TransferRowLemmas.{unnumbered}
+use Rattle.treasury_state.proofs.TransferRowLemmas.{numbered_const}
 use Rattle.treasury_rows.proofs.SameRowLemmas.{says_no, says_yes, walk_next, walk_stop, walk_end, other_length}
 use Rattle.treasury_rows.proofs.same_rows.are_own_rows.Goals as goal
 
@@ -12,7 +12,7 @@ returns-then-not-is_part_row c =
     (λ e. walk_stop (λ (k : ℕ). (part_row c.args.id.now)) 0 i i c.args.parts.now c.args.list.now c.index-parts-i.result
     c.index-list-i.result c.loop-i-test.true c.index-parts-i.is lt c.index-list-i.is
     (λ e. let k : true ≡ false = sym (c.is_part_row.ensures.1 e) ∙ c.if-not-is_part_row.true in cc) c.loop-i.invariant
-    (unnumbered (part_row c.args.id.now) 0 c.args.parts.now ∙ e))
+    (numbered_const (part_row c.args.id.now) 0 c.args.parts.now ∙ e))
 
 pub loop-i-preserved : goal.loop-i-preserved
 loop-i-preserved c =
@@ -25,7 +25,7 @@ loop-i-preserved c =
 pub returns : goal.returns
 returns c =
     says_yes (map (part_row c.args.id.now) c.args.parts.now ≡ c.args.list.now)
-    (sym (unnumbered (part_row c.args.id.now) 0 c.args.parts.now)
+    (sym (numbered_const (part_row c.args.id.now) 0 c.args.parts.now)
     ∙ walk_end (λ (k : ℕ). (part_row c.args.id.now)) 0 c.loop-i.i c.loop-i.i c.args.parts.now c.args.list.now
     (omega arith) (omega arith) c.loop-i.invariant)
 
@@ -33,4 +33,4 @@ pub returns-then-parts-list : goal.returns-then-parts-list
 returns-then-parts-list c =
     says_no (map (part_row c.args.id.now) c.args.parts.now ≡ c.args.list.now)
     (λ e. other_length (λ (k : ℕ). (part_row c.args.id.now)) 0 c.args.parts.now c.args.list.now
-    (λ h. c.if-parts-list.true h) (unnumbered (part_row c.args.id.now) 0 c.args.parts.now ∙ e))
+    (λ h. c.if-parts-list.true h) (numbered_const (part_row c.args.id.now) 0 c.args.parts.now ∙ e))

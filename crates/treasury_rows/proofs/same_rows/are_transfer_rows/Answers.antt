@@ -1,6 +1,6 @@
 use Rattle.std.proofs.Common.{◌≡◌, ◌<◌, ◌∙◌, ℕ, length, sym, true, false, arith, map}
 use Rattle.treasury_state.specs.Rows.{transfer_row}
-use Rattle.treasury_state.proofs.TransferRowLemmas.{unnumbered}
+use Rattle.treasury_state.proofs.TransferRowLemmas.{numbered_const}
 use Rattle.treasury_rows.proofs.SameRowLemmas.{says_no, says_yes, walk_next, walk_stop, walk_end, other_length}
 use Rattle.treasury_rows.proofs.same_rows.are_transfer_rows.Goals as goal
 
@@ -12,7 +12,7 @@ returns-then-not-is_transfer_row c =
     (λ e. walk_stop (λ (k : ℕ). (transfer_row c.args.branches.now)) 0 i i c.args.transfers.now c.args.list.now
     c.index-transfers-i.result c.index-list-i.result c.loop-i-test.true c.index-transfers-i.is lt c.index-list-i.is
     (λ e. let k : true ≡ false = sym (c.is_transfer_row.ensures.1 e) ∙ c.if-not-is_transfer_row.true in cc)
-    c.loop-i.invariant (unnumbered (transfer_row c.args.branches.now) 0 c.args.transfers.now ∙ e))
+    c.loop-i.invariant (numbered_const (transfer_row c.args.branches.now) 0 c.args.transfers.now ∙ e))
 
 pub loop-i-preserved : goal.loop-i-preserved
 loop-i-preserved c =
@@ -25,7 +25,7 @@ loop-i-preserved c =
 pub returns : goal.returns
 returns c =
     says_yes (map (transfer_row c.args.branches.now) c.args.transfers.now ≡ c.args.list.now)
-    (sym (unnumbered (transfer_row c.args.branches.now) 0 c.args.transfers.now)
+    (sym (numbered_const (transfer_row c.args.branches.now) 0 c.args.transfers.now)
     ∙ walk_end (λ (k : ℕ). (transfer_row c.args.branches.now)) 0 c.loop-i.i c.loop-i.i c.args.transfers.now
     c.args.list.now (omega arith) (omega arith) c.loop-i.invariant)
 
@@ -33,4 +33,4 @@ pub returns-then-transfers-list : goal.returns-then-transfers-list
 returns-then-transfers-list c =
     says_no (map (transfer_row c.args.branches.now) c.args.transfers.now ≡ c.args.list.now)
     (λ e. other_length (λ (k : ℕ). (transfer_row c.args.branches.now)) 0 c.args.transfers.now c.args.list.now
-    (λ h. c.if-transfers-list.true h) (unnumbered (transfer_row c.args.branches.now) 0 c.args.transfers.now ∙ e))
+    (λ h. c.if-transfers-list.true h) (numbered_const (transfer_row c.args.branches.now) 0 c.args.transfers.now ∙ e))

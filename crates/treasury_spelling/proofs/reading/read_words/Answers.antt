@@ -1,4 +1,4 @@
-use Rattle.treasury_spelling.proofs.WordLemmas.{taken, misplaced, misplaced_fails, named_rows, fails_by}
+use Rattle.treasury_spelling.proofs.WordLemmas.{words_taken, words_misplaced, misplaced_fails, named_rows, fails_by}
 use Rattle.treasury_spelling.proofs.reading.read_words.Goals as goal
 
 pub returns-in-Err-try_get_matches_from_mut-clause-fails : goal.returns-in-Err-try_get_matches_from_mut-clause-fails
@@ -12,14 +12,15 @@ returns-in-None-clause-named c =
 
 pub returns-in-None-clause-taken : goal.returns-in-None-clause-taken
 returns-in-None-clause-taken c =
-    taken _ _ c.in-Ok-try_get_matches_from_mut.matches c.in-Ok.ensures c.in-Ok-try_get_matches_from_mut.ensures.kinds
+    words_taken _ _ c.in-Ok-try_get_matches_from_mut.matches c.in-Ok.ensures
+    c.in-Ok-try_get_matches_from_mut.ensures.kinds
     (named_rows _ _ c.in-Ok-try_get_matches_from_mut.matches c.in-Ok.ensures
     c.in-Ok-try_get_matches_from_mut.ensures.ok.2) c.in-None.ensures
 
 pub returns-clause-fails : goal.returns-clause-fails
 returns-clause-fails c =
     misplaced_fails _ c.in-Some.kind c.place_error.result
-    (misplaced _ _ c.in-Ok-try_get_matches_from_mut.matches c.in-Some.kind c.in-Ok.ensures
+    (words_misplaced _ _ c.in-Ok-try_get_matches_from_mut.matches c.in-Some.kind c.in-Ok.ensures
     c.in-Ok-try_get_matches_from_mut.ensures.kinds
     (named_rows _ _ c.in-Ok-try_get_matches_from_mut.matches c.in-Ok.ensures
     c.in-Ok-try_get_matches_from_mut.ensures.ok.2) c.in-Some.ensures) c.place_error.ensures

@@ -6,7 +6,7 @@ use Rattle.std.proofs.lemmas.List.{length-map, map-append}
 use Rattle.treasury_state.specs.Federation.{Branch}
 use Rattle.treasury_state.specs.Seen.{branch_of, branches_of}
 use Rattle.treasury_state.specs.Kept.{ArePlacesOf}
-use Rattle.treasury_state.proofs.IndexLemmas.{pushed}
+use Rattle.treasury_state.proofs.IndexLemmas.{index_pushed}
 use Rattle.treasury_state.proofs.applying.apply_branch.Goals as goal
 
 pub returns-clause-places : goal.returns-clause-places
@@ -22,4 +22,4 @@ returns-clause-places g c =
     (c.len.ensures ∙ c.args.branches.now.ok.0 ∙ sym (length-map bs branch_of)) in
     subst (ArePlacesOf c.put_place.new.index)
     (sym (ap branches_of c.in_ok-push.ensures.items ∙ map-append branch_of bs _))
-    (pushed (λ (b : Branch). b.name) places c.put_place.new.index (branches_of bs) _ c.requires.places put)
+    (index_pushed (λ (b : Branch). b.name) places c.put_place.new.index (branches_of bs) _ c.requires.places put)

@@ -5,7 +5,7 @@ use Rattle.std.specs.HashMap.{get_by_text}
 use Rattle.std.proofs.lemmas.Result.{on_ok_weaker}
 use Rattle.treasury_state.specs.declared.record.Record.{Record}
 use Rattle.treasury_state.specs.Index.{IsIndexOf}
-use Rattle.treasury_state.proofs.IndexLemmas.{pushed}
+use Rattle.treasury_state.proofs.IndexLemmas.{index_pushed}
 use Rattle.treasury_state.proofs.index.push_marked.Goals as goal
 
 pub returns-in-Ok-clause-found : goal.returns-in-Ok-clause-found
@@ -21,5 +21,5 @@ returns-in-Ok-clause-found c =
     (cond (bytes_eq c.args.row.mark k) (Some (length xs)) None)) c.items-place.ensures in
     on_ok_weaker c.push.result
     (λ e. subst (IsIndexOf c.put_place.new.index) (sym e)
-    (pushed (λ (r : Record). r.mark) old c.put_place.new.index rs c.args.row c.requires put))
+    (index_pushed (λ (r : Record). r.mark) old c.put_place.new.index rs c.args.row c.requires put))
     c.push.ensures.ok

@@ -12,7 +12,7 @@ use Rattle.treasury_state.specs.Kept.{ArePlacesOf}
 use Rattle.treasury_state.specs.Index.{IsKept}
 use Rattle.treasury_state.specs.Room.{HasRoom}
 use Rattle.treasury_state.proofs.BackLemmas.{good_room}
-use Rattle.treasury_state.proofs.IndexLemmas.{pushed}
+use Rattle.treasury_state.proofs.IndexLemmas.{index_pushed}
 use Rattle.treasury_state.proofs.KeepingLemmas.{all_next, good_same, no_branches}
 use Rattle.treasury_state.proofs.keeping.state_of.Goals as goal
 
@@ -53,7 +53,7 @@ branches-preserved g c =
           (all-append (IsKept g.L.Ledger.book) bs (kept ∷ []) c.branches.invariant.kept
           (c.in_ok-kept.ensures.kept, tt));
       places = subst (ArePlacesOf c.put_place.new.index) (sym more)
-          (pushed (λ (b : Branch). b.name) places c.put_place.new.index (branches_of bs) (branch_of kept)
+          (index_pushed (λ (b : Branch). b.name) places c.put_place.new.index (branches_of bs) (branch_of kept)
           c.branches.invariant.places put);
     }
 

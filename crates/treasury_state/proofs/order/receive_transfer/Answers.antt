@@ -4,7 +4,7 @@ use Rattle.std.specs.Str.{bytes_eq}
 use Rattle.std.proofs.lemmas.Result.{on_ok_weaker}
 use Rattle.treasury_state.specs.declared.transfer.Transfer.{Transfer}
 use Rattle.treasury_state.specs.Room.{is_before}
-use Rattle.treasury_state.proofs.SearchLemmas.{past, kept_there, received_there}
+use Rattle.treasury_state.proofs.SearchLemmas.{received_past_end, kept_there, received_there}
 use Rattle.treasury_state.proofs.NotLemmas.{not_true, not_false}
 use Rattle.treasury_state.proofs.order.receive_transfer.Goals as goal
 
@@ -13,8 +13,8 @@ returns-then-place-len c =
     let place = c.place_of-place.ensures.value ∙ ap (λ (ts : List Transfer). prefix_len (is_before c.args.id.now) ts)
     c.deref.ensures.value in
     record {
-      ok = past c.args.id.now c.args.part c.args.transfers.now.items c.place_of-place.result c.requires place
-          (omega arith);
+      ok = received_past_end c.args.id.now c.args.part c.args.transfers.now.items c.place_of-place.result c.requires
+          place (omega arith);
       memory = tt;
     }
 

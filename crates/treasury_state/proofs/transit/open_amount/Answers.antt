@@ -5,7 +5,7 @@ use Rattle.treasury_state.specs.Transfer.{open_amount}
 use Rattle.treasury_state.specs.Fair.{IsFair}
 use Rattle.treasury_state.proofs.WayLemmas.{open_sum_low}
 use Rattle.treasury_state.proofs.FairLemmas.{all_fair, names_good, adds_up_named}
-use Rattle.treasury_state.proofs.OpenLemmas.{open_small, unknown}
+use Rattle.treasury_state.proofs.OpenLemmas.{open_small, open_amount_unknown}
 use Rattle.treasury_state.proofs.transit.open_amount.Goals as goal
 
 pub open_between-requires-clause-fair : goal.open_between-requires-clause-fair
@@ -40,7 +40,7 @@ returns-clause-unknown g c none =
     let s = c.args.state.now in
     let zero : open_amount c.transfers.result.now c.args.from.now c.args.to.now c.args.unit c.args.day ≡ pos 0 =
     ap (λ (ts : List Transfer). open_amount ts c.args.from.now c.args.to.now c.args.unit c.args.day) c.transfers.ensures
-    ∙ unknown s.transfers s.branches c.args.from.now c.args.to.now c.args.unit c.args.day c.is_good.ensures.transfers
-    none in
+    ∙ open_amount_unknown s.transfers s.branches c.args.from.now c.args.to.now c.args.unit c.args.day
+    c.is_good.ensures.transfers none in
     let fits : FitsSigned w64 c.open_between.result = search rules in
     to_z-of_z fits ∙ (c.open_between.ensures ∙ zero)

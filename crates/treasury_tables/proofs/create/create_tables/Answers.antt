@@ -4,7 +4,7 @@ use Rattle.sqlite.specs.Held.{state}
 use Rattle.treasury_tables.specs.Kept.{IsFaithful}
 use Rattle.treasury_tables.specs.Tables.{format}
 use Rattle.treasury_tables.specs.Creating.{has_one, has_counter, Makes, Beside, SurvivesMaking}
-use Rattle.treasury_tables.proofs.InsideLemmas.{crashes}
+use Rattle.treasury_tables.proofs.InsideLemmas.{survives_commit}
 use Rattle.treasury_tables.proofs.CreateLemmas.{stays_uncounted}
 use Rattle.treasury_tables.proofs.BesideLemmas.{no_format_in, whole_beside, holds_none, made_beside, made_in}
 use Rattle.treasury_tables.proofs.create.create_tables.Goals as goal
@@ -77,7 +77,7 @@ returns-clause-crash g c =
     let makes = c.in_ok-create_format.ensures.creates.makes in
     let inside = made_in g.S.Store old first mid last (rw begun at c.create_format.ensures.creates.survives)
     c.put_format.ensures.survives c.create_state.ensures.survives in
-    let whole = crashes g.S.Store old last c.commit.new.self.0 P inside c.commit.ensures.survives
+    let whole = survives_commit g.S.Store old last c.commit.new.self.0 P inside c.commit.ensures.survives
     (made_beside g.S.Store old first mid last (search rules)
     (subst (λ h. IsFaithful g.S.Store first → has_counter (state g.S.Store h).now.schema ≡ false
     → Makes format (state g.S.Store h).now (state g.S.Store first).now) begun makes)
@@ -98,7 +98,7 @@ returns-in_err-commit-clause-crash g c =
     let makes = c.in_ok-create_format.ensures.creates.makes in
     let inside = made_in g.S.Store old first mid last (rw begun at c.create_format.ensures.creates.survives)
     c.put_format.ensures.survives c.create_state.ensures.survives in
-    let whole = crashes g.S.Store old last c.commit.new.self.0 P inside c.commit.ensures.survives
+    let whole = survives_commit g.S.Store old last c.commit.new.self.0 P inside c.commit.ensures.survives
     (made_beside g.S.Store old first mid last (search rules)
     (subst (λ h. IsFaithful g.S.Store first → has_counter (state g.S.Store h).now.schema ≡ false
     → Makes format (state g.S.Store h).now (state g.S.Store first).now) begun makes)

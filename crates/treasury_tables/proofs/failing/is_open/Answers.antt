@@ -1,6 +1,6 @@
 use Rattle.std.proofs.Common.{refl}
 use Rattle.sqlite.specs.Held.{state}
-use Rattle.treasury_tables.proofs.FailingLemmas.{open_at_fault, looked}
+use Rattle.treasury_tables.proofs.FailingLemmas.{open_at_fault, look_changes_nothing}
 use Rattle.treasury_tables.proofs.failing.is_open.Goals as goal
 
 pub returns-in-SqlInputError-clause-open : goal.returns-in-SqlInputError-clause-open
@@ -10,10 +10,10 @@ returns-in-SqlInputError-clause-open g c told clean =
 
 pub returns-in-SqlInputError-clause-nothing : goal.returns-in-SqlInputError-clause-nothing
 returns-in-SqlInputError-clause-nothing g c =
-    looked g.S.Store c.args.conn.now c.prepare.new.self _ c.prepare.result c.prepare.ensures.ok c.prepare.ensures.err
-    (c.if-not-is_autocommit.ensures.settled refl) c.prepare.ensures.survives
+    look_changes_nothing g.S.Store c.args.conn.now c.prepare.new.self _ c.prepare.result c.prepare.ensures.ok
+    c.prepare.ensures.err (c.if-not-is_autocommit.ensures.settled refl) c.prepare.ensures.survives
 
 pub returns-in_default-error-clause-nothing : goal.returns-in_default-error-clause-nothing
 returns-in_default-error-clause-nothing g c =
-    looked g.S.Store c.args.conn.now c.prepare.new.self _ c.prepare.result c.prepare.ensures.ok c.prepare.ensures.err
-    (c.if-not-is_autocommit.ensures.settled refl) c.prepare.ensures.survives
+    look_changes_nothing g.S.Store c.args.conn.now c.prepare.new.self _ c.prepare.result c.prepare.ensures.ok
+    c.prepare.ensures.err (c.if-not-is_autocommit.ensures.settled refl) c.prepare.ensures.survives

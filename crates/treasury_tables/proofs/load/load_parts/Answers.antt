@@ -3,7 +3,8 @@ use Rattle.sqlite.specs.Effect.{Database}
 use Rattle.treasury_tables.specs.Kept.{IsFaithful}
 use Rattle.treasury_tables.specs.Rows.{branch_row, entry_row, leg_row, claim_row, transfer_row, part_row}
 use Rattle.treasury_tables.specs.Rows.{shown_branch, shown_entry, shown_leg, shown_claim, shown_transfer, shown_part}
-use Rattle.treasury_tables.proofs.QueriesLemmas.{same_error, quiet, quiet_more, quiet_error, quiet_ok, seen_before}
+use Rattle.treasury_tables.proofs.QueriesLemmas.{same_error, queries_are_quiet, quiet_more, quiet_error, quiet_ok}
+use Rattle.treasury_tables.proofs.QueriesLemmas.{seen_before}
 use Rattle.treasury_tables.proofs.load.load_parts.Goals as goal
 
 pub returns-in_err-units-clause-queries : goal.returns-in_err-units-clause-queries
@@ -12,20 +13,20 @@ returns-in_err-units-clause-queries g c =
 
 pub returns-in_err-branches-clause-queries : goal.returns-in_err-branches-clause-queries
 returns-in_err-branches-clause-queries g c =
-    let past1 = quiet c.in_ok-units.ensures.queries c.in_ok-units.ensures.same in
+    let past1 = queries_are_quiet c.in_ok-units.ensures.queries c.in_ok-units.ensures.same in
     quiet_error _ c.from_residual-in_err-branches.result c.from_residual-in_err-branches.ensures.1 past1
     c.in_err-branches.ensures.queries
 
 pub returns-in_err-entries-clause-queries : goal.returns-in_err-entries-clause-queries
 returns-in_err-entries-clause-queries g c =
-    let past1 = quiet c.in_ok-units.ensures.queries c.in_ok-units.ensures.same in
+    let past1 = queries_are_quiet c.in_ok-units.ensures.queries c.in_ok-units.ensures.same in
     let past2 = quiet_more past1 c.in_ok-branches.ensures.queries c.in_ok-branches.ensures.same in
     quiet_error _ c.from_residual-in_err-entries.result c.from_residual-in_err-entries.ensures.1 past2
     c.in_err-entries.ensures.queries
 
 pub returns-in_err-legs-clause-queries : goal.returns-in_err-legs-clause-queries
 returns-in_err-legs-clause-queries g c =
-    let past1 = quiet c.in_ok-units.ensures.queries c.in_ok-units.ensures.same in
+    let past1 = queries_are_quiet c.in_ok-units.ensures.queries c.in_ok-units.ensures.same in
     let past2 = quiet_more past1 c.in_ok-branches.ensures.queries c.in_ok-branches.ensures.same in
     let past3 = quiet_more past2 c.in_ok-entries.ensures.queries c.in_ok-entries.ensures.same in
     quiet_error _ c.from_residual-in_err-legs.result c.from_residual-in_err-legs.ensures.1 past3
@@ -33,7 +34,7 @@ returns-in_err-legs-clause-queries g c =
 
 pub returns-in_err-claims-clause-queries : goal.returns-in_err-claims-clause-queries
 returns-in_err-claims-clause-queries g c =
-    let past1 = quiet c.in_ok-units.ensures.queries c.in_ok-units.ensures.same in
+    let past1 = queries_are_quiet c.in_ok-units.ensures.queries c.in_ok-units.ensures.same in
     let past2 = quiet_more past1 c.in_ok-branches.ensures.queries c.in_ok-branches.ensures.same in
     let past3 = quiet_more past2 c.in_ok-entries.ensures.queries c.in_ok-entries.ensures.same in
     let past4 = quiet_more past3 c.in_ok-legs.ensures.queries c.in_ok-legs.ensures.same in
@@ -42,7 +43,7 @@ returns-in_err-claims-clause-queries g c =
 
 pub returns-in_err-transfers-clause-queries : goal.returns-in_err-transfers-clause-queries
 returns-in_err-transfers-clause-queries g c =
-    let past1 = quiet c.in_ok-units.ensures.queries c.in_ok-units.ensures.same in
+    let past1 = queries_are_quiet c.in_ok-units.ensures.queries c.in_ok-units.ensures.same in
     let past2 = quiet_more past1 c.in_ok-branches.ensures.queries c.in_ok-branches.ensures.same in
     let past3 = quiet_more past2 c.in_ok-entries.ensures.queries c.in_ok-entries.ensures.same in
     let past4 = quiet_more past3 c.in_ok-legs.ensures.queries c.in_ok-legs.ensures.same in
@@ -52,7 +53,7 @@ returns-in_err-transfers-clause-queries g c =
 
 pub returns-in_err-receipts-clause-queries : goal.returns-in_err-receipts-clause-queries
 returns-in_err-receipts-clause-queries g c =
-    let past1 = quiet c.in_ok-units.ensures.queries c.in_ok-units.ensures.same in
+    let past1 = queries_are_quiet c.in_ok-units.ensures.queries c.in_ok-units.ensures.same in
     let past2 = quiet_more past1 c.in_ok-branches.ensures.queries c.in_ok-branches.ensures.same in
     let past3 = quiet_more past2 c.in_ok-entries.ensures.queries c.in_ok-entries.ensures.same in
     let past4 = quiet_more past3 c.in_ok-legs.ensures.queries c.in_ok-legs.ensures.same in
@@ -63,7 +64,7 @@ returns-in_err-receipts-clause-queries g c =
 
 pub returns-clause-queries : goal.returns-clause-queries
 returns-clause-queries g c =
-    let past1 = quiet c.in_ok-units.ensures.queries c.in_ok-units.ensures.same in
+    let past1 = queries_are_quiet c.in_ok-units.ensures.queries c.in_ok-units.ensures.same in
     let past2 = quiet_more past1 c.in_ok-branches.ensures.queries c.in_ok-branches.ensures.same in
     let past3 = quiet_more past2 c.in_ok-entries.ensures.queries c.in_ok-entries.ensures.same in
     let past4 = quiet_more past3 c.in_ok-legs.ensures.queries c.in_ok-legs.ensures.same in
@@ -86,7 +87,7 @@ returns-clause-shown g c clean has =
     omega (arith, c.in_ok-entries.ensures.queries.survives.clean, clean3) in
     let clean1 : IsFaithful g.S.Store c.load_units.new.conn =
     omega (arith, c.in_ok-branches.ensures.queries.survives.clean, clean2) in
-    let past1 = quiet c.in_ok-units.ensures.queries c.in_ok-units.ensures.same in
+    let past1 = queries_are_quiet c.in_ok-units.ensures.queries c.in_ok-units.ensures.same in
     let past2 = quiet_more past1 c.in_ok-branches.ensures.queries c.in_ok-branches.ensures.same in
     let past3 = quiet_more past2 c.in_ok-entries.ensures.queries c.in_ok-entries.ensures.same in
     let past4 = quiet_more past3 c.in_ok-legs.ensures.queries c.in_ok-legs.ensures.same in

@@ -8,7 +8,7 @@ use Rattle.sqlite_trees.specs.declared.store.Shape.TheVariants as shape
 use Rattle.std.proofs.lemmas.Result.{on_ok_weaker}
 use Rattle.treasury_tables.specs.Tables.{receipt}
 use Rattle.treasury_tables.specs.Creating.{has_counter}
-use Rattle.treasury_tables.proofs.UpgradeLemmas.{upgraded, row_stays}
+use Rattle.treasury_tables.proofs.UpgradeLemmas.{upgrades_by_both, row_stays}
 use Rattle.treasury_tables.proofs.upgrading.make_second.Goals as goal
 
 pub returns-clause-makes : goal.returns-clause-makes
@@ -22,7 +22,7 @@ returns-clause-makes g c clean =
     let has = first.0.schema in
     let made = c.in_ok-create_receipt.ensures.creates.makes clean_b (ap has_counter has) in
     let rows = row_stays a.now b.now has made in
-    upgraded a.now b.now d.now has made
+    upgrades_by_both a.now b.now d.now has made
     (sets (made.schema ∙ ap (λ s. created s receipt) has) (ap (map (λ r. column r 1)) rows ∙ first.0.version)
     (subst (IsShaped shape.Table) (sym rows) first.1)))
     (c.set_version.ensures.sets clean)

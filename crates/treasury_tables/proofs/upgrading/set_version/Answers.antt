@@ -1,6 +1,6 @@
 use Rattle.sqlite.specs.Held.{state}
 use Rattle.treasury_tables.proofs.InsideLemmas.{keeps, stays, ran}
-use Rattle.treasury_tables.proofs.UpgradeLemmas.{sets}
+use Rattle.treasury_tables.proofs.UpgradeLemmas.{second_sets_version}
 use Rattle.treasury_tables.proofs.upgrading.set_version.Goals as goal
 
 pub returns-clause-kept : goal.returns-clause-kept
@@ -14,4 +14,4 @@ returns-clause-sets g c clean =
     let old = state g.S.Store c.args.tx.now.conn.now in
     let new = state g.S.Store c.execute.new.self.conn.now in
     ran g.S.Store _ _ _ _ _ _ c.execute.ensures.ended (c.execute.ensures.runs clean) _
-    (λ count h has version table. sets old new count has version table h)
+    (λ count h has version table. second_sets_version old new count has version table h)

@@ -5,7 +5,7 @@ use Rattle.sqlite.specs.Held.{state}
 use Rattle.treasury_tables.specs.Kept.{IsFaithful}
 use Rattle.treasury_tables.specs.Opening.{IsFirstNumbered}
 use Rattle.treasury_tables.specs.Upgrading.{Upgrades}
-use Rattle.treasury_tables.proofs.InsideLemmas.{crashes}
+use Rattle.treasury_tables.proofs.InsideLemmas.{survives_commit}
 use Rattle.treasury_tables.proofs.upgrading.upgrade.Goals as goal
 
 pub returns-clause-made : goal.returns-clause-made
@@ -32,7 +32,7 @@ returns-clause-crash g c =
     let begun = c.transaction-tx.ensures.begun in
     let P = λ (db : Database). IsFirstNumbered (state g.S.Store old).now → Upgrades (state g.S.Store old).now db in
     let same : c.commit.new.self.0 ≡ c.conn-2-1.given.0 = search rules in
-    let whole = crashes g.S.Store old last c.commit.new.self.0 P (rw begun at c.make_second.ensures.survives)
+    let whole = survives_commit g.S.Store old last c.commit.new.self.0 P (rw begun at c.make_second.ensures.survives)
     c.commit.ensures.survives
     (λ clean first. subst (λ h. IsFirstNumbered (state g.S.Store h).now
     → Upgrades (state g.S.Store h).now (state g.S.Store last).now) begun (c.in_ok-make_second.ensures.makes clean)
@@ -47,7 +47,7 @@ returns-in_err-commit-clause-crash g c =
     let begun = c.transaction-tx.ensures.begun in
     let P = λ (db : Database). IsFirstNumbered (state g.S.Store old).now → Upgrades (state g.S.Store old).now db in
     let same : c.commit.new.self.0 ≡ c.conn-2-1.given.0 = search rules in
-    let whole = crashes g.S.Store old last c.commit.new.self.0 P (rw begun at c.make_second.ensures.survives)
+    let whole = survives_commit g.S.Store old last c.commit.new.self.0 P (rw begun at c.make_second.ensures.survives)
     c.commit.ensures.survives
     (λ clean first. subst (λ h. IsFirstNumbered (state g.S.Store h).now
     → Upgrades (state g.S.Store h).now (state g.S.Store last).now) begun (c.in_ok-make_second.ensures.makes clean)

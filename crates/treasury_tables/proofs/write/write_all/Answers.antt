@@ -2,7 +2,7 @@ use Rattle.std.proofs.Common.{◌≡◌, ◌∙◌, sym, subst, arith, rules}
 use Rattle.sqlite.specs.Effect.{Database}
 use Rattle.sqlite.specs.State.{Survives}
 use Rattle.sqlite.specs.Held.{state}
-use Rattle.treasury_tables.proofs.InsideLemmas.{crashes}
+use Rattle.treasury_tables.proofs.InsideLemmas.{survives_commit}
 use Rattle.treasury_tables.specs.Kept.{IsFaithful}
 use Rattle.treasury_tables.specs.Rows.{Tables, Holds, joined}
 use Rattle.treasury_tables.proofs.write.write_all.Goals as goal
@@ -30,7 +30,7 @@ returns-clause-crash g c =
     let P =
     λ (db : Database). (t : Tables) → Holds (state g.S.Store old).now t → Holds db (joined c.args.changes.now t) in
     let same : c.commit.new.self.0 ≡ c.conn-2-1.given.0 = search rules in
-    let whole = crashes g.S.Store old last c.commit.new.self.0 P (rw begun at c.put_all.ensures.survives)
+    let whole = survives_commit g.S.Store old last c.commit.new.self.0 P (rw begun at c.put_all.ensures.survives)
     c.commit.ensures.survives
     (λ clean t holds. c.in_ok-put_all.ensures.rows clean t
     (subst (λ h. Holds (state g.S.Store h).now t) (sym begun) holds)) in
@@ -45,7 +45,7 @@ returns-in_err-commit-clause-crash g c =
     let P =
     λ (db : Database). (t : Tables) → Holds (state g.S.Store old).now t → Holds db (joined c.args.changes.now t) in
     let same : c.commit.new.self.0 ≡ c.conn-2-1.given.0 = search rules in
-    let whole = crashes g.S.Store old last c.commit.new.self.0 P (rw begun at c.put_all.ensures.survives)
+    let whole = survives_commit g.S.Store old last c.commit.new.self.0 P (rw begun at c.put_all.ensures.survives)
     c.commit.ensures.survives
     (λ clean t holds. c.in_ok-put_all.ensures.rows clean t
     (subst (λ h. Holds (state g.S.Store h).now t) (sym begun) holds)) in

@@ -8,7 +8,7 @@ use Rattle.treasury_state.specs.Good.{IsGoodRecord}
 use Rattle.treasury_state.specs.Rows.{entry_rows_in}
 use Rattle.treasury_state.proofs.BranchRowLemmas.{AreGood}
 use Rattle.treasury_rows.specs.Drafted.{IsFault}
-use Rattle.treasury_rows.proofs.DraftLemmas.{exit, pushed_length}
+use Rattle.treasury_rows.proofs.DraftLemmas.{exit_on_error, pushed_length}
 use Rattle.treasury_rows.proofs.BranchRowLemmas.{HasRow, IsBranchFront, branch_start, branch_next, branch_fault}
 use Rattle.treasury_rows.proofs.BranchRowLemmas.{branch_end, rest_damaged, entered_next, entered_end}
 use Rattle.treasury_rows.proofs.drafting.branch_rows.read_branches.Goals as goal
@@ -26,7 +26,7 @@ branch-init c = record {
 pub returns-in_err-branch-clause-reads : goal.returns-in_err-branch-clause-reads
 returns-in_err-branch-clause-reads c =
     let i = c.branch.row-index in
-    exit _ _ c.from_residual.result _ c.from_residual.ensures.1
+    exit_on_error _ _ c.from_residual.result _ c.from_residual.ensures.1
     (branch_fault c.args.styles.now c.args.rows.now c.args.entries.now i i (length c.items-nr.result.now)
     c.count_own-count.result c.branch.list c.row-item.result c.branch.left.now c.in_err-branch.field-0.0
     c.branch-test.true c.row-item.is

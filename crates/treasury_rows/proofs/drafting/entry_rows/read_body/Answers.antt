@@ -1,12 +1,12 @@
 use Rattle.std.proofs.Common.{◌≡◌, ◌∙◌, true, false, sym}
 use Rattle.treasury_state.proofs.EntryRowLemmas.{body_reads}
-use Rattle.treasury_rows.proofs.DraftLemmas.{exit}
+use Rattle.treasury_rows.proofs.DraftLemmas.{exit_on_error}
 use Rattle.treasury_rows.proofs.EntryRowLemmas.{body_fault, marked_damaged, other_damaged, none_of}
 use Rattle.treasury_rows.proofs.drafting.entry_rows.read_body.Goals as goal
 
 pub returns-in_err-txn-clause-reads : goal.returns-in_err-txn-clause-reads
 returns-in_err-txn-clause-reads c =
-    exit _ _ c.from_residual.result _ c.from_residual.ensures.1
+    exit_on_error _ _ c.from_residual.result _ c.from_residual.ensures.1
     (body_fault c.args.styles.now c.are_styles.ensures c.args.text.now _ c.in_err-txn.ensures.reads)
 
 pub returns-then-is_some-clause-reads : goal.returns-then-is_some-clause-reads

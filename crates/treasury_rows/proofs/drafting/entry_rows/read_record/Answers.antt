@@ -8,14 +8,14 @@ use Rattle.treasury_state.specs.Good.{IsGoodRecord}
 use Rattle.treasury_state.specs.Rows.{entry_row}
 use Rattle.treasury_state.proofs.EntryRowLemmas.{record_only}
 use Rattle.treasury_rows.specs.Drafted.{IsFault}
-use Rattle.treasury_rows.proofs.DraftLemmas.{exit}
+use Rattle.treasury_rows.proofs.DraftLemmas.{exit_on_error}
 use Rattle.treasury_rows.proofs.EntryRowLemmas.{record_fault, bad_mark, legs_fault, other_day, record_good, same_row}
 use Rattle.treasury_rows.proofs.EntryRowLemmas.{printable_marked, other_row, whole_record}
 use Rattle.treasury_rows.proofs.drafting.entry_rows.read_record.Goals as goal
 
 pub returns-in_err-txn-clause-reads : goal.returns-in_err-txn-clause-reads
 returns-in_err-txn-clause-reads c =
-    exit _ _ c.from_residual-in_err-txn.result _ c.from_residual-in_err-txn.ensures.1
+    exit_on_error _ _ c.from_residual-in_err-txn.result _ c.from_residual-in_err-txn.ensures.1
     (record_fault c.args.styles.now c.args.branch c.args.nr c.args.row.now c.as_str.result.now _ c.as_str.ensures
     c.in_err-txn.ensures.reads)
 
@@ -37,7 +37,7 @@ returns-then-not-is_row_of-clause-reads c =
 
 pub returns-in_err-entry-clause-reads : goal.returns-in_err-entry-clause-reads
 returns-in_err-entry-clause-reads c =
-    exit _ _ c.from_residual-in_err-entry.result _ c.from_residual-in_err-entry.ensures.1
+    exit_on_error _ _ c.from_residual-in_err-entry.result _ c.from_residual-in_err-entry.ensures.1
     (legs_fault c.args.styles.now c.args.branch c.args.nr c.args.row.now c.in_ok-txn.txn c.in_ok-own.own
     c.in_err-entry.field-0.0
     (record {

@@ -5,7 +5,8 @@ use Rattle.money_core.proofs.ListLemmas.{all-append}
 use Rattle.treasury_state.specs.declared.record.Record.{Record}
 use Rattle.treasury_state.specs.Good.{IsGoodRecord}
 use Rattle.treasury_state.specs.Rows.{entry_row, entry_rows_from}
-use Rattle.treasury_rows.proofs.DraftLemmas.{exit, IsFront, front_start, front_next, front_fault, front_end, all_middle}
+use Rattle.treasury_rows.proofs.DraftLemmas.{exit_on_error, IsFront, front_start, front_next, front_fault, front_end}
+use Rattle.treasury_rows.proofs.DraftLemmas.{all_middle}
 use Rattle.treasury_rows.proofs.DraftLemmas.{pushed_length, same_next}
 use Rattle.treasury_rows.proofs.drafting.entry_rows.read_records.Goals as goal
 
@@ -25,7 +26,7 @@ pub returns-in_err-record-clause-reads : goal.returns-in_err-record-clause-reads
 returns-in_err-record-clause-reads c =
     let P = IsGoodRecord c.args.styles.now in
     let i = c.entry.row-index in
-    exit _ _ c.from_residual.result _ c.from_residual.ensures.1
+    exit_on_error _ _ c.from_residual.result _ c.from_residual.ensures.1
     (front_fault (entry_row c.args.styles.now c.args.branch) (AllByRecursion P) P 1 c.args.rows.now (i + 1) i _
     c.entry.list c.row-item.result _ c.entry-test.true c.row-item.is
     (ap (λ (xs : List Record). length xs + 1) c.items.ensures ∙ ap (λ (k : ℕ). k + 1) c.entry.invariant.count)

@@ -3,7 +3,7 @@ use Rattle.std.specs.Prelude.{◌==◌}
 use Rattle.treasury_state.specs.declared.rows.PartRow.{PartRow}
 use Rattle.treasury_state.specs.declared.transfer.Transfer.{Transfer}
 use Rattle.treasury_rows.specs.Drafted.{IsFault}
-use Rattle.treasury_rows.proofs.DraftLemmas.{exit}
+use Rattle.treasury_rows.proofs.DraftLemmas.{exit_on_error}
 use Rattle.treasury_rows.proofs.PartRowLemmas.{HasRow, IsTransferFront, transfer_start, transfer_next, transfer_fault}
 use Rattle.treasury_rows.proofs.PartRowLemmas.{transfer_end, rest_damaged}
 use Rattle.treasury_rows.proofs.drafting.transfer_rows.read_transfers.Goals as goal
@@ -17,7 +17,7 @@ transfer-init c =
 pub returns-in_err-transfer : goal.returns-in_err-transfer
 returns-in_err-transfer c =
     let bs = c.args.branches.now in
-    exit _ _ c.from_residual.result _ c.from_residual.ensures.1
+    exit_on_error _ _ c.from_residual.result _ c.from_residual.ensures.1
     (transfer_fault bs c.args.rows.now c.args.parts.now c.transfer.row-index c.count_own-count.result c.transfer.list
     c.row-item.result c.transfer.left.now c.in_err-transfer.field-0.0 c.transfer-test.true c.row-item.is
     c.count_own-count.ensures.value c.transfer.invariant

@@ -1,12 +1,12 @@
 use Rattle.std.proofs.Common.{◌∙◌, sym, rules}
 use Rattle.money_core.specs.declared.style.Style.{Style}
-use Rattle.treasury_rows.proofs.DraftLemmas.{exit}
+use Rattle.treasury_rows.proofs.DraftLemmas.{exit_on_error}
 use Rattle.treasury_rows.proofs.UnitRowLemmas.{decimals_fault, style_only, style_damaged}
 use Rattle.treasury_rows.proofs.drafting.unit_rows.read_style.Goals as goal
 
 pub returns-in_err-decimals-clause-reads : goal.returns-in_err-decimals-clause-reads
 returns-in_err-decimals-clause-reads c =
-    exit _ _ c.from_residual.result _ c.from_residual.ensures.1
+    exit_on_error _ _ c.from_residual.result _ c.from_residual.ensures.1
     (decimals_fault c.args.nr c.args.row.now _ (search rules) c.in_err-decimals.ensures)
 
 pub returns-then-not-is_style-clause-reads : goal.returns-then-not-is_style-clause-reads

@@ -2,7 +2,7 @@ use Rattle.std.proofs.Common.{◌≡◌, ◌∙◌, List, sym, subst, true, rule
 use Rattle.money_core.specs.declared.style.Style.{Style}
 use Rattle.money_core.specs.Style.{is_style, AreStyles}
 use Rattle.treasury_state.specs.Rows.{unit_row}
-use Rattle.treasury_rows.proofs.DraftLemmas.{exit, IsFront, front_start, front_next, front_fault, front_end}
+use Rattle.treasury_rows.proofs.DraftLemmas.{exit_on_error, IsFront, front_start, front_next, front_fault, front_end}
 use Rattle.treasury_rows.proofs.DraftLemmas.{pushed_length}
 use Rattle.treasury_rows.proofs.UnitRowLemmas.{style_middle, new_fault}
 use Rattle.treasury_rows.proofs.drafting.unit_rows.read_styles.Goals as goal
@@ -17,7 +17,7 @@ unit-init c = record {
 pub returns-in_err-style : goal.returns-in_err-style
 returns-in_err-style c =
     let i = c.unit.row-index in
-    exit _ _ c.from_residual.result _ c.from_residual.ensures.1
+    exit_on_error _ _ c.from_residual.result _ c.from_residual.ensures.1
     (front_fault unit_row AreStyles (λ (s : Style). is_style s ≡ true) 0 c.args.rows.now i i c.len.result
     c.unit.styles c.row-item.result _ c.unit-test.true c.row-item.is
     (c.len.ensures.count ∙ c.unit.invariant.count) (λ xs rest y. style_middle c.unit.styles xs rest y)
@@ -26,7 +26,7 @@ returns-in_err-style c =
 pub returns-in_err-declare_next : goal.returns-in_err-declare_next
 returns-in_err-declare_next c =
     let i = c.unit.row-index in
-    exit _ _ c.from_residual-in_err-declare_next.result _ c.from_residual-in_err-declare_next.ensures.1
+    exit_on_error _ _ c.from_residual-in_err-declare_next.result _ c.from_residual-in_err-declare_next.ensures.1
     (new_fault c.args.rows.now i i c.len.result c.unit.styles c.row-item.result c.in_ok-style.style _
     c.unit-test.true c.row-item.is
     (c.len.ensures.count ∙ c.unit.invariant.count) c.in_ok-style.ensures.reads c.unit.invariant.front

@@ -7,7 +7,7 @@ use Rattle.std.specs.HashMap.{get_by_text}
 use Rattle.std.proofs.lemmas.List.{length-take-le}
 use Rattle.treasury_state.specs.declared.record.Record.{Record}
 use Rattle.treasury_state.specs.Index.{mark_place, IsIndexOf}
-use Rattle.treasury_state.proofs.IndexLemmas.{absent, pushed}
+use Rattle.treasury_state.proofs.IndexLemmas.{held_without_mark_place, index_pushed}
 use Rattle.treasury_rows.proofs.JudgingLemmas.{own_place, own_more, front_is, is_none}
 use Rattle.treasury_rows.proofs.judging.marks.own_index.Goals as goal
 
@@ -41,7 +41,8 @@ loop-place-preserved c =
     (sym (length-take-le i rs (omega arith))) in
     record {
       own = own_more rs i r within c.index-rows-place.is c.loop-place.invariant.own
-          (absent (take i rs) r.mark (is_none (mark_place (take i rs) r.mark) looked));
+          (held_without_mark_place (take i rs) r.mark (is_none (mark_place (take i rs) r.mark) looked));
       found = subst (IsIndexOf c.put_place.new.index) (sym (front_is rs i r within c.index-rows-place.is))
-          (pushed (λ (x : Record). x.mark) old c.put_place.new.index (take i rs) r c.loop-place.invariant.found put);
+          (index_pushed (λ (x : Record). x.mark) old c.put_place.new.index (take i rs) r c.loop-place.invariant.found
+          put);
     }

@@ -4,7 +4,7 @@ use Rattle.book_core.specs.GoodBook.{IsGoodBook}
 use Rattle.treasury_state.specs.Federation.{entries, branch_at}
 use Rattle.treasury_state.specs.Good.{IsGoodBranch}
 use Rattle.treasury_state.specs.Seen.{branch_of}
-use Rattle.treasury_state.proofs.FindLemmas.{there, missing}
+use Rattle.treasury_state.proofs.FindLemmas.{branch_at_Some, branch_at_None}
 use Rattle.treasury_state.proofs.HoldsLemmas.{found_holds}
 use Rattle.treasury_state.proofs.state.State.ledger.Goals as goal
 
@@ -13,7 +13,7 @@ returns-in-None-clause-found g c =
     let f = c.args.self.now in
     let name = c.args.name.now in
     let found : branch_at f.branches name ≡ None = c.in-None.ensures.found in
-    (missing f.branches name found).none
+    (branch_at_None f.branches name found).none
 
 pub returns-in-Some-clause-found : goal.returns-in-Some-clause-found
 returns-in-Some-clause-found g c =
@@ -21,7 +21,7 @@ returns-in-Some-clause-found g c =
     let name = c.args.name.now in
     let b = branch_of c.in-Some.branch.now in
     let found : branch_at f.branches name ≡ Some b = c.in-Some.ensures.found in
-    let at = there f.branches name b found in
+    let at = branch_at_Some f.branches name b found in
     (at.any, c.in-Some.ensures.kept.ledger ∙ ap entries (sym at.records))
 
 pub returns-in-Some-clause-good : goal.returns-in-Some-clause-good

@@ -7,7 +7,7 @@ use Rattle.sqlite.specs.State.{Executes}
 use Rattle.sqlite.specs.Held.{state}
 use Rattle.treasury_tables.specs.Rows.{branch_row, with_branch}
 use Rattle.treasury_tables.proofs.Texts.{add_branch_text}
-use Rattle.treasury_tables.proofs.InsideLemmas.{writes}
+use Rattle.treasury_tables.proofs.InsideLemmas.{one_statement_writes}
 use Rattle.treasury_tables.proofs.RowsLemmas.{adds_branch, bound_day}
 use Rattle.treasury_tables.proofs.tables.branch.put_branch.Goals as goal
 
@@ -22,7 +22,7 @@ returns-clause-writes g c =
     let is_locked : owned c.to_sql-locked.result ≡ or_null Int row.locked = c.to_sql-locked.ensures in
     let is : bound (c.to_sql-nr.result ∷ c.to_sql-name.result ∷ c.to_sql-locked.result ∷ []) ≡ branch_row row =
     rw (is_nr, is_name, is_locked) (ap (λ (x : Value). Int row.nr ∷ Text row.name ∷ x ∷ []) (bound_day row.locked)) in
-    writes g.S.Store _ _ _ _ _ _ c.execute.ensures.ended c.execute.ensures.runs c.execute.ensures.survives
+    one_statement_writes g.S.Store _ _ _ _ _ _ c.execute.ensures.ended c.execute.ensures.runs c.execute.ensures.survives
     (with_branch row)
     (λ count t holds h. adds_branch row old new t count holds
     (subst (λ ps. Executes add_branch_text ps old new (Ok count)) is h))

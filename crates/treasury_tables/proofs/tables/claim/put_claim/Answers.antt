@@ -3,7 +3,7 @@ use Rattle.sqlite.specs.State.{Executes}
 use Rattle.sqlite.specs.Held.{state}
 use Rattle.treasury_tables.specs.Rows.{with_claim}
 use Rattle.treasury_tables.proofs.Texts.{add_claim_text}
-use Rattle.treasury_tables.proofs.InsideLemmas.{writes}
+use Rattle.treasury_tables.proofs.InsideLemmas.{one_statement_writes}
 use Rattle.treasury_tables.proofs.RowsLemmas.{adds_claim}
 use Rattle.treasury_tables.proofs.tables.claim.put_claim.Goals as goal
 
@@ -12,7 +12,7 @@ returns-clause-writes g c =
     let row = c.args.row.now in
     let old = state g.S.Store c.args.tx.now.conn.now in
     let new = state g.S.Store c.execute.new.self.conn.now in
-    writes g.S.Store _ _ _ _ _ _ c.execute.ensures.ended c.execute.ensures.runs c.execute.ensures.survives
+    one_statement_writes g.S.Store _ _ _ _ _ _ c.execute.ensures.ended c.execute.ensures.runs c.execute.ensures.survives
     (with_claim row)
     (λ count t holds h. adds_claim row old new t count holds
     (subst (λ ps. Executes add_claim_text ps old new (Ok count)) c.claim_values-values.ensures h))

@@ -3,7 +3,7 @@ use Rattle.sqlite.specs.State.{Executes}
 use Rattle.sqlite.specs.Held.{state}
 use Rattle.treasury_tables.specs.Rows.{with_leg}
 use Rattle.treasury_tables.proofs.Texts.{add_leg_text}
-use Rattle.treasury_tables.proofs.InsideLemmas.{writes}
+use Rattle.treasury_tables.proofs.InsideLemmas.{one_statement_writes}
 use Rattle.treasury_tables.proofs.RowsLemmas.{adds_leg}
 use Rattle.treasury_tables.proofs.tables.leg.put_leg.Goals as goal
 
@@ -12,7 +12,7 @@ returns-clause-writes g c =
     let row = c.args.row.now in
     let old = state g.S.Store c.args.tx.now.conn.now in
     let new = state g.S.Store c.execute.new.self.conn.now in
-    writes g.S.Store _ _ _ _ _ _ c.execute.ensures.ended c.execute.ensures.runs c.execute.ensures.survives
+    one_statement_writes g.S.Store _ _ _ _ _ _ c.execute.ensures.ended c.execute.ensures.runs c.execute.ensures.survives
     (with_leg row)
     (λ count t holds h. adds_leg row old new t count holds
     (subst (λ ps. Executes add_leg_text ps old new (Ok count)) c.leg_values-values.ensures h))

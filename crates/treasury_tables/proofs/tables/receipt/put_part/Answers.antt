@@ -6,7 +6,7 @@ use Rattle.sqlite.specs.State.{Executes}
 use Rattle.sqlite.specs.Held.{state}
 use Rattle.treasury_tables.specs.Rows.{part_row, with_part}
 use Rattle.treasury_tables.proofs.Texts.{add_part_text}
-use Rattle.treasury_tables.proofs.InsideLemmas.{writes}
+use Rattle.treasury_tables.proofs.InsideLemmas.{one_statement_writes}
 use Rattle.treasury_tables.proofs.RowsLemmas.{adds_part}
 use Rattle.treasury_tables.proofs.tables.receipt.put_part.Goals as goal
 
@@ -27,7 +27,7 @@ returns-clause-writes g c =
     let is : bound (c.to_sql-transfer.result ∷ c.to_sql-part.result ∷ c.to_sql-qty.result ∷ c.to_sql-received.result
     ∷ c.to_sql-payee.result ∷ []) ≡ part_row row =
     rw (is_transfer, is_part, is_qty, is_received, is_payee) in
-    writes g.S.Store _ _ _ _ _ _ c.execute.ensures.ended c.execute.ensures.runs c.execute.ensures.survives
+    one_statement_writes g.S.Store _ _ _ _ _ _ c.execute.ensures.ended c.execute.ensures.runs c.execute.ensures.survives
     (with_part row)
     (λ count t holds h. adds_part row old new t count holds
     (subst (λ ps. Executes add_part_text ps old new (Ok count)) is h))

@@ -7,7 +7,7 @@ use Rattle.sqlite.specs.State.{Executes}
 use Rattle.sqlite.specs.Held.{state}
 use Rattle.treasury_tables.specs.Rows.{transfer_row, with_transfer}
 use Rattle.treasury_tables.proofs.Texts.{add_transfer_text}
-use Rattle.treasury_tables.proofs.InsideLemmas.{writes}
+use Rattle.treasury_tables.proofs.InsideLemmas.{one_statement_writes}
 use Rattle.treasury_tables.proofs.RowsLemmas.{adds_transfer, bound_day, bound_words}
 use Rattle.treasury_tables.proofs.tables.transfer.put_transfer.Goals as goal
 
@@ -49,7 +49,7 @@ returns-clause-writes g c =
     (ap₂ (λ (x y : Value).
     Text row.id ∷ Int row.source ∷ Int row.target ∷ Int row.unit ∷ Int row.qty ∷ Int row.dispatched ∷ Text row.payer
     ∷ x ∷ y ∷ []) (bound_day row.received) (bound_words row.payee)) in
-    writes g.S.Store _ _ _ _ _ _ c.execute.ensures.ended c.execute.ensures.runs c.execute.ensures.survives
+    one_statement_writes g.S.Store _ _ _ _ _ _ c.execute.ensures.ended c.execute.ensures.runs c.execute.ensures.survives
     (with_transfer row)
     (λ count t holds h. adds_transfer row old new t count holds
     (subst (λ ps. Executes add_transfer_text ps old new (Ok count)) is h))

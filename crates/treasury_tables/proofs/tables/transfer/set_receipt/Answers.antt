@@ -6,7 +6,7 @@ use Rattle.sqlite.specs.State.{Executes}
 use Rattle.sqlite.specs.Held.{state}
 use Rattle.treasury_tables.specs.Rows.{with_receipt}
 use Rattle.treasury_tables.proofs.Texts.{receive_text}
-use Rattle.treasury_tables.proofs.InsideLemmas.{writes}
+use Rattle.treasury_tables.proofs.InsideLemmas.{one_statement_writes}
 use Rattle.treasury_tables.proofs.ReceiptLemmas.{receives}
 use Rattle.treasury_tables.proofs.tables.transfer.set_receipt.Goals as goal
 
@@ -21,7 +21,7 @@ returns-clause-writes g c =
     let is : bound (c.to_sql-key.result ∷ c.to_sql-received.result ∷ c.to_sql-account.result ∷ [])
     ≡ Text id ∷ Int c.args.day ∷ Text payee ∷ [] =
     rw (c.to_sql-key.ensures, is_day, c.to_sql-account.ensures) in
-    writes g.S.Store _ _ _ _ _ _ c.execute.ensures.ended c.execute.ensures.runs c.execute.ensures.survives
+    one_statement_writes g.S.Store _ _ _ _ _ _ c.execute.ensures.ended c.execute.ensures.runs c.execute.ensures.survives
     (with_receipt id c.args.day payee)
     (λ count t holds h. receives id c.args.day payee old new t count holds
     (subst (λ ps. Executes receive_text ps old new (Ok count)) is h))
