@@ -6,7 +6,6 @@ pub mod LineLemmas
 pub mod OddLemmas
 pub mod HeadLemmas
 pub mod BranchLemmas
-pub mod OddNoteLemmas
 pub mod OddValues
 pub mod PieceLemmas
 pub mod TransferLemmas
@@ -14,4 +13,6 @@ pub mod LeftOverLemmas
 pub mod FailureLemmas
 pub mod RefusedLemmas
 pub mod PassingLemmas
+pub mod AddedLemmas
+pub mod OddNoteLemmas
 pub mod ExplainLemmas

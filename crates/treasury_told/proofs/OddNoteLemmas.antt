@@ -1,13 +1,16 @@
 -- notes of odd amounts between those of other kinds
-use Rattle.std.proofs.Common.{◌≡◌, ◌∙◌, ℕ, List, [], ◌∷◌, ◌++◌, length, refl, ap, sym, arith, append_assoc}
-use Rattle.std.proofs.Common.{append-nil, false}
+use Rattle.std.proofs.Common.{◌≡◌, ◌∙◌, ℕ, List, [], ◌∷◌, ◌++◌, length, refl, ap, sym, append_assoc}
+use Rattle.std.proofs.Common.{append-nil, Bool, true, false}
 use Rattle.std.specs.List.{flat_map}
 use Rattle.money_core.specs.declared.style.Style.{Style}
 use Rattle.journal_format.specs.declared.txn.Located.{Located}
 use Rattle.journal_lines.specs.Lines.{numbered}
 use Rattle.treasury_told.specs.Listed.{listed, most_notes}
 use Rattle.treasury_told.specs.OddAmount.{OddText, odd_text, odd_line, lines_below, odd_amounts}
-use Rattle.treasury_told.specs.OddNotes.{lines_of, odd_notes, HasNotes}
+use Rattle.treasury_state.specs.declared.record.Record.{Record}
+use Rattle.treasury_told.specs.Added.{added_lines, IsTaken}
+use Rattle.treasury_told.specs.OddNotes.{odd_notes, HasNotes}
+use Rattle.treasury_told.proofs.AddedLemmas.{none_added}
 
 -- ---- texts in which nothing is odd
 pub none_odd : (styles : List Style) (source text heads : List ℕ) → odd_amounts styles heads text ≡ []
@@ -24,15 +27,21 @@ pub no_head : (styles : List Style) (text : List ℕ) → odd_amounts styles [] 
 unfolding odd_amounts
 no_head styles text = ap (λ (xs : List (ℕ × List ℕ)). flat_map (odd_line styles) xs) (below_no_head (numbered 1 text))
 
-empty_list : (list : List Located) → length list ≡ 0 → list ≡ []
-empty_list [] e = refl
-empty_list (x ∷ xs) e = absurd (omega (arith, e))
+pub nothing_new : (styles : List Style) (source text : List ℕ) (held new : List Record) (list : List Located)
+    → length new ≡ 0 → IsTaken styles held text new list
+    → odd_notes styles source text (added_lines styles held list) ≡ []
+nothing_new styles source text held new list none h =
+    none_odd styles source text (added_lines styles held list)
+    (ap (λ (heads : List ℕ). odd_amounts styles heads text) (none_added styles held text new list none h)
+    ∙ no_head styles text)
 
-pub nothing_new : (styles : List Style) (source text : List ℕ) (list : List Located) → length list ≡ 0
-    → odd_notes styles source text (lines_of list) ≡ []
-nothing_new styles source text list e =
-    none_odd styles source text (lines_of list)
-    (ap (λ (xs : List Located). odd_amounts styles (lines_of xs) text) (empty_list list e) ∙ no_head styles text)
+-- where something may be odd, these are the lines, and otherwise no line matters
+pub same_notes : (styles : List Style) (source text heads lines : List ℕ) (may : Bool)
+    → (may ≡ true → heads ≡ lines) → ((ns : List ℕ) → may ≡ false → odd_amounts styles ns text ≡ [])
+    → odd_notes styles source text heads ≡ odd_notes styles source text lines
+same_notes styles source text heads lines true are none = ap (odd_notes styles source text) (are refl)
+same_notes styles source text heads lines false are none =
+    none_odd styles source text heads (none heads refl) ∙ sym (none_odd styles source text lines (none lines refl))
 
 -- ---- notes that were appended
 pub none_there : (notes old new : List ℕ) → notes ≡ [] → new ≡ old → HasNotes notes old new

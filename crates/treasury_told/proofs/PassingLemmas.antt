@@ -130,7 +130,7 @@ limit_parts styles lock records file h =
 
 -- ---- the new transactions of a text are those that a branch takes
 -- the marks that a branch holds, after those before a transaction were taken
-abbrev IsKept : List Record → List Standing → List Record → Type 0
+abbrev pub IsKept : List Record → List Standing → List Record → Type 0
 IsKept records before now =
     (m : List ℕ) → is_held now m ≡ (is_held records m || list_any (goes_by m) before)
 
@@ -144,7 +144,7 @@ or_more : (a b t : Bool) → ((a || b) || (t || false)) ≡ (a || (b || (t || fa
 or_more true b t = refl
 or_more false b t = refl
 
-kept_old : (records : List Record) (before : List Standing) (now : List Record) (s : Standing)
+pub kept_old : (records : List Record) (before : List Standing) (now : List Record) (s : Standing)
     → is_held now s.mark ≡ true → IsKept records before now → IsKept records (before ++ s ∷ []) now
 kept_old records before now s there kept = λ m.
     kept m
@@ -152,7 +152,7 @@ kept_old records before now s there kept = λ m.
     (λ e. sym (kept m) ∙ ap (is_held now) (sym (same_bytes s.mark m e)) ∙ there)
     ∙ sym (ap (λ (t : Bool). is_held records m || t) (list_any-append (goes_by m) before (s ∷ [])))
 
-kept_new : (records : List Record) (before : List Standing) (now : List Record) (s : Standing) (e : Entry)
+pub kept_new : (records : List Record) (before : List Standing) (now : List Record) (s : Standing) (e : Entry)
     → IsKept records before now → IsKept records (before ++ s ∷ []) (now ++ record_of s e ∷ [])
 kept_new records before now s e kept = λ m.
     list_any-append (λ (r : Record). bytes_eq r.mark m) now (record_of s e ∷ [])

@@ -15,6 +15,7 @@ pub mod Passing
 pub mod Heads
 pub mod Listed
 pub mod OddAmount
+pub mod Added
 pub mod OddNotes
 pub mod Edited
 pub mod NewAccount

@@ -52,7 +52,7 @@ fn push_list(
     import: &Import<'_>,
     out: &mut Vec<u8>,
 ) -> Result<(), Cause> {
-    let places = new_places(alloc, styles, import, &[])?;
+    let places = new_places(alloc, styles, import, &[], false)?;
     let lines = places.lines.as_slice();
     for (place, record) in import.new.iter().enumerate().take(MOST_LISTED) {
         if let Some(line) = lines.get(place) {

@@ -15,11 +15,12 @@ mod other_branch;
 pub(crate) mod places;
 pub(crate) mod samples;
 
-ghost use Rattle.std.specs.Prelude.{◌≡◌, ◌<◌, ℕ, List, drop, length, OnOk, Some};
+ghost use Rattle.std.specs.Prelude.{◌≡◌, ℕ, List, take, drop, OnOk, Some};
 ghost use Rattle.journal_format.specs.declared.txn.Located.{Located};
 ghost use Rattle.treasury_state.specs.Federation.{records_of};
 ghost use Rattle.treasury_told.specs.declared.notes.BranchBefore.{BranchBefore as HeldOfBranch};
-ghost use Rattle.treasury_told.specs.OddNotes.{AreAllNew, IsAllNew, lines_of, odd_notes, HasNotes};
+ghost use Rattle.treasury_told.specs.Added.{added_lines, IsTaken, IsEntered};
+ghost use Rattle.treasury_told.specs.OddNotes.{odd_notes, HasNotes};
 
 use crate::explain::standing::{branch_named, records_of};
 use crate::explain::transfers::{part_of, transfer_of};
@@ -209,7 +210,8 @@ fn note_entry<L: Ledger>(
 
 /// The first records, so many, and those after them.
 fn parted(records: &[Record], count: usize) -> (&[Record], &[Record])
-    ensures { result.1.now ≡ drop count records.now }
+    ensures first { result.0.now ≡ take count records.now }
+    ensures rest { result.1.now ≡ drop count records.now }
 {
     if count <= records.len() {
         records.split_at(count)
@@ -246,8 +248,9 @@ fn push_import<L: Ledger>(
     new: &[Record],
     out: &mut Vec<u8>,
 ) -> Result<(), Cause>
-    ensures odd { (list : List Located) → AreAllNew state.now.styles journal.now new.now list → OnOk result
-        (HasNotes (odd_notes state.now.styles source.now journal.now (lines_of list)) out.old.items out.new.items) }
+    ensures odd { (list : List Located) → IsTaken state.now.styles held.now journal.now new.now list → OnOk result
+        (HasNotes (odd_notes state.now.styles source.now journal.now (added_lines state.now.styles held.now list))
+        out.old.items out.new.items) }
 {
     let import = Import {
         source,
@@ -270,10 +273,10 @@ fn push_import_notes<L: Ledger>(
     before: BranchBefore,
     out: &mut Vec<u8>,
 ) -> Result<(), Cause>
-    ensures odd { (list : List Located) → 0 < length list
-        → AreAllNew state.now.styles journal.now (drop before.entries (records_of state.now name.now)) list
-        → OnOk result
-        (HasNotes (odd_notes state.now.styles source.now journal.now (lines_of list)) out.old.items out.new.items) }
+    ensures odd { (list : List Located) → IsTaken state.now.styles (take before.entries (records_of state.now name.now))
+        journal.now (drop before.entries (records_of state.now name.now)) list → OnOk result
+        (HasNotes (odd_notes state.now.styles source.now journal.now (added_lines state.now.styles
+        (take before.entries (records_of state.now name.now)) list)) out.old.items out.new.items) }
 {
     match branch_named(state, name) {
         Some(branch) => {
@@ -346,8 +349,9 @@ fn push_answered<L: Ledger>(
     out: &mut Vec<u8>,
 ) -> Result<(), Cause>
     ensures odd { (name journal : List ℕ) (list : List Located)
-        → IsAllNew state.now request.now name journal before.entries list → OnOk result
-        (HasNotes (odd_notes state.now.styles source.now journal (lines_of list)) out.old.items out.new.items) }
+        → IsEntered state.now request.now name journal before.entries list → OnOk result
+        (HasNotes (odd_notes state.now.styles source.now journal (added_lines state.now.styles
+        (take before.entries (records_of state.now name)) list)) out.old.items out.new.items) }
 {
     if let Request::Import { branch, journal } = request {
         let (name, journal) = (branch.as_str(), journal.as_bytes());
@@ -368,10 +372,11 @@ fn push_notes<L: Ledger>(
     before: HeldBefore,
     out: &mut Vec<u8>,
 ) -> Result<(), Cause>
-    // Where each transaction of an import is new, the odd amounts of all of them are noted, and no others.
+    // Of an import the odd amounts of those transactions are noted that are new, and no others.
     ensures odd { (held : HeldOfBranch) (name journal : List ℕ) (list : List Located) → before.branch ≡ Some held
-        → IsAllNew state.now request.now name journal held.entries list → OnOk result
-        (HasNotes (odd_notes state.now.styles source.now journal (lines_of list)) out.old.items out.new.items) }
+        → IsEntered state.now request.now name journal held.entries list → OnOk result
+        (HasNotes (odd_notes state.now.styles source.now journal (added_lines state.now.styles
+        (take held.entries (records_of state.now name)) list)) out.old.items out.new.items) }
 {
     if let Request::Commodity { sample } = request {
         if state.styles().len() > before.commodities {

@@ -3,7 +3,8 @@
 ghost use Rattle.std.specs.Prelude.{◌≡◌, ◌++◌, ℕ, List, [], false, IfOk, OnOk, IsTrue};
 ghost use Rattle.journal_format.specs.declared.txn.Located.{Located};
 ghost use Rattle.treasury_told.specs.OddAmount.{odd_amounts};
-ghost use Rattle.treasury_told.specs.OddNotes.{AreAllNew, lines_of, odd_notes, HasNotes};
+ghost use Rattle.treasury_told.specs.Added.{added_lines, IsTaken};
+ghost use Rattle.treasury_told.specs.OddNotes.{odd_notes, HasNotes};
 
 use crate::notes::BranchBefore;
 use crate::notes::accounts::{has_new_account, push_accounts};
@@ -148,12 +149,14 @@ fn push_noted(
     noted: &Noted,
     out: &mut Vec<u8>,
 ) -> Result<(), Cause>
-    ensures { (list : List Located) → AreAllNew styles.now import.now.text.now import.now.new.now list
-        → (noted.now.may_have_odd ≡ false → odd_amounts styles.now (lines_of list) import.now.text.now ≡ [])
-        → OnOk result (HasNotes (odd_notes styles.now import.now.source.now import.now.text.now (lines_of list))
-        out.old.items out.new.items) }
+    ensures { (list : List Located)
+        → IsTaken styles.now import.now.held.now import.now.text.now import.now.new.now list
+        → ((heads : List ℕ) → noted.now.may_have_odd ≡ false → odd_amounts styles.now heads import.now.text.now ≡ [])
+        → OnOk result (HasNotes (odd_notes styles.now import.now.source.now import.now.text.now
+        (added_lines styles.now import.now.held.now list)) out.old.items out.new.items) }
 {
-    let places = new_places(alloc, styles, import, noted.candidates.as_slice())?;
+    let asked = noted.candidates.as_slice();
+    let places = new_places(alloc, styles, import, asked, noted.may_have_odd)?;
     push_at(alloc, styles, import, &places, noted, out)
 }
 
@@ -192,9 +195,10 @@ fn push_if_noted<L: Ledger>(
     before: BranchBefore,
     out: &mut Vec<u8>,
 ) -> Result<(), Cause>
-    ensures { (list : List Located) → AreAllNew styles.now import.now.text.now import.now.new.now list → OnOk result
-        (HasNotes (odd_notes styles.now import.now.source.now import.now.text.now (lines_of list))
-        out.old.items out.new.items) }
+    ensures { (list : List Located)
+        → IsTaken styles.now import.now.held.now import.now.text.now import.now.new.now list → OnOk result
+        (HasNotes (odd_notes styles.now import.now.source.now import.now.text.now
+        (added_lines styles.now import.now.held.now list)) out.old.items out.new.items) }
 {
     let noted = noted_of(alloc, styles, branch, import, before)?;
     if noted.is_empty() {
@@ -212,10 +216,11 @@ pub fn note_import<L: Ledger>(
     before: BranchBefore,
     out: &mut Vec<u8>,
 ) -> Result<(), Cause>
-    // Where each transaction of the journal is new, the odd amounts of all of them are noted, and no others.
-    ensures odd { (list : List Located) → AreAllNew state.now.styles import.now.text.now import.now.new.now list
-        → OnOk result (HasNotes (odd_notes state.now.styles import.now.source.now import.now.text.now (lines_of list))
-        out.old.items out.new.items) }
+    // The odd amounts of those transactions of the journal that are new are noted, and no others.
+    ensures odd { (list : List Located)
+        → IsTaken state.now.styles import.now.held.now import.now.text.now import.now.new.now list → OnOk result
+        (HasNotes (odd_notes state.now.styles import.now.source.now import.now.text.now
+        (added_lines state.now.styles import.now.held.now list)) out.old.items out.new.items) }
 {
     if import.new.is_empty() {
         return Ok(());

@@ -3,11 +3,15 @@
 //! Mostly the headers tell: where each transaction with a header is new, or none is, none of them is read. The others
 //! are read once more, to tell the new ones from repeats; so are those that may be a held one that is asked for.
 //! Transactions of the same text have the same header, so that they are read together, and numbered as in the file.
+//! Of a text that may have an odd amount, which is rare, all are read.
 
-ghost use Rattle.std.specs.Prelude.{◌≡◌, List, map, IfOk};
+ghost use Rattle.std.specs.Prelude.{◌≡◌, true, List, length, map, IfOk};
+ghost use Rattle.std.specs.Result.{IsOkUnless};
 ghost use Rattle.journal_format.specs.declared.txn.Located.{Located};
+ghost use Rattle.treasury_told.specs.declared.explain.standing.Standing.{Standing as Read};
 ghost use Rattle.treasury_told.specs.declared.notes.heads.HeaderLine.{HeaderLine as HeadLine};
-ghost use Rattle.treasury_told.specs.OddNotes.{AreAllNew};
+ghost use Rattle.treasury_told.specs.Added.{added_lines, IsTaken};
+ghost use Rattle.treasury_told.specs.Numbered.{new_of};
 
 use crate::explain::standing::{Holder, Standing, standings};
 use crate::notes::Import;
@@ -24,7 +28,7 @@ use treasury_core::Record;
 pub struct NewPlaces {
     /// The lines of the headers of the new transactions, in order.
     pub lines: Vec<usize>,
-    /// The places of those held records that were asked for and that the text repeats, from 0.
+    /// The places of held records that the text repeats, from 0; of those that were asked for, at least.
     repeated: HashMap<usize, ()>,
     /// The first and the last day of the text.
     span: Option<Span>,
@@ -316,22 +320,91 @@ fn places_among(
     places_by_heads(alloc, groups, heads, read.as_slice())
 }
 
+/// The lines of the headers of the new ones among the transactions of a text, in order.
+fn new_lines(alloc: Global, read: &[Standing]) -> Result<Vec<usize>, Cause>
+    ensures value { IfOk result (λ lines. lines.items ≡ map (λ (s : Read). s.line) (new_of read.now)) }
+    ensures memory { IsOkUnless result Cause.OutOfMemory }
+{
+    let mut lines = Vec::new(alloc);
+    for standing in read {
+        if standing.is_new() {
+            lines.push(standing.line)?;
+        }
+    }
+    Ok(lines)
+}
+
+/// The places of the held records that the transactions of a text repeat.
+fn repeated_in(alloc: Global, read: &[Standing]) -> Result<HashMap<usize, ()>, Cause> {
+    let mut repeated = HashMap::new(alloc);
+    for standing in read {
+        if let Holder::Record(place) = standing.holder {
+            let _ = repeated.insert(place, ())?;
+        }
+    }
+    Ok(repeated)
+}
+
+/// The first and the last day of the transactions of a text.
+fn span_in(read: &[Standing]) -> Option<Span> {
+    let mut span: Option<Span> = None;
+    for standing in read {
+        span = Span::with_day(span, standing.txn.day);
+    }
+    span
+}
+
+/// Where the new transactions stand, and which held records the text repeats, as the whole text tells.
+fn places_read(alloc: Global, styles: &Styles, import: &Import<'_>) -> Result<NewPlaces, Cause>
+    ensures { (list : List Located)
+        → IsTaken styles.now import.now.held.now import.now.text.now import.now.new.now list
+        → IfOk result (λ places. places.lines.items ≡ added_lines styles.now import.now.held.now list) }
+{
+    let list = standings(alloc, styles, import.held, import.text)?;
+    let read = list.as_slice();
+    let lines = new_lines(alloc, read)?;
+    let repeated = repeated_in(alloc, read)?;
+    Ok(NewPlaces {
+        lines,
+        repeated,
+        span: span_in(read),
+    })
+}
+
+/// Whether a text has as many headers as there are new records.
+fn are_as_many(lines: &[HeaderLine<'_>], new: &[Record]) -> bool
+    ensures is { result ≡ true → length lines.now ≡ length new.now }
+    ensures other { length lines.now ≡ length new.now → result ≡ true }
+{
+    lines.len() == new.len()
+}
+
 /// Where an import's new transactions stand, and which of the held records at the places that are asked for its text
-/// repeats.
+/// repeats. `is_whole` asks to read the whole text once more, unless all of it is new.
 pub fn new_places(
     alloc: Global,
     styles: &Styles,
     import: &Import<'_>,
     asked: &[usize],
+    is_whole: bool,
 ) -> Result<NewPlaces, Cause>
-    // Where as many transactions are new as the text has, each of them is.
-    ensures whole { (list : List Located) → AreAllNew styles.now import.now.text.now import.now.new.now list
-        → IfOk result (λ places. places.lines.items ≡ map (λ (x : Located). x.line) list) }
+    // Then they are those that the branch takes as new.
+    ensures whole { (list : List Located)
+        → IsTaken styles.now import.now.held.now import.now.text.now import.now.new.now list → is_whole ≡ true
+        → IfOk result (λ places. places.lines.items ≡ added_lines styles.now import.now.held.now list) }
+    // So they are where as many are new as the text has.
+    ensures all { (list : List Located)
+        → IsTaken styles.now import.now.held.now import.now.text.now import.now.new.now list
+        → length list ≡ length import.now.new.now
+        → IfOk result (λ places. places.lines.items ≡ added_lines styles.now import.now.held.now list) }
 {
-    let lines = header_lines(alloc, import.text)?;
-    if lines.len() == import.new.len() {
-        places_of_all(alloc, import, lines.as_slice())
-    } else {
-        places_among(alloc, styles, import, asked, lines.as_slice())
+    let found = header_lines(alloc, import.text)?;
+    let lines = found.as_slice();
+    if are_as_many(lines, import.new) {
+        return places_of_all(alloc, import, lines);
     }
+    if is_whole {
+        return places_read(alloc, styles, import);
+    }
+    places_among(alloc, styles, import, asked, lines)
 }
