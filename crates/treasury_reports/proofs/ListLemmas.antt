@@ -83,20 +83,20 @@ amount_declared styles t written =
     }
 
 -- what holds of each of two lists' elements
-both : {X : Type 0} (P Q R : X → Type 0) (xs : List X) → ((x : X) → P x → Q x → R x) → AllByRecursion P xs
+all_from_both : {X : Type 0} (P Q R : X → Type 0) (xs : List X) → ((x : X) → P x → Q x → R x) → AllByRecursion P xs
     → AllByRecursion Q xs → AllByRecursion R xs
-both P Q R [] f h k = tt
-both P Q R (x ∷ xs) f h k = (f x h.0 k.0, both P Q R xs f h.1 k.1)
+all_from_both P Q R [] f h k = tt
+all_from_both P Q R (x ∷ xs) f h k = (f x h.0 k.0, all_from_both P Q R xs f h.1 k.1)
 
 pub transfers_listable : (f : Federation) → IsGoodState f → AllByRecursion (IsListableTransfer f.styles) f.transfers
 transfers_listable f good =
-    both (λ (t : Transfer). IsGoodRecord f.styles (dispatch_record t)) IsFair (IsListableTransfer f.styles) f.transfers
-    (λ t written fair. record {
+    all_from_both (λ (t : Transfer). IsGoodRecord f.styles (dispatch_record t)) IsFair (IsListableTransfer f.styles)
+    f.transfers (λ t written fair. record {
       fair = fair;
       day = written.printable.header.number;
       amount = amount_declared f.styles t written;
     })
-    (both (λ (t : Transfer). find (has_id t.id) f.transfers ≡ Some t) (IsGoodTransfer f.branches)
+    (all_from_both (λ (t : Transfer). find (has_id t.id) f.transfers ≡ Some t) (IsGoodTransfer f.branches)
     (λ (t : Transfer). IsGoodRecord f.styles (dispatch_record t)) f.transfers
     (λ t here fair. dispatch_written f t good here fair) (all_found f.transfers good.ids) good.transfers)
     (all_fair f.branches f.transfers (names_good f good) good.transfers)

@@ -17,13 +17,13 @@ pub record InOrder (names all : List (List ℕ)) : Type 0 where
   pub sorted : IsStrictlySortedBy name_cmp names
   pub exact : (x : List ℕ) → Contains names x ↔ Contains all x
 
-nothing : IsStrictlySortedBy name_cmp []
+IsStrictlySortedBy-nil : IsStrictlySortedBy name_cmp []
 unfolding IsStrictlySortedBy
-nothing = tt
+IsStrictlySortedBy-nil = tt
 
 pub none_in_order : (names : List (List ℕ)) → names ≡ [] → InOrder names []
 none_in_order names e = subst (λ (xs : List (List ℕ)). InOrder xs []) (sym e)
-    (record { sorted = nothing; exact = λ x. ((λ h. h), (λ h. h)) })
+    (record { sorted = IsStrictlySortedBy-nil; exact = λ x. ((λ h. h), (λ h. h)) })
 
 names-append : {L : Type 0} (xs : List (Kept L)) (b : Kept L)
     → names_of (branches_of (xs ++ b ∷ [])) ≡ names_of (branches_of xs) ++ b.name ∷ []

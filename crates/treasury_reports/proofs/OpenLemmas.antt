@@ -29,35 +29,35 @@ use Rattle.treasury_state.proofs.WayLemmas.{open_sum_low}
 zero_within : Within 0 (pos 0)
 zero_within = record { low = omega (arith, ints); high = omega (arith, ints) }
 
-opposite : (q z : ℤ) → z ≡ (pos 0 -ℤ q) → Within (unsigned_abs q) z
-opposite q z e = let h = Within_abs q in let a = h.low in let b =
+Within_negated : (q z : ℤ) → z ≡ (pos 0 -ℤ q) → Within (unsigned_abs q) z
+Within_negated q z e = let h = Within_abs q in let a = h.low in let b =
     h.high in record { low = omega (arith, ints, e); high = omega (arith, ints, e) }
 
-same : (q z : ℤ) → z ≡ q → Within (unsigned_abs q) z
-same q z e = let h = Within_abs q in let a = h.low in let b =
+Within_itself : (q z : ℤ) → z ≡ q → Within (unsigned_abs q) z
+Within_itself q z e = let h = Within_abs q in let a = h.low in let b =
     h.high in record { low = omega (arith, ints, e); high = omega (arith, ints, e) }
 
-none : (z : ℤ) → z ≡ pos 0 → Within 0 z
-none z e = record { low = omega (arith, ints, e); high = omega (arith, ints, e) }
+Within_of_zero : (z : ℤ) → z ≡ pos 0 → Within 0 z
+Within_of_zero z e = record { low = omega (arith, ints, e); high = omega (arith, ints, e) }
 
-twice : (u r w : Bool) (q : ℤ) → Within (if u then unsigned_abs q else 0)
+Within_twice_less : (u r w : Bool) (q : ℤ) → Within (if u then unsigned_abs q else 0)
     (((if ((u && r) && w) then q else pos 0) +ℤ (if ((u && r) && w) then q else pos 0)) -ℤ (if u then q else pos 0))
-twice false r w q = none _ (omega (arith, ints))
-twice true false w q = opposite q _ (omega (arith, ints))
-twice true true false q = opposite q _ (omega (arith, ints))
-twice true true true q = same q _ (omega (arith, ints))
+Within_twice_less false r w q = Within_of_zero _ (omega (arith, ints))
+Within_twice_less true false w q = Within_negated q _ (omega (arith, ints))
+Within_twice_less true true false q = Within_negated q _ (omega (arith, ints))
+Within_twice_less true true true q = Within_itself q _ (omega (arith, ints))
 
-regroup : (a b c d : ℤ) → ((a +ℤ a) -ℤ b) +ℤ ((c +ℤ c) -ℤ d) ≡ ((a +ℤ c) +ℤ (a +ℤ c)) -ℤ (b +ℤ d)
-regroup a b c d = omega (arith, ints)
+twice_less_add : (a b c d : ℤ) → ((a +ℤ a) -ℤ b) +ℤ ((c +ℤ c) -ℤ d) ≡ ((a +ℤ c) +ℤ (a +ℤ c)) -ℤ (b +ℤ d)
+twice_less_add a b c d = omega (arith, ints)
 
 half_legs : (account : List ℕ) (unit : Commodity) (limit : Until) (day : Day) (n k : ℕ) (legs : List Leg)
     → Within (moved unit legs) ((total (counts Own account unit limit) (posted_legs day n k legs)
     +ℤ total (counts Own account unit limit) (posted_legs day n k legs)) -ℤ value unit legs)
-half_legs account unit limit day n k [] = none _ (omega (arith, ints))
+half_legs account unit limit day n k [] = Within_of_zero _ (omega (arith, ints))
 half_legs account unit limit day n k (x ∷ xs) =
     subst (Within (moved unit (x ∷ xs)))
-    (regroup _ _ (total (counts Own account unit limit) (posted_legs day n (k + 1) xs)) (value unit xs))
-    (Within_add _ _ _ _ (twice _ _ _ x.qty) (half_legs account unit limit day n (k + 1) xs))
+    (twice_less_add _ _ (total (counts Own account unit limit) (posted_legs day n (k + 1) xs)) (value unit xs))
+    (Within_add _ _ _ _ (Within_twice_less _ _ _ x.qty) (half_legs account unit limit day n (k + 1) xs))
 
 balanced_half : (m : ℕ) (s v : ℤ) → v ≡ pos 0 → Within m ((s +ℤ s) -ℤ v) → Within m (s +ℤ s)
 balanced_half m s v e h =
@@ -69,7 +69,7 @@ add_twice a b c e = omega (arith, ints, e)
 half_entries : (account : List ℕ) (unit : Commodity) (limit : Until) (n : ℕ) (es : List Entry) → AllByRecursion IsFit es
     → Within (turnover unit es) (total (counts Own account unit limit) (posted_from n es)
     +ℤ total (counts Own account unit limit) (posted_from n es))
-half_entries account unit limit n [] h = none _ (omega (arith, ints))
+half_entries account unit limit n [] h = Within_of_zero _ (omega (arith, ints))
 half_entries account unit limit n (e ∷ es) h =
     let test = counts Own account unit limit in
     let here = total test (posted_legs e.day n 1 e.legs) in
@@ -95,16 +95,16 @@ two_halves : (x y z : ℤ) → (x +ℤ y) ≡ z → x ≤ℤ pos 500000000000000
     → z ≤ℤ pos 10000000000000000
 two_halves x y z e h k = omega (arith, ints)
 
-nothing : (z : ℤ) → z ≡ pos 0 → z ≤ℤ pos 10000000000000000
-nothing z e = omega (arith, ints)
+zero_below_limit : (z : ℤ) → z ≡ pos 0 → z ≤ℤ pos 10000000000000000
+zero_below_limit z e = omega (arith, ints)
 
 apart_small : (f : Federation) (from to : List ℕ) (unit : Commodity) (day : Day) (a b : Bool) → IsGoodState f
     → has_branch f from ≡ a → has_branch f to ≡ b → bytes_eq from to ≡ false
     → open_amount f.transfers from to unit day ≤ℤ pos 10000000000000000
 apart_small f from to unit day false b good h k e =
-    nothing _ (open_amount_unknown f.transfers f.branches from to unit day good.transfers (rw h refl))
+    zero_below_limit _ (open_amount_unknown f.transfers f.branches from to unit day good.transfers (rw h refl))
 apart_small f from to unit day true false good h k e =
-    nothing _ (open_amount_unknown f.transfers f.branches from to unit day good.transfers (rw (h, k) refl))
+    zero_below_limit _ (open_amount_unknown f.transfers f.branches from to unit day good.transfers (rw (h, k) refl))
 apart_small f from to unit day true true good h k e =
     two_halves _ _ _ (adds_up_named f from to good h k e unit day)
     (half_balance (book_of f from) (transit_account from to) unit day (good_book f from good))
@@ -119,7 +119,7 @@ fair_transfers f good = all_fair f.branches f.transfers (names_good f good) good
 open_small : (f : Federation) (from to : List ℕ) (unit : Commodity) (day : Day) → IsGoodState f → (b : Bool)
     → bytes_eq from to ≡ b → open_amount f.transfers from to unit day ≤ℤ pos 10000000000000000
 open_small f from to unit day good true e =
-    nothing _ (open_amount-self f.transfers from to unit day (fair_transfers f good) e)
+    zero_below_limit _ (open_amount-self f.transfers from to unit day (fair_transfers f good) e)
 open_small f from to unit day good false e =
     apart_small f from to unit day (has_branch f from) (has_branch f to) good refl refl e
 

@@ -83,10 +83,10 @@ listable_from styles account tag n (r ∷ rs) h =
     all-append (IsListable styles) (listed_in account tag n r) (listed_from account tag (n + 1) rs)
     (listable_in styles account tag n r h.0) (listable_from styles account tag (n + 1) rs h.1)
 
-pub listable : (styles : List Style) (account : List ℕ) (tag : Option (List ℕ)) (rs : List Record)
+pub by_day_listable : (styles : List Style) (account : List ℕ) (tag : Option (List ℕ)) (rs : List Record)
     → AllByRecursion (IsGoodRecord styles) rs
     → AllByRecursion (IsListable styles) (by_day (listed_from account tag 1 rs))
-listable styles account tag rs h =
+by_day_listable styles account tag rs h =
     all_by_day (IsListable styles) (listed_from account tag 1 rs) (listable_from styles account tag 1 rs h)
 
 -- ---- it moves no more than the book
@@ -148,14 +148,14 @@ have_room account tag rs room unit =
     omega (arith, h, k, r)
 
 -- ---- sums
-share : (u : Bool) (q : ℤ) → Within (if u then unsigned_abs q else 0) (if u then q else pos 0)
-share true q = Within_abs q
-share false q = record { low = omega (arith, ints); high = omega (arith, ints) }
+Within_if : (u : Bool) (q : ℤ) → Within (if u then unsigned_abs q else 0) (if u then q else pos 0)
+Within_if true q = Within_abs q
+Within_if false q = record { low = omega (arith, ints); high = omega (arith, ints) }
 
 -- a sum is within what its legs move
 pub value_within : (unit : Commodity) (xs : List Leg) → Within (moved unit xs) (value unit xs)
 value_within unit [] = record { low = omega (arith, ints); high = omega (arith, ints) }
-value_within unit (x ∷ xs) = Within_add _ _ _ _ (share (nat_eq x.unit.0 unit.0) x.qty) (value_within unit xs)
+value_within unit (x ∷ xs) = Within_add _ _ _ _ (Within_if (nat_eq x.unit.0 unit.0) x.qty) (value_within unit xs)
 
 nat_eq_self : (n : ℕ) → nat_eq n n ≡ true
 nat_eq_self n = grind (arith, nat_tests)
@@ -189,8 +189,8 @@ sum_other unit before x e =
     omega (arith, ints, parts, none)
 
 -- no sum so far passes the limit
-wider : (m n : ℕ) (z : ℤ) → m ≤ n → Within m z → Within n z
-wider m n z le h =
+Within_wider : (m n : ℕ) (z : ℤ) → m ≤ n → Within m z → Within n z
+Within_wider m n z le h =
     let a = h.low in let b = h.high in record { low = omega (arith, ints, le); high = omega (arith, ints, le) }
 
 pub sum_within : (all : List Listed) (i : ℕ) (x : Listed) → HaveRoom all → i < length all → x ≡ get_or all i x
@@ -203,7 +203,7 @@ sum_within all i x room below e =
     let parts = ap (moved unit) (legs_in-append (take i all ++ x ∷ []) (drop (i + 1) all)) ∙ moved-append unit
     (legs_in (take i all ++ x ∷ [])) (legs_in (drop (i + 1) all)) in
     let limit = room unit in
-    wider (moved unit (legs_in (take i all ++ x ∷ []))) most_turnover _ (omega (arith, whole, parts, limit))
+    Within_wider (moved unit (legs_in (take i all ++ x ∷ []))) most_turnover _ (omega (arith, whole, parts, limit))
     (value_within unit (legs_in (take i all ++ x ∷ [])))
 
 pub within_abs : (z : ℤ) → Within most_turnover z → unsigned_abs z ≤ limit
@@ -212,9 +212,9 @@ within_abs z h = let a = h.low in let b = h.high in omega (arith, ints)
 pub within_fits : (z : ℤ) → Within most_turnover z → FitsSigned w64 z
 within_fits z h = let a = h.low in let b = h.high in omega (arith, ints)
 
-pub took : (all : List Listed) (i : ℕ) (x : Listed) → i < length all → x ≡ get_or all i x
+pub take_with_next : (all : List Listed) (i : ℕ) (x : Listed) → i < length all → x ≡ get_or all i x
     → take (i + 1) all ≡ take i all ++ x ∷ []
-took all i x below e = take_more all i x below ∙ ap (λ (y : Listed). take i all ++ y ∷ []) (sym e)
+take_with_next all i x below e = take_more all i x below ∙ ap (λ (y : Listed). take i all ++ y ∷ []) (sym e)
 
 -- the lines after one more
 pub lines_next : (layout : Layout) (styles : List Style) (all : List Listed) (i : ℕ) (x : Listed) (sum : ℤ)
@@ -226,7 +226,7 @@ pub lines_next : (layout : Layout) (styles : List Style) (all : List Listed) (i 
 lines_next layout styles all i x sum text next below e s n h =
     let behind : drop i all ≡ x ∷ drop (i + 1) all =
     rw add-one (drop-cons all i x below ∙ ap (λ (y : Listed). y ∷ drop (suc i) all) (sym e)) in
-    let before : take (i + 1) all ≡ take i all ++ x ∷ [] = took all i x below e in
+    let before : take (i + 1) all ≡ take i all ++ x ∷ [] = take_with_next all i x below e in
     ap (λ (t : List ℕ). t ++ register_pieces layout styles (take (i + 1) all) (drop (i + 1) all))
     (n ∙ ap (λ (z : ℤ). text ++ register_piece layout styles x z) s)
     ∙ ap (λ (l : List Listed).

@@ -48,27 +48,27 @@ pub mapped_rows : {X : Type 0} (cells : X → List (List ℕ)) (xs : List X)
 mapped_rows cells xs = flat_map-map cells comma_row xs
 
 -- rows of several elements each
-fused : {X : Type 0} (pieces : X → List ℕ) (rows : X → List (List (List ℕ)))
+flat_map_fused : {X : Type 0} (pieces : X → List ℕ) (rows : X → List (List (List ℕ)))
     → ((x : X) → pieces x ≡ flat_map comma_row (rows x)) → (xs : List X)
     → flat_map pieces xs ≡ flat_map comma_row (flat_map rows xs)
-fused pieces rows each [] = refl
-fused pieces rows each (x ∷ xs) =
+flat_map_fused pieces rows each [] = refl
+flat_map_fused pieces rows each (x ∷ xs) =
     ap (λ (l : List ℕ). l ++ flat_map pieces xs) (each x)
-    ∙ ap (λ (l : List ℕ). flat_map comma_row (rows x) ++ l) (fused pieces rows each xs)
+    ∙ ap (λ (l : List ℕ). flat_map comma_row (rows x) ++ l) (flat_map_fused pieces rows each xs)
     ∙ sym (flat_map-append comma_row (rows x) (flat_map rows xs))
 
 -- ---- balances
 account_fused : (styles : List Style) (entries : List Entry) (day : Day) (account : List ℕ)
     → account_pieces Json styles entries day account ≡ flat_map comma_row (account_rows styles entries day account)
 account_fused styles entries day account =
-    fused (λ unit. flat_map comma_row (balance_row styles entries day account unit))
+    flat_map_fused (λ unit. flat_map comma_row (balance_row styles entries day account unit))
     (balance_row styles entries day account) (λ unit. refl) (first_units (length styles))
 
 pub book_fused : (styles : List Style) (entries : List Entry) (day : Day)
     → book_pieces Json styles entries day ≡ flat_map comma_row (book_rows styles entries day)
 unfolding book_rows
 book_fused styles entries day =
-    fused (account_pieces Json styles entries day) (account_rows styles entries day)
+    flat_map_fused (account_pieces Json styles entries day) (account_rows styles entries day)
     (account_fused styles entries day) (book_accounts entries)
 
 -- ---- transit
@@ -84,17 +84,17 @@ piece_fused f day from to unit = by_test (has_way f.transfers from to unit day)
 way_fused : (f : Federation) (day : Day) (from to : List ℕ)
     → way_pieces Json f day from to ≡ flat_map comma_row (way_rows f day from to)
 way_fused f day from to =
-    fused (transit_piece Json f day from to) (transit_row f day from to) (piece_fused f day from to)
+    flat_map_fused (transit_piece Json f day from to) (transit_row f day from to) (piece_fused f day from to)
     (first_units (length f.styles))
 
 from_fused : (f : Federation) (day : Day) (from : List ℕ)
     → pieces_from Json f day from ≡ flat_map comma_row (rows_from f day from)
 from_fused f day from =
-    fused (way_pieces Json f day from) (way_rows f day from) (way_fused f day from) (branch_names f)
+    flat_map_fused (way_pieces Json f day from) (way_rows f day from) (way_fused f day from) (branch_names f)
 
 pub transit_fused : (f : Federation) (day : Day) → transit_pieces Json f day ≡ flat_map comma_row (transit_rows f day)
 unfolding transit_rows
-transit_fused f day = fused (pieces_from Json f day) (rows_from f day) (from_fused f day) (branch_names f)
+transit_fused f day = flat_map_fused (pieces_from Json f day) (rows_from f day) (from_fused f day) (branch_names f)
 
 -- ---- the register
 pub register_text_pieces : (styles : List Style) (before xs : List Listed)

@@ -66,31 +66,32 @@ small_value (suc (suc (suc (suc (suc (suc (suc d))))))) h = absurd (omega (arith
 number_of : Mark → Bool → ℕ → List ℕ
 number_of mark groups decimals = thousand mark groups ++ decimal_byte mark ∷ replicate decimals 48
 
-reads : (mark : Mark) (groups : Bool) → ReadsAs (group_byte mark) (decimal_byte mark) 1000 (thousand mark groups)
-reads mark groups =
+thousand_reads : (mark : Mark) (groups : Bool)
+    → ReadsAs (group_byte mark) (decimal_byte mark) 1000 (thousand mark groups)
+thousand_reads mark groups =
     subst (ReadsAs (group_byte mark) (decimal_byte mark) 1000) (thousand_is mark groups)
     (whole_reads mark groups 1000 (lit< tt))
 
-writes : (mark : Mark) (groups : Bool) (decimals : ℕ)
+number_of_writes : (mark : Mark) (groups : Bool) (decimals : ℕ)
     → WritesQuantity mark decimals (value_of decimals) (number_of mark groups decimals)
 unfolding number_of
-writes mark groups decimals =
+number_of_writes mark groups decimals =
     reads_with_mark mark decimals 1000 (value_of decimals) (thousand mark groups) (replicate decimals 48)
-    (reads mark groups) (zeros_digits decimals) (length-replicate decimals 48) refl
+    (thousand_reads mark groups) (zeros_digits decimals) (length-replicate decimals 48) refl
 
-fraction : (mark : Mark) (groups : Bool) (decimals : ℕ)
+decimals_of_number : (mark : Mark) (groups : Bool) (decimals : ℕ)
     → decimals ≡ length (fraction_part mark (number_of mark groups decimals))
 unfolding number_of
-fraction mark groups decimals =
+decimals_of_number mark groups decimals =
     let whole = thousand mark groups in
     let at = before_mark (λ b. b == decimal_byte mark) whole (replicate decimals 48) (decimal_byte mark)
-    (reads mark groups).unmarked (eq-eqb (decimal_byte mark) (decimal_byte mark) refl) in
+    (thousand_reads mark groups).unmarked (eq-eqb (decimal_byte mark) (decimal_byte mark) refl) in
     rw (at, drop-append-add whole (decimal_byte mark ∷ replicate decimals 48) 1) (sym (length-replicate decimals 48))
 
-shows : (mark : Mark) (groups : Bool) (decimals : ℕ)
+number_shows_mark : (mark : Mark) (groups : Bool) (decimals : ℕ)
     → list_any (λ b. b == decimal_byte mark) (number_of mark groups decimals) ≡ true
 unfolding number_of
-shows mark groups decimals =
+number_shows_mark mark groups decimals =
     rw (
       list_any-append (λ b. b == decimal_byte mark) (thousand mark groups) (decimal_byte mark ∷ replicate decimals 48),
       eq-eqb (decimal_byte mark) (decimal_byte mark) refl,
@@ -115,10 +116,10 @@ parts_of style = record {
   number = number_of style.mark style.grouped style.decimals;
 }
 
-form : (style : Style) → is_symbol style.symbol ≡ true
+sample_text_form : (style : Style) → is_symbol style.symbol ≡ true
     → IsLeftAmount (sample_text style) (parts_of style) ⊎ IsRightAmount (sample_text style) (parts_of style)
 unfolding sample_text sample_number parts_of number_of
-form style h =
+sample_text_form style h =
     elim (cases_Bool style.left) [
       | inl left ↦ inl (record {
         outer = [];
@@ -145,28 +146,28 @@ form style h =
       })
     ]
 
-sample : (style : Style) → is_style style ≡ true → IsSample (sample_text style) style
+sample_text_is_sample : (style : Style) → is_style style ≡ true → IsSample (sample_text style) style
 unfolding parts_of
-sample style h =
+sample_text_is_sample style h =
     let both = and_parts (is_symbol style.symbol) _ h in
-    let written = writes style.mark style.grouped style.decimals in
+    let written = number_of_writes style.mark style.grouped style.decimals in
     let few = leb-true style.decimals 6 both.1 in
     record {
       parts = parts_of style;
-      amount = record { number = written.form; form = form style both.0 };
+      amount = record { number = written.form; form = sample_text_form style both.0 };
       unsigned = refl;
-      shows = shows style.mark style.grouped style.decimals;
+      shows = number_shows_mark style.mark style.grouped style.decimals;
       symbol = refl;
       left = refl;
       spaced = refl;
-      decimals = fraction style.mark style.grouped style.decimals;
+      decimals = decimals_of_number style.mark style.grouped style.decimals;
       grouped = in_groups style.mark style.grouped style.decimals;
       few = few;
       small = rw written.value (small_value style.decimals few);
     }
 
 pub are_samples : (styles : List Style) → AreStyles styles → AreSamples styles
-are_samples styles h i s e = sample s (h.each i s e)
+are_samples styles h i s e = sample_text_is_sample s (h.each i s e)
 
 pub symbol_at : (styles : List Style) (i : ℕ) (s : Style) → AreStyles styles → slice_get styles i ≡ Some s
     → is_symbol s.symbol ≡ true

@@ -165,13 +165,13 @@ pub all_by_day : (P : Listed → Type 0) (xs : List Listed) → AllByRecursion P
 all_by_day P [] h = tt
 all_by_day P (x ∷ xs) h = all_put P x (by_day xs) h.0 (all_by_day P xs h.1)
 
-later : (x y : Listed) (ys : List Listed) → x.day.0 ≤ℤ y.day.0 → AllByRecursion (λ (w : Listed). earlier w y ≡ false) ys
-    → AllByRecursion (λ (w : Listed). earlier w x ≡ false) ys
-later x y [] le h = tt
-later x y (w ∷ ws) le h = (
+none_earlier_trans : (x y : Listed) (ys : List Listed) → x.day.0 ≤ℤ y.day.0
+    → AllByRecursion (λ (w : Listed). earlier w y ≡ false) ys → AllByRecursion (λ (w : Listed). earlier w x ≡ false) ys
+none_earlier_trans x y [] le h = tt
+none_earlier_trans x y (w ∷ ws) le h = (
   from_le x.day.0 w.day.0
       (le_trans x.day.0 y.day.0 w.day.0 le (not_below_day w.day.0 y.day.0 (earlier w y) refl h.0)),
-  later x y ws le h.1,
+  none_earlier_trans x y ws le h.1,
 )
 
 put_in_order : (x : Listed) (ys : List Listed) → InOrder earlier ys → InOrder earlier (put_by_day x ys)
@@ -181,7 +181,7 @@ put_in_order x (y ∷ ys) h = by_test (int_le x.day.0 y.day.0) refl (put_in_orde
     by_test : (b : Bool) → int_le x.day.0 y.day.0 ≡ b → InOrder earlier (put_by_day x ys)
         → InOrder earlier (if b then x ∷ (y ∷ ys) else y ∷ put_by_day x ys)
     by_test true e k =
-        let le = le_from_int_le x.day.0 y.day.0 e in ((from_le x.day.0 y.day.0 le, later x y ys le h.0), h)
+        let le = le_from_int_le x.day.0 y.day.0 e in ((from_le x.day.0 y.day.0 le, none_earlier_trans x y ys le h.0), h)
     by_test false e k = (
       all_put (λ (w : Listed). earlier w y ≡ false) x ys
           (from_le y.day.0 x.day.0 (le_false x.day.0 y.day.0 e)) h.0,

@@ -49,13 +49,13 @@ failure_is styles records source text found f one own old first new is place sam
     ∙ ap (λ (o : Option EntryOf). old ++ failure_of styles records source text found f o) (sym is)
 
 -- in a state
-pub tells : (f : Federation) (request : Request) (source : List ℕ) (failure : Failure) (old new : List ℕ)
+pub failure_told : (f : Federation) (request : Request) (source : List ℕ) (failure : Failure) (old new : List ℕ)
     (styles : List Style) (records : List Record) (found : List Standing) (journal : Option (List ℕ)) (text : List ℕ)
     → styles ≡ f.styles → records ≡ records_of f (judged_branch request) → journal ≡ journal_of request
     → text ≡ text_in journal → AreFound styles records journal found
     → new ≡ old ++ failure_text styles records source text found failure
     → TellsFailure f request source failure old new
-tells f request source failure old new styles records found journal text s r j t list is = record {
+failure_told f request source failure old new styles records found journal text s r j t list is = record {
   found = found;
   list = subst (λ (x : Option (List ℕ)). AreFound f.styles (records_of f (judged_branch request)) x found) j
       (subst (λ (x : List Record). AreFound f.styles x journal found) r

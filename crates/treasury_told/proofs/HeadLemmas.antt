@@ -36,9 +36,9 @@ one_line : (in_block : Bool) (l : ℕ × List ℕ) (rest : Numbered) → heads_f
 unfolding heads_from
 one_line in_block l rest = refl
 
-nothing : (in_block : Bool) → heads_from in_block [] ≡ []
+heads_from-nil : (in_block : Bool) → heads_from in_block [] ≡ []
 unfolding heads_from
-nothing in_block = refl
+heads_from-nil in_block = refl
 
 -- ---- what was found, and one line more
 pub in_block_next : (is now : Bool) (l : ℕ × List ℕ) (ls rest : Numbered) (found all : List ℕ) → ls ≡ l ∷ rest
@@ -79,7 +79,7 @@ other_next is now l ls rest found all split shut head e before =
 pub no_more : (is : Bool) (ls : Numbered) (found all : List ℕ) → ls ≡ [] → found ++ heads_from is ls ≡ all → found ≡ all
 no_more is ls found all none before =
     sym (append-nil found)
-    ∙ ap (λ (xs : List ℕ). found ++ xs) (sym (ap (heads_from is) none ∙ nothing is))
+    ∙ ap (λ (xs : List ℕ). found ++ xs) (sym (ap (heads_from is) none ∙ heads_from-nil is))
     ∙ before
 
 -- ---- whole pieces: lines after which no block stands open, with the header lines among them
@@ -87,9 +87,9 @@ abbrev pub Passes : ℕ → List (List ℕ) → List ℕ → Type 0
 Passes n ls found = (rest : List (List ℕ)) → heads_from false (enumerate_from n (ls ++ rest))
     ≡ found ++ heads_from false (enumerate_from (n + length ls) rest)
 
-joined : (n : ℕ) (a b : List (List ℕ)) (xs ys : List ℕ) → Passes n a xs → Passes (n + length a) b ys
+Passes-append : (n : ℕ) (a b : List (List ℕ)) (xs ys : List ℕ) → Passes n a xs → Passes (n + length a) b ys
     → Passes n (a ++ b) (xs ++ ys)
-joined n a b xs ys f g = λ rest.
+Passes-append n a b xs ys f g = λ rest.
     let at : (n + length a) + length b ≡ n + length (a ++ b) = omega (arith, length-append a b) in
     ap (λ (zs : List (List ℕ)). heads_from false (enumerate_from n zs)) (append_assoc a b rest)
     ∙ f (b ++ rest)
@@ -119,7 +119,7 @@ inner_lines : (n : ℕ) (ls : List (List ℕ)) → AllInner ls → Passes n ls [
 inner_lines n [] h = λ rest.
     let at : n ≡ n + 0 = omega arith in ap (λ (k : ℕ). heads_from false (enumerate_from k rest)) at
 inner_lines n (l ∷ ls) h =
-    joined n (l ∷ []) ls [] [] (plain_one n l kind.Indented h.0 refl refl) (inner_lines (n + 1) ls h.1)
+    Passes-append n (l ∷ []) ls [] [] (plain_one n l kind.Indented h.0 refl refl) (inner_lines (n + 1) ls h.1)
 
 all_append : (xs ys : List (List ℕ)) → AllInner xs → AllInner ys → AllInner (xs ++ ys)
 all_append [] ys h k = k
@@ -144,16 +144,16 @@ led_piece : (styles : List Style) (n : ℕ) {p : List (List ℕ)} {items : List 
     → Passes n p (map (λ (x : Located). x.line) items)
 led_piece styles n (entry {n = k} {ls = ls} {t = t} h) =
     subst (λ (xs : List (List ℕ)). Passes n xs (n ∷ [])) (sym h.whole)
-    (joined n (h.header ∷ []) (h.remarks ++ h.rest) (n ∷ []) [] (head_one n h.header h.headed)
+    (Passes-append n (h.header ∷ []) (h.remarks ++ h.rest) (n ∷ []) [] (head_one n h.header h.headed)
     (inner_lines (n + 1) (h.remarks ++ h.rest)
     (all_append h.remarks h.rest (remarks_inner h.remarked) (postings_inner styles h.posted))))
 led_piece styles n (directive {ls = ls} {unit = unit} h) =
     subst (λ (xs : List (List ℕ)). Passes n xs []) (sym h.whole)
-    (joined n (h.line ∷ []) h.below [] [] (plain_one n h.line kind.Commodity h.directed refl refl)
+    (Passes-append n (h.line ∷ []) h.below [] [] (plain_one n h.line kind.Commodity h.directed refl refl)
     (inner_lines (n + 1) h.below (all_first _ h.below h.formats)))
 led_piece styles n (skipped {ls = ls} h) =
     subst (λ (xs : List (List ℕ)). Passes n xs []) (sym h.whole)
-    (joined n (h.line ∷ []) h.below [] [] (plain_one n h.line kind.Skipped h.skipped refl refl)
+    (Passes-append n (h.line ∷ []) h.below [] [] (plain_one n h.line kind.Skipped h.skipped refl refl)
     (inner_lines (n + 1) h.below h.indented))
 
 -- ---- a block
@@ -199,14 +199,16 @@ pieces_pass styles nothing_yet = λ rest. refl
 pieces_pass styles (led {last = last} {ls = ls} {p = p} {list = list} {items = items} h k) =
     let at : length ls + 1 ≡ 1 + length ls = omega arith in
     subst (λ (xs : List ℕ). Passes 1 (ls ++ p) xs) (sym (map-append (λ (x : Located). x.line) list items))
-    (joined 1 ls p (map (λ (x : Located). x.line) list) (map (λ (x : Located). x.line) items) (pieces_pass styles h)
+    (Passes-append 1 ls p (map (λ (x : Located). x.line) list) (map (λ (x : Located). x.line) items)
+    (pieces_pass styles h)
     (subst (λ (n : ℕ). Passes n p (map (λ (x : Located). x.line) items)) at (led_piece styles (length ls + 1) k)))
 pieces_pass styles (alone {last = last} {ls = ls} {p = p} {list = list} h k) =
     subst (λ (xs : List ℕ). Passes 1 (ls ++ p) xs) (append-nil (map (λ (x : Located). x.line) list))
-    (joined 1 ls p (map (λ (x : Located). x.line) list) [] (pieces_pass styles h) (alone_piece (1 + length ls) k))
+    (Passes-append 1 ls p (map (λ (x : Located). x.line) list) [] (pieces_pass styles h)
+    (alone_piece (1 + length ls) k))
 pieces_pass styles (remark {ls = ls} {list = list} line h i r) =
     subst (λ (xs : List ℕ). Passes 1 (ls ++ line ∷ []) xs) (append-nil (map (λ (x : Located). x.line) list))
-    (joined 1 ls (line ∷ []) (map (λ (x : Located). x.line) list) [] (pieces_pass styles h)
+    (Passes-append 1 ls (line ∷ []) (map (λ (x : Located). x.line) list) [] (pieces_pass styles h)
     (plain_one (1 + length ls) line kind.Indented i refl refl))
 
 all_pieces : (styles : List Style) {ls : List (List ℕ)} {list : List Located} → MakeUp styles ls list
@@ -214,14 +216,14 @@ all_pieces : (styles : List Style) {ls : List (List ℕ)} {list : List Located} 
 all_pieces styles (whole {last = last} {ls = ls} {list = list} h) =
     ap (λ (zs : List (List ℕ)). heads_from false (enumerate_from 1 zs)) (sym (append-nil ls))
     ∙ pieces_pass styles h []
-    ∙ ap (λ (zs : List ℕ). map (λ (x : Located). x.line) list ++ zs) (nothing false)
+    ∙ ap (λ (zs : List ℕ). map (λ (x : Located). x.line) list ++ zs) (heads_from-nil false)
     ∙ append-nil (map (λ (x : Located). x.line) list)
 all_pieces styles (unclosed {last = last} {ls = ls} {p = p} {list = list} h u) =
     pieces_pass styles h p
     ∙ ap (λ (zs : List ℕ). map (λ (x : Located). x.line) list ++ zs)
     (ap (λ (zs : List (List ℕ)). heads_from false (enumerate_from (1 + length ls) zs)) (sym (append-nil p))
     ∙ open_block (1 + length ls) p u []
-    ∙ nothing true)
+    ∙ heads_from-nil true)
     ∙ append-nil (map (λ (x : Located). x.line) list)
 
 -- the header lines of a journal are those of its transactions

@@ -71,11 +71,11 @@ repeat_at styles h hs r true e own more =
     ∙ or-false (bytes_eq (record_body styles h) (record_body styles r))
 repeat_at styles h hs r false e own more = more
 
-repeats : (styles : List Style) (now : List Record) (r : Record) → HaveOwnMarks now
+is_repeat_by_text : (styles : List Style) (now : List Record) (r : Record) → HaveOwnMarks now
     → is_repeat styles now r ≡ is_text (record_body styles r) (option_map (record_body styles) (held now r.mark))
-repeats styles [] r own = refl
-repeats styles (h ∷ hs) r own =
-    repeat_at styles h hs r (bytes_eq h.mark r.mark) refl own.0 (repeats styles hs r own.1)
+is_repeat_by_text styles [] r own = refl
+is_repeat_by_text styles (h ∷ hs) r own =
+    repeat_at styles h hs r (bytes_eq h.mark r.mark) refl own.0 (is_repeat_by_text styles hs r own.1)
 
 any_at : {X : Type 0} (x : X) (o : Option X) (u t : Bool) → u ≡ is_some o → (t || u) ≡ is_some (cond t (Some x) o)
 any_at x o u true e = refl
@@ -103,17 +103,17 @@ abbrev FoundFrom : {X : Type 0} → (X → Bool) → ℕ → List X → Option �
 FoundFrom p k xs None = find p xs ≡ None
 FoundFrom p k xs (Some i) = (j : ℕ) × (i ≡ k + j) × (slice_get xs j ≡ find p xs)
 
-further : {X : Type 0} (p : X → Bool) (k : ℕ) (x : X) (xs : List X) (o : Option ℕ) → p x ≡ false
+found_further : {X : Type 0} (p : X → Bool) (k : ℕ) (x : X) (xs : List X) (o : Option ℕ) → p x ≡ false
     → FoundFrom p (k + 1) xs o → FoundFrom p k (x ∷ xs) o
-further p k x xs None e h = ap (λ (t : Bool). cond t (Some x) (find p xs)) e ∙ h
-further p k x xs (Some i) e h =
+found_further p k x xs None e h = ap (λ (t : Bool). cond t (Some x) (find p xs)) e ∙ h
+found_further p k x xs (Some i) e h =
     (suc h.0, (let g = h.1 in omega arith), h.2 ∙ sym (ap (λ (t : Bool). cond t (Some x) (find p xs)) e))
 
 found_here : {X : Type 0} (p : X → Bool) (k : ℕ) (x : X) (xs : List X) (t : Bool) → p x ≡ t
     → FoundFrom p (k + 1) xs (position_from p (k + 1) xs)
     → FoundFrom p k (x ∷ xs) (cond t (Some k) (position_from p (k + 1) xs))
 found_here p k x xs true e h = (0, omega arith, sym (ap (λ (t : Bool). cond t (Some x) (find p xs)) e))
-found_here p k x xs false e h = further p k x xs (position_from p (k + 1) xs) e h
+found_here p k x xs false e h = found_further p k x xs (position_from p (k + 1) xs) e h
 
 found_by : {X : Type 0} (p : X → Bool) (k : ℕ) (xs : List X) → FoundFrom p k xs (position_from p k xs)
 found_by p k [] = refl
@@ -305,11 +305,11 @@ any_transit : (o : Option Leg) → is_some (option_map (λ (x : Leg). x.account)
 any_transit None = refl
 any_transit (Some x) = refl
 
-judged : (styles : List Style) (lock : Option Day) (records : List Record) (before rest : List Standing)
+standing_judged : (styles : List Style) (lock : Option Day) (records : List Record) (before rest : List Standing)
     (now : List Record) (s : Standing) (e : Entry) → IsStanding styles records before s → legs_of styles s.txn ≡ Ok e
     → Follows styles records before now
     → Judged styles lock records (before ++ rest) before now s (record_of s e)
-judged styles lock records before rest now s e is legs follows =
+standing_judged styles lock records before rest now s e is legs follows =
     by_text (text_held styles records before s.mark) refl
   where
     other : is_other styles s.txn (holder_of records (before ++ rest) s.holder)
@@ -324,7 +324,7 @@ judged styles lock records before rest now s e is legs follows =
 
     repeat : is_repeat styles now (record_of s e)
         ≡ is_text (body_text styles s.txn) (text_held styles records before s.mark)
-    repeat = repeats styles now (record_of s e) follows.own
+    repeat = is_repeat_by_text styles now (record_of s e) follows.own
         ∙ ap (is_text (body_text styles s.txn)) (follows.texts s.mark)
 
     holds : is_held now s.mark ≡ is_some (text_held styles records before s.mark)
@@ -490,18 +490,19 @@ entry_there styles line t more h = by_entry (legs_of styles t) refl h
     by_entry (Ok e) is h = ((e, is), h)
     by_entry (Err cause) is h = absurd cc
 
-walk : (styles : List Style) (lock : Option Day) (records : List Record) (bar : Bar) (before rest : List Standing)
+walked_to_bar : (styles : List Style) (lock : Option Day) (records : List Record) (bar : Bar)
+    (before rest : List Standing)
     (now : List Record) → AreStanding styles records before rest → unbalanced styles (located_of rest) ≡ None
     → Follows styles records before now
     → refused_in styles lock now (records_from styles (txns_of before) (located_of rest)) ≡ refused_as bar
     → Walked styles lock records (before ++ rest) before rest now bar
-walk styles lock records bar before [] now standing even follows refused = absurd cc
-walk styles lock records bar before (s ∷ rest) now standing even follows refused =
+walked_to_bar styles lock records bar before [] now standing even follows refused = absurd cc
+walked_to_bar styles lock records bar before (s ∷ rest) now standing even follows refused =
     let has = entry_there styles s.line s.txn (unbalanced styles (located_of rest)) even in
     by_judged
-    (λ next goes refusal. walk styles lock records bar (before ++ s ∷ []) rest next standing.1 has.1 goes refusal)
-    has.0.0 has.0.1
-    (judged styles lock records before (s ∷ rest) now s has.0.0 standing.0 has.0.1 follows)
+    (λ next goes refusal. walked_to_bar styles lock records bar (before ++ s ∷ []) rest next standing.1 has.1 goes
+    refusal) has.0.0 has.0.1
+    (standing_judged styles lock records before (s ∷ rest) now s has.0.0 standing.0 has.0.1 follows)
   where
     by_judged : ((next : List Record) → Follows styles records (before ++ s ∷ []) next
         → refused_in styles lock next (records_from styles (txns_of (before ++ s ∷ [])) (located_of rest))
@@ -570,7 +571,7 @@ pub refused_place : (styles : List Style) (lock : Option Day) (records : List Re
     × IsRefusedAt styles lock records (located_of found) i (cause_of bar)
 refused_place styles lock records bar found standing own even refused =
     let start : Follows styles records [] records = record { own = own; texts = nothing_yet styles records } in
-    let walked = walk styles lock records bar [] found records standing even start refused in (
+    let walked = walked_to_bar styles lock records bar [] found records standing even start refused in (
       walked.i,
       walked.place ∙ ap Some (let k : 0 + walked.i ≡ walked.i = omega arith in k),
       record { before = walked.taken; here = walked.refused },

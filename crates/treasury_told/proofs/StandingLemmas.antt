@@ -118,10 +118,10 @@ index_next records i r old new mark h e same before put =
     ∙ ap (λ (n : ℕ). option_or (get_by_text old k) (cond (bytes_eq r.mark k) (Some n) None)) (sym long)))
 
 -- ---- the number of an unmarked transaction
-pub numbered : (styles : List Style) (t : Txn) (before : List Txn) (counts : Counts) (text : Vec ℕ) (n : ℕ)
+pub number_is_counted : (styles : List Style) (t : Txn) (before : List Txn) (counts : Counts) (text : Vec ℕ) (n : ℕ)
     → text.items ≡ body_text styles t → AreCounted styles counts before → n ≡ count_of counts text + 1
     → n ≡ number_in styles before t
-numbered styles t before counts text n same counted is =
+number_is_counted styles t before counts text n same counted is =
     is ∙ ap (λ (k : ℕ). k + 1) (counted text ∙ ap (λ (bs : List ℕ). alike styles bs before) same)
 
 pub if_ok_weaker : {T : Type 0} (r : Result T Cause) (P Q : T → Type 0) → ((x : T) → P x → Q x) → IfOk r P → IfOk r Q

@@ -48,13 +48,13 @@ good_parts : (o : Option (Bor Transfer)) (p : Option Transfer) (P : Transfer →
 good_parts None p P e h = tt
 good_parts (Some t) p P e h = subst (λ (q : Option Transfer). IfSome q P) (sym e) h
 
-weaker : (o : Option (Bor Transfer)) (P Q : Transfer → Type 0) → ((t : Transfer) → P t → Q t) → IfSome o (λ t. P t.now)
-    → IfSome o (λ t. Q t.now)
-weaker None P Q f h = tt
-weaker (Some t) P Q f h = f t.now h
+IfSome_weaker : (o : Option (Bor Transfer)) (P Q : Transfer → Type 0) → ((t : Transfer) → P t → Q t)
+    → IfSome o (λ t. P t.now) → IfSome o (λ t. Q t.now)
+IfSome_weaker None P Q f h = tt
+IfSome_weaker (Some t) P Q f h = f t.now h
 
 pub parts_good : (f : Federation) (id : List ℕ) (o : Option (Bor Transfer)) → IsGoodState f
     → option_map (λ (t : Bor Transfer). t.now) o ≡ find (has_id id) f.transfers → IfSome o (λ t. HasGoodParts t.now)
-parts_good f id o good is = weaker o (IsGoodTransfer f.branches) HasGoodParts (λ t g. g.parts)
+parts_good f id o good is = IfSome_weaker o (IsGoodTransfer f.branches) HasGoodParts (λ t g. g.parts)
     (good_parts o (find (has_id id) f.transfers) (IsGoodTransfer f.branches) is
     (good_found id f.transfers (IsGoodTransfer f.branches) good.transfers))
