@@ -33,7 +33,7 @@ use Rattle.treasury_state.specs.Federation.{Federation}
 use Rattle.treasury_state.specs.Good.{IsGoodState}
 use Rattle.treasury_state.specs.Rows.{rows}
 use Rattle.treasury_tables.specs.Rows.{AreTreesOf}
-use Rattle.treasury_store.specs.Store.{TablesAre}
+use Rattle.treasury_store.specs.Store.{TablesAreWhileOpen}
 use Rattle.treasury_store.specs.Treasury.{Treasury, IsTreasuryOf}
 use Rattle.treasury_api.specs.declared.asking.Asked.{Asked}
 use Rattle.treasury_api.specs.Answer.{answer_text}
@@ -184,7 +184,7 @@ module _ {D : Type 0} (g : disk.Ghosts D) where
   module _ (stays : SeenMayStay g) where
     -- what is left open of a connection that shows the rows of a good state holds that state
     open_behind : (c : Held (FileStore D g)) (it : FileStore D g) (f : Federation) → IsLeftAs c it → IsCleanStore g it
-        → HasCleanDisk (file_state c) → IsGoodState f → TablesAre over_files c (rows f)
+        → HasCleanDisk (file_state c) → IsGoodState f → TablesAreWhileOpen over_files c (rows f)
         → IsTrue (view it).is_open → LeavesOpen g it f
     open_behind c it f leaves clean last good tables still next may =
         let is_open = leaves.by.was_open clean.0 still in

@@ -23,7 +23,7 @@ use Rattle.treasury_core.specs.declared.command.Command.{Command as AnyCommand}
 use Rattle.treasury_core.specs.declared.command.Command.TheVariants as cmd
 use Rattle.treasury_tables.specs.Kept.{IsFaithful}
 use Rattle.treasury_tables.specs.Rows.{Tables}
-use Rattle.treasury_store.specs.Store.{TablesAre, AnswersState}
+use Rattle.treasury_store.specs.Store.{TablesAreWhileOpen, AnswersState}
 use Rattle.treasury_store.specs.Treasury.{Treasury, IsTreasuryOf, FailsBy, is_by_rules}
 use Rattle.treasury_store.specs.Left.{LeavesRows, LeavesEither, LeavesSame, LeavesStep}
 use Rattle.treasury_requests.specs.declared.request.Spelled.{Spelled}
@@ -88,7 +88,8 @@ spelled_once styles request one other (said, (asks, is)) (again, (also, same)) =
 
 -- while a connection is open, whatever is left of it are the rows that it shows
 abbrev pub LeavesShown : {S : Type 0} → Ghosts S → Type 0
-LeavesShown {S = S} g = (h : Held S) (t : Tables) → TablesAre g h t → IsTrue (state g h).is_open → LeavesRows g h t
+LeavesShown {S = S} g = (h : Held S) (t : Tables) → TablesAreWhileOpen g h t → IsTrue (state g h).is_open
+    → LeavesRows g h t
 
 pub leaves_first : {S : Type 0} (g : Ghosts S) (h : Held S) (t u : Tables) → LeavesRows g h t → LeavesEither g h t u
 leaves_first g h t u left clean trees may = inl (left clean trees may)

@@ -39,7 +39,7 @@ use Rattle.treasury_tables.specs.Upgrading.{KeepsOurs}
 use Rattle.treasury_tables.specs.Kept.{KeepsTables, StaysAsIs}
 use Rattle.treasury_tables.specs.Rows.{Tables, Holds, HoldsFirst, HoldsEither}
 use Rattle.treasury_tables.proofs.OpenLemmas.{ours_first, ours_second, first_bare, second_more}
-use Rattle.treasury_store.specs.Store.{TablesAre}
+use Rattle.treasury_store.specs.Store.{TablesAreWhileOpen}
 use Rattle.treasury_store.specs.Left.{LeavesSame, LeavesEitherVersion}
 use Rattle.treasury_files.specs.declared.left.Left.{Left}
 use Rattle.treasury_files.specs.declared.left.Left.TheVariants.{Untouched, Closed, Open, Shut, Unopened}
@@ -292,7 +292,7 @@ module _ {D : Type 0} (g : disk.Ghosts D) where
             (λ clean t holds trees may. absurd (never is clean t holds))
 
         tables : (t : Tables) → Holds (file_state opened).now t → HasCleanDisk (file_state opened)
-            → TablesAre over_files opened t
+            → TablesAreWhileOpen over_files opened t
         tables t holds clean _ _ = (holds, sym (on.serves clean).0.clean)
 
         have : HasCleanDisk (file_state refused) → (t : Tables) → HoldsEither (file_state opened).now t
@@ -334,7 +334,7 @@ module _ {D : Type 0} (g : disk.Ghosts D) where
         → (HasCleanDisk (file_state store) → HasCleanDisk (file_state opened))
         → (HasCleanDisk (file_state store) → IsTrue (file_state store).is_open) → IsLive (file_state store)
         → ((file_state opened).committed ≡ (file_state opened).now → (t : Tables)
-        → HoldsEither (file_state opened).now t → TablesAre over_files store t)
+        → HoldsEither (file_state opened).now t → TablesAreWhileOpen over_files store t)
         → KeepsTables over_files store last
         → (HasCleanDisk (file_state last) → IsTrue (file_state last).is_open
         → StaysAsIs (file_state store) (file_state last))

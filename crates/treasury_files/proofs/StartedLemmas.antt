@@ -26,7 +26,7 @@ use Rattle.treasury_tables.specs.Opening.{AreOurs, IsFirst, IsFirstNumbered, IsS
 use Rattle.treasury_tables.specs.Upgrading.{Upgrades}
 use Rattle.treasury_tables.proofs.OpenLemmas.{ours_second, not_first, second_more}
 use Rattle.treasury_store.specs.declared.store.Store.{Store}
-use Rattle.treasury_store.specs.Store.{TablesAre, IsOf, empty_state}
+use Rattle.treasury_store.specs.Store.{TablesAreWhileOpen, IsOf, empty_state}
 use Rattle.treasury_store.specs.Treasury.{Treasury, IsTreasuryOf}
 use Rattle.treasury_files.specs.declared.left.Left.{Left}
 use Rattle.treasury_files.specs.declared.left.Left.TheVariants.{Closed, Open, Shut}
@@ -83,11 +83,11 @@ module _ {D : Type 0} (g : disk.Ghosts D) where
   -- a treasury is started on a store that was opened on a connection
   pub starts_on : (opened : Held (FileStore D g)) (s : Store (FileStore D g)) (t : Treasury (FileStore D g))
       → ((file_state opened).committed ≡ (file_state opened).now → (rows : Tables)
-      → HoldsEither (file_state opened).now rows → TablesAre over_files s.conn rows)
+      → HoldsEither (file_state opened).now rows → TablesAreWhileOpen over_files s.conn rows)
       → doubt (file_state opened).is_clean ≤ doubt (file_state s.conn).is_clean
       → (HasCleanDisk (file_state s.conn) → IsTrue (file_state s.conn).is_open)
       → (HasCleanDisk (file_state t.store.conn) → (f : Federation) → IsGoodState f
-      → TablesAre over_files s.conn (rows f) → IsTreasuryOf over_files t f)
+      → TablesAreWhileOpen over_files s.conn (rows f) → IsTreasuryOf over_files t f)
       → t.store.failed ≡ false
       → KeepsTables over_files s.conn t.store.conn
       → (HasCleanDisk (file_state t.store.conn) → IsTrue (file_state t.store.conn).is_open)
@@ -107,7 +107,7 @@ module _ {D : Type 0} (g : disk.Ghosts D) where
       middle k = no_more _ _ keeps.clean k
 
       tables : HasCleanDisk (file_state t.store.conn) → (file_state opened).committed ≡ (file_state opened).now
-          → (rows : Tables) → HoldsEither (file_state opened).now rows → TablesAre over_files t.store.conn rows
+          → (rows : Tables) → HoldsEither (file_state opened).now rows → TablesAreWhileOpen over_files t.store.conn rows
       tables k same rows holds _ _ =
           let held = upgraded same rows holds (middle k) (is_open (middle k)) in
           let stay = kept k held.0.shows.schema held.1 in
@@ -125,7 +125,7 @@ module _ {D : Type 0} (g : disk.Ghosts D) where
 
   -- what a file holds whose connection is closed, and shows the rows of a good state
   pub left_behind : (c : Held (FileStore D g)) (closed : Files D) (f : Federation) → IsLive (file_state c)
-      → IsCopied c closed → IsGoodState f → TablesAre over_files c (rows f) → LeavesState g closed f
+      → IsCopied c closed → IsGoodState f → TablesAreWhileOpen over_files c (rows f) → LeavesState g closed f
   left_behind c closed f live copied good tables left image =
       let held = tables copied.was_clean copied.was_open in record {
         good = good;

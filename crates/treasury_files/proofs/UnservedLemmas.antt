@@ -14,7 +14,7 @@ use Rattle.treasury_state.specs.Rows.{rows}
 use Rattle.treasury_tables.specs.Opening.{AreOurs, IsFirst, IsSecond}
 use Rattle.treasury_tables.specs.Judging.{ReadsFirst}
 use Rattle.treasury_tables.specs.Rows.{Tables, HoldsEither}
-use Rattle.treasury_store.specs.Store.{TablesAre}
+use Rattle.treasury_store.specs.Store.{TablesAreWhileOpen}
 use Rattle.treasury_files.specs.declared.left.Left.{Left}
 use Rattle.treasury_files.specs.Left.{HoldsOf, IsCleanIn, HasNoTreasury}
 use Rattle.treasury_files.specs.Started.{IsOpenedOn}
@@ -96,9 +96,9 @@ module _ {D : Type 0} (g : disk.Ghosts D) where
       → (HasCleanDisk (file_state store) → HasCleanDisk (file_state opened))
       → (HasCleanDisk (file_state last) → HasCleanDisk (file_state store))
       → ((file_state opened).committed ≡ (file_state opened).now → (t : Tables)
-      → HoldsEither (file_state opened).now t → TablesAre over_files store t)
+      → HoldsEither (file_state opened).now t → TablesAreWhileOpen over_files store t)
       → (HasCleanDisk (file_state last) → (f : Federation) → IsGoodState f
-      → TablesAre over_files store (rows f) → ⊥)
+      → TablesAreWhileOpen over_files store (rows f) → ⊥)
       → IsLeftOpen last left ⊎ IsLeftClosed last left → HasNoTreasury g image left
   none_started image opened store last left on first middle tables damaged left_as =
       none_shown image opened left on before (λ clean f holds held.

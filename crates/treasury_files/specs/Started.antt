@@ -17,7 +17,7 @@ use Rattle.money_core.specs.declared.cause.Cause.{Cause}
 use Rattle.money_core.specs.declared.cause.Cause.TheVariants.{OutOfMemory, Store as Failed, Damaged}
 use Rattle.treasury_state.specs.Federation.{Federation}
 use Rattle.treasury_tables.specs.Rows.{Tables, HoldsEither}
-use Rattle.treasury_store.specs.Store.{TablesAre}
+use Rattle.treasury_store.specs.Store.{TablesAreWhileOpen}
 use Rattle.treasury_store.specs.Treasury.{Treasury, IsTreasuryOf}
 use Rattle.treasury_files.specs.declared.file.Unopened.{Unopened as Why}
 use Rattle.treasury_files.specs.declared.file.Unopened.TheVariants as why
@@ -61,7 +61,7 @@ module _ {D : Type 0} (g : disk.Ghosts D) where
     pub clean : HasCleanDisk (file_state t.store.conn) → HasCleanDisk (file_state opened)
     pub is_open : HasCleanDisk (file_state t.store.conn) → IsTrue (file_state t.store.conn).is_open
     pub tables : HasCleanDisk (file_state t.store.conn) → (file_state opened).committed ≡ (file_state opened).now
-        → (rows : Tables) → HoldsEither (file_state opened).now rows → TablesAre over_files t.store.conn rows
+        → (rows : Tables) → HoldsEither (file_state opened).now rows → TablesAreWhileOpen over_files t.store.conn rows
     pub of : HasCleanDisk (file_state t.store.conn) → (file_state opened).committed ≡ (file_state opened).now
         → (f : Federation) → ShowsState g opened f → IsTreasuryOf over_files t f
     pub has : HasCleanDisk (file_state t.store.conn) → HasTreasury (file_state opened).now

@@ -17,20 +17,20 @@ use Rattle.treasury_tables.specs.Upgrading.{KeepsOurs}
 use Rattle.treasury_tables.proofs.OpenLemmas.{ours_first, ours_second, not_first, second_more}
 use Rattle.treasury_tables.proofs.UpgradeLemmas.{upgraded_holds}
 use Rattle.treasury_store.specs.declared.store.Store.{Store}
-use Rattle.treasury_store.specs.Store.{TablesAre, IsOf, Joins}
+use Rattle.treasury_store.specs.Store.{TablesAreWhileOpen, IsOf, Joins}
 use Rattle.treasury_store.specs.Treasury.{Treasury, SurvivesCommand}
 use Rattle.treasury_store.specs.Left.{LeavesRows, LeavesSame, LeavesEitherVersion, LeavesJoined, LeavesStep}
 
 module _ {S : Type 0} (g : Ghosts S)
     (settled : (s : S) (db : Trees) → IsTrue (g.view s).is_open → g.recovers s db → db ≡ (g.view s).committed) where
-  pub leaves_rows : (h : Held S) (t : Tables) → TablesAre g h t → IsTrue (state g h).is_open → LeavesRows g h t
+  pub leaves_rows : (h : Held S) (t : Tables) → TablesAreWhileOpen g h t → IsTrue (state g h).is_open → LeavesRows g h t
   leaves_rows h t are is_open clean trees may =
       let held = are clean is_open in
       ((state g h).now, settled h.store trees is_open may ∙ ap (λ (d : Database). d.trees) held.1, held.0)
 
   -- what a call leaves that commits these trees at most
   pub leaves_more : (old new : Held S) (t : Tables) (Commits : Trees → Type 0)
-      → Survives (state g old) (state g new) Commits → IsTrue (state g old).is_open → TablesAre g old t
+      → Survives (state g old) (state g new) Commits → IsTrue (state g old).is_open → TablesAreWhileOpen g old t
       → IsFaithful g new → (trees : Trees) → (state g new).may_leave trees
       → AreTreesOf trees t ⊎ (Holds (state g old).now t × Commits trees)
   leaves_more old new t Commits left is_open are clean trees may =

@@ -19,7 +19,7 @@ use Rattle.treasury_tables.specs.Rows.{Tables, Holds, ShowsTables}
 use Rattle.treasury_tables.specs.Kept.{Queries, IsFaithful}
 use Rattle.treasury_tables.specs.Order.{InOrder}
 use Rattle.treasury_store.specs.declared.store.Store.{Store}
-use Rattle.treasury_store.specs.Store.{TablesAre, Knows, IsOf}
+use Rattle.treasury_store.specs.Store.{TablesAreWhileOpen, Knows, IsOf}
 use Rattle.treasury_store.proofs.OrderedLemmas.{rows_in_order}
 
 module _ {S : Type 0} (g : Ghosts S) (old new : Held S)
@@ -30,7 +30,7 @@ module _ {S : Type 0} (g : Ghosts S) (old new : Held S)
       → (IsFaithful g new → IsTrue (state g new).is_open → Holds (state g old).now t
       → (state g old).committed ≡ (state g old).now
       → ((state g new).now ≡ (state g old).now) × ((state g new).committed ≡ (state g old).committed))
-      → TablesAre g old t → TablesAre g new t
+      → TablesAreWhileOpen g old t → TablesAreWhileOpen g new t
   tables_stay t was_open same are clean is_open =
       let was = are (cleaner clean) (was_open clean is_open) in
       let kept = same clean is_open was.0 was.1 in
@@ -39,7 +39,7 @@ module _ {S : Type 0} (g : Ghosts S) (old new : Held S)
   module _ (opened : IsFaithful g new → IsTrue (state g old).is_open × IsTrue (state g new).is_open)
       (same : IsFaithful g new → (state g old).now.schema ≡ store_schema
       → IsUnchanged (state g old) (state g new)) where
-    pub read_tables_stay : (t : Tables) → TablesAre g old t → TablesAre g new t
+    pub read_tables_stay : (t : Tables) → TablesAreWhileOpen g old t → TablesAreWhileOpen g new t
     read_tables_stay t are =
         tables_stay t (λ clean is_open. (opened clean).0)
         (λ clean is_open holds all. let kept = (same clean holds.shows.schema).0 in (kept.now_is, kept.committed_is))
@@ -47,7 +47,7 @@ module _ {S : Type 0} (g : Ghosts S) (old new : Held S)
 
     module _ (parts : Parts) (read : IsFaithful g new → (t : Tables) → InOrder t
         → ShowsTables (state g old).now t → parts ≡ t) (f : Federation) (good : IsGoodState f)
-        (are : TablesAre g old (rows f)) where
+        (are : TablesAreWhileOpen g old (rows f)) where
       -- the rows that were read are the state's
       pub parts_are : IsFaithful g new → rows f ≡ parts
       parts_are clean = sym (read clean (rows f) (rows_in_order f good)
@@ -56,9 +56,9 @@ module _ {S : Type 0} (g : Ghosts S) (old new : Held S)
       pub loaded_is : (s : Federation) → IsGoodState s → rows s ≡ parts → IsFaithful g new → s ≡ f
       loaded_is s fine built clean = same_state s f fine good (built ∙ sym (parts_are clean))
 
-      pub loaded_tables : (s : Federation) → IsGoodState s → rows s ≡ parts → TablesAre g new (rows s)
+      pub loaded_tables : (s : Federation) → IsGoodState s → rows s ≡ parts → TablesAreWhileOpen g new (rows s)
       loaded_tables s fine built clean is_open =
-          subst (λ (x : Federation). TablesAre g new (rows x)) (sym (loaded_is s fine built clean))
+          subst (λ (x : Federation). TablesAreWhileOpen g new (rows x)) (sym (loaded_is s fine built clean))
           (read_tables_stay (rows f) are) clean is_open
 
       -- rows that are no state's are not this one's
@@ -95,7 +95,7 @@ module _ {S X : Type 0} (g : Ghosts S) (old new : Store S) (f : Federation) wher
 
     module _ (parts : Parts) (read : IsFaithful g new.conn → (t : Tables) → InOrder t
         → ShowsTables (state g old.conn).now t → parts ≡ t) (good : IsGoodState f)
-        (are : TablesAre g old.conn (rows f)) where
+        (are : TablesAreWhileOpen g old.conn (rows f)) where
       -- where they are, it is of the state that they make, which is the one whose rows the tables are
       pub loaded_of : (s : Federation) → IsGoodState s → rows s ≡ parts → Knows new s
           → IsOf g new s × (IsFaithful g new.conn → s ≡ f)

@@ -24,7 +24,7 @@ use Rattle.treasury_tables.proofs.UpgradeLemmas.{upgraded_holds}
 use Rattle.treasury_store.specs.declared.store.Store.{Store}
 use Rattle.treasury_store.specs.Numbers.{Numbering, numbers_of}
 use Rattle.treasury_store.specs.Changes.{changes_of, numbers_with}
-use Rattle.treasury_store.specs.Store.{TablesAre, IsOf, empty_state, Joins}
+use Rattle.treasury_store.specs.Store.{TablesAreWhileOpen, IsOf, empty_state, Joins}
 use Rattle.treasury_store.proofs.AdditionLemmas.{writes_joined, numbers_joined}
 
 pub survives_same : (s : State) (P : Trees → Type 0) → Survives s s P
@@ -133,7 +133,8 @@ pub opened_holds : {S : Type 0} (g : Ghosts S) (old new : Held S)
     → Upgrades (state g old).now (state g new).now × ((state g new).committed ≡ (state g new).now))
     → (IsFaithful g new → AreOurs (state g old).now.schema → (IsFirst (state g old).now → ⊥)
     → ((state g new).now ≡ (state g old).now) × ((state g new).committed ≡ (state g old).committed))
-    → (state g old).committed ≡ (state g old).now → (t : Tables) → HoldsEither (state g old).now t → TablesAre g new t
+    → (state g old).committed ≡ (state g old).now → (t : Tables) → HoldsEither (state g old).now t
+    → TablesAreWhileOpen g new t
 opened_holds g old new first same settled t (inr holds) clean is_open =
     let up = first clean (record { schema = holds.schema; version = holds.format }, holds.numbered) in
     (upgraded_holds (state g old).now (state g new).now t holds up.0, up.1)

@@ -14,7 +14,7 @@ use Rattle.treasury_core.specs.Step.{step}
 use Rattle.treasury_tables.specs.Kept.{IsFaithful}
 use Rattle.treasury_tables.specs.Rows.{Tables, HoldsFirst, AreTreesOf, AreFirstTreesOf}
 use Rattle.treasury_store.specs.declared.store.Store.{Store}
-use Rattle.treasury_store.specs.Store.{TablesAre, IsOf, Joins}
+use Rattle.treasury_store.specs.Store.{TablesAreWhileOpen, IsOf, Joins}
 use Rattle.treasury_store.specs.Treasury.{Treasury, IsTreasuryOf, SurvivesCommand}
 
 -- whatever is left are these rows
@@ -28,19 +28,19 @@ LeavesEither g h t u =
 
 -- a call on a connection that was open, and whose tables held rows: whatever is left after it are these
 abbrev pub LeavesSame : {S : Type 0} → Ghosts S → Held S → Held S → Type 0
-LeavesSame g old new = IsTrue (state g old).is_open → (t : Tables) → TablesAre g old t → LeavesRows g new t
+LeavesSame g old new = IsTrue (state g old).is_open → (t : Tables) → TablesAreWhileOpen g old t → LeavesRows g new t
 
 -- while the disk returned what was written and the connection is open, the tables hold these rows as version 1, and so
 -- does what is committed
-abbrev pub FirstTablesAre : {S : Type 0} → Ghosts S → Held S → Tables → Type 0
-FirstTablesAre g h t = IsFaithful g h → IsTrue (state g h).is_open
+abbrev pub FirstTablesAreWhileOpen : {S : Type 0} → Ghosts S → Held S → Tables → Type 0
+FirstTablesAreWhileOpen g h t = IsFaithful g h → IsTrue (state g h).is_open
     → HoldsFirst (state g h).now t × ((state g h).committed ≡ (state g h).now)
 
 -- the opening of version 1 on a connection that was open: whatever is left after it are the same rows, as version 1 or
 -- as version 2
 abbrev pub LeavesEitherVersion : {S : Type 0} → Ghosts S → Held S → Held S → Type 0
 LeavesEitherVersion g old new =
-    IsTrue (state g old).is_open → (t : Tables) → FirstTablesAre g old t → IsFaithful g new → (trees : Trees)
+    IsTrue (state g old).is_open → (t : Tables) → FirstTablesAreWhileOpen g old t → IsFaithful g new → (trees : Trees)
     → (state g new).may_leave trees
     → AreFirstTreesOf trees t ⊎ AreTreesOf trees t
 

@@ -23,8 +23,8 @@ empty_state = record { styles = []; branches = []; transfers = [] }
 
 -- while the disk returned what was written and the connection is open, the tables hold these rows, and so does what is
 -- committed
-abbrev pub TablesAre : {S : Type 0} → Ghosts S → Held S → Tables → Type 0
-TablesAre g h t = IsFaithful g h → IsTrue (state g h).is_open
+abbrev pub TablesAreWhileOpen : {S : Type 0} → Ghosts S → Held S → Tables → Type 0
+TablesAreWhileOpen g h t = IsFaithful g h → IsTrue (state g h).is_open
     → Holds (state g h).now t × ((state g h).committed ≡ (state g h).now)
 
 -- the store knows by which numbers the rows of a state go on
@@ -52,7 +52,7 @@ pub record Joins (f : Federation) (xs : List Addition) : Type 0 where
 -- The store is of a good state: its tables are that state's rows, and new rows are numbered after these.
 pub record IsOf {S : Type 0} (g : Ghosts S) (s : Store S) (f : Federation) : Type 0 where
   pub good : IsGoodState f
-  pub tables : TablesAre g s.conn (rows f)
+  pub tables : TablesAreWhileOpen g s.conn (rows f)
   pub numbers : Knows s f
 
 -- what a call on a store that no call has failed answers, and whether it has failed then: 40 and 41 are its errors, and

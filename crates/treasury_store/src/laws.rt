@@ -5,7 +5,7 @@ ghost use Rattle.sqlite.specs.Held.{Held, state};
 ghost use Rattle.treasury_core.specs.declared.command.Command.{Command};
 ghost use Rattle.treasury_tables.specs.Rows.{Tables};
 ghost use Rattle.treasury_tables.specs.Kept.{KeepsTables};
-ghost use Rattle.treasury_store.specs.Store.{TablesAre};
+ghost use Rattle.treasury_store.specs.Store.{TablesAreWhileOpen};
 ghost use Rattle.treasury_store.specs.Treasury.{Treasury, SurvivesCommand};
 ghost use Rattle.treasury_store.specs.Left.{LeavesRows, LeavesSame, LeavesStep};
 
@@ -15,7 +15,7 @@ use sqlite::Alter;
 /// nothing leaves them, and a command leaves the rows of the state before it or those of the state after it. Costs
 /// nothing.
 pub fn left_law<S: Alter>()
-    ensures rows { (h : Held S) (t : Tables) → TablesAre S.Store h t → IsTrue (state S.Store h).is_open
+    ensures rows { (h : Held S) (t : Tables) → TablesAreWhileOpen S.Store h t → IsTrue (state S.Store h).is_open
         → LeavesRows S.Store h t }
     ensures same { (old new : Held S) → KeepsTables S.Store old new → LeavesSame S.Store old new }
     ensures command { (old new : Treasury S) (c : Command) → SurvivesCommand S.Store old new c

@@ -16,7 +16,8 @@ ghost use Rattle.treasury_tables.specs.Tables.{no_schema, store_schema};
 ghost use Rattle.treasury_tables.specs.Creating.{has_one, has_all, has_counter, Beside, SurvivesMaking};
 ghost use Rattle.treasury_tables.specs.Opening.{AreOurs, IsFirst, IsFirstNumbered, IsSecond};
 ghost use Rattle.treasury_tables.specs.Upgrading.{Upgrades, KeepsOurs};
-ghost use Rattle.treasury_store.specs.Store.{empty_state, TablesAre, Knows, IsOf, Joins, Answers, AnswersState};
+ghost use Rattle.treasury_store.specs.Store.{empty_state, TablesAreWhileOpen, Knows, IsOf, Joins, Answers};
+ghost use Rattle.treasury_store.specs.Store.{AnswersState};
 ghost use Rattle.treasury_store.specs.Left.{LeavesSame, LeavesEitherVersion, LeavesJoined};
 
 use crate::changes::changes_of;
@@ -114,7 +115,7 @@ impl<S: Alter> Store<S> {
         ensures live { IfOk result (λ s. IsLive (state S.Store s.conn)) }
         // Whichever rows the tables held, in either version: they are the store's.
         ensures opened { IfOk result (λ s. (state S.Store conn).committed ≡ (state S.Store conn).now → (t : Tables)
-            → HoldsEither (state S.Store conn).now t → TablesAre S.Store s.conn t) }
+            → HoldsEither (state S.Store conn).now t → TablesAreWhileOpen S.Store s.conn t) }
         ensures first { IfOk result (λ s. IsFaithful S.Store s.conn → IsFirstNumbered (state S.Store conn).now
             → Upgrades (state S.Store conn).now (state S.Store s.conn).now
             × ((state S.Store s.conn).committed ≡ (state S.Store s.conn).now)) }
@@ -214,14 +215,15 @@ impl<S: Alter> Store<S> {
     /// every later call answers 42, and changes nothing.
     pub fn load<L: Ledger>(&mut self) -> Result<State<L>, Cause>
         // Of whichever good state the tables are the rows, also those that were opened.
-        ensures ok { IfOk result (λ s. (f : Federation) → IsGoodState f → TablesAre S.Store self.old.conn (rows f)
+        ensures ok { IfOk result (λ s. (f : Federation) → IsGoodState f
+            → TablesAreWhileOpen S.Store self.old.conn (rows f)
             → IsOf S.Store self.new s × (IsFaithful S.Store self.new.conn → s ≡ f)) }
         ensures known { IfOk result (λ s. Knows self.new s) }
         ensures good { IfOk result IsGoodState }
         ensures still_open { OnOk result
             (IsFaithful S.Store self.new.conn → IsTrue (state S.Store self.new.conn).is_open) }
         ensures damaged { result ≡ Err Cause.Damaged → IsFaithful S.Store self.new.conn → (f : Federation)
-            → IsGoodState f → TablesAre S.Store self.old.conn (rows f) → ⊥ }
+            → IsGoodState f → TablesAreWhileOpen S.Store self.old.conn (rows f) → ⊥ }
         // What is loaded has the rows that our tables show, whatever they are, and 43 says that no such state has them.
         ensures shown { IfOk result (λ s. IsFaithful S.Store self.new.conn
             → (state S.Store self.old.conn).now.schema ≡ store_schema
@@ -229,8 +231,8 @@ impl<S: Alter> Store<S> {
         ensures unfit { result ≡ Err Cause.Damaged → IsFaithful S.Store self.new.conn → (f : Federation)
             → IsGoodState f → ShowsTables (state S.Store self.old.conn).now (rows f) → ⊥ }
         ensures err { OnErr result ((f : Federation) → IsOf S.Store self.old f → IsOf S.Store self.new f) }
-        ensures tables { OnErr result ((t : Tables) → TablesAre S.Store self.old.conn t
-            → TablesAre S.Store self.new.conn t) }
+        ensures tables { OnErr result ((t : Tables) → TablesAreWhileOpen S.Store self.old.conn t
+            → TablesAreWhileOpen S.Store self.new.conn t) }
         // Whatever is in our tables.
         ensures unchanged { IsFaithful S.Store self.new.conn → IsTrue (state S.Store self.new.conn).is_open
             → StaysAsIs (state S.Store self.old.conn) (state S.Store self.new.conn) }

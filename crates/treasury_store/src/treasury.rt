@@ -17,7 +17,7 @@ ghost use Rattle.treasury_tables.specs.Tables.{store_schema};
 ghost use Rattle.treasury_tables.specs.Rows.{Holds, AreTreesOf, Tables, ShowsTables};
 ghost use Rattle.treasury_tables.specs.Kept.{KeepsTables, StaysAsIs, IsFaithful};
 ghost use Rattle.treasury_store.specs.Shown.{ShowsNoState};
-ghost use Rattle.treasury_store.specs.Store.{TablesAre, Knows, IsOf, Joins, Answers, AnswersState, FailsAs};
+ghost use Rattle.treasury_store.specs.Store.{TablesAreWhileOpen, Knows, IsOf, Joins, Answers, AnswersState, FailsAs};
 ghost use Rattle.treasury_store.specs.Treasury.{WhileOf, IsTreasuryOf, MayReply, Performs, PerformsIfFits, turn_if};
 ghost use Rattle.treasury_store.specs.Treasury.{AddsNothing, FailsBy, RepliesInAnyCase, KeepsConnection, IsUnfit};
 ghost use Rattle.treasury_store.specs.Left.{LeavesSame, LeavesCommand};
@@ -69,18 +69,18 @@ impl<S: Alter> Treasury<S> {
     /// Where the tables are no state's rows, it answers 43, and 40 to 42 as `Store::load`; the store is handed back.
     pub fn start(alloc: Global, mut store: Store<S>) -> Result<Self, Unstarted<S>>
         ensures of { IfOk result (λ t. IsFaithful S.Store t.store.conn → (f : Federation) → IsGoodState f
-            → TablesAre S.Store store.conn (rows f) → IsTreasuryOf S.Store t f) }
+            → TablesAreWhileOpen S.Store store.conn (rows f) → IsTreasuryOf S.Store t f) }
         ensures held { IfOk result (λ t. IsSome t.held) }
         ensures open { IfOk result (λ t. t.store.failed ≡ false) }
         ensures damaged { IfErr result (λ r. r.cause ≡ Cause.Damaged → IsFaithful S.Store r.store.conn
-            → (f : Federation) → IsGoodState f → TablesAre S.Store store.conn (rows f) → ⊥) }
+            → (f : Federation) → IsGoodState f → TablesAreWhileOpen S.Store store.conn (rows f) → ⊥) }
         ensures back { IfErr result (λ r. (f : Federation) → IsOf S.Store store f → IsOf S.Store r.store f) }
         ensures closed { IsTrue store.failed → result ≡ Err (record { store = store; cause = Cause.Closed }) }
         // 40, 41 and 43, and the store is shut after 41 alone.
         ensures causes { store.failed ≡ false → IfErr result (λ r. FailsAs r.cause r.store.failed) }
         // The tables of the store that is handed back are as they stand.
-        ensures tables { IfErr result (λ r. (t : Tables) → TablesAre S.Store store.conn t
-            → TablesAre S.Store r.store.conn t) }
+        ensures tables { IfErr result (λ r. (t : Tables) → TablesAreWhileOpen S.Store store.conn t
+            → TablesAreWhileOpen S.Store r.store.conn t) }
         ensures still_open { IfOk result
             (λ t. IsFaithful S.Store t.store.conn → IsTrue (state S.Store t.store.conn).is_open) }
         // A connection that was open is open after each refusal but 41.
