@@ -14,7 +14,7 @@ ghost use Rattle.treasury_tables.specs.Rows.{Tables, Holds, HoldsEither, ShowsTa
 ghost use Rattle.treasury_tables.specs.Kept.{ChangesNothing, KeepsTables, StaysAsIs, IsFaithful};
 ghost use Rattle.treasury_tables.specs.Tables.{no_schema, store_schema};
 ghost use Rattle.treasury_tables.specs.Creating.{has_one, has_all, has_counter, Beside, SurvivesMaking};
-ghost use Rattle.treasury_tables.specs.Opening.{AreOurs, IsFirst, IsFirstNumbered, IsSecond};
+ghost use Rattle.treasury_tables.specs.Opening.{AreOursAlone, IsFirst, IsFirstNumbered, IsSecond};
 ghost use Rattle.treasury_tables.specs.Upgrading.{Upgrades, KeepsOurs};
 ghost use Rattle.treasury_store.specs.Store.{empty_state, TablesAreWhileOpen, Knows, IsOf, Joins, Answers};
 ghost use Rattle.treasury_store.specs.Store.{AnswersState};
@@ -107,7 +107,7 @@ impl<S: Alter> Store<S> {
     /// there, nor those of version 1 with theirs and without a table `receipt`, it answers 43.
     pub fn open(alloc: Global, mut conn: Connection<S>) -> Result<Self, Refused<S>>
         requires { conn.in_transaction ≡ false }
-        ensures there { IfOk result (λ s. IsFaithful S.Store s.conn → AreOurs (state S.Store conn).now.schema
+        ensures there { IfOk result (λ s. IsFaithful S.Store s.conn → AreOursAlone (state S.Store conn).now.schema
             → IsFirst (state S.Store conn).now ⊎ IsSecond (state S.Store conn).now) }
         ensures tables { IfOk result (λ s. IsTrue (has_all (state S.Store conn).now.schema)) }
         ensures still_open { IfOk result
@@ -119,7 +119,7 @@ impl<S: Alter> Store<S> {
         ensures first { IfOk result (λ s. IsFaithful S.Store s.conn → IsFirstNumbered (state S.Store conn).now
             → Upgrades (state S.Store conn).now (state S.Store s.conn).now
             × ((state S.Store s.conn).committed ≡ (state S.Store s.conn).now)) }
-        ensures same { IfOk result (λ s. IsFaithful S.Store s.conn → AreOurs (state S.Store conn).now.schema
+        ensures same { IfOk result (λ s. IsFaithful S.Store s.conn → AreOursAlone (state S.Store conn).now.schema
             → (IsFirst (state S.Store conn).now → ⊥)
             → ((state S.Store s.conn).now ≡ (state S.Store conn).now)
             × ((state S.Store s.conn).committed ≡ (state S.Store conn).committed)) }
@@ -130,7 +130,7 @@ impl<S: Alter> Store<S> {
         ensures refused { IfErr result (λ r.
             (r.cause ≡ Cause.Damaged) ⊎ ((r.cause ≡ Cause.OutOfMemory) ⊎ (r.cause ≡ Cause.Store))) }
         ensures damaged { IfErr result (λ r. r.cause ≡ Cause.Damaged → IsFaithful S.Store r.conn
-            → (AreOurs (state S.Store conn).now.schema
+            → (AreOursAlone (state S.Store conn).now.schema
             → IsFirst (state S.Store conn).now ⊎ IsSecond (state S.Store conn).now → ⊥)
             × ((state S.Store r.conn).now ≡ (state S.Store conn).now)
             × ((state S.Store r.conn).committed ≡ (state S.Store conn).committed)) }

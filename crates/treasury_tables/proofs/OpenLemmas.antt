@@ -18,7 +18,7 @@ use Rattle.sqlite.specs.State.{State, Shown}
 use Rattle.sqlite.proofs.Callers.{reads_as, one_permutation}
 use Rattle.treasury_tables.specs.Tables.{store_schema, first_schema}
 use Rattle.treasury_tables.specs.Creating.{has_all, has_receipt}
-use Rattle.treasury_tables.specs.Opening.{AreOurs, IsFirst, IsSecond, IsEither}
+use Rattle.treasury_tables.specs.Opening.{AreOursAlone, IsFirst, IsSecond, IsEither}
 use Rattle.treasury_tables.proofs.Texts.{format_rows_text, first_format_rows_is, format_query, format_columns}
 use Rattle.treasury_tables.proofs.Texts.{format_order}
 use Rattle.treasury_tables.proofs.QueryLemmas.{at, answer_is}
@@ -41,14 +41,14 @@ pub second_more : has_receipt store_schema ≡ true
 unfolding same_name
 second_more = refl
 
-pub ours_first : (s : Schema) → s ≡ first_schema → AreOurs s
+pub ours_first : (s : Schema) → s ≡ first_schema → AreOursAlone s
 ours_first s is = record {
   first = λ all bare. is;
   second = λ all more.
       absurd (true≢false (sym more ∙ (ap has_receipt is ∙ first_bare)));
 }
 
-pub ours_second : (s : Schema) → s ≡ store_schema → AreOurs s
+pub ours_second : (s : Schema) → s ≡ store_schema → AreOursAlone s
 ours_second s is = record {
   first = λ all bare.
       absurd (true≢false (sym second_more ∙ (ap has_receipt (sym is) ∙ bare)));

@@ -30,7 +30,7 @@ use Rattle.treasury_tables.specs.Rows.{unit_row, branch_row, entry_row, leg_row,
 use Rattle.treasury_tables.specs.Rows.{shown_unit, shown_branch, shown_entry, shown_leg, shown_claim, shown_transfer}
 use Rattle.treasury_tables.specs.Rows.{shown_part}
 use Rattle.treasury_tables.specs.Creating.{Makes}
-use Rattle.treasury_tables.specs.Opening.{AreOurs, IsFirst, IsFirstNumbered}
+use Rattle.treasury_tables.specs.Opening.{AreOursAlone, IsFirst, IsFirstNumbered}
 use Rattle.treasury_tables.specs.Upgrading.{SetsVersion, Upgrades, AreUpgraded}
 use Rattle.treasury_tables.proofs.Steps.{updates}
 use Rattle.treasury_tables.proofs.Texts.{second_text, second_terms, second_query, second_is}
@@ -138,14 +138,14 @@ row_stays a b has made = (subst (λ s. KeepsRows s.tables a.trees b.trees) has m
 
 -- where no more than a query was made
 pub no_upgrade : (old mid : State) → Survives old mid (λ _. ⊥)
-    → Survives old mid (λ trees. AreOurs old.now.schema → AreUpgraded old.now trees)
+    → Survives old mid (λ trees. AreOursAlone old.now.schema → AreUpgraded old.now trees)
 no_upgrade old mid left = survives_weaker old mid _ _ (λ clean trees none. absurd none) left
 
 -- and where the upgrade stands after it
-pub then_upgrade : (old mid new : State) → (HasCleanDisk mid → AreOurs old.now.schema → IsFirst old.now)
+pub then_upgrade : (old mid new : State) → (HasCleanDisk mid → AreOursAlone old.now.schema → IsFirst old.now)
     → Survives old mid (λ _. ⊥) → (HasCleanDisk mid → IsUnchanged old mid)
     → Survives mid new (λ trees. (db : Database) × (trees ≡ db.trees) × (IsFirstNumbered mid.now → Upgrades mid.now db))
-    → Survives old new (λ trees. AreOurs old.now.schema → AreUpgraded old.now trees)
+    → Survives old new (λ trees. AreOursAlone old.now.schema → AreUpgraded old.now trees)
 then_upgrade old mid new is_first one same two =
     survives_then old mid new _ _ _ (λ clean trees none. absurd none)
     (λ clean trees made ours.

@@ -10,9 +10,9 @@ use Rattle.treasury_tables.specs.Tables.{store_schema, first_schema, format}
 use Rattle.treasury_tables.specs.Rows.{versions}
 use Rattle.treasury_tables.specs.Creating.{has_all, has_receipt}
 
--- Tables with our names were made by our statements, in an empty database to which nothing else was added: with a table
--- `receipt` they are those of version 2, without it those of version 1.
-pub record AreOurs (s : Schema) : Type 0 where
+-- Tables with our names were made by our statements, in an empty database, and there is no other table, index or view:
+-- with a table `receipt` they are those of version 2, without it those of version 1.
+pub record AreOursAlone (s : Schema) : Type 0 where
   pub first : has_all s ≡ true → has_receipt s ≡ false → s ≡ first_schema
   pub second : has_all s ≡ true → has_receipt s ≡ true → s ≡ store_schema
 

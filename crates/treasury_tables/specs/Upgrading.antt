@@ -12,7 +12,7 @@ use Rattle.sqlite.specs.State.{Survives}
 use Rattle.sqlite.specs.Held.{Held, state}
 use Rattle.treasury_tables.specs.Tables.{format, receipt, first_tables, store_schema}
 use Rattle.treasury_tables.specs.Rows.{versions}
-use Rattle.treasury_tables.specs.Opening.{AreOurs, IsFirst}
+use Rattle.treasury_tables.specs.Opening.{AreOursAlone, IsFirst}
 
 -- `format` has the row 2, and each other table the rows that it had
 pub record SetsVersion (old new : Database) : Type 0 where
@@ -42,4 +42,4 @@ pub record AreUpgraded (old : Database) (trees : Trees) : Type 0 where
 -- its version 2.
 abbrev pub KeepsOurs : {S : Type 0} → Ghosts S → Held S → Held S → Type 0
 KeepsOurs g old new = Survives (state g old) (state g new)
-    (λ trees. AreOurs (state g old).now.schema → AreUpgraded (state g old).now trees)
+    (λ trees. AreOursAlone (state g old).now.schema → AreUpgraded (state g old).now trees)

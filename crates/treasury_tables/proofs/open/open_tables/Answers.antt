@@ -6,7 +6,7 @@ use Rattle.sqlite.specs.Order.{column}
 use Rattle.sqlite.specs.Held.{state}
 use Rattle.treasury_tables.specs.Kept.{IsFaithful}
 use Rattle.treasury_tables.specs.Creating.{has_all, has_receipt}
-use Rattle.treasury_tables.specs.Opening.{AreOurs, IsFirst}
+use Rattle.treasury_tables.specs.Opening.{AreOursAlone, IsFirst}
 use Rattle.treasury_tables.proofs.OpenLemmas.{none_there, not_first, not_second, receipt_is_there, shown_versions}
 use Rattle.treasury_tables.proofs.UpgradeLemmas.{no_upgrade, then_upgrade}
 use Rattle.treasury_tables.proofs.open.open_tables.Goals as goal
@@ -105,7 +105,7 @@ returns-in_err-upgrade-clause-crash g c =
     let bare : has_receipt c.args.conn.now.schema ≡ false =
     receipt_is_there _ c.args.conn.now.schema _ c.has_table-has_receipt.ensures c.as_slice.ensures ∙ got in
     let is_first = λ (clean : IsFaithful g.S.Store c.format_rows.new.conn)
-    (ours : AreOurs (state g.S.Store c.args.conn.now).now.schema).
+    (ours : AreOursAlone (state g.S.Store c.args.conn.now).now.schema).
     let has = ours.first all bare in
     let same = shown_versions ((state g.S.Store c.args.conn.now).now.trees 0) _ (Int (pos 1))
     (c.in_ok-rows.ensures.rows clean (inl has)) in
@@ -135,7 +135,7 @@ returns-clause-crash g c =
     let bare : has_receipt c.args.conn.now.schema ≡ false =
     receipt_is_there _ c.args.conn.now.schema _ c.has_table-has_receipt.ensures c.as_slice.ensures ∙ got in
     let is_first = λ (clean : IsFaithful g.S.Store c.format_rows.new.conn)
-    (ours : AreOurs (state g.S.Store c.args.conn.now).now.schema).
+    (ours : AreOursAlone (state g.S.Store c.args.conn.now).now.schema).
     let has = ours.first all bare in
     let same = shown_versions ((state g.S.Store c.args.conn.now).now.trees 0) _ (Int (pos 1))
     (c.in_ok-rows.ensures.rows clean (inl has)) in
