@@ -37,7 +37,7 @@ use Rattle.treasury_tables.specs.Opening.{AreOursAlone, IsFirst, IsSecond, IsEit
 use Rattle.treasury_tables.specs.Judging.{ReadsFirst}
 use Rattle.treasury_tables.specs.Upgrading.{KeepsOurs}
 use Rattle.treasury_tables.specs.Kept.{KeepsTables, StaysAsIs}
-use Rattle.treasury_tables.specs.Rows.{Tables, Holds, HoldsFirst, HoldsEither}
+use Rattle.treasury_tables.specs.Rows.{Tables, HoldsTables, HoldsFirst, HoldsEither}
 use Rattle.treasury_tables.proofs.OpenLemmas.{ours_first, ours_second, first_bare, second_more}
 use Rattle.treasury_store.specs.Store.{TablesAreWhileOpen}
 use Rattle.treasury_store.specs.Left.{LeavesSame, LeavesEitherVersion}
@@ -291,7 +291,7 @@ module _ {D : Type 0} (g : disk.Ghosts D) where
         strange is (inr shut) = keeps_shut image opened last left on shut (λ clean. first (asked.clean clean))
             (λ clean t holds trees may. absurd (never is clean t holds))
 
-        tables : (t : Tables) → Holds (file_state opened).now t → HasCleanDisk (file_state opened)
+        tables : (t : Tables) → HoldsTables (file_state opened).now t → HasCleanDisk (file_state opened)
             → TablesAreWhileOpen over_files opened t
         tables t holds clean _ _ = (holds, sym (on.serves clean).0.clean)
 
@@ -352,7 +352,7 @@ module _ {D : Type 0} (g : disk.Ghosts D) where
         before clean = first (middle clean)
 
         are : HasCleanDisk (file_state last) → (t : Tables) → HoldsEither (file_state opened).now t
-            → Holds (file_state store).now t × ((file_state store).committed ≡ (file_state store).now)
+            → HoldsTables (file_state store).now t × ((file_state store).committed ≡ (file_state store).now)
         are clean t holds =
             tables (sym (on.serves (before clean)).0.clean) t holds (middle clean) (is_open (middle clean))
 
@@ -369,7 +369,7 @@ module _ {D : Type 0} (g : disk.Ghosts D) where
         shown clean left_so t holds =
             let held = are clean t holds in
             let stay = unchanged clean left_so held.0.shows.schema held.1 in
-            (inl (subst (λ (d : Database). Holds d t) (sym stay.0) held.0), stay.1 ∙ (held.1 ∙ sym stay.0))
+            (inl (subst (λ (d : Database). HoldsTables d t) (sym stay.0) held.0), stay.1 ∙ (held.1 ∙ sym stay.0))
 
   -- files that were not opened are as they were, or as the kit has it
   pub keeps_untouched : (image : Image) (left : Left D g) → left ≡ Untouched → KeepsFile g image left

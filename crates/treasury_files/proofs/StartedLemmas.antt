@@ -18,7 +18,7 @@ use Rattle.sqlite.specs.Closing.{IsCopied, HoldsAlone}
 use Rattle.treasury_state.specs.Federation.{Federation}
 use Rattle.treasury_state.specs.Good.{IsGoodState}
 use Rattle.treasury_state.specs.Rows.{rows}
-use Rattle.treasury_tables.specs.Rows.{Tables, Holds, HoldsEither, ShowsTables}
+use Rattle.treasury_tables.specs.Rows.{Tables, HoldsTables, HoldsEither, ShowsTables}
 use Rattle.treasury_tables.specs.Kept.{KeepsTables, StaysAsIs}
 use Rattle.treasury_tables.specs.Tables.{no_schema, store_schema}
 use Rattle.treasury_tables.specs.Creating.{has_one, has_all, has_receipt}
@@ -111,7 +111,7 @@ module _ {D : Type 0} (g : disk.Ghosts D) where
       tables k same rows holds _ _ =
           let held = upgraded same rows holds (middle k) (is_open (middle k)) in
           let stay = kept k held.0.shows.schema held.1 in
-          (subst (λ (d : Database). Holds d rows) (sym stay.0) held.0, stay.1 ∙ (held.1 ∙ sym stay.0))
+          (subst (λ (d : Database). HoldsTables d rows) (sym stay.0) held.0, stay.1 ∙ (held.1 ∙ sym stay.0))
 
   -- a treasury is started on files that were opened, or they keep what they held
   pub started_by : {E : Type 0} (why_of : E → Why) (left_of : E → Left D g)

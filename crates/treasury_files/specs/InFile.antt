@@ -15,7 +15,7 @@ use Rattle.sqlite.specs.Closing.{HoldsAlone}
 use Rattle.treasury_state.specs.Federation.{Federation}
 use Rattle.treasury_state.specs.Good.{IsGoodState}
 use Rattle.treasury_state.specs.Rows.{rows}
-use Rattle.treasury_tables.specs.Rows.{Holds, HoldsEither, ShowsTables}
+use Rattle.treasury_tables.specs.Rows.{HoldsTables, HoldsEither, ShowsTables}
 use Rattle.treasury_tables.specs.Tables.{no_schema}
 use Rattle.treasury_tables.specs.Creating.{has_one, has_all}
 use Rattle.treasury_tables.specs.Opening.{AreOursAlone, IsFirst, IsFirstNumbered, IsSecond}
@@ -34,7 +34,7 @@ pub record HoldsState (image : Image) (f : Federation) : Type 0 where
   pub good : IsGoodState f
   pub db : Database
   pub listed : IsDatabase db
-  pub tables : Holds db (rows f)
+  pub tables : HoldsTables db (rows f)
   pub alone : HoldsAlone image db.trees
 
 -- the tables of a database are the rows of a good state, as a query reads them

@@ -40,9 +40,9 @@ use Rattle.treasury_state.proofs.PlaceLemmas.{changed_past}
 use Rattle.treasury_laws.specs.History.{Grows}
 use Rattle.treasury_laws.proofs.HeadlineLemmas.{grows_twice}
 use Rattle.treasury_tables.specs.declared.change.Change.TheVariants as change
-use Rattle.treasury_tables.specs.Rows.{Tables, locked, received as takes, joined as written}
-use Rattle.treasury_tables.proofs.SameLemmas.{Same, same_refl, same_trans, same_joined, other_units, joined-append}
-use Rattle.treasury_tables.proofs.SameLemmas.{legs_joined, claims_joined, front_past, second_first}
+use Rattle.treasury_tables.specs.Rows.{Tables, locked, received as takes, written}
+use Rattle.treasury_tables.proofs.SameLemmas.{Same, same_refl, same_trans, same_written, other_units, written-append}
+use Rattle.treasury_tables.proofs.SameLemmas.{legs_written, claims_written, front_past, second_first}
 use Rattle.treasury_store.specs.Numbers.{records_each, numbers_of}
 use Rattle.treasury_store.specs.Store.{Finds, FindsAll}
 use Rattle.treasury_store.specs.Changes.{Counts, named, place_in, record_changes, receipt_change, changes_by, counted}
@@ -219,9 +219,9 @@ record_written e ls cs t =
     let u : Tables = record t { entries = e ∷ t.entries } in
     let v : Tables = record u { legs = ls ++ u.legs } in
     let w : Tables = record v { claims = cs ++ v.claims } in
-    subst (λ x. Same x w) (sym (joined-append (map change.Leg ls) (map change.Claim cs) u))
+    subst (λ x. Same x w) (sym (written-append (map change.Leg ls) (map change.Claim cs) u))
     (same_trans (written (map change.Claim cs) (written (map change.Leg ls) u)) (written (map change.Claim cs) v) w
-    (same_joined (map change.Claim cs) _ v (legs_joined ls u)) (claims_joined cs v))
+    (same_written (map change.Claim cs) _ v (legs_written ls u)) (claims_written cs v))
 
 module _ (S : List Style) (N : List (List ℕ)) (f : Federation) (more : List (List ℕ))
     (names : N ≡ names_of f.branches ++ more) where
@@ -497,10 +497,10 @@ all_written S N (x ∷ xs) f e room found =
     let later = subst (λ (d : Counts).
     Same (written (changes_from S N d xs) (rows_under S N next)) (rows_under S N (joined next xs)))
     (sym (count_step S N f w.0 w.1 x)) (all_written S N xs next e room found.1) in
-    subst (λ u. Same u (rows_under S N (joined next xs))) (sym (joined-append first rest (rows_under S N f)))
+    subst (λ u. Same u (rows_under S N (joined next xs))) (sym (written-append first rest (rows_under S N f)))
     (same_trans (written rest (written first (rows_under S N f))) (written rest (rows_under S N next))
     (rows_under S N (joined next xs))
-    (same_joined rest (written first (rows_under S N f)) (rows_under S N next) one) later)
+    (same_written rest (written first (rows_under S N f)) (rows_under S N next) one) later)
 
 -- ---- the rows of a good state, and those under more styles and names
 entry_grown : (styles more : List Style) (b n : ℕ) (rs : List Record) → AllByRecursion (IsGoodRecord styles) rs

@@ -10,7 +10,7 @@ use Rattle.treasury_state.specs.Federation.{Federation}
 use Rattle.treasury_state.specs.Joined.{joined}
 use Rattle.treasury_state.specs.Rows.{rows}
 use Rattle.treasury_core.specs.declared.command.Command.{Command}
-use Rattle.treasury_tables.specs.Rows.{Tables, Holds, AreTreesOf}
+use Rattle.treasury_tables.specs.Rows.{Tables, HoldsTables, AreTreesOf}
 use Rattle.treasury_tables.specs.Kept.{KeepsTables, ShutsByFault, IsFaithful}
 use Rattle.treasury_tables.specs.Creating.{has_receipt}
 use Rattle.treasury_tables.specs.Upgrading.{KeepsOurs}
@@ -32,7 +32,7 @@ module _ {S : Type 0} (g : Ghosts S)
   pub leaves_more : (old new : Held S) (t : Tables) (Commits : Trees → Type 0)
       → Survives (state g old) (state g new) Commits → IsTrue (state g old).is_open → TablesAreWhileOpen g old t
       → IsFaithful g new → (trees : Trees) → (state g new).may_leave trees
-      → AreTreesOf trees t ⊎ (Holds (state g old).now t × Commits trees)
+      → AreTreesOf trees t ⊎ (HoldsTables (state g old).now t × Commits trees)
   leaves_more old new t Commits left is_open are clean trees may =
       let before : IsFaithful g old = omega (arith, left.clean, clean) in
       elim (left.crash clean trees may) [
@@ -80,8 +80,8 @@ module _ {S : Type 0} (g : Ghosts S)
   pub leaves_joined : (old new : Store S) (xs : List Addition)
       → Survives (state g old.conn) (state g new.conn)
       (λ trees. (db : Database) × (trees ≡ db.trees)
-      × ((f : Federation) → IsOf g old f → Joins f xs → Holds (state g old.conn).now (rows f)
-      → Holds db (rows (joined f xs))))
+      × ((f : Federation) → IsOf g old f → Joins f xs → HoldsTables (state g old.conn).now (rows f)
+      → HoldsTables db (rows (joined f xs))))
       → LeavesJoined g old new xs
   leaves_joined old new xs left is_open f of next clean trees may =
       elim (leaves_more old.conn new.conn (rows f) _ left is_open of.tables clean trees may) [

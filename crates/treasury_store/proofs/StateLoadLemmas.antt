@@ -15,7 +15,7 @@ use Rattle.treasury_state.specs.Good.{IsGoodState}
 use Rattle.treasury_state.specs.Rows.{rows}
 use Rattle.treasury_laws.proofs.RowsLawLemmas.{same_state}
 use Rattle.treasury_tables.specs.Tables.{store_schema}
-use Rattle.treasury_tables.specs.Rows.{Tables, Holds, ShowsTables}
+use Rattle.treasury_tables.specs.Rows.{Tables, HoldsTables, ShowsTables}
 use Rattle.treasury_tables.specs.Kept.{Queries, IsFaithful}
 use Rattle.treasury_tables.specs.Order.{InOrder}
 use Rattle.treasury_store.specs.declared.store.Store.{Store}
@@ -27,14 +27,14 @@ module _ {S : Type 0} (g : Ghosts S) (old new : Held S)
   -- tables that stay
   pub tables_stay : (t : Tables) → (IsFaithful g new → IsTrue (state g new).is_open
       → IsTrue (state g old).is_open)
-      → (IsFaithful g new → IsTrue (state g new).is_open → Holds (state g old).now t
+      → (IsFaithful g new → IsTrue (state g new).is_open → HoldsTables (state g old).now t
       → (state g old).committed ≡ (state g old).now
       → ((state g new).now ≡ (state g old).now) × ((state g new).committed ≡ (state g old).committed))
       → TablesAreWhileOpen g old t → TablesAreWhileOpen g new t
   tables_stay t was_open same are clean is_open =
       let was = are (cleaner clean) (was_open clean is_open) in
       let kept = same clean is_open was.0 was.1 in
-      (subst (λ (db : Database). Holds db t) (sym kept.0) was.0, kept.1 ∙ (was.1 ∙ sym kept.0))
+      (subst (λ (db : Database). HoldsTables db t) (sym kept.0) was.0, kept.1 ∙ (was.1 ∙ sym kept.0))
 
   module _ (opened : IsFaithful g new → IsTrue (state g old).is_open × IsTrue (state g new).is_open)
       (same : IsFaithful g new → (state g old).now.schema ≡ store_schema

@@ -14,7 +14,7 @@ use Rattle.treasury_state.specs.Rows.{rows}
 use Rattle.treasury_state.proofs.BackLemmas.{good_room}
 use Rattle.treasury_tables.specs.Kept.{IsFaithful}
 use Rattle.treasury_tables.specs.declared.change.Change.{Change}
-use Rattle.treasury_tables.specs.Rows.{Tables, Holds, HoldsEither, joined as written}
+use Rattle.treasury_tables.specs.Rows.{Tables, HoldsTables, HoldsEither, written}
 use Rattle.treasury_tables.specs.Creating.{has_receipt}
 use Rattle.treasury_tables.specs.Opening.{AreOursAlone, IsFirst, IsFirstNumbered}
 use Rattle.treasury_tables.specs.Upgrading.{Upgrades}
@@ -43,7 +43,7 @@ some_numbers n m e = cc
 -- the changes written to the rows of the state are the rows of the joined one
 pub holds_joined : (f : Federation) (xs : List Addition) (n : Numbering) (changes : List Change) (db : Database)
     → IsGoodState f → Joins f xs → n ≡ numbers_of f → changes ≡ changes_of n xs
-    → Holds db (written changes (rows f)) → Holds db (rows (joined f xs))
+    → HoldsTables db (written changes (rows f)) → HoldsTables db (rows (joined f xs))
 holds_joined f xs n changes db good next e is h =
     holds_same db (written changes (rows f)) (rows (joined f xs))
     (subst (λ (cs : List Change). Same (written cs (rows f)) (rows (joined f xs)))
@@ -63,7 +63,7 @@ module _ {S : Type 0} (g : Ghosts S) (old : Store S) (f : Federation) (of : IsOf
     tables = λ is_clean is_open.
         let was = of.tables (clean is_clean) (opened is_clean is_open) in
         let now = same is_clean is_open in
-        (subst (λ (db : Database). Holds db (rows f)) (sym now.0) was.0, now.1 ∙ (was.1 ∙ sym now.0));
+        (subst (λ (db : Database). HoldsTables db (rows f)) (sym now.0) was.0, now.1 ∙ (was.1 ∙ sym now.0));
     numbers = numbers ∙ of.numbers;
   }
 
@@ -72,15 +72,15 @@ module _ {S : Type 0} (g : Ghosts S) (old : Store S) (f : Federation) (of : IsOf
     same_numbers : n ≡ numbers_of f
     same_numbers = some_numbers n (numbers_of f) (sym known ∙ of.numbers)
 
-    pub holds_next : (db : Database) → Holds db (written changes (rows f)) → Holds db (rows (joined f xs))
+    pub holds_next : (db : Database) → HoldsTables db (written changes (rows f)) → HoldsTables db (rows (joined f xs))
     holds_next db h = holds_joined f xs n changes db of.good next same_numbers is h
 
     -- once the changes are written, the store is of the joined state
     pub becomes_of : (new : Store S) → new.numbers ≡ Some (numbers_with n xs)
         → (IsFaithful g new.conn → IsFaithful g old.conn)
         → (IsFaithful g new.conn → IsTrue (state g new.conn).is_open → IsTrue (state g old.conn).is_open)
-        → (IsFaithful g new.conn → (t : Tables) → Holds (state g old.conn).now t
-        → Holds (state g new.conn).now (written changes t)
+        → (IsFaithful g new.conn → (t : Tables) → HoldsTables (state g old.conn).now t
+        → HoldsTables (state g new.conn).now (written changes t)
         × ((state g new.conn).committed ≡ (state g new.conn).now))
         → IsOf g new (joined f xs)
     becomes_of new numbers clean opened puts = record {
@@ -106,11 +106,11 @@ pub crash_joined : {S : Type 0} (g : Ghosts S) (old : Store S) (new : Held S) (x
     → old.numbers ≡ Some n → (changes : List Change) → changes ≡ changes_of n xs
     → Survives (state g old.conn) (state g new)
     (λ trees. (db : Database) × (trees ≡ db.trees)
-    × ((t : Tables) → Holds (state g old.conn).now t → Holds db (written changes t)))
+    × ((t : Tables) → HoldsTables (state g old.conn).now t → HoldsTables db (written changes t)))
     → Survives (state g old.conn) (state g new)
     (λ trees. (db : Database) × (trees ≡ db.trees)
-    × ((f : Federation) → IsOf g old f → Joins f xs → Holds (state g old.conn).now (rows f)
-    → Holds db (rows (joined f xs))))
+    × ((f : Federation) → IsOf g old f → Joins f xs → HoldsTables (state g old.conn).now (rows f)
+    → HoldsTables db (rows (joined f xs))))
 crash_joined g old new xs n known changes is left =
     survives_weaker (state g old.conn) (state g new) _ _
     (λ clean trees p.
@@ -141,4 +141,4 @@ opened_holds g old new first same settled t (inr holds) clean is_open =
 opened_holds g old new first same settled t (inl holds) clean is_open =
     let kept = same clean (ours_second (state g old).now.schema holds.shows.schema)
     (λ is. not_first (state g old).now (ap has_receipt holds.shows.schema ∙ second_more) is) in
-    (subst (λ (d : Database). Holds d t) (sym kept.0) holds, kept.1 ∙ (settled ∙ sym kept.0))
+    (subst (λ (d : Database). HoldsTables d t) (sym kept.0) holds, kept.1 ∙ (settled ∙ sym kept.0))

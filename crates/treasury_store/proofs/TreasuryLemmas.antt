@@ -33,7 +33,7 @@ use Rattle.treasury_core.specs.Closing.{closing_in}
 use Rattle.treasury_core.specs.Run.{IsRun, state_after}
 use Rattle.treasury_laws.specs.Headline.{KeepsBooks}
 use Rattle.treasury_laws.proofs.HeadlineLemmas.{keeps_books}
-use Rattle.treasury_tables.specs.Rows.{Holds, AreTreesOf}
+use Rattle.treasury_tables.specs.Rows.{HoldsTables, AreTreesOf}
 use Rattle.treasury_tables.specs.Kept.{KeepsTables, IsFaithful}
 use Rattle.treasury_store.specs.declared.store.Store.{Store}
 use Rattle.treasury_store.specs.Store.{IsOf, AnswersState, FailsAs, Finds, FindsAll, Joins}
@@ -172,24 +172,24 @@ headline_of g new f c r good fits performs = (
 abbrev pub SurvivesChange : {S : Type 0} → Ghosts S → Store S → Held S → Federation → Federation → Type 0
 SurvivesChange g old new f next =
     Survives (state g old.conn) (state g new)
-    (λ trees. IsOf g old f → Holds (state g old.conn).now (rows f) → AreTreesOf trees (rows next))
+    (λ trees. IsOf g old f → HoldsTables (state g old.conn).now (rows f) → AreTreesOf trees (rows next))
 
 -- what is written, whichever way the store is left
 pub survives_write : {S : Type 0} (g : Ghosts S) (old : Store S) (new : Held S) (now : Federation) (xs : List Addition)
     → Joins now xs
     → Survives (state g old.conn) (state g new)
     (λ trees. (db : Database) × (trees ≡ db.trees)
-    × ((f : Federation) → IsOf g old f → Joins f xs → Holds (state g old.conn).now (rows f)
-    → Holds db (rows (joined f xs))))
+    × ((f : Federation) → IsOf g old f → Joins f xs → HoldsTables (state g old.conn).now (rows f)
+    → HoldsTables db (rows (joined f xs))))
     → SurvivesChange g old new now (joined now xs)
 survives_write g old new now xs good left =
     survives_weaker (state g old.conn) (state g new) _ _ (λ clean trees p of h. (p.0, p.1, p.2 now of good h)) left
 
 -- the tables of a state that was loaded
 pub rows_loaded : {S : Type 0} (g : Ghosts S) (new : Store S) (s f : Federation) → IsOf g new s → s ≡ f
-    → IsFaithful g new.conn → IsTrue (state g new.conn).is_open → Holds (state g new.conn).now (rows f)
+    → IsFaithful g new.conn → IsTrue (state g new.conn).is_open → HoldsTables (state g new.conn).now (rows f)
 rows_loaded g new s f of same clean is_open =
-    subst (λ (x : Federation). Holds (state g new.conn).now (rows x)) same (of.tables clean is_open).0
+    subst (λ (x : Federation). HoldsTables (state g new.conn).now (rows x)) same (of.tables clean is_open).0
 
 module _ {S : Type 0} (g : Ghosts S) (old new : Treasury S) (c : Command) where
   -- a state that is loaded at most
@@ -203,7 +203,7 @@ module _ {S : Type 0} (g : Ghosts S) (old new : Treasury S) (c : Command) where
       → KeepsTables g old.store.conn mid.store.conn
       → (IsFaithful g mid.store.conn → (f : Federation) → IsTreasuryOf g old f → IsTreasuryOf g mid f)
       → (IsFaithful g mid.store.conn → (f : Federation) → IsTreasuryOf g old f
-      → Holds (state g old.store.conn).now (rows f) → Holds (state g mid.store.conn).now (rows f))
+      → HoldsTables (state g old.store.conn).now (rows f) → HoldsTables (state g mid.store.conn).now (rows f))
       → mid.held ≡ Some s
       → SurvivesChange g mid.store new.store.conn s (step s c).next → SurvivesCommand g old new c
   survives_settle mid s cleaner held of_mid rows_mid is settled =
@@ -212,7 +212,7 @@ module _ {S : Type 0} (g : Ghosts S) (old new : Treasury S) (c : Command) where
       (λ clean trees made f of fits h.
       let there = of_mid (cleaner clean) f of in
       let same : s ≡ f = subst (λ (o : Option Federation). IfSome o (λ x. x ≡ f)) is there.held in
-      let moved = subst (λ (x : Federation). IsOf g mid.store x → Holds (state g mid.store.conn).now (rows x)
+      let moved = subst (λ (x : Federation). IsOf g mid.store x → HoldsTables (state g mid.store.conn).now (rows x)
       → AreTreesOf trees (rows (step x c).next)) same made in
       moved there.store (rows_mid (cleaner clean) f of h))
       held settled

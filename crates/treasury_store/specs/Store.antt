@@ -13,7 +13,7 @@ use Rattle.treasury_state.specs.Joined.{joined_one, joined}
 use Rattle.treasury_state.specs.Good.{IsGoodState}
 use Rattle.treasury_state.specs.Rows.{rows}
 use Rattle.treasury_tables.specs.Kept.{IsFaithful}
-use Rattle.treasury_tables.specs.Rows.{Tables, Holds}
+use Rattle.treasury_tables.specs.Rows.{Tables, HoldsTables}
 use Rattle.treasury_store.specs.Numbers.{numbers_of}
 use Rattle.treasury_store.specs.declared.store.Store.{Store}
 
@@ -25,7 +25,7 @@ empty_state = record { styles = []; branches = []; transfers = [] }
 -- committed
 abbrev pub TablesAreWhileOpen : {S : Type 0} → Ghosts S → Held S → Tables → Type 0
 TablesAreWhileOpen g h t = IsFaithful g h → IsTrue (state g h).is_open
-    → Holds (state g h).now t × ((state g h).committed ≡ (state g h).now)
+    → HoldsTables (state g h).now t × ((state g h).committed ≡ (state g h).now)
 
 -- the store knows by which numbers the rows of a state go on
 abbrev pub Knows : {S : Type 0} → Store S → Federation → Type 0

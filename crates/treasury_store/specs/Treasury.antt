@@ -15,7 +15,7 @@ use Rattle.treasury_core.specs.declared.command.Command.{Command}
 use Rattle.treasury_core.specs.Step.{reply, after, delta, step}
 use Rattle.treasury_core.specs.Fits.{Fits}
 use Rattle.treasury_core.specs.Run.{Turn, Replies}
-use Rattle.treasury_tables.specs.Rows.{Holds, AreTreesOf}
+use Rattle.treasury_tables.specs.Rows.{HoldsTables, AreTreesOf}
 use Rattle.treasury_tables.specs.Kept.{ShutsByFault, IsFaithful}
 use Rattle.treasury_store.specs.declared.store.Store.{Store}
 use Rattle.treasury_store.specs.Store.{IsOf}
@@ -71,8 +71,8 @@ turn_if c r = if is_failure r then [] else record { command = c; reply = r } ∷
 abbrev pub SurvivesCommand : {S : Type 0} → Ghosts S → Treasury S → Treasury S → Command → Type 0
 SurvivesCommand g old new c =
     Survives (state g old.store.conn) (state g new.store.conn)
-    (λ trees. (f : Federation) → IsTreasuryOf g old f → Fits f.styles c → Holds (state g old.store.conn).now (rows f)
-    → AreTreesOf trees (rows (step f c).next))
+    (λ trees. (f : Federation) → IsTreasuryOf g old f → Fits f.styles c
+    → HoldsTables (state g old.store.conn).now (rows f) → AreTreesOf trees (rows (step f c).next))
 
 -- a command that adds nothing: it is refused, or everything that it asks for is there
 abbrev pub AddsNothing : Federation → Command → Type 0

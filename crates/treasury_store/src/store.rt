@@ -10,7 +10,7 @@ ghost use Rattle.treasury_state.specs.Federation.{Federation};
 ghost use Rattle.treasury_state.specs.Good.{IsGoodState};
 ghost use Rattle.treasury_state.specs.Joined.{joined};
 ghost use Rattle.treasury_state.specs.Rows.{rows};
-ghost use Rattle.treasury_tables.specs.Rows.{Tables, Holds, HoldsEither, ShowsTables};
+ghost use Rattle.treasury_tables.specs.Rows.{Tables, HoldsTables, HoldsEither, ShowsTables};
 ghost use Rattle.treasury_tables.specs.Kept.{ChangesNothing, KeepsTables, StaysAsIs, IsFaithful};
 ghost use Rattle.treasury_tables.specs.Tables.{no_schema, store_schema};
 ghost use Rattle.treasury_tables.specs.Creating.{has_one, has_all, has_counter, Beside, SurvivesMaking};
@@ -286,7 +286,7 @@ impl<S: Alter> Store<S> {
         ensures crash { Survives (state S.Store self.old.conn) (state S.Store self.new.conn)
             (λ trees. (db : Database) × (trees ≡ db.trees)
             × ((f : Federation) → IsOf S.Store self.old f → Joins f delta.now
-            → Holds (state S.Store self.old.conn).now (rows f) → Holds db (rows (joined f delta.now)))) }
+            → HoldsTables (state S.Store self.old.conn).now (rows f) → HoldsTables db (rows (joined f delta.now)))) }
         ensures left { LeavesJoined S.Store self.old self.new delta.now }
     {
         if self.failed {

@@ -14,7 +14,7 @@ ghost use Rattle.treasury_core.specs.Step.{step};
 ghost use Rattle.treasury_core.specs.Run.{Replies, state_after};
 ghost use Rattle.treasury_laws.specs.Headline.{KeepsBooks};
 ghost use Rattle.treasury_tables.specs.Tables.{store_schema};
-ghost use Rattle.treasury_tables.specs.Rows.{Holds, AreTreesOf, Tables, ShowsTables};
+ghost use Rattle.treasury_tables.specs.Rows.{HoldsTables, AreTreesOf, Tables, ShowsTables};
 ghost use Rattle.treasury_tables.specs.Kept.{KeepsTables, StaysAsIs, IsFaithful};
 ghost use Rattle.treasury_store.specs.Shown.{ShowsNoState};
 ghost use Rattle.treasury_store.specs.Store.{TablesAreWhileOpen, Knows, IsOf, Joins, Answers, AnswersState, FailsAs};
@@ -152,8 +152,8 @@ impl<S: Alter> Treasury<S> {
         ensures clean { IsFaithful S.Store self.new.store.conn
             → IsFaithful S.Store self.old.store.conn }
         ensures rows { OnOk result (IsFaithful S.Store self.new.store.conn → (f : Federation)
-            → IsTreasuryOf S.Store self.old f → Holds (state S.Store self.old.store.conn).now (rows f)
-            → Holds (state S.Store self.new.store.conn).now (rows f)) }
+            → IsTreasuryOf S.Store self.old f → HoldsTables (state S.Store self.old.store.conn).now (rows f)
+            → HoldsTables (state S.Store self.new.store.conn).now (rows f)) }
         ensures shown { OnOk result (IsFaithful S.Store self.new.store.conn → self.old.held ≡ None
             → ShowsNoState (state S.Store self.old.store.conn).now → ⊥) }
         ensures unchanged { IsFaithful S.Store self.new.store.conn
@@ -196,7 +196,7 @@ impl<S: Alter> Treasury<S> {
         ensures clean { IsFaithful S.Store self.new.store.conn
             → IsFaithful S.Store self.old.store.conn }
         ensures crash { Survives (state S.Store self.old.store.conn) (state S.Store self.new.store.conn)
-            (λ trees. IsOf S.Store self.old.store now → Holds (state S.Store self.old.store.conn).now (rows now)
+            (λ trees. IsOf S.Store self.old.store now → HoldsTables (state S.Store self.old.store.conn).now (rows now)
             → AreTreesOf trees (rows (joined now delta))) }
     {
         if delta.additions().is_empty() {
@@ -234,7 +234,7 @@ impl<S: Alter> Treasury<S> {
         ensures clean { IsFaithful S.Store self.new.store.conn
             → IsFaithful S.Store self.old.store.conn }
         ensures crash { Survives (state S.Store self.old.store.conn) (state S.Store self.new.store.conn)
-            (λ trees. IsOf S.Store self.old.store now → Holds (state S.Store self.old.store.conn).now (rows now)
+            (λ trees. IsOf S.Store self.old.store now → HoldsTables (state S.Store self.old.store.conn).now (rows now)
             → AreTreesOf trees (rows (step now command.now).next)) }
     {
         match decide(self.alloc, &now, command) {

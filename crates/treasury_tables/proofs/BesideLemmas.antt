@@ -23,9 +23,9 @@ use Rattle.sqlite.specs.Held.{Held, state}
 use Rattle.sqlite.proofs.StateLemmas.{survives_then}
 use Rattle.money_core.proofs.ListLemmas.{all_front, all_behind}
 use Rattle.treasury_tables.specs.Kept.{IsFaithful}
-use Rattle.treasury_tables.specs.Tables.{format, state_tables, made_all, new_tables, no_schema}
-use Rattle.treasury_tables.specs.Rows.{Holds, no_rows, format_row, shown_unit, shown_branch, shown_entry, shown_leg}
-use Rattle.treasury_tables.specs.Rows.{shown_claim, shown_transfer, shown_part}
+use Rattle.treasury_tables.specs.Tables.{format, state_tables, made_all, new_tables, no_schema, store_schema}
+use Rattle.treasury_tables.specs.Rows.{HoldsTables, no_rows, format_row, shown_unit, shown_branch, shown_entry}
+use Rattle.treasury_tables.specs.Rows.{shown_leg, shown_claim, shown_transfer, shown_part}
 use Rattle.treasury_tables.specs.Creating.{Makes, MakesAll, GivesRow, Beside, is_ours, has_one, has_counter}
 use Rattle.treasury_tables.proofs.CreateLemmas.{kept_twice, stays_uncounted}
 use Rattle.treasury_tables.proofs.Texts.{add_format_text, format_terms}
@@ -146,8 +146,12 @@ whole_beside a b c d p row q =
           (all_front (λ (t : Table). d.trees t.tree ≡ c.trees t.tree) a.schema.tables (f ∷ []) all);
     }
 
+-- in the schema each of our tables has the number with which it is defined
+pub schema_numbers : store_schema.tables ≡ format ∷ state_tables
+schema_numbers = refl
+
 -- in an empty database
-pub holds_none : (a d : Database) → a.schema ≡ no_schema → Beside a d → Holds d no_rows
+pub holds_none : (a d : Database) → a.schema ≡ no_schema → Beside a d → HoldsTables d no_rows
 holds_none a d none made =
     let empty : AllByRecursion (λ (t : Table). d.trees t.tree ≡ []) (new_tables state_tables (created no_schema format))
     =

@@ -13,9 +13,9 @@ use Rattle.treasury_state.specs.declared.rows.EntryRow.{EntryRow}
 use Rattle.treasury_state.specs.declared.rows.LegRow.{LegRow}
 use Rattle.treasury_state.specs.declared.rows.ClaimRow.{ClaimRow}
 use Rattle.treasury_tables.specs.Tables.{entry, leg, claim, store_schema}
-use Rattle.treasury_tables.specs.Rows.{Tables, Holds, unit_row, branch_row, entry_row, leg_row, claim_row, transfer_row}
-use Rattle.treasury_tables.specs.Rows.{part_row, shown_unit, shown_branch, shown_entry, shown_leg, shown_claim}
-use Rattle.treasury_tables.specs.Rows.{shown_transfer, shown_part}
+use Rattle.treasury_tables.specs.Rows.{Tables, HoldsTables, unit_row, branch_row, entry_row, leg_row, claim_row}
+use Rattle.treasury_tables.specs.Rows.{transfer_row, part_row, shown_unit, shown_branch, shown_entry, shown_leg}
+use Rattle.treasury_tables.specs.Rows.{shown_claim, shown_transfer, shown_part}
 use Rattle.treasury_tables.proofs.EightTexts.{add_entry_eights_text, add_entry_eights_is, entry_eights_terms}
 use Rattle.treasury_tables.proofs.EightTexts.{add_leg_eights_text, add_leg_eights_is, leg_eights_terms}
 use Rattle.treasury_tables.proofs.EightTexts.{add_claim_eights_text, add_claim_eights_is, claim_eights_terms}
@@ -49,9 +49,9 @@ module _ (e1 e2 e3 e4 e5 e6 e7 e8 : EntryRow) where
       ≡ map entry_row entry_eights
   entry_eights_are = simp (cast_int, cast_null)
 
-  pub adds_entry_eights : (old new : State) (t : Tables) (count : ℕ) → Holds old.now t
+  pub adds_entry_eights : (old new : State) (t : Tables) (count : ℕ) → HoldsTables old.now t
       → Executes add_entry_eights_text entry_eights_params old new (Ok count)
-      → Holds new.now (record t { entries = e8 ∷ e7 ∷ e6 ∷ e5 ∷ e4 ∷ e3 ∷ e2 ∷ e1 ∷ t.entries })
+      → HoldsTables new.now (record t { entries = e8 ∷ e7 ∷ e6 ∷ e5 ∷ e4 ∷ e3 ∷ e2 ∷ e1 ∷ t.entries })
   adds_entry_eights old new t count holds h =
       let a = adds_all store_schema entry.name entry.tree entry.columns entry.key entry.primary entry.uniques
       entry.orders add_entry_eights_text 3 entry_eights_terms 6 entry_eights_params (map entry_row entry_eights)
@@ -93,9 +93,9 @@ module _ (l1 l2 l3 l4 l5 l6 l7 l8 : LegRow) where
       ≡ map leg_row leg_eights
   leg_eights_are = simp (cast_int, cast_null)
 
-  pub adds_leg_eights : (old new : State) (t : Tables) (count : ℕ) → Holds old.now t
+  pub adds_leg_eights : (old new : State) (t : Tables) (count : ℕ) → HoldsTables old.now t
       → Executes add_leg_eights_text leg_eights_params old new (Ok count)
-      → Holds new.now (record t { legs = l8 ∷ l7 ∷ l6 ∷ l5 ∷ l4 ∷ l3 ∷ l2 ∷ l1 ∷ t.legs })
+      → HoldsTables new.now (record t { legs = l8 ∷ l7 ∷ l6 ∷ l5 ∷ l4 ∷ l3 ∷ l2 ∷ l1 ∷ t.legs })
   adds_leg_eights old new t count holds h =
       let a = adds_all store_schema leg.name leg.tree leg.columns leg.key leg.primary leg.uniques leg.orders
       add_leg_eights_text 4 leg_eights_terms 7 leg_eights_params (map leg_row leg_eights) add_leg_eights_is.0
@@ -139,9 +139,9 @@ module _ (c1 c2 c3 c4 c5 c6 c7 c8 : ClaimRow) where
       ≡ map claim_row claim_eights
   claim_eights_are = simp (cast_int, cast_null)
 
-  pub adds_claim_eights : (old new : State) (t : Tables) (count : ℕ) → Holds old.now t
+  pub adds_claim_eights : (old new : State) (t : Tables) (count : ℕ) → HoldsTables old.now t
       → Executes add_claim_eights_text claim_eights_params old new (Ok count)
-      → Holds new.now (record t { claims = c8 ∷ c7 ∷ c6 ∷ c5 ∷ c4 ∷ c3 ∷ c2 ∷ c1 ∷ t.claims })
+      → HoldsTables new.now (record t { claims = c8 ∷ c7 ∷ c6 ∷ c5 ∷ c4 ∷ c3 ∷ c2 ∷ c1 ∷ t.claims })
   adds_claim_eights old new t count holds h =
       let a = adds_all store_schema claim.name claim.tree claim.columns claim.key claim.primary claim.uniques
       claim.orders add_claim_eights_text 5 claim_eights_terms 7 claim_eights_params (map claim_row claim_eights)

@@ -11,7 +11,7 @@ use Rattle.sqlite.specs.Effect.{Database}
 use Rattle.sqlite.proofs.InsideLemmas.{inside_keeps}
 use Rattle.sqlite.proofs.StateLemmas.{survives_then}
 use Rattle.sqlite.proofs.Callers.{survives_begin}
-use Rattle.treasury_tables.specs.Rows.{Tables, Holds}
+use Rattle.treasury_tables.specs.Rows.{Tables, HoldsTables}
 use Rattle.treasury_tables.specs.Kept.{Writes, IsFaithful}
 use Rattle.treasury_tables.specs.Creating.{has_counter, Makes, Creates}
 use Rattle.sqlite.specs.Table.{Table}
@@ -54,8 +54,9 @@ pub one_statement_writes : {S : Type 0} (g : Ghosts S) (old new : Held S) (sql :
     → (IsFaithful g new → IsTrue (state g old).in_transaction
     → ExecutesInside 0 sql params (state g old) (state g new) r)
     → Survives (state g old) (state g new) (λ _. ⊥) → (change : Tables → Tables)
-    → ((count : ℕ) (t : Tables) → Holds (state g old).now t → Executes sql params (state g old) (state g new) (Ok count)
-    → Holds (state g new).now (change t)) → Writes g old new r change
+    → ((count : ℕ) (t : Tables) → HoldsTables (state g old).now t
+    → Executes sql params (state g old) (state g new) (Ok count)
+    → HoldsTables (state g new).now (change t)) → Writes g old new r change
 one_statement_writes g old new sql params r e ended runs survives change step = record {
   rows = λ clean. ran g old new sql params r e ended (runs clean) _ (λ count h t holds. step count t holds h);
   inside = λ clean. stays g old new sql params r e ended (runs clean);

@@ -2,36 +2,36 @@
 use Rattle.std.proofs.Common.{◌≡◌, List, [], ◌∷◌, Bool, true, false, not, cond, filter, refl, sym, ap, ◌∙◌, true≢false}
 use Rattle.treasury_tables.specs.declared.change.Change.{Change}
 use Rattle.treasury_tables.specs.declared.change.Change.TheVariants as change
-use Rattle.treasury_tables.specs.Rows.{Tables, changed, joined}
+use Rattle.treasury_tables.specs.Rows.{Tables, changed, written}
 use Rattle.treasury_tables.specs.Kinds.{is_entry, is_leg, is_claim, is_single}
 
 module _ (p : Change → Bool) (apart : (c d : Change) (t : Tables) → p c ≡ true → p d ≡ false
     → changed d (changed c t) ≡ changed c (changed d t)) where
   past : (c : Change) → p c ≡ false → (cs : List Change) (t : Tables)
-      → joined (filter p cs) (changed c t) ≡ changed c (joined (filter p cs) t)
+      → written (filter p cs) (changed c t) ≡ changed c (written (filter p cs) t)
   past c out [] t = refl
   past c out (d ∷ cs) t = go (p d) refl (past c out cs)
     where
       go : (b : Bool) → p d ≡ b → ((u : Tables)
-          → joined (filter p cs) (changed c u) ≡ changed c (joined (filter p cs) u))
-          → joined (cond b (d ∷ filter p cs) (filter p cs)) (changed c t)
-          ≡ changed c (joined (cond b (d ∷ filter p cs) (filter p cs)) t)
-      go true e more = ap (joined (filter p cs)) (sym (apart d c t e out)) ∙ more (changed d t)
+          → written (filter p cs) (changed c u) ≡ changed c (written (filter p cs) u))
+          → written (cond b (d ∷ filter p cs) (filter p cs)) (changed c t)
+          ≡ changed c (written (cond b (d ∷ filter p cs) (filter p cs)) t)
+      go true e more = ap (written (filter p cs)) (sym (apart d c t e out)) ∙ more (changed d t)
       go false e more = more t
 
   -- those of the kind first, and then the others
   pub by_kind : (cs : List Change) (t : Tables)
-      → joined cs t ≡ joined (filter (λ c. not (p c)) cs) (joined (filter p cs) t)
+      → written cs t ≡ written (filter (λ c. not (p c)) cs) (written (filter p cs) t)
   by_kind [] t = refl
   by_kind (c ∷ cs) t = go (p c) refl (by_kind cs (changed c t))
     where
-      go : (b : Bool) → p c ≡ b → joined cs (changed c t)
-          ≡ joined (filter (λ d. not (p d)) cs) (joined (filter p cs) (changed c t))
-          → joined cs (changed c t)
-          ≡ joined (cond (not b) (c ∷ filter (λ d. not (p d)) cs) (filter (λ d. not (p d)) cs))
-          (joined (cond b (c ∷ filter p cs) (filter p cs)) t)
+      go : (b : Bool) → p c ≡ b → written cs (changed c t)
+          ≡ written (filter (λ d. not (p d)) cs) (written (filter p cs) (changed c t))
+          → written cs (changed c t)
+          ≡ written (cond (not b) (c ∷ filter (λ d. not (p d)) cs) (filter (λ d. not (p d)) cs))
+          (written (cond b (c ∷ filter p cs) (filter p cs)) t)
       go true e more = more
-      go false e more = more ∙ ap (joined (filter (λ d. not (p d)) cs)) (past c e cs t)
+      go false e more = more ∙ ap (written (filter (λ d. not (p d)) cs)) (past c e cs t)
 
 -- a kind apart from another is not touched where the other is taken out
 pub filter_other_kind : (p q : Change → Bool) → ((c : Change) → q c ≡ true → p c ≡ false) → (cs : List Change)
@@ -148,20 +148,20 @@ no_leg (change.Receipt id day payee) h = refl
 
 -- entries, legs, claims, and then the rest
 pub by_kinds : (cs : List Change) (t : Tables)
-    → joined cs t
-    ≡ joined (others cs) (joined (filter is_claim cs) (joined (filter is_leg cs) (joined (filter is_entry cs) t)))
+    → written cs t
+    ≡ written (others cs) (written (filter is_claim cs) (written (filter is_leg cs) (written (filter is_entry cs) t)))
 by_kinds cs t =
     let rest = filter (λ c. not (is_entry c)) cs in
     let last = filter (λ c. not (is_leg c)) rest in
-    let u = joined (filter is_entry cs) t in
+    let u = written (filter is_entry cs) t in
     let legs : filter is_leg rest ≡ filter is_leg cs = filter_other_kind is_entry is_leg no_entry cs in
     let claims : filter is_claim last ≡ filter is_claim cs =
     filter_other_kind is_leg is_claim no_leg rest ∙ filter_other_kind is_entry is_claim no_entry_either cs in
     by_kind is_entry entry_apart cs t
     ∙ (by_kind is_leg leg_apart rest u
-    ∙ (by_kind is_claim claim_apart last (joined (filter is_leg rest) u)
-    ∙ (ap (λ l. joined (others cs) (joined l (joined (filter is_leg rest) u))) claims ∙ ap
-    (λ l. joined (others cs) (joined (filter is_claim cs) (joined l u))) legs)))
+    ∙ (by_kind is_claim claim_apart last (written (filter is_leg rest) u)
+    ∙ (ap (λ l. written (others cs) (written l (written (filter is_leg rest) u))) claims ∙ ap
+    (λ l. written (others cs) (written (filter is_claim cs) (written l u))) legs)))
 
 others_are : (cs : List Change) → others cs ≡ filter is_single cs
 others_are [] = refl
@@ -176,9 +176,9 @@ others_are (change.Lock nr day ∷ cs) = ap (λ l. change.Lock nr day ∷ l) (ot
 others_are (change.Receipt id day payee ∷ cs) = ap (λ l. change.Receipt id day payee ∷ l) (others_are cs)
 
 pub by_parts : (cs : List Change) (t : Tables)
-    → joined cs t
-    ≡ joined (filter is_single cs)
-    (joined (filter is_claim cs) (joined (filter is_leg cs) (joined (filter is_entry cs) t)))
+    → written cs t
+    ≡ written (filter is_single cs)
+    (written (filter is_claim cs) (written (filter is_leg cs) (written (filter is_entry cs) t)))
 by_parts cs t = by_kinds cs t ∙ ap
-    (λ l. joined l (joined (filter is_claim cs) (joined (filter is_leg cs) (joined (filter is_entry cs) t))))
+    (λ l. written l (written (filter is_claim cs) (written (filter is_leg cs) (written (filter is_entry cs) t))))
     (others_are cs)

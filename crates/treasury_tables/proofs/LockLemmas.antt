@@ -33,9 +33,9 @@ use Rattle.sqlite.specs.Listing.{understood}
 use Rattle.sqlite.specs.State.{State, mode_of, Executes}
 use Rattle.sqlite.proofs.Callers.{statement_of, runs_as}
 use Rattle.treasury_tables.specs.Tables.{branch, store_schema}
-use Rattle.treasury_tables.specs.Rows.{Tables, Holds, unit_row, branch_row, entry_row, leg_row, claim_row, transfer_row}
-use Rattle.treasury_tables.specs.Rows.{part_row, shown_unit, shown_branch, shown_entry, shown_leg, shown_claim}
-use Rattle.treasury_tables.specs.Rows.{shown_transfer, shown_part, with_lock}
+use Rattle.treasury_tables.specs.Rows.{Tables, HoldsTables, unit_row, branch_row, entry_row, leg_row, claim_row}
+use Rattle.treasury_tables.specs.Rows.{transfer_row, part_row, shown_unit, shown_branch, shown_entry, shown_leg}
+use Rattle.treasury_tables.specs.Rows.{shown_claim, shown_transfer, shown_part, with_lock}
 use Rattle.treasury_tables.proofs.Steps.{updates}
 use Rattle.treasury_tables.proofs.Texts.{lock_text, lock_is, lock_filter, lock_terms, lock_query}
 use Rattle.treasury_tables.proofs.RowLemmas.{puts_permute, cast_int, cast_null, none_chosen, without_same}
@@ -110,8 +110,8 @@ module _ (nr day : ℤ) where
       ap (λ i. without_all (without_rowid i rows) (ids_of got)) all.0 ∙ without_same nr (ids_of got) rows
       (ids_same got all.1)
 
-  pub locks : (old new : State) (t : Tables) (count : ℕ) → Holds old.now t → Executes lock_text given old new (Ok count)
-      → Holds new.now (with_lock nr day t)
+  pub locks : (old new : State) (t : Tables) (count : ℕ) → HoldsTables old.now t
+      → Executes lock_text given old new (Ok count) → HoldsTables new.now (with_lock nr day t)
   locks old new t count holds h =
       let command = Update 2 (record { lets = []; body = lock_query }) in
       let w = runs_as lock_text given old new store_schema holds.shows.schema command lock_is.0 lock_is.1 count h in

@@ -26,9 +26,9 @@ use Rattle.sqlite.specs.Listing.{understood}
 use Rattle.sqlite.specs.State.{State, mode_of, Executes}
 use Rattle.sqlite.proofs.Callers.{statement_of, runs_as}
 use Rattle.treasury_tables.specs.Tables.{transfer, store_schema}
-use Rattle.treasury_tables.specs.Rows.{Tables, Holds, unit_row, branch_row, entry_row, leg_row, claim_row, transfer_row}
-use Rattle.treasury_tables.specs.Rows.{part_row, shown_unit, shown_branch, shown_entry, shown_leg, shown_claim}
-use Rattle.treasury_tables.specs.Rows.{shown_transfer, shown_part, with_receipt}
+use Rattle.treasury_tables.specs.Rows.{Tables, HoldsTables, unit_row, branch_row, entry_row, leg_row, claim_row}
+use Rattle.treasury_tables.specs.Rows.{transfer_row, part_row, shown_unit, shown_branch, shown_entry, shown_leg}
+use Rattle.treasury_tables.specs.Rows.{shown_claim, shown_transfer, shown_part, with_receipt}
 use Rattle.treasury_tables.proofs.Steps.{updates}
 use Rattle.treasury_tables.proofs.Texts.{receive_text, receive_is, receive_filter, receive_terms, receive_query}
 use Rattle.treasury_tables.proofs.RowLemmas.{puts_permute, cast_int, cast_null, numbered_given}
@@ -81,8 +81,8 @@ module _ (id : List ℕ) (day : ℤ) (payee : List ℕ) where
   back : (x : TransferRow) → renewed (transfer_row x) ≡ transfer_row (settled x)
   back x = ap shown_transfer (stored x)
 
-  pub receives : (old new : State) (t : Tables) (count : ℕ) → Holds old.now t
-      → Executes receive_text given old new (Ok count) → Holds new.now (with_receipt id day payee t)
+  pub receives : (old new : State) (t : Tables) (count : ℕ) → HoldsTables old.now t
+      → Executes receive_text given old new (Ok count) → HoldsTables new.now (with_receipt id day payee t)
   receives old new t count holds h =
       let command = Update 6 (record { lets = []; body = receive_query }) in
       let w = runs_as receive_text given old new store_schema holds.shows.schema command receive_is.0 receive_is.1

@@ -23,9 +23,9 @@ use Rattle.treasury_state.specs.declared.rows.ClaimRow.{ClaimRow}
 use Rattle.treasury_state.specs.declared.rows.TransferRow.{TransferRow}
 use Rattle.treasury_state.specs.declared.rows.PartRow.{PartRow}
 use Rattle.treasury_tables.specs.Tables.{unit, branch, entry, leg, claim, transfer, receipt, store_schema}
-use Rattle.treasury_tables.specs.Rows.{Tables, Holds, unit_row, branch_row, entry_row, leg_row, claim_row, transfer_row}
-use Rattle.treasury_tables.specs.Rows.{part_row, shown_unit, shown_branch, shown_entry, shown_leg, shown_claim}
-use Rattle.treasury_tables.specs.Rows.{shown_transfer, shown_part, with_unit, with_branch, with_entry}
+use Rattle.treasury_tables.specs.Rows.{Tables, HoldsTables, unit_row, branch_row, entry_row, leg_row, claim_row}
+use Rattle.treasury_tables.specs.Rows.{transfer_row, part_row, shown_unit, shown_branch, shown_entry, shown_leg}
+use Rattle.treasury_tables.specs.Rows.{shown_claim, shown_transfer, shown_part, with_unit, with_branch, with_entry}
 use Rattle.treasury_tables.specs.Rows.{with_leg, with_claim, with_transfer, with_part}
 use Rattle.treasury_tables.proofs.Texts.{add_unit_text, add_unit_is, unit_terms, add_branch_text, add_branch_is}
 use Rattle.treasury_tables.proofs.Texts.{branch_terms, add_entry_text, add_entry_is, entry_terms, add_leg_text}
@@ -65,8 +65,8 @@ module _ (u : UnitRow) where
       ≡ (stored_unit u) ∷ []
   unit_news db = simp (cast_int, cast_null)
 
-  pub adds_unit : (old new : State) (t : Tables) (count : ℕ) → Holds old.now t
-      → Executes add_unit_text (unit_row u) old new (Ok count) → Holds new.now (with_unit u t)
+  pub adds_unit : (old new : State) (t : Tables) (count : ℕ) → HoldsTables old.now t
+      → Executes add_unit_text (unit_row u) old new (Ok count) → HoldsTables new.now (with_unit u t)
   adds_unit old new t count holds h =
       let a = adds store_schema unit.name unit.tree unit.columns unit.key unit.primary unit.uniques unit.orders
       add_unit_text 1 unit_terms 8 (unit_row u) (λ db. stored_unit u) add_unit_is.0 add_unit_is.1 refl unit_news old
@@ -100,8 +100,8 @@ module _ (b : BranchRow) where
       ≡ (stored_branch b) ∷ []
   branch_news db = simp (cast_int, cast_null, cast_day)
 
-  pub adds_branch : (old new : State) (t : Tables) (count : ℕ) → Holds old.now t
-      → Executes add_branch_text (branch_row b) old new (Ok count) → Holds new.now (with_branch b t)
+  pub adds_branch : (old new : State) (t : Tables) (count : ℕ) → HoldsTables old.now t
+      → Executes add_branch_text (branch_row b) old new (Ok count) → HoldsTables new.now (with_branch b t)
   adds_branch old new t count holds h =
       let a = adds store_schema branch.name branch.tree branch.columns branch.key branch.primary branch.uniques
       branch.orders add_branch_text 2 branch_terms 4 (branch_row b) (λ db. stored_branch b) add_branch_is.0
@@ -135,8 +135,8 @@ module _ (e : EntryRow) where
       ≡ (Int (next_rowid (db 5)) ∷ entry_row e) ∷ []
   entry_news db = simp (cast_int, cast_null)
 
-  pub adds_entry : (old new : State) (t : Tables) (count : ℕ) → Holds old.now t
-      → Executes add_entry_text (entry_row e) old new (Ok count) → Holds new.now (with_entry e t)
+  pub adds_entry : (old new : State) (t : Tables) (count : ℕ) → HoldsTables old.now t
+      → Executes add_entry_text (entry_row e) old new (Ok count) → HoldsTables new.now (with_entry e t)
   adds_entry old new t count holds h =
       let a = adds store_schema entry.name entry.tree entry.columns entry.key entry.primary entry.uniques entry.orders
       add_entry_text 3 entry_terms 6 (entry_row e) (λ db. Int (next_rowid (db 5)) ∷ entry_row e) add_entry_is.0
@@ -170,8 +170,8 @@ module _ (l : LegRow) where
       ≡ (Int (next_rowid (db 8)) ∷ leg_row l) ∷ []
   leg_news db = simp (cast_int, cast_null)
 
-  pub adds_leg : (old new : State) (t : Tables) (count : ℕ) → Holds old.now t
-      → Executes add_leg_text (leg_row l) old new (Ok count) → Holds new.now (with_leg l t)
+  pub adds_leg : (old new : State) (t : Tables) (count : ℕ) → HoldsTables old.now t
+      → Executes add_leg_text (leg_row l) old new (Ok count) → HoldsTables new.now (with_leg l t)
   adds_leg old new t count holds h =
       let a = adds store_schema leg.name leg.tree leg.columns leg.key leg.primary leg.uniques leg.orders add_leg_text 4
       leg_terms 7 (leg_row l) (λ db. Int (next_rowid (db 8)) ∷ leg_row l) add_leg_is.0 add_leg_is.1 refl leg_news
@@ -205,8 +205,8 @@ module _ (c : ClaimRow) where
       ≡ (Int (next_rowid (db 10)) ∷ claim_row c) ∷ []
   claim_news db = simp (cast_int, cast_null)
 
-  pub adds_claim : (old new : State) (t : Tables) (count : ℕ) → Holds old.now t
-      → Executes add_claim_text (claim_row c) old new (Ok count) → Holds new.now (with_claim c t)
+  pub adds_claim : (old new : State) (t : Tables) (count : ℕ) → HoldsTables old.now t
+      → Executes add_claim_text (claim_row c) old new (Ok count) → HoldsTables new.now (with_claim c t)
   adds_claim old new t count holds h =
       let a = adds store_schema claim.name claim.tree claim.columns claim.key claim.primary claim.uniques claim.orders
       add_claim_text 5 claim_terms 7 (claim_row c) (λ db. Int (next_rowid (db 10)) ∷ claim_row c) add_claim_is.0
@@ -240,8 +240,8 @@ module _ (x : TransferRow) where
       (value_rows (transfer_row x) 10 1 transfer_terms)).news ≡ (Int (next_rowid (db 12)) ∷ transfer_row x) ∷ []
   transfer_news db = simp (cast_int, cast_null, cast_day, cast_words)
 
-  pub adds_transfer : (old new : State) (t : Tables) (count : ℕ) → Holds old.now t
-      → Executes add_transfer_text (transfer_row x) old new (Ok count) → Holds new.now (with_transfer x t)
+  pub adds_transfer : (old new : State) (t : Tables) (count : ℕ) → HoldsTables old.now t
+      → Executes add_transfer_text (transfer_row x) old new (Ok count) → HoldsTables new.now (with_transfer x t)
   adds_transfer old new t count holds h =
       let a = adds store_schema transfer.name transfer.tree transfer.columns transfer.key transfer.primary
       transfer.uniques transfer.orders add_transfer_text 6 transfer_terms 10 (transfer_row x)
@@ -276,8 +276,8 @@ module _ (p : PartRow) where
       ≡ (Int (next_rowid (db 14)) ∷ part_row p) ∷ []
   part_news db = simp (cast_int, cast_null)
 
-  pub adds_part : (old new : State) (t : Tables) (count : ℕ) → Holds old.now t
-      → Executes add_part_text (part_row p) old new (Ok count) → Holds new.now (with_part p t)
+  pub adds_part : (old new : State) (t : Tables) (count : ℕ) → HoldsTables old.now t
+      → Executes add_part_text (part_row p) old new (Ok count) → HoldsTables new.now (with_part p t)
   adds_part old new t count holds h =
       let a = adds store_schema receipt.name receipt.tree receipt.columns receipt.key receipt.primary receipt.uniques
       receipt.orders add_part_text 7 part_terms 6 (part_row p) (λ db. Int (next_rowid (db 14)) ∷ part_row p)

@@ -14,8 +14,8 @@ use Rattle.treasury_state.specs.declared.rows.TransferRow.{TransferRow}
 use Rattle.treasury_state.specs.declared.rows.PartRow.{PartRow}
 use Rattle.treasury_tables.specs.declared.change.Change.{Change}
 use Rattle.treasury_tables.specs.declared.change.Change.TheVariants as change
-use Rattle.treasury_tables.specs.Rows.{Tables, Holds, unit_row, branch_row, entry_row, leg_row, claim_row}
-use Rattle.treasury_tables.specs.Rows.{transfer_row, part_row, locked, received, changed, joined}
+use Rattle.treasury_tables.specs.Rows.{Tables, HoldsTables, unit_row, branch_row, entry_row, leg_row, claim_row}
+use Rattle.treasury_tables.specs.Rows.{transfer_row, part_row, locked, received, changed, written}
 
 pub record Same (t u : Tables) : Type 0 where
   pub units : IsPermutation t.units u.units
@@ -161,15 +161,15 @@ same_changed (change.Receipt id day payee) t u h =
     other_transfers t u (map (received id day payee) t.transfers) (map (received id day payee) u.transfers) h
     (IsPermutation-map (received id day payee) t.transfers u.transfers h.transfers)
 
-pub same_joined : (cs : List Change) (t u : Tables) → Same t u → Same (joined cs t) (joined cs u)
-same_joined [] t u h = h
-same_joined (c ∷ cs) t u h = same_joined cs (changed c t) (changed c u) (same_changed c t u h)
+pub same_written : (cs : List Change) (t u : Tables) → Same t u → Same (written cs t) (written cs u)
+same_written [] t u h = h
+same_written (c ∷ cs) t u h = same_written cs (changed c t) (changed c u) (same_changed c t u h)
 
-pub joined-append : (cs ds : List Change) (t : Tables) → joined (cs ++ ds) t ≡ joined ds (joined cs t)
-joined-append [] ds t = refl
-joined-append (c ∷ cs) ds t = joined-append cs ds (changed c t)
+pub written-append : (cs ds : List Change) (t : Tables) → written (cs ++ ds) t ≡ written ds (written cs t)
+written-append [] ds t = refl
+written-append (c ∷ cs) ds t = written-append cs ds (changed c t)
 
-pub holds_same : (db : Database) (t u : Tables) → Same t u → Holds db t → Holds db u
+pub holds_same : (db : Database) (t u : Tables) → Same t u → HoldsTables db t → HoldsTables db u
 holds_same db t u h k = record {
   shows = record {
     schema = k.shows.schema;
@@ -199,9 +199,9 @@ holds_same db t u h k = record {
 
 -- once no change is left, the tables hold all of them
 pub all_written : (db : Database) (left all : List Change) (t : Tables) → left ≡ []
-    → (u : Tables) × Holds db u × (joined left u ≡ joined all t) → Holds db (joined all t)
+    → (u : Tables) × HoldsTables db u × (written left u ≡ written all t) → HoldsTables db (written all t)
 all_written db left all t none kept =
-    subst (Holds db) (ap (λ (cs : List Change). joined cs kept.0) (sym none) ∙ kept.2) kept.1
+    subst (HoldsTables db) (ap (λ (cs : List Change). written cs kept.0) (sym none) ∙ kept.2) kept.1
 
 -- ---- orders
 pub last_first : {X : Type 0} (x : X) (xs : List X) → IsPermutation (x ∷ xs) (xs ++ x ∷ [])
@@ -217,22 +217,22 @@ pub second_first : {X : Type 0} (x y : X) (xs : List X) → IsPermutation (x ∷
 second_first x y xs = front_past (x ∷ []) (y ∷ []) xs
 
 -- ---- a list of legs, and one of claims
-pub legs_joined : (ls : List LegRow) (t : Tables)
-    → Same (joined (map change.Leg ls) t) (record t { legs = ls ++ t.legs })
-legs_joined [] t = same_refl t
-legs_joined (l ∷ ls) t =
+pub legs_written : (ls : List LegRow) (t : Tables)
+    → Same (written (map change.Leg ls) t) (record t { legs = ls ++ t.legs })
+legs_written [] t = same_refl t
+legs_written (l ∷ ls) t =
     let u : Tables = record t { legs = l ∷ t.legs } in
     let v : Tables = record t { legs = ls ++ (l ∷ t.legs) } in
     let w : Tables = record t { legs = l ∷ (ls ++ t.legs) } in
-    same_trans (joined (map change.Leg ls) u) v w (legs_joined ls u)
+    same_trans (written (map change.Leg ls) u) v w (legs_written ls u)
     (other_legs t t (ls ++ (l ∷ t.legs)) (l ∷ (ls ++ t.legs)) (same_refl t) (front_past ls (l ∷ []) t.legs))
 
-pub claims_joined : (ls : List ClaimRow) (t : Tables)
-    → Same (joined (map change.Claim ls) t) (record t { claims = ls ++ t.claims })
-claims_joined [] t = same_refl t
-claims_joined (l ∷ ls) t =
+pub claims_written : (ls : List ClaimRow) (t : Tables)
+    → Same (written (map change.Claim ls) t) (record t { claims = ls ++ t.claims })
+claims_written [] t = same_refl t
+claims_written (l ∷ ls) t =
     let u : Tables = record t { claims = l ∷ t.claims } in
     let v : Tables = record t { claims = ls ++ (l ∷ t.claims) } in
     let w : Tables = record t { claims = l ∷ (ls ++ t.claims) } in
-    same_trans (joined (map change.Claim ls) u) v w (claims_joined ls u)
+    same_trans (written (map change.Claim ls) u) v w (claims_written ls u)
     (other_claims t t (ls ++ (l ∷ t.claims)) (l ∷ (ls ++ t.claims)) (same_refl t) (front_past ls (l ∷ []) t.claims))

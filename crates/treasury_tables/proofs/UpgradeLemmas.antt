@@ -25,7 +25,7 @@ use Rattle.sqlite.specs.State.{State, HasCleanDisk, IsUnchanged, Survives, mode_
 use Rattle.sqlite.proofs.StateLemmas.{survives_then, survives_weaker}
 use Rattle.sqlite.proofs.Callers.{statement_of, runs_as, one_permutation}
 use Rattle.treasury_tables.specs.Tables.{format, receipt, store_schema, first_schema}
-use Rattle.treasury_tables.specs.Rows.{Tables, Holds, HoldsFirst, versions}
+use Rattle.treasury_tables.specs.Rows.{Tables, HoldsTables, HoldsFirst, versions}
 use Rattle.treasury_tables.specs.Rows.{unit_row, branch_row, entry_row, leg_row, claim_row, transfer_row, part_row}
 use Rattle.treasury_tables.specs.Rows.{shown_unit, shown_branch, shown_entry, shown_leg, shown_claim, shown_transfer}
 use Rattle.treasury_tables.specs.Rows.{shown_part}
@@ -161,7 +161,7 @@ then_upgrade old mid new is_first one same two =
     }) one two
 
 -- ---- the tables hold version 2 of what they held
-pub upgraded_holds : (a c : Database) (t : Tables) → HoldsFirst a t → Upgrades a c → Holds c t
+pub upgraded_holds : (a c : Database) (t : Tables) → HoldsFirst a t → Upgrades a c → HoldsTables c t
 upgraded_holds a c t holds up = record {
   shows = record {
     schema = up.schema;

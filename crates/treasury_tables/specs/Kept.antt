@@ -6,7 +6,7 @@ use Rattle.sqlite.specs.declared.error.Error.{Error}
 use Rattle.sqlite.specs.State.{State, HasCleanDisk, KeepsCommit, Survives}
 use Rattle.sqlite.specs.Held.{Held, state}
 use Rattle.treasury_tables.specs.Tables.{store_schema}
-use Rattle.treasury_tables.specs.Rows.{Tables, Holds}
+use Rattle.treasury_tables.specs.Rows.{Tables, HoldsTables}
 
 -- the disk under a connection has returned what was written to it
 abbrev pub IsFaithful : {S : Type 0} → Ghosts S → Held S → Type 0
@@ -16,7 +16,7 @@ IsFaithful g h = HasCleanDisk (state g h)
 pub record Writes {S : Type 0} (g : Ghosts S) (old new : Held S) (r : Result ℕ Error)
     (change : Tables → Tables) : Type 0 where
   pub rows : IsFaithful g new
-      → OnOk r ((t : Tables) → Holds (state g old).now t → Holds (state g new).now (change t))
+      → OnOk r ((t : Tables) → HoldsTables (state g old).now t → HoldsTables (state g new).now (change t))
   pub inside : IsFaithful g new → OnOk r (IsTrue (state g new).in_transaction)
   pub kept : IsFaithful g new → KeepsCommit (state g old) (state g new)
   pub survives : Survives (state g old) (state g new) (λ _. ⊥)

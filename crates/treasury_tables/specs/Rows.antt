@@ -10,7 +10,8 @@ use Rattle.sqlite.specs.Effect.{Database}
 use Rattle.sqlite.specs.Tree.{Trees}
 use Rattle.sqlite_trees.specs.View.{IsShaped}
 use Rattle.sqlite_trees.specs.declared.store.Shape.TheVariants as shape
-use Rattle.treasury_tables.specs.Tables.{store_schema, first_schema}
+use Rattle.treasury_tables.specs.Tables.{store_schema, first_schema, format, unit, branch, entry, leg, claim, transfer}
+use Rattle.treasury_tables.specs.Tables.{receipt}
 use Rattle.treasury_tables.specs.declared.change.Change.{Change}
 use Rattle.treasury_tables.specs.declared.change.Change.TheVariants as change
 use Rattle.treasury_state.specs.declared.rows.UnitRow.{UnitRow}
@@ -82,51 +83,51 @@ shown_transfer r = column r 1 ∷ column r 2 ∷ column r 3 ∷ column r 4 ∷ c
 abbrev pub shown_part : Row → Row
 shown_part r = column r 1 ∷ column r 2 ∷ column r 3 ∷ column r 4 ∷ column r 5 ∷ []
 
--- The database is our tables, and these are their rows, in any order.
+-- The database is our tables, and these are the rows of each, in any order.
 pub record ShowsTables (db : Database) (t : Tables) : Type 0 where
   pub schema : db.schema ≡ store_schema
-  pub units : IsPermutation (map unit_row t.units) (map shown_unit (db.trees 1))
-  pub branches : IsPermutation (map branch_row t.branches) (map shown_branch (db.trees 3))
-  pub entries : IsPermutation (map entry_row t.entries) (map shown_entry (db.trees 5))
-  pub legs : IsPermutation (map leg_row t.legs) (map shown_leg (db.trees 8))
-  pub claims : IsPermutation (map claim_row t.claims) (map shown_claim (db.trees 10))
-  pub transfers : IsPermutation (map transfer_row t.transfers) (map shown_transfer (db.trees 12))
-  pub receipts : IsPermutation (map part_row t.receipts) (map shown_part (db.trees 14))
+  pub units : IsPermutation (map unit_row t.units) (map shown_unit (db.trees unit.tree))
+  pub branches : IsPermutation (map branch_row t.branches) (map shown_branch (db.trees branch.tree))
+  pub entries : IsPermutation (map entry_row t.entries) (map shown_entry (db.trees entry.tree))
+  pub legs : IsPermutation (map leg_row t.legs) (map shown_leg (db.trees leg.tree))
+  pub claims : IsPermutation (map claim_row t.claims) (map shown_claim (db.trees claim.tree))
+  pub transfers : IsPermutation (map transfer_row t.transfers) (map shown_transfer (db.trees transfer.tree))
+  pub receipts : IsPermutation (map part_row t.receipts) (map shown_part (db.trees receipt.tree))
 
 -- what `format` holds
 abbrev pub versions : Database → List Value
-versions db = map (λ r. column r 1) (db.trees 0)
+versions db = map (λ r. column r 1) (db.trees format.tree)
 
 -- The database is these tables, and no other; they show these rows, and `format` has the one row 2. Rowids that are no
 -- column are not looked at, but those of `format` and of transfers are integers that rise, as SQLite has no others: an
 -- UPDATE goes by them.
-pub record Holds (db : Database) (t : Tables) : Type 0 where
+pub record HoldsTables (db : Database) (t : Tables) : Type 0 where
   pub shows : ShowsTables db t
+  pub numbered : IsShaped shape.Table (db.trees format.tree)
+  pub keyed : IsShaped shape.Table (db.trees transfer.tree)
   pub format : versions db ≡ Int (pos 2) ∷ []
-  pub numbered : IsShaped shape.Table (db.trees 0)
-  pub keyed : IsShaped shape.Table (db.trees 12)
 
 -- The same of version 1, which has seven tables and the row 1, and no receipts in parts.
 pub record HoldsFirst (db : Database) (t : Tables) : Type 0 where
   pub schema : db.schema ≡ first_schema
-  pub format : versions db ≡ Int (pos 1) ∷ []
-  pub numbered : IsShaped shape.Table (db.trees 0)
-  pub units : IsPermutation (map unit_row t.units) (map shown_unit (db.trees 1))
-  pub branches : IsPermutation (map branch_row t.branches) (map shown_branch (db.trees 3))
-  pub entries : IsPermutation (map entry_row t.entries) (map shown_entry (db.trees 5))
-  pub legs : IsPermutation (map leg_row t.legs) (map shown_leg (db.trees 8))
-  pub claims : IsPermutation (map claim_row t.claims) (map shown_claim (db.trees 10))
-  pub transfers : IsPermutation (map transfer_row t.transfers) (map shown_transfer (db.trees 12))
+  pub numbered : IsShaped shape.Table (db.trees format.tree)
+  pub units : IsPermutation (map unit_row t.units) (map shown_unit (db.trees unit.tree))
+  pub branches : IsPermutation (map branch_row t.branches) (map shown_branch (db.trees branch.tree))
+  pub entries : IsPermutation (map entry_row t.entries) (map shown_entry (db.trees entry.tree))
+  pub legs : IsPermutation (map leg_row t.legs) (map shown_leg (db.trees leg.tree))
+  pub claims : IsPermutation (map claim_row t.claims) (map shown_claim (db.trees claim.tree))
+  pub transfers : IsPermutation (map transfer_row t.transfers) (map shown_transfer (db.trees transfer.tree))
   pub receipts : t.receipts ≡ []
-  pub keyed : IsShaped shape.Table (db.trees 12)
+  pub keyed : IsShaped shape.Table (db.trees transfer.tree)
+  pub format : versions db ≡ Int (pos 1) ∷ []
 
 -- in either version
 abbrev pub HoldsEither : Database → Tables → Type 0
-HoldsEither db t = Holds db t ⊎ HoldsFirst db t
+HoldsEither db t = HoldsTables db t ⊎ HoldsFirst db t
 
 -- the trees of a database that holds these rows, in version 2 or in version 1
 abbrev pub AreTreesOf : Trees → Tables → Type 0
-AreTreesOf trees t = (db : Database) × (trees ≡ db.trees) × Holds db t
+AreTreesOf trees t = (db : Database) × (trees ≡ db.trees) × HoldsTables db t
 
 abbrev pub AreFirstTreesOf : Trees → Tables → Type 0
 AreFirstTreesOf trees t = (db : Database) × (trees ≡ db.trees) × HoldsFirst db t
@@ -179,5 +180,5 @@ changed (change.Lock nr day) t = with_lock nr day t
 changed (change.Receipt id day payee) t = with_receipt id day payee t
 
 -- one change after another
-abbrev pub joined : List Change → Tables → Tables
-joined cs t = fold (λ u c. changed c u) t cs
+abbrev pub written : List Change → Tables → Tables
+written cs t = fold (λ u c. changed c u) t cs

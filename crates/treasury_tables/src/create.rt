@@ -9,7 +9,7 @@ ghost use Rattle.sqlite.specs.Change.{created, next_tree};
 ghost use Rattle.sqlite.specs.State.{KeepsCommit, Survives};
 ghost use Rattle.sqlite.specs.Held.{state};
 ghost use Rattle.treasury_tables.specs.Kept.{IsFaithful};
-ghost use Rattle.treasury_tables.specs.Rows.{Holds, no_rows};
+ghost use Rattle.treasury_tables.specs.Rows.{HoldsTables, no_rows};
 ghost use Rattle.treasury_tables.specs.Tables.{no_schema, format, unit, branch, entry, leg, claim, transfer, receipt};
 ghost use Rattle.treasury_tables.specs.Tables.{state_tables};
 ghost use Rattle.treasury_tables.specs.Creating.{is_ours, has_one, has_counter, Creates, MakesAll, GivesRow, Beside};
@@ -84,7 +84,7 @@ pub fn create_tables<S: Alter>(conn: &mut Connection<S>) -> Result<bool, Error>
     ensures made { IsFaithful S.Store conn.new
         → IfOk result
         (λ made. IsTrue made → (state S.Store conn.old).now.schema ≡ no_schema
-        → Holds (state S.Store conn.new).now no_rows
+        → HoldsTables (state S.Store conn.new).now no_rows
         × ((state S.Store conn.new).committed ≡ (state S.Store conn.new).now)) }
     // Beside other tables, none of which has AUTOINCREMENT.
     ensures beside { IsFaithful S.Store conn.new

@@ -7,9 +7,9 @@ ghost use Rattle.sqlite.specs.Values.{or_null};
 ghost use Rattle.sqlite.specs.State.{KeepsCommit, Survives};
 ghost use Rattle.sqlite.specs.Held.{state};
 ghost use Rattle.sqlite.specs.Effect.{Database};
-ghost use Rattle.treasury_tables.specs.Rows.{Tables, Holds, with_unit, with_branch, with_transfer, with_part};
+ghost use Rattle.treasury_tables.specs.Rows.{Tables, HoldsTables, with_unit, with_branch, with_transfer, with_part};
 ghost use Rattle.treasury_tables.specs.Rows.{with_lock};
-ghost use Rattle.treasury_tables.specs.Rows.{with_receipt, changed, joined};
+ghost use Rattle.treasury_tables.specs.Rows.{with_receipt, changed, written};
 ghost use Rattle.treasury_tables.specs.Kept.{Writes, IsFaithful};
 ghost use Rattle.treasury_tables.specs.Kinds.{is_single};
 
@@ -67,8 +67,8 @@ fn put_singles<S: Alter>(tx: &mut Transaction<'_, S>, changes: &[Change]) -> Res
     ensures same_reference { tx.new.conn.ghost_name ≡ tx.old.conn.ghost_name }
     ensures rows { IsFaithful S.Store tx.new.conn.now
         → OnOk result
-        ((t : Tables) → Holds (state S.Store tx.old.conn.now).now t
-        → Holds (state S.Store tx.new.conn.now).now (joined (filter is_single changes.now) t)) }
+        ((t : Tables) → HoldsTables (state S.Store tx.old.conn.now).now t
+        → HoldsTables (state S.Store tx.new.conn.now).now (written (filter is_single changes.now) t)) }
     ensures inside { IsFaithful S.Store tx.new.conn.now
         → OnOk result
         (IsTrue (state S.Store tx.old.conn.now).in_transaction
@@ -90,8 +90,8 @@ fn put_all<S: Alter>(tx: &mut Transaction<'_, S>, changes: &[Change]) -> Result<
     ensures same_reference { tx.new.conn.ghost_name ≡ tx.old.conn.ghost_name }
     ensures rows { IsFaithful S.Store tx.new.conn.now
         → OnOk result
-        ((t : Tables) → Holds (state S.Store tx.old.conn.now).now t
-        → Holds (state S.Store tx.new.conn.now).now (joined changes.now t)) }
+        ((t : Tables) → HoldsTables (state S.Store tx.old.conn.now).now t
+        → HoldsTables (state S.Store tx.new.conn.now).now (written changes.now t)) }
     ensures inside { IsFaithful S.Store tx.new.conn.now
         → OnOk result
         (IsTrue (state S.Store tx.old.conn.now).in_transaction
@@ -113,8 +113,8 @@ fn put_all<S: Alter>(tx: &mut Transaction<'_, S>, changes: &[Change]) -> Result<
 pub fn write_all<S: Alter>(conn: &mut Connection<S>, changes: &[Change]) -> Result<(), Error>
     ensures rows { IsFaithful S.Store conn.new
         → OnOk result
-        ((t : Tables) → Holds (state S.Store conn.old).now t
-        → Holds (state S.Store conn.new).now (joined changes.now t)
+        ((t : Tables) → HoldsTables (state S.Store conn.old).now t
+        → HoldsTables (state S.Store conn.new).now (written changes.now t)
         × ((state S.Store conn.new).committed ≡ (state S.Store conn.new).now)) }
     ensures still_open { IsFaithful S.Store conn.new → OnOk result (IsTrue (state S.Store conn.new).is_open) }
     ensures unchanged { IsFaithful S.Store conn.new → IsTrue (state S.Store conn.new).is_open
@@ -125,7 +125,7 @@ pub fn write_all<S: Alter>(conn: &mut Connection<S>, changes: &[Change]) -> Resu
         → IsTrue (state S.Store conn.old).is_open }
     ensures crash { Survives (state S.Store conn.old) (state S.Store conn.new)
         (λ trees. (db : Database) × (trees ≡ db.trees)
-        × ((t : Tables) → Holds (state S.Store conn.old).now t → Holds db (joined changes.now t))) }
+        × ((t : Tables) → HoldsTables (state S.Store conn.old).now t → HoldsTables db (written changes.now t))) }
 {
     if !conn.is_autocommit() {
         return Err(Error::SqliteFailure(ErrorCode::TransactionState));

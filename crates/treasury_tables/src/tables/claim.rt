@@ -7,7 +7,8 @@ ghost use Rattle.sqlite.specs.Values.{bound};
 ghost use Rattle.sqlite.specs.State.{KeepsCommit, Survives, IsUnchanged};
 ghost use Rattle.sqlite.specs.Held.{state};
 ghost use Rattle.treasury_tables.specs.declared.change.Change.TheVariants.{Claim as ClaimChange};
-ghost use Rattle.treasury_tables.specs.Rows.{ShowsTables, Tables, Holds, claim_row, shown_claim, with_claim, joined};
+ghost use Rattle.treasury_tables.specs.Rows.{ShowsTables, Tables, HoldsTables, claim_row, shown_claim, with_claim};
+ghost use Rattle.treasury_tables.specs.Rows.{written};
 ghost use Rattle.treasury_tables.specs.Tables.{store_schema, claim};
 ghost use Rattle.treasury_tables.specs.Creating.{Creates};
 ghost use Rattle.treasury_tables.specs.Kept.{Queries, Writes, IsFaithful};
@@ -114,7 +115,7 @@ fn put_eight_claims<S: Alter>(
     eight: &Eight<'_, ClaimRow>,
 ) -> Result<usize, Error>
     ensures same_reference { tx.new.conn.ghost_name ≡ tx.old.conn.ghost_name }
-    ensures writes { Writes S.Store tx.old.conn.now tx.new.conn.now result (joined (all_of ClaimChange eight.now)) }
+    ensures writes { Writes S.Store tx.old.conn.now tx.new.conn.now result (written (all_of ClaimChange eight.now)) }
 {
     let values = [
         claim_values(eight.a),
@@ -178,8 +179,8 @@ pub fn put_claims<S: Alter>(tx: &mut Transaction<'_, S>, changes: &[Change]) -> 
     ensures same_reference { tx.new.conn.ghost_name ≡ tx.old.conn.ghost_name }
     ensures rows { IsFaithful S.Store tx.new.conn.now
         → OnOk result
-        ((t : Tables) → Holds (state S.Store tx.old.conn.now).now t
-        → Holds (state S.Store tx.new.conn.now).now (joined (filter is_claim changes.now) t)) }
+        ((t : Tables) → HoldsTables (state S.Store tx.old.conn.now).now t
+        → HoldsTables (state S.Store tx.new.conn.now).now (written (filter is_claim changes.now) t)) }
     ensures inside { IsFaithful S.Store tx.new.conn.now
         → OnOk result
         (IsTrue (state S.Store tx.old.conn.now).in_transaction

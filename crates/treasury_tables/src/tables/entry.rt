@@ -7,7 +7,8 @@ ghost use Rattle.sqlite.specs.Values.{bound};
 ghost use Rattle.sqlite.specs.State.{KeepsCommit, Survives, IsUnchanged};
 ghost use Rattle.sqlite.specs.Held.{state};
 ghost use Rattle.treasury_tables.specs.declared.change.Change.TheVariants.{Entry as EntryChange};
-ghost use Rattle.treasury_tables.specs.Rows.{ShowsTables, Tables, Holds, entry_row, shown_entry, with_entry, joined};
+ghost use Rattle.treasury_tables.specs.Rows.{ShowsTables, Tables, HoldsTables, entry_row, shown_entry, with_entry};
+ghost use Rattle.treasury_tables.specs.Rows.{written};
 ghost use Rattle.treasury_tables.specs.Tables.{store_schema, entry};
 ghost use Rattle.treasury_tables.specs.Creating.{Creates};
 ghost use Rattle.treasury_tables.specs.Kept.{Queries, Writes, IsFaithful};
@@ -111,7 +112,7 @@ fn put_eight_entries<S: Alter>(
     eight: &Eight<'_, EntryRow>,
 ) -> Result<usize, Error>
     ensures same_reference { tx.new.conn.ghost_name ≡ tx.old.conn.ghost_name }
-    ensures writes { Writes S.Store tx.old.conn.now tx.new.conn.now result (joined (all_of EntryChange eight.now)) }
+    ensures writes { Writes S.Store tx.old.conn.now tx.new.conn.now result (written (all_of EntryChange eight.now)) }
 {
     let values = [
         entry_values(eight.a),
@@ -175,8 +176,8 @@ pub fn put_entries<S: Alter>(tx: &mut Transaction<'_, S>, changes: &[Change]) ->
     ensures same_reference { tx.new.conn.ghost_name ≡ tx.old.conn.ghost_name }
     ensures rows { IsFaithful S.Store tx.new.conn.now
         → OnOk result
-        ((t : Tables) → Holds (state S.Store tx.old.conn.now).now t
-        → Holds (state S.Store tx.new.conn.now).now (joined (filter is_entry changes.now) t)) }
+        ((t : Tables) → HoldsTables (state S.Store tx.old.conn.now).now t
+        → HoldsTables (state S.Store tx.new.conn.now).now (written (filter is_entry changes.now) t)) }
     ensures inside { IsFaithful S.Store tx.new.conn.now
         → OnOk result
         (IsTrue (state S.Store tx.old.conn.now).in_transaction

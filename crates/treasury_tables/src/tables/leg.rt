@@ -7,7 +7,8 @@ ghost use Rattle.sqlite.specs.Values.{bound};
 ghost use Rattle.sqlite.specs.State.{KeepsCommit, Survives, IsUnchanged};
 ghost use Rattle.sqlite.specs.Held.{state};
 ghost use Rattle.treasury_tables.specs.declared.change.Change.TheVariants.{Leg as LegChange};
-ghost use Rattle.treasury_tables.specs.Rows.{ShowsTables, Tables, Holds, leg_row, shown_leg, with_leg, joined};
+ghost use Rattle.treasury_tables.specs.Rows.{ShowsTables, Tables, HoldsTables, leg_row, shown_leg, with_leg};
+ghost use Rattle.treasury_tables.specs.Rows.{written};
 ghost use Rattle.treasury_tables.specs.Tables.{store_schema, leg};
 ghost use Rattle.treasury_tables.specs.Creating.{Creates};
 ghost use Rattle.treasury_tables.specs.Kept.{Queries, Writes, IsFaithful};
@@ -113,7 +114,7 @@ fn put_eight_legs<S: Alter>(
     eight: &Eight<'_, LegRow>,
 ) -> Result<usize, Error>
     ensures same_reference { tx.new.conn.ghost_name ≡ tx.old.conn.ghost_name }
-    ensures writes { Writes S.Store tx.old.conn.now tx.new.conn.now result (joined (all_of LegChange eight.now)) }
+    ensures writes { Writes S.Store tx.old.conn.now tx.new.conn.now result (written (all_of LegChange eight.now)) }
 {
     let values = [
         leg_values(eight.a),
@@ -177,8 +178,8 @@ pub fn put_legs<S: Alter>(tx: &mut Transaction<'_, S>, changes: &[Change]) -> Re
     ensures same_reference { tx.new.conn.ghost_name ≡ tx.old.conn.ghost_name }
     ensures rows { IsFaithful S.Store tx.new.conn.now
         → OnOk result
-        ((t : Tables) → Holds (state S.Store tx.old.conn.now).now t
-        → Holds (state S.Store tx.new.conn.now).now (joined (filter is_leg changes.now) t)) }
+        ((t : Tables) → HoldsTables (state S.Store tx.old.conn.now).now t
+        → HoldsTables (state S.Store tx.new.conn.now).now (written (filter is_leg changes.now) t)) }
     ensures inside { IsFaithful S.Store tx.new.conn.now
         → OnOk result
         (IsTrue (state S.Store tx.old.conn.now).in_transaction

@@ -1,7 +1,7 @@
 use Rattle.std.proofs.Common.{sym, subst, arith, Result, Ok, Err, OnOk}
 use Rattle.sqlite.specs.Held.{state}
 use Rattle.treasury_tables.specs.Kept.{IsFaithful}
-use Rattle.treasury_tables.specs.Rows.{Holds}
+use Rattle.treasury_tables.specs.Rows.{HoldsTables}
 use Rattle.treasury_tables.proofs.KindLemmas.{by_parts}
 use Rattle.treasury_tables.proofs.write.put_all.Goals as goal
 
@@ -19,6 +19,6 @@ returns-clause-rows g c clean =
     let entries : IsFaithful g.S.Store c.put_entries.new.tx.conn.now =
     omega (arith, c.put_legs.ensures.survives.clean, legs) in
     then c.put_singles.result (c.put_singles.ensures.rows clean)
-    (λ singles t holds. subst (Holds (state g.S.Store c.put_singles.new.tx.conn.now).now) (sym (by_parts xs t))
+    (λ singles t holds. subst (HoldsTables (state g.S.Store c.put_singles.new.tx.conn.now).now) (sym (by_parts xs t))
     (singles _ (c.in_ok-put_claims.ensures.rows claims _
     (c.in_ok-put_legs.ensures.rows legs _ (c.in_ok-put_entries.ensures.rows entries t holds)))))

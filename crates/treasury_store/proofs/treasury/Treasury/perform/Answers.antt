@@ -7,7 +7,7 @@ use Rattle.treasury_state.specs.Rows.{rows}
 use Rattle.treasury_core.specs.Fits.{Fits}
 use Rattle.treasury_core.specs.Step.{step}
 use Rattle.treasury_store.specs.declared.store.Store.{Store}
-use Rattle.treasury_tables.specs.Rows.{Holds}
+use Rattle.treasury_tables.specs.Rows.{HoldsTables}
 use Rattle.treasury_tables.specs.Kept.{KeepsTables, IsFaithful}
 use Rattle.treasury_store.specs.Store.{IsOf}
 use Rattle.treasury_store.specs.Treasury.{Treasury, IsTreasuryOf, SurvivesCommand}
@@ -99,8 +99,8 @@ returns-clause-leaves g c =
     (subst (λ (t : Treasury _). IsFaithful g.S.Store t.store.conn → (f : Federation)
     → IsTreasuryOf g.S.Store c.args.self.now f → IsTreasuryOf g.S.Store t f) back c.in-Ok.ensures.of)
     (subst (λ (t : Treasury _). IsFaithful g.S.Store t.store.conn → (f : Federation)
-    → IsTreasuryOf g.S.Store c.args.self.now f → Holds (state g.S.Store c.args.self.now.store.conn).now (rows f)
-    → Holds (state g.S.Store t.store.conn).now (rows f)) back c.in-Ok.ensures.rows)
+    → IsTreasuryOf g.S.Store c.args.self.now f → HoldsTables (state g.S.Store c.args.self.now.store.conn).now (rows f)
+    → HoldsTables (state g.S.Store t.store.conn).now (rows f)) back c.in-Ok.ensures.rows)
     (search rules)
     (subst (λ (s : Store _). SurvivesChange g.S.Store s c.settle.new.self.store.conn c.in-Some.now
     (step c.in-Some.now c.args.command).next) here c.settle.ensures.crash) in

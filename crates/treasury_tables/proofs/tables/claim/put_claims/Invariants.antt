@@ -1,7 +1,7 @@
 use Rattle.std.proofs.Common.{◌≡◌, filter, length, IsTrue}
 use Rattle.sqlite.specs.State.{HasCleanDisk, KeepsCommit, Survives}
 use Rattle.sqlite.specs.Held.{state}
-use Rattle.treasury_tables.specs.Rows.{Tables, Holds, joined}
+use Rattle.treasury_tables.specs.Rows.{Tables, HoldsTables, written}
 use Rattle.treasury_tables.specs.Kinds.{is_claim}
 use Rattle.treasury_tables.proofs.tables.claim.put_claims.Given as goal
 
@@ -11,8 +11,9 @@ invariant-eights g l =
     let now = state g.S.Store l.tx.conn.now in
     (l.tx.conn.ghost_name ≡ l.initial.tx.conn.ghost_name) × Survives old now (λ _. ⊥)
     × (HasCleanDisk now → KeepsCommit old now × (IsTrue old.in_transaction → IsTrue now.in_transaction)
-    × ((t : Tables) → Holds old.now t
-    → (u : Tables) × Holds now.now u × (joined (filter is_claim l.rest) u ≡ joined (filter is_claim l.changes) t)))
+    × ((t : Tables) → HoldsTables old.now t
+    → (u : Tables) × HoldsTables now.now u
+    × (written (filter is_claim l.rest) u ≡ written (filter is_claim l.changes) t)))
 
 abbrev pub decreases-eights : goal.decreases-eights
 decreases-eights g l = length l.rest
@@ -23,8 +24,9 @@ invariant-ones g l =
     let now = state g.S.Store l.tx.conn.now in
     (l.tx.conn.ghost_name ≡ l.initial.tx.conn.ghost_name) × Survives old now (λ _. ⊥)
     × (HasCleanDisk now → KeepsCommit old now × (IsTrue old.in_transaction → IsTrue now.in_transaction)
-    × ((t : Tables) → Holds old.now t
-    → (u : Tables) × Holds now.now u × (joined (filter is_claim l.rest) u ≡ joined (filter is_claim l.changes) t)))
+    × ((t : Tables) → HoldsTables old.now t
+    → (u : Tables) × HoldsTables now.now u
+    × (written (filter is_claim l.rest) u ≡ written (filter is_claim l.changes) t)))
 
 abbrev pub decreases-ones : goal.decreases-ones
 decreases-ones g l = length l.rest

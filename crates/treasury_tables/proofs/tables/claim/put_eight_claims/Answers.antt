@@ -3,7 +3,7 @@ use Rattle.sqlite.specs.Values.{bound}
 use Rattle.sqlite.specs.State.{Executes}
 use Rattle.sqlite.specs.Held.{state}
 use Rattle.treasury_tables.specs.declared.change.Change.TheVariants.{Claim}
-use Rattle.treasury_tables.specs.Rows.{joined}
+use Rattle.treasury_tables.specs.Rows.{written}
 use Rattle.treasury_tables.specs.Kinds.{all_of}
 use Rattle.treasury_tables.proofs.InsideLemmas.{one_statement_writes}
 use Rattle.treasury_tables.proofs.BoundLemmas.{bound_rows}
@@ -32,6 +32,6 @@ returns-clause-writes g c =
       c.claim_values-8.ensures,
     )) in
     one_statement_writes g.S.Store _ _ _ _ _ _ c.execute.ensures.ended c.execute.ensures.runs c.execute.ensures.survives
-    (joined (all_of Claim x))
+    (written (all_of Claim x))
     (λ count t holds h. adds_claim_eights x.a.now x.b.now x.c.now x.d.now x.e.now x.f.now x.g.now x.h.now old new t
     count holds (subst (λ ps. Executes add_claim_eights_text ps old new (Ok count)) is h))
