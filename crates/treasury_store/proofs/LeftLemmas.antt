@@ -19,7 +19,8 @@ use Rattle.treasury_tables.proofs.UpgradeLemmas.{upgraded_holds}
 use Rattle.treasury_store.specs.declared.store.Store.{Store}
 use Rattle.treasury_store.specs.Store.{TablesAreWhileOpen, IsOf, Joins}
 use Rattle.treasury_store.specs.Treasury.{Treasury, SurvivesCommand}
-use Rattle.treasury_store.specs.Left.{LeavesRows, LeavesSame, LeavesEitherVersion, LeavesJoined, LeavesStep}
+use Rattle.treasury_store.specs.Left.{LeavesNoMore, LeavesRows, LeavesSame, LeavesEitherVersion, LeavesJoined}
+use Rattle.treasury_store.specs.Left.{LeavesStep}
 
 module _ {S : Type 0} (g : Ghosts S)
     (settled : (s : S) (db : Trees) → IsTrue (g.view s).is_open → g.recovers s db → db ≡ (g.view s).committed) where
@@ -38,6 +39,13 @@ module _ {S : Type 0} (g : Ghosts S)
       elim (left.crash clean trees may) [
         | inl was ↦ inl (leaves_rows old t are is_open before trees was)
         | inr made ↦ inr ((are before is_open).0, made)
+      ]
+
+  pub leaves_no_more : (old new : Held S) → KeepsTables g old new → LeavesNoMore g old new
+  leaves_no_more old new left t holds clean trees may =
+      elim (left.crash clean trees may) [
+        | inl was ↦ was
+        | inr other ↦ absurd (other holds.shows.schema)
       ]
 
   pub leaves_same : (old new : Held S) → KeepsTables g old new → LeavesSame g old new

@@ -12,7 +12,7 @@ use Rattle.treasury_core.specs.declared.command.Command.{Command}
 use Rattle.treasury_core.specs.Fits.{Fits}
 use Rattle.treasury_core.specs.Step.{step}
 use Rattle.treasury_tables.specs.Kept.{IsFaithful}
-use Rattle.treasury_tables.specs.Rows.{Tables, HoldsFirst, AreTreesOf, AreFirstTreesOf}
+use Rattle.treasury_tables.specs.Rows.{Tables, HoldsTables, HoldsFirst, AreTreesOf, AreFirstTreesOf}
 use Rattle.treasury_store.specs.declared.store.Store.{Store}
 use Rattle.treasury_store.specs.Store.{TablesAreWhileOpen, IsOf, Joins}
 use Rattle.treasury_store.specs.Treasury.{Treasury, IsTreasuryOf, SurvivesCommand}
@@ -29,6 +29,11 @@ LeavesEither g h t u =
 -- a call on a connection that was open, and whose tables held rows: whatever is left after it are these
 abbrev pub LeavesSame : {S : Type 0} → Ghosts S → Held S → Held S → Type 0
 LeavesSame g old new = IsTrue (state g old).is_open → (t : Tables) → TablesAreWhileOpen g old t → LeavesRows g new t
+
+-- a call on a connection whose tables held rows, whichever these are: what may be left after it could be left before
+abbrev pub LeavesNoMore : {S : Type 0} → Ghosts S → Held S → Held S → Type 0
+LeavesNoMore g old new = (t : Tables) → HoldsTables (state g old).now t → IsFaithful g new → (trees : Trees)
+    → (state g new).may_leave trees → (state g old).may_leave trees
 
 -- while the disk returned what was written and the connection is open, the tables hold these rows as version 1, and so
 -- does what is committed

@@ -1,6 +1,8 @@
 -- What a statement makes of the tables that a connection has.
 use Rattle.std.specs.Prelude.{◌≡◌, ◌≤◌, ◌⊎◌, ℕ, Result, OnOk, OnErr, IsTrue}
 use Rattle.sqlite_disk.specs.Disk.{MoreFaults}
+use Rattle.sqlite.specs.Schema.{Schema}
+use Rattle.sqlite.specs.Effect.{Database}
 use Rattle.sqlite.specs.Store.{Ghosts}
 use Rattle.sqlite.specs.declared.error.Error.{Error}
 use Rattle.sqlite.specs.State.{State, HasCleanDisk, KeepsCommit, Survives}
@@ -21,9 +23,13 @@ pub record Writes {S : Type 0} (g : Ghosts S) (old new : Held S) (r : Result ℕ
   pub kept : IsFaithful g new → KeepsCommit (state g old) (state g new)
   pub survives : Survives (state g old) (state g new) (λ _. ⊥)
 
--- where the database is our tables, whatever is in them, a crash leaves what it could leave before
+-- the database is not the tables of that schema
+abbrev pub HasOtherTables : Schema → Database → Type 0
+HasOtherTables schema db = db.schema ≡ schema → ⊥
+
+-- a crash leaves what it could leave before, unless the database was not our tables, whatever was in them
 abbrev pub KeepsTables : {S : Type 0} → Ghosts S → Held S → Held S → Type 0
-KeepsTables g old new = Survives (state g old) (state g new) (λ _. (state g old).now.schema ≡ store_schema → ⊥)
+KeepsTables g old new = Survives (state g old) (state g new) (λ _. HasOtherTables store_schema (state g old).now)
 
 -- no fault of the disk is forgotten, and only a fault shuts the connection: one that was open is open, or its disk has
 -- failed once more
