@@ -15,7 +15,7 @@ use Rattle.treasury_core.specs.Fits.{Fits}
 use Rattle.treasury_core.specs.Step.{reply as command_reply, delta}
 use Rattle.treasury_core.specs.Run.{Replies as Steps}
 use Rattle.treasury_store.specs.Treasury.{Treasury, IsTreasuryOf, Performs, FailsBy, AddsNothing, is_failure}
-use Rattle.treasury_store.specs.Treasury.{MayReply as MayPerform}
+use Rattle.treasury_store.specs.Treasury.{RepliesOrFails as MayPerform}
 use Rattle.http_request.specs.declared.call.Form.{Form}
 use Rattle.treasury_api.specs.declared.asking.Asked.{Asked}
 use Rattle.treasury_api.specs.declared.asking.Asked.TheVariants.{Command, DryRun, Report}

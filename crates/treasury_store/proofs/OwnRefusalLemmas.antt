@@ -48,7 +48,7 @@ use Rattle.treasury_core.specs.Step.{file_refusal, dispatch_refusal, receipt_ref
 use Rattle.treasury_core.specs.Step.{is_received_so, entering_refusal, close_refusal, closed_reply, is_lock, goes_back}
 use Rattle.treasury_core.specs.Step.{held_reply, key_of, qty_of, has_key, is_too_much, has_bad_key, has_nothing_left}
 use Rattle.treasury_store.specs.Store.{AnswersState}
-use Rattle.treasury_store.specs.Treasury.{FailsBy, MayReply, is_by_rules, IsListed}
+use Rattle.treasury_store.specs.Treasury.{FailsBy, RepliesOrFails, is_by_rules, IsListed}
 
 abbrev IsOwn : Refusal → Type 0
 IsOwn e = is_by_rules e ≡ true
@@ -280,7 +280,7 @@ unfolding IsOwnReply
 own_err r own = own
 
 -- what may be replied to a command is refused by the rules, or by 41
-pub listed_reply : (f : Federation) (c : Command) (r : Result Answer Refusal) → MayReply f c r → IfErr r IsListed
+pub listed_reply : (f : Federation) (c : Command) (r : Result Answer Refusal) → RepliesOrFails f c r → IfErr r IsListed
 listed_reply f c (Ok answer) replies = tt
 listed_reply f c (Err e) (inl (inl step)) =
     inl (subst (λ (r : Result Answer Refusal). IfErr r (λ x. IsTrue (is_by_rules x))) (sym step)

@@ -37,7 +37,7 @@ use Rattle.treasury_tables.specs.Rows.{HoldsTables, AreTreesOf}
 use Rattle.treasury_tables.specs.Kept.{KeepsTables, IsFaithful}
 use Rattle.treasury_store.specs.declared.store.Store.{Store}
 use Rattle.treasury_store.specs.Store.{IsOf, AnswersState, FailsAs, Finds, FindsAll, Joins}
-use Rattle.treasury_store.specs.Treasury.{Treasury, IsTreasuryOf, MayReply, Performs, is_failure, turn_if}
+use Rattle.treasury_store.specs.Treasury.{Treasury, IsTreasuryOf, RepliesOrFails, Performs, is_failure, turn_if}
 use Rattle.treasury_store.specs.Treasury.{SurvivesCommand, IsUnfit}
 
 -- ---- loading
@@ -90,10 +90,10 @@ performs_held g old new s f c r is of performs =
 
 -- while memory holds a state, a reply on the state that was had is one on it
 pub replies_held : (held : Option Federation) (s : Federation) (c : Command) (r : Result Answer Refusal)
-    → (IsSome held → held ≡ Some s) → MayReply s c r → IfSome held (λ (x : Federation). MayReply x c r)
+    → (IsSome held → held ≡ Some s) → RepliesOrFails s c r → IfSome held (λ (x : Federation). RepliesOrFails x c r)
 replies_held None s c r same replies = tt
 replies_held (Some x) s c r same replies =
-    subst (λ (o : Option Federation). IfSome o (λ (y : Federation). MayReply y c r)) (sym (same refl)) replies
+    subst (λ (o : Option Federation). IfSome o (λ (y : Federation). RepliesOrFails y c r)) (sym (same refl)) replies
 
 -- a call that succeeded has not failed
 pub ok_unfailed : {T : Type 0} (x : T) (failed : Bool) → AnswersState (Ok x) failed → failed ≡ false
@@ -116,11 +116,11 @@ fails_as {T = T} e failed (inr damaged) = inr (inr (err_is {T = T} e Damaged dam
 -- ---- the headline
 
 -- a reply of the step, or 40, is a turn of a run; 41 is none
-pub turn_runs : (f : Federation) (c : Command) (r : Result Answer Refusal) → Fits f.styles c → MayReply f c r
+pub turn_runs : (f : Federation) (c : Command) (r : Result Answer Refusal) → Fits f.styles c → RepliesOrFails f c r
     → IsRun f (turn_if c r)
 turn_runs f c r fits replies = by_test (is_failure r) refl replies
   where
-    by_test : (t : Bool) → is_failure r ≡ t → MayReply f c r
+    by_test : (t : Bool) → is_failure r ≡ t → RepliesOrFails f c r
         → IsRun f (if t then [] else record { command = c; reply = r } ∷ [])
     by_test true e h = tt
     by_test false e (inl h) = (fits, h, tt)

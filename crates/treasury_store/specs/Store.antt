@@ -57,13 +57,13 @@ pub record IsOf {S : Type 0} (g : Ghosts S) (s : Store S) (f : Federation) : Typ
 
 -- what a call on a store that no call has failed answers, and whether it has failed then: 40 and 41 are its errors, and
 -- 41 is for ever
-abbrev pub Answers : {T : Type 0} → Result T Cause → Bool → Type 0
-Answers r failed =
+abbrev pub AnswersStore : {T : Type 0} → Result T Cause → Bool → Type 0
+AnswersStore r failed =
     MatchResult r (λ _. failed ≡ false) (λ e. ((e ≡ OutOfMemory) × (failed ≡ false)) ⊎ ((e ≡ Failed) × (failed ≡ true)))
 
 -- the same of a call that reads the rows of a state, which also answers 43, and has not failed then
 abbrev pub AnswersState : {T : Type 0} → Result T Cause → Bool → Type 0
-AnswersState r failed = Answers r failed ⊎ ((r ≡ Err Damaged) × (failed ≡ false))
+AnswersState r failed = AnswersStore r failed ⊎ ((r ≡ Err Damaged) × (failed ≡ false))
 
 -- by which cause a call on a store that no call has failed refuses, and whether it has failed then
 abbrev pub FailsAs : Cause → Bool → Type 0

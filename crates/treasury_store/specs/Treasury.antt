@@ -37,8 +37,8 @@ WhileOf g old new Says =
     IsFaithful g new.store.conn → old.store.failed ≡ false → (f : Federation) → IsTreasuryOf g old f → Says f
 
 -- the reply is the step's, or 40 or 41
-abbrev pub MayReply : Federation → Command → Result Answer Refusal → Type 0
-MayReply f c r = Replies f c r ⊎ (r ≡ Err (Plain Failed))
+abbrev pub RepliesOrFails : Federation → Command → Result Answer Refusal → Type 0
+RepliesOrFails f c r = Replies f c r ⊎ (r ≡ Err (Plain Failed))
 
 -- a command that does not fit the tables' state: the reply is 43, or 40 or 41, as that state could not be loaded
 abbrev pub IsUnfit : Result Answer Refusal → Type 0
@@ -47,7 +47,7 @@ IsUnfit r = (r ≡ Err (Plain Damaged)) ⊎ (r ≡ Err (Plain OutOfMemory)) ⊎ 
 -- A turn of a run: the reply is the step's, or 40 or 41, and the treasury is of the state after it.
 pub record Performs {S : Type 0} (g : Ghosts S) (new : Treasury S) (f : Federation) (c : Command)
     (r : Result Answer Refusal) : Type 0 where
-  pub replies : MayReply f c r
+  pub replies : RepliesOrFails f c r
   pub next : IsTreasuryOf g new (after f c r)
 
 -- A command on a treasury of a state: if it fits that state, it is a turn of a run; if not, it is refused, and the
@@ -102,7 +102,7 @@ IsListed e = IsTrue (is_by_rules e) ⊎ ((e ≡ Plain Failed) ⊎ (e ≡ Plain D
 pub record RepliesInAnyCase {S : Type 0} (old new : Treasury S) (c : Command) (r : Result Answer Refusal) : Type 0 where
   pub fails : FailsBy r new.store.failed
   pub listed : IfErr r IsListed
-  pub held : IfSome old.held (λ s. MayReply s c r)
+  pub held : IfSome old.held (λ s. RepliesOrFails s c r)
 
 -- What a command does to a connection: one that was open is open after an answer, and after each refusal but 41; no
 -- fault of the disk is forgotten, and only a fault shuts it.

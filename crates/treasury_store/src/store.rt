@@ -16,7 +16,7 @@ ghost use Rattle.treasury_tables.specs.Tables.{no_schema, store_schema};
 ghost use Rattle.treasury_tables.specs.Creating.{has_one, has_all, has_counter, Beside, SurvivesMaking};
 ghost use Rattle.treasury_tables.specs.Opening.{AreOursAlone, IsFirst, IsFirstNumbered, IsSecond};
 ghost use Rattle.treasury_tables.specs.Upgrading.{Upgrades, KeepsOurs};
-ghost use Rattle.treasury_store.specs.Store.{empty_state, TablesAreWhileOpen, Knows, IsOf, Joins, Answers};
+ghost use Rattle.treasury_store.specs.Store.{empty_state, TablesAreWhileOpen, Knows, IsOf, Joins, AnswersStore};
 ghost use Rattle.treasury_store.specs.Store.{AnswersState};
 ghost use Rattle.treasury_store.specs.Left.{LeavesSame, LeavesEitherVersion, LeavesJoined};
 
@@ -281,7 +281,7 @@ impl<S: Alter> Store<S> {
             → OnErr result
             (((state S.Store self.new.conn).now ≡ (state S.Store self.old.conn).now)
             × ((state S.Store self.new.conn).committed ≡ (state S.Store self.old.conn).committed)) }
-        ensures answers { self.old.failed ≡ false → Answers result self.new.failed }
+        ensures answers { self.old.failed ≡ false → AnswersStore result self.new.failed }
         ensures closed { IsTrue self.old.failed → (result ≡ Err Cause.Closed) × (self.new ≡ self.old) }
         ensures crash { Survives (state S.Store self.old.conn) (state S.Store self.new.conn)
             (λ trees. (db : Database) × (trees ≡ db.trees)

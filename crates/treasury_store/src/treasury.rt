@@ -17,8 +17,10 @@ ghost use Rattle.treasury_tables.specs.Tables.{store_schema};
 ghost use Rattle.treasury_tables.specs.Rows.{HoldsTables, AreTreesOf, Tables, ShowsTables};
 ghost use Rattle.treasury_tables.specs.Kept.{KeepsTables, StaysAsIs, IsFaithful};
 ghost use Rattle.treasury_store.specs.Shown.{ShowsNoState};
-ghost use Rattle.treasury_store.specs.Store.{TablesAreWhileOpen, Knows, IsOf, Joins, Answers, AnswersState, FailsAs};
-ghost use Rattle.treasury_store.specs.Treasury.{WhileOf, IsTreasuryOf, MayReply, Performs, PerformsIfFits, turn_if};
+ghost use Rattle.treasury_store.specs.Store.{TablesAreWhileOpen, Knows, IsOf, Joins, AnswersStore, AnswersState};
+ghost use Rattle.treasury_store.specs.Store.{FailsAs};
+ghost use Rattle.treasury_store.specs.Treasury.{WhileOf, IsTreasuryOf, RepliesOrFails, Performs, PerformsIfFits};
+ghost use Rattle.treasury_store.specs.Treasury.{turn_if};
 ghost use Rattle.treasury_store.specs.Treasury.{AddsNothing, FailsBy, RepliesInAnyCase, KeepsConnection, IsUnfit};
 ghost use Rattle.treasury_store.specs.Left.{LeavesSame, LeavesCommand};
 
@@ -186,7 +188,7 @@ impl<S: Alter> Treasury<S> {
         ensures err { OnErr result (IsOf S.Store self.old.store now → IsOf S.Store self.new.store now) }
         ensures err_held { OnErr result (self.new.held ≡ Some now) }
         ensures nothing { delta ≡ [] → IsOk result × (self.new ≡ record { store = self.old.store; held = Some now }) }
-        ensures answers { self.old.store.failed ≡ false → Answers result self.new.store.failed }
+        ensures answers { self.old.store.failed ≡ false → AnswersStore result self.new.store.failed }
         ensures still_open { IsFaithful S.Store self.new.store.conn
             → IsTrue (state S.Store self.old.store.conn).is_open
             → OnOk result (IsTrue (state S.Store self.new.store.conn).is_open) }
@@ -222,7 +224,7 @@ impl<S: Alter> Treasury<S> {
         ensures performs { IsOf S.Store self.old.store now → self.old.store.failed ≡ false
             → Performs S.Store self.new now command.now result }
         ensures fails { self.old.store.failed ≡ false → FailsBy result self.new.store.failed }
-        ensures replies { self.old.store.failed ≡ false → MayReply now command.now result }
+        ensures replies { self.old.store.failed ≡ false → RepliesOrFails now command.now result }
         ensures nothing { AddsNothing now command.now
             → Replies now command.now result × (self.new ≡ record { store = self.old.store; held = Some now }) }
         ensures still_open { IsFaithful S.Store self.new.store.conn
