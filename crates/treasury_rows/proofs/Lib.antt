@@ -1,6 +1,7 @@
 pub mod PartSizeLemmas
 pub mod CarriedLemmas
 pub mod JudgingLemmas
+pub mod JudgedLemmas
 pub mod DraftLemmas
 pub mod UnitRowLemmas
 pub mod EntryRowLemmas

@@ -6,12 +6,13 @@ ghost use Rattle.treasury_state.specs.Good.{IsGoodState};
 ghost use Rattle.treasury_state.specs.Rows.{rows};
 
 use crate::drafting::drafted;
-use crate::judging::is_good;
+use crate::judging::judge;
+use crate::keeping::kept;
 use crate::same_rows::has_rows;
 use book_core::Ledger;
 use money_core::Cause;
 use std::alloc::Global;
-use treasury_state::{Parts, State, state_of};
+use treasury_state::{Parts, State};
 
 /// What can be built from rows.
 pub trait Build: Sized {
@@ -23,8 +24,8 @@ impl<L: Ledger> Build for State<L> {
     /// The state that has these rows: they are read, the rows of what they spell are compared with them, and it is
     /// judged.
     ///
-    /// It answers 43 where they are no good state's, and 40 for want of memory. It costs what the rows have, and one
-    /// check of each book. The rows are given up before it is judged.
+    /// It answers 43 where they are no good state's, and 40 for want of memory. It costs what the rows have, and each
+    /// book is filled once. The rows are given up before it is judged.
     fn build(alloc: Global, parts: Parts) -> Result<Self, Cause>
         ensures built { IfOk result (λ f. rows f ≡ parts) }
         ensures err { IfErr result (λ e. (e ≡ Cause.OutOfMemory)
@@ -35,9 +36,9 @@ impl<L: Ledger> Build for State<L> {
             return Err(Cause::Damaged);
         }
         drop(parts);
-        if !is_good::<L>(alloc, &draft)? {
+        let Some(judged) = judge(alloc, &draft)? else {
             return Err(Cause::Damaged);
-        }
-        state_of(alloc, draft)
+        };
+        kept(alloc, draft, judged)
     }
 }

@@ -4,6 +4,7 @@
 mod build;
 mod drafting;
 mod judging;
+mod keeping;
 mod same_rows;
 
 pub use build::Build;

@@ -1,30 +1,30 @@
-use Rattle.std.proofs.Common.{◌≡◌, ◌≤◌, ◌∙◌, ap, sym, subst, arith, length, Bool, true, false, List}
-use Rattle.std.specs.Prelude.{◌↔◌, IsTrue, unsigned_abs}
+use Rattle.std.proofs.Common.{◌≡◌, ◌≤◌, ◌∙◌, ap, sym, subst, arith, length, true, false, List}
+use Rattle.std.specs.Prelude.{unsigned_abs}
 use Rattle.std.specs.List.{AllByRecursion}
-use Rattle.std.proofs.lemmas.Result.{IfOk-weaker}
 use Rattle.money_core.specs.Amount.{limit}
 use Rattle.money_core.specs.Style.{AreStyles}
 use Rattle.money_core.specs.declared.style.Style.{Style}
 use Rattle.treasury_state.specs.declared.transfer.Transfer.{Transfer}
 use Rattle.treasury_state.specs.Federation.{Branch, Federation, most_branches}
 use Rattle.treasury_state.specs.Good.{AreAscending, HaveOwnNames, IsGoodRecord, IsGoodTransfer, IsGoodState}
-use Rattle.treasury_rows.proofs.JudgingLemmas.{all_small, good_of, whole_of, whole_same}
-use Rattle.treasury_rows.proofs.judging.is_good.Goals as goal
+use Rattle.treasury_rows.specs.Judged.{AreJudged}
+use Rattle.treasury_rows.proofs.JudgingLemmas.{AreWholeIn, all_small, good_of, whole_of, whole_same}
+use Rattle.treasury_rows.proofs.JudgedLemmas.{judged_weaker}
+use Rattle.treasury_rows.proofs.judging.judge.Goals as goal
 
 pub returns-then-not-are_small-clause-value : goal.returns-then-not-are_small-clause-value
 returns-then-not-are_small-clause-value g c =
     let f = c.args.draft.now in
     let transfers : c.items-transfers.result.now ≡ f.transfers =
     c.items-transfers.ensures ∙ ap (λ (d : Federation). d.transfers) c.draft.view_is in
-    let never : IsGoodState f → ⊥ = λ good.
+    λ good.
     let small =
     subst (AllByRecursion (λ (t : Transfer). unsigned_abs t.qty ≤ limit)) (sym transfers) (all_small f good) in
     let k : true ≡ false = sym (c.are_small.ensures.1 small) ∙ c.if-not-are_small.true in
-    cc in
-    ((λ h. absurd (let k : false ≡ true = h in cc)), (λ good. absurd (never good)))
+    absurd cc
 
-pub are_good_branches-requires-clause-records : goal.are_good_branches-requires-clause-records
-are_good_branches-requires-clause-records g c =
+pub judged_branches-requires-clause-records : goal.judged_branches-requires-clause-records
+judged_branches-requires-clause-records g c =
     let f = c.args.draft.now in
     let branches : c.items-branches.result.now ≡ f.branches =
     c.items-branches.ensures ∙ ap (λ (d : Federation). d.branches) c.draft.view_is in
@@ -50,10 +50,15 @@ returns-clause-value g c =
     subst (λ (bs : List Branch). AllByRecursion (IsGoodTransfer bs) f.transfers) branches
     (subst (AllByRecursion (IsGoodTransfer c.items-branches.result.now)) transfers
     (c.are_good_transfers.ensures.0 c.if-not-are_good_transfers.false)) in
-    IfOk-weaker c.are_good_branches.result _ (λ (is : Bool). IsTrue is ↔ IsGoodState f)
-    (λ is h. (
-      (λ t. good_of f (subst AreStyles styles c.are_styles.ensures) few names ids good
-          (whole_same _ _ _ _ _ _ (sym styles) (sym transfers) (sym branches) (h.0 t))),
-      (λ k. h.1 (whole_same _ _ _ _ _ _ styles transfers branches (whole_of f k))),
+    let rows = c.items-branches.result.now in
+    let moved = c.items-transfers.result.now in
+    judged_weaker c.judged_branches.result (AreWholeIn c.draft.inside.styles moved rows) (IsGoodState f)
+    (λ list. AreWholeIn c.draft.inside.styles moved rows × AreJudged g.L.Ledger.book rows list.items)
+    (λ list. IsGoodState f × AreJudged g.L.Ledger.book f.branches list.items)
+    (λ k. whole_same _ _ _ _ _ _ styles transfers branches (whole_of f k))
+    (λ list h. (
+      good_of f (subst AreStyles styles c.are_styles.ensures) few names ids good
+          (whole_same _ _ _ _ _ _ (sym styles) (sym transfers) (sym branches) h.0),
+      subst (λ (bs : List Branch). AreJudged g.L.Ledger.book bs list.items) branches h.1,
     ))
-    c.are_good_branches.ensures.value
+    c.judged_branches.ensures.value

@@ -5,10 +5,10 @@ use Rattle.journal_lines.specs.Date.{IsDayNumber}
 use Rattle.treasury_state.specs.declared.record.Record.{Record}
 use Rattle.treasury_state.specs.Federation.{Branch, entries}
 use Rattle.treasury_state.proofs.RecordLemmas.{fit_records, day_records}
-use Rattle.treasury_rows.proofs.judging.is_good_branch.Goals as goal
+use Rattle.treasury_rows.proofs.judging.judged_branch.Goals as goal
 
-pub is_good_book-requires : goal.is_good_book-requires
-is_good_book-requires g c =
+pub good_ledger-requires : goal.good_ledger-requires
+good_ledger-requires g c =
     subst (λ (rs : List Record). AllByRecursion IsFit (entries rs))
     (sym (c.items-rows.ensures ∙ ap (λ (x : Branch). x.records) c.branch.view_is))
     (fit_records c.args.styles.now c.args.branch.now.records c.requires.records)

@@ -1,0 +1,69 @@
+use Rattle.std.proofs.Common.{◌≡◌, ◌++◌, [], ◌∷◌, ◌∙◌, ap, sym, subst, append_assoc, append-nil, ℕ, List, length, cond}
+use Rattle.std.proofs.Common.{Some, None}
+use Rattle.std.specs.Option.{option_or}
+use Rattle.std.specs.List.{AllByRecursion}
+use Rattle.std.specs.Str.{bytes_eq}
+use Rattle.std.specs.HashMap.{get_by_text}
+use Rattle.std.proofs.lemmas.List.{length-map, map-append}
+use Rattle.money_core.proofs.ListLemmas.{all-append}
+use Rattle.treasury_state.specs.Federation.{Branch, Federation}
+use Rattle.treasury_state.specs.Seen.{branch_of, branches_of}
+use Rattle.treasury_state.specs.Kept.{ArePlacesOf}
+use Rattle.treasury_state.specs.Index.{IsKept}
+use Rattle.treasury_state.proofs.IndexLemmas.{pushed}
+use Rattle.treasury_state.proofs.KeepingLemmas.{good_same, no_branches}
+use Rattle.treasury_rows.proofs.JudgedLemmas.{judged_first}
+use Rattle.treasury_rows.proofs.keeping.kept.Goals as goal
+
+pub branches-preserved : goal.branches-preserved
+branches-preserved g c =
+    let bs = c.branches.branches.items in
+    let kept = c.kept_branch.result in
+    let rest = c.next.new.self.rest.items in
+    let places = c.branches.places in
+    let more : branches_of c.push.new.self.items ≡ branches_of bs ++ branch_of kept ∷ [] =
+    ap branches_of c.in_ok-push.ensures.items ∙ map-append branch_of bs (kept ∷ []) in
+    let named : c.as_str.result.now ≡ (branch_of kept).name =
+    c.as_str.ensures ∙
+    (ap (λ (b : Branch). b.name) c.branch.view_is ∙ ap (λ (b : Branch). b.name) (sym c.kept_branch.ensures.value)) in
+    let put : (k : List ℕ) → get_by_text c.put_place.new.index k
+    ≡ option_or (get_by_text places k)
+    (cond (bytes_eq (branch_of kept).name k) (Some (length (branches_of bs))) None) = λ k.
+    c.in_ok-put_place.ensures.put k
+    ∙ ap (λ (m : List ℕ). option_or (get_by_text places k) (cond (bytes_eq m k) (Some c.len.result) None)) named
+    ∙ ap (λ (n : ℕ). option_or (get_by_text places k) (cond (bytes_eq (branch_of kept).name k) (Some n) None))
+    (c.len.ensures ∙ c.branches.branches.ok.0 ∙ sym (length-map bs branch_of)) in
+    record {
+      same =
+          ap (λ (xs : List Branch). xs ++ rest) more
+          ∙ (append_assoc (branches_of bs) (branch_of kept ∷ []) rest
+          ∙ (ap (λ (b : Branch). branches_of bs ++ b ∷ rest) c.kept_branch.ensures.value
+          ∙ (ap (λ (xs : List Branch). branches_of bs ++ xs) (sym c.in-Some.ensures.steps.0) ∙
+          c.branches.invariant.same)));
+      kept = subst (AllByRecursion (IsKept g.L.Ledger.book)) (sym c.in_ok-push.ensures.items)
+          (all-append (IsKept g.L.Ledger.book) bs (kept ∷ []) c.branches.invariant.kept
+          (c.kept_branch.ensures.kept, tt));
+      places = subst (ArePlacesOf c.put_place.new.index) (sym more)
+          (pushed (λ (b : Branch). b.name) places c.put_place.new.index (branches_of bs) (branch_of kept)
+          c.branches.invariant.places put);
+      judged = (judged_first g.L.Ledger.book c.branches.branch-iterator.rest.items rest c.in-Some.branch
+          c.branches.left.rest.items c.next-in-branches.new.self.rest.items c.in-Some-next.judged
+          c.in-Some.ensures.steps.0 c.in-Some-next.ensures.cases.0 c.branches.invariant.judged).1;
+    }
+
+pub invariant_of-result : goal.invariant_of-result
+invariant_of-result g c =
+    let f = c.args.draft in
+    let front = branches_of c.branches.branches.items in
+    let rest = c.branches.branch-iterator.rest in
+    let none : rest.items ≡ [] = no_branches rest.items (sym rest.ok.0 ∙ c.in-None.ensures.steps.0) in
+    let all : front ≡ f.branches = sym (append-nil front) ∙
+    (ap (λ (bs : List Branch). front ++ bs) (sym none) ∙ c.branches.invariant.same) in (
+      record {
+        kept = c.branches.invariant.kept;
+        good = good_same f c.draft.inside.styles front c.draft.inside.transfers
+            (ap (λ (d : Federation). d.styles) c.draft.view_is) all
+            (ap (λ (d : Federation). d.transfers) c.draft.view_is) c.requires.good;
+      },
+      c.branches.invariant.places,
+    )
