@@ -10,7 +10,7 @@ use Rattle.treasury_state.specs.Federation.{Branch, Federation}
 use Rattle.treasury_state.specs.Seen.{branch_of, branches_of}
 use Rattle.treasury_state.specs.Kept.{ArePlacesOf}
 use Rattle.treasury_state.specs.Index.{IsKept}
-use Rattle.treasury_state.proofs.IndexLemmas.{pushed}
+use Rattle.treasury_state.proofs.IndexLemmas.{index_pushed}
 use Rattle.treasury_state.proofs.KeepingLemmas.{good_same, no_branches}
 use Rattle.treasury_rows.proofs.JudgedLemmas.{judged_first}
 use Rattle.treasury_rows.proofs.keeping.kept.Goals as goal
@@ -44,7 +44,7 @@ branches-preserved g c =
           (all-append (IsKept g.L.Ledger.book) bs (kept ∷ []) c.branches.invariant.kept
           (c.kept_branch.ensures.kept, tt));
       places = subst (ArePlacesOf c.put_place.new.index) (sym more)
-          (pushed (λ (b : Branch). b.name) places c.put_place.new.index (branches_of bs) (branch_of kept)
+          (index_pushed (λ (b : Branch). b.name) places c.put_place.new.index (branches_of bs) (branch_of kept)
           c.branches.invariant.places put);
       judged = (judged_first g.L.Ledger.book c.branches.branch-iterator.rest.items rest c.in-Some.branch
           c.branches.left.rest.items c.next-in-branches.new.self.rest.items c.in-Some-next.judged
