@@ -5,7 +5,7 @@ pub returns-clause-rows : goal.returns-clause-rows
 returns-clause-rows g c = leaves_rows g.S.Store g.met.S.Store.settled
 
 pub returns-clause-within : goal.returns-clause-within
-returns-clause-within g c = leaves_no_more g.S.Store
+returns-clause-within g c = leaves_no_more g.S.Store g.met.S.Store.settled
 
 pub returns-clause-same : goal.returns-clause-same
 returns-clause-same g c = leaves_same g.S.Store g.met.S.Store.settled
