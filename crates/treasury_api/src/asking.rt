@@ -1,13 +1,14 @@
 //! What a request asks, once its texts are read: a command, or a report.
 
-ghost use Rattle.std.specs.Prelude.{◌≡◌, Ok, IfOk, option_map};
+ghost use Rattle.std.specs.Prelude.{◌≡◌, List, Ok, IfOk, IsTrue, option_map};
 ghost use Rattle.std.specs.Result.{IsOkUnless};
+ghost use Rattle.money_core.specs.declared.style.Style.{Style};
 ghost use Rattle.money_core.specs.Sampling.{style_of};
 ghost use Rattle.money_core.specs.Reading.{amount};
 ghost use Rattle.journal_lines.specs.Date.{IsDayNumber};
 ghost use Rattle.treasury_api.specs.Asked.{asked_by_sample, asked_by_amount, asked_by_part, asked_by_receipt, cut_list};
 ghost use Rattle.treasury_api.specs.Asked.{JournalAsks, RequestAsks, SpelledAsks, or_dry_run};
-ghost use Rattle.treasury_requests.specs.Request.{HasDayNumbers};
+ghost use Rattle.treasury_requests.specs.Request.{HasDayNumbers, is_report};
 ghost use Rattle.treasury_api.specs.Serving.{IsReady, OrMemory};
 
 use crate::report::Report;
@@ -221,6 +222,72 @@ fn choice_of(alloc: Global, accounts: &Option<Text>, into: &Option<Text>) -> Res
     }
 }
 
+/// The closing that is asked for.
+fn close_of(
+    alloc: Global,
+    branch: &Text,
+    day: Day,
+    accounts: &Option<Text>,
+    into: &Option<Text>,
+) -> Result<Close, Refusal>
+    ensures value { IfOk result (λ close. close ≡ record {
+      branch = branch.now;
+      day = day;
+      choice = record { accounts = option_map cut_list accounts.now; into = into.now };
+    }) }
+    ensures memory { IsOkUnless result (Refusal.Plain Cause.OutOfMemory) }
+{
+    let branch = own(branch)?;
+    let choice = choice_of(alloc, accounts, into)?;
+    Ok(Close {
+        branch,
+        day,
+        choice,
+    })
+}
+
+/// Asks for the report that the request is for.
+fn asked_by_report(request: &Request) -> Result<Asked, Refusal>
+    requires { IsTrue (is_report request.now) }
+    ensures asks { (styles : List Style) → OrMemory (RequestAsks styles request.now) result }
+    ensures ready { (styles : List Style) → IsReady styles result }
+{
+    let report = match request {
+        Request::Balance { branch, day } => {
+            let branch = own(branch)?;
+            Report::Balance { branch, day: *day }
+        }
+        Request::Register {
+            branch,
+            account,
+            tag,
+        } => {
+            let branch = own(branch)?;
+            let account = own(account)?;
+            let tag = own_if_given(tag)?;
+            Report::Register {
+                branch,
+                account,
+                tag,
+            }
+        }
+        Request::Transit { day } => Report::Transit { day: *day },
+        Request::Journal { branch } => {
+            let branch = own(branch)?;
+            Report::Journal { branch }
+        }
+        Request::Branches => Report::Branches,
+        Request::Commodities => Report::Commodities,
+        Request::Accounts { branch } => {
+            let branch = own(branch)?;
+            Report::Accounts { branch }
+        }
+        Request::Transfers { day } => Report::Transfers { day: *day },
+        _ => unreachable!(),
+    };
+    Ok(Asked::Report(report))
+}
+
 /// What the request asks, if it is no dry run; or the first fault of its texts; 40 for want of memory.
 fn asked_by_request(alloc: Global, styles: &Styles, request: &Request) -> Result<Asked, Refusal>
     requires { HasDayNumbers request.now }
@@ -228,10 +295,7 @@ fn asked_by_request(alloc: Global, styles: &Styles, request: &Request) -> Result
     ensures ready { IsReady styles.now result }
 {
     match request {
-        Request::Branch { name } => {
-            let name = own(name)?;
-            Ok(Asked::Command(Command::Branch(name)))
-        }
+        Request::Branch { name } => Ok(Asked::Command(Command::Branch(own(name)?))),
         Request::Commodity { sample } => asked_by_sample(alloc, styles, sample.as_str()),
         Request::Import { branch, journal } => {
             asked_by_journal(alloc, styles, branch, journal.as_bytes())
@@ -251,55 +315,17 @@ fn asked_by_request(alloc: Global, styles: &Styles, request: &Request) -> Result
             account,
             part,
         } => asked_by_receipt(styles, id, branch, *day, account, part),
-        Request::Lock { branch, day } => {
-            let branch = own(branch)?;
-            Ok(Asked::Command(Command::Lock(branch, *day)))
-        }
+        Request::Lock { branch, day } => Ok(Asked::Command(Command::Lock(own(branch)?, *day))),
         Request::Close {
             branch,
             day,
             accounts,
             into,
         } => {
-            let branch = own(branch)?;
-            let choice = choice_of(alloc, accounts, into)?;
-            let close = Close {
-                branch,
-                day: *day,
-                choice,
-            };
+            let close = close_of(alloc, branch, *day, accounts, into)?;
             Ok(Asked::Command(Command::Close(close)))
         }
-        Request::Balance { branch, day } => {
-            let branch = own(branch)?;
-            Ok(Asked::Report(Report::Balance { branch, day: *day }))
-        }
-        Request::Register {
-            branch,
-            account,
-            tag,
-        } => {
-            let branch = own(branch)?;
-            let account = own(account)?;
-            let tag = own_if_given(tag)?;
-            Ok(Asked::Report(Report::Register {
-                branch,
-                account,
-                tag,
-            }))
-        }
-        Request::Transit { day } => Ok(Asked::Report(Report::Transit { day: *day })),
-        Request::Journal { branch } => {
-            let branch = own(branch)?;
-            Ok(Asked::Report(Report::Journal { branch }))
-        }
-        Request::Branches => Ok(Asked::Report(Report::Branches)),
-        Request::Commodities => Ok(Asked::Report(Report::Commodities)),
-        Request::Accounts { branch } => {
-            let branch = own(branch)?;
-            Ok(Asked::Report(Report::Accounts { branch }))
-        }
-        Request::Transfers { day } => Ok(Asked::Report(Report::Transfers { day: *day })),
+        _ => asked_by_report(request),
     }
 }
 
