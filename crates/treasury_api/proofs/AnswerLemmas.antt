@@ -35,15 +35,14 @@ use Rattle.treasury_requests.specs.declared.request.Request.TheVariants.{Commodi
 use Rattle.treasury_requests.specs.declared.request.Request.TheVariants.{Accounts as ForAccounts}
 use Rattle.treasury_requests.specs.declared.request.Request.TheVariants.{Transfers as ForTransfers}
 use Rattle.http_request.specs.declared.call.Form.{Form}
-use Rattle.http_request.specs.declared.call.Form.TheVariants as form
 use Rattle.treasury_api.specs.declared.asking.Asked.{Asked}
 use Rattle.treasury_api.specs.declared.asking.Asked.TheVariants.{Command, DryRun, Report}
 use Rattle.treasury_api.specs.declared.report.Report.TheVariants as report
 use Rattle.treasury_api.specs.Asked.{asked_by_sample, asked_by_amount, asked_by_part, asked_by_receipt, cut_list}
-use Rattle.treasury_api.specs.Asked.{JournalAsks, RequestAsks, or_dry_run, SpelledAsks, AsksOf}
+use Rattle.treasury_api.specs.Asked.{JournalAsks, RequestAsks, or_dry_run, SpelledAsks}
 use Rattle.treasury_api.specs.declared.report.Report.{Report as AnyReport}
 use Rattle.treasury_api.specs.Report.{report_in, has_its_branch}
-use Rattle.treasury_api.specs.Replied.{IsRepliedIn}
+use Rattle.treasury_api.specs.Replied.{IsRepliedIn, IsAnsweredIn}
 use Rattle.treasury_api.specs.Serving.{IsReady, OrMemory}
 use Rattle.money_core.proofs.ReadingLemmas.{one_of_causes}
 use Rattle.money_core.specs.declared.unit.Unit.{Unit as Commodity}
@@ -96,19 +95,6 @@ spelled_asks law styles request =
     (or_dry_run request.is_dry_run said.0, (said.0, (said.1, refl)))
 
 -- ---- a treasury that holds its state, or does not
-
--- the treasury on which a request is answered: it asks something, and is replied to
-abbrev pub IsAnsweredIn : {S T : Type 0} → Form → Ghosts S → Bool → Treasury S → Federation → Spelled
-    → Result T Refusal → List ℕ → List ℕ → Type 0
-IsAnsweredIn form g failed new f request result before written =
-    (asked : Result Asked Refusal) × (AsksOf failed f.styles request asked
-    × IsRepliedIn form g failed new f asked result before written)
-
--- the same as text
-abbrev pub IsAnswered : {S T : Type 0} → Ghosts S → Bool → Treasury S → Federation → Spelled → Result T Refusal → List ℕ
-    → List ℕ → Type 0
-IsAnswered g failed new f request result before written =
-    IsAnsweredIn form.Text g failed new f request result before written
 
 -- the state could not be had: the reply is 40, 41 or 42, whatever is asked
 pub unheld : {S T : Type 0} {form : Form} → ReadsAll

@@ -21,7 +21,7 @@ use Rattle.treasury_state.specs.Rows.{rows}
 use Rattle.treasury_core.specs.declared.command.Answer.{Answer}
 use Rattle.treasury_core.specs.declared.command.Command.{Command as AnyCommand}
 use Rattle.treasury_core.specs.declared.command.Command.TheVariants as cmd
-use Rattle.treasury_tables.specs.Kept.{IsFaithful}
+use Rattle.treasury_tables.specs.Kept.{ShutsByFault, IsFaithful}
 use Rattle.treasury_tables.specs.Rows.{Tables}
 use Rattle.treasury_store.specs.Store.{TablesAreWhileOpen, AnswersState}
 use Rattle.treasury_store.specs.Treasury.{Treasury, IsTreasuryOf, FailsBy, is_by_rules}
@@ -44,7 +44,7 @@ use Rattle.treasury_api.specs.Asked.{asked_by_sample, asked_by_amount, asked_by_
 use Rattle.treasury_api.specs.Asked.{or_dry_run, SpelledAsks}
 use Rattle.treasury_api.specs.Serving.{IsHeldFor, OrMemory}
 use Rattle.treasury_api.proofs.SpelledLemmas.{spelled_refusal}
-use Rattle.treasury_api.specs.Left.{FailsWith, IsUnread, IsOpenBut, LeavesAsked, LeavesRequest}
+use Rattle.treasury_api.specs.Left.{FailsWith, IsUnread, IsOpenBut, KeepsDatabase, LeavesAsked, LeavesRequest}
 use Rattle.treasury_api.proofs.ReplyLemmas.{fits_of}
 
 -- ---- a request asks one thing
@@ -129,11 +129,20 @@ err_is : {T : Type 0} (a b : Refusal) → ◌≡◌ {A = Result T Refusal} (Err 
 err_is a b same = cc
 
 -- where it is done
-pub open_done : {S T : Type 0} (g : Ghosts S) (new : Held S) (result : Result T Refusal) → IsOpenBut g new result
+open_done : {S T : Type 0} (g : Ghosts S) (new : Held S) (result : Result T Refusal) → IsOpenBut g new result
     → OnOk result (IsTrue (state g new).is_open)
 open_done g new (Ok x) (inl still) = still
 open_done g new (Ok x) (inr failed) = absurd cc
 open_done g new (Err refusal) but = tt
+
+pub keeps_database : {S T : Type 0} (g : Ghosts S) (old new : Held S) (result : Result T Refusal)
+    → (IsFaithful g new → IsTrue (state g old).is_open → IsOpenBut g new result) → ShutsByFault g old new
+    → KeepsDatabase g old new result
+keeps_database g old new result but shuts = record {
+  still_open = λ clean is_open. open_done g new result (but clean is_open);
+  open_but = but;
+  shuts = shuts;
+}
 
 -- where a command is refused
 pub open_refused : {S X T : Type 0} (g : Ghosts S) (new : Held S) (refusal : Refusal)

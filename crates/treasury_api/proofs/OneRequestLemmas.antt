@@ -22,8 +22,7 @@ use Rattle.treasury_api.specs.Step.{Standing, MayReply, after}
 use Rattle.treasury_api.specs.History.{command_if}
 use Rattle.treasury_api.specs.OneRequest.{AnswersAs, AnswersRequest, RepliesAs, RepliesOn, request_text}
 use Rattle.treasury_api.specs.OneRequest.{is_refusal, command_of}
-use Rattle.treasury_api.specs.Replied.{standing, body_of, IsLineOf}
-use Rattle.treasury_api.proofs.AnswerLemmas.{IsAnsweredIn, IsAnswered}
+use Rattle.treasury_api.specs.Replied.{standing, body_of, IsLineOf, IsAnsweredIn, IsAnswered}
 use Rattle.treasury_api.proofs.AskedLemmas.{request_fits}
 use Rattle.treasury_api.proofs.SpelledLemmas.{spelled_command}
 use Rattle.treasury_api.proofs.HistoryLemmas.{command_replied, failure_leaves}

@@ -19,7 +19,7 @@ use Rattle.treasury_state.specs.Rows.{rows}
 use Rattle.treasury_core.specs.declared.command.Answer.{Answer}
 use Rattle.treasury_core.specs.declared.command.Answer.TheVariants.{Done}
 use Rattle.treasury_core.specs.declared.command.Command.{Command as AnyCommand}
-use Rattle.treasury_tables.specs.Kept.{ShutsByFault, IsFaithful}
+use Rattle.treasury_tables.specs.Kept.{IsFaithful}
 use Rattle.treasury_store.specs.Treasury.{Treasury, IsTreasuryOf, is_failure}
 use Rattle.treasury_store.proofs.LeftLemmas.{shuts_same}
 use Rattle.treasury_requests.specs.declared.request.Spelled.{Spelled}
@@ -44,12 +44,12 @@ use Rattle.treasury_api.specs.Asked.{asked_by_part}
 use Rattle.treasury_api.specs.Report.{report_text, has_its_branch}
 use Rattle.treasury_api.specs.Answer.{answer_text, IsPlainAnswer}
 use Rattle.treasury_api.specs.Step.{Answers, MayReply, after, next, reply_text}
-use Rattle.treasury_api.specs.Left.{IsOpenBut, LeavesRequest, LeavesReply}
-use Rattle.treasury_api.specs.Replied.{standing, body_of, IsLineOf, IsLineIn, Serves}
+use Rattle.treasury_api.specs.Left.{IsOpenBut, KeepsDatabase, LeavesRequest, LeavesReply}
+use Rattle.treasury_api.specs.Replied.{standing, body_of, IsLineOf, IsLineIn, IsAnswered, Serves}
 use Rattle.treasury_api.specs.Serving.{end_of_report, OrMemory}
 use Rattle.treasury_api.specs.WebReply.{cause_of}
 use Rattle.treasury_api.specs.WebServing.{IsLineBy, IsToldBy}
-use Rattle.treasury_api.proofs.AnswerLemmas.{ReadsAll, IsAnswered, spelled_asks}
+use Rattle.treasury_api.proofs.AnswerLemmas.{ReadsAll, spelled_asks}
 use Rattle.treasury_api.proofs.SpelledLemmas.{spelled_command, spelled_report, spelled_dry_run}
 use Rattle.treasury_api.proofs.ReplyLemmas.{state_is, same_line, refusal_is}
 use Rattle.treasury_api.proofs.LeftLemmas.{LeavesShown, leaves_first}
@@ -339,10 +339,8 @@ whole_text f failed request (Err refusal) answer written text asks replies said 
 -- what else a request makes of a treasury
 pub record Beside {S : Type 0} (g : Ghosts S) (old new : Treasury S) (request : Spelled)
     (made : Result (Unit {0}) Refusal) : Type 0 where
-  pub shuts : ShutsByFault g old.store.conn new.store.conn
+  pub database : KeepsDatabase g old.store.conn new.store.conn made
   pub closed : IsTrue old.store.failed → (made ≡ Err (Plain Closed)) × (new ≡ old)
-  pub open_but : IsFaithful g new.store.conn → IsTrue (state g old.store.conn).is_open
-      → IsOpenBut g new.store.conn made
   pub left : LeavesRequest g old new request
 
 -- where it is replied to so, the database is open, or not
@@ -363,7 +361,7 @@ pub served : {S : Type 0} (g : Ghosts S) (old new : Treasury S) (line written te
     → text ≡ written ++ end_of_report request.request → Serves g old line text new
 served g old new line written text request made x is ok beside answers ended = record {
   answers = λ k f of. by_reply k f of (answers k f of);
-  shuts = beside.shuts;
+  shuts = beside.database.shuts;
   closed = λ failed. (beside.closed failed).1;
 }
   where
@@ -394,7 +392,7 @@ served g old new line written text request made x is ok beside answers ended = r
               λ is_open unfailed. (
                 beside.left clean is_open f of asked asks,
                 replied_open g new.store.conn made r.reply
-                    (λ e. absurd (done_not made x (Plain Failed) ok e)) (beside.open_but clean is_open),
+                    (λ e. absurd (done_not made x (Plain Failed) ok e)) (beside.database.open_but clean is_open),
               ),
             ),
           ),
@@ -409,7 +407,7 @@ pub served_memory : {S : Type 0} (g : Ghosts S) (old new : Treasury S) (line wri
     → is_report request.request ≡ true → text ≡ answer_text [] (Err (Plain OutOfMemory)) → Serves g old line text new
 served_memory g old new line written text request made x is ok beside answers report said = record {
   answers = λ k f of. by_reply k f of (answers k f of);
-  shuts = beside.shuts;
+  shuts = beside.database.shuts;
   closed = λ failed. (beside.closed failed).1;
 }
   where
@@ -461,7 +459,7 @@ served_memory g old new line written text request made x is ok beside answers re
         (λ is_open unfailed. (
           beside.left clean is_open f of asked asks,
           replied_open g new.store.conn made (Err (Plain OutOfMemory))
-              (λ e. absurd (done_not made x (Plain Failed) ok e)) (beside.open_but clean is_open),
+              (λ e. absurd (done_not made x (Plain Failed) ok e)) (beside.database.open_but clean is_open),
         ))
 
 -- ---- a request that is refused
@@ -488,7 +486,7 @@ pub served_refusal : {S : Type 0} (g : Ghosts S) (old new : Treasury S) (line wr
     → IsLineOf new refusal text → Serves g old line text new
 served_refusal g old new line written text request made refusal is refused beside answers said = record {
   answers = λ k f of. by_reply k f of (answers k f of);
-  shuts = beside.shuts;
+  shuts = beside.database.shuts;
   closed = λ failed. (beside.closed failed).1;
 }
   where
@@ -522,7 +520,8 @@ served_refusal g old new line written text request made refusal is refused besid
           λ is_open unfailed. (
             beside.left clean is_open f was asked asks,
             replied_open g new.store.conn made (Err refusal)
-                (λ e. ap (λ (x : Refusal). Err x) (same_refusal (Plain Failed) e)) (beside.open_but clean is_open),
+                (λ e. ap (λ (x : Refusal). Err x) (same_refusal (Plain Failed) e))
+                (beside.database.open_but clean is_open),
           ),
         ),
       ),
@@ -547,7 +546,7 @@ served_refusal g old new line written text request made refusal is refused besid
             replied_open g new.store.conn made (Err (Plain OutOfMemory))
                 (λ e. absurd (let clash : true ≡ false =
                 sym (ap (λ (x : Refusal). is_failure (Err x)) (same_refusal (Plain Failed) e)) ∙ harmless in cc))
-                (beside.open_but clean is_open),
+                (beside.database.open_but clean is_open),
           ),
         ),
       ),

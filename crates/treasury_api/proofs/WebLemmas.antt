@@ -19,7 +19,7 @@ use Rattle.book_core.specs.declared.refusal.Refusal.TheVariants.{Plain, Text, Cl
 use Rattle.treasury_state.specs.Federation.{Federation}
 use Rattle.treasury_core.specs.declared.command.Answer.{Answer}
 use Rattle.treasury_core.specs.Run.{Turn}
-use Rattle.treasury_tables.specs.Kept.{ShutsByFault, IsFaithful}
+use Rattle.treasury_tables.specs.Kept.{IsFaithful}
 use Rattle.treasury_store.specs.Treasury.{Treasury, IsTreasuryOf, is_failure}
 use Rattle.treasury_store.proofs.LeftLemmas.{shuts_same}
 use Rattle.treasury_requests.specs.declared.request.Spelled.{Spelled}
@@ -31,10 +31,10 @@ use Rattle.treasury_api.specs.Replied.{standing}
 use Rattle.treasury_api.specs.History.{command_if}
 use Rattle.treasury_api.specs.OneRequest.{AnswersAs, RepliesAs, is_refusal, command_of}
 use Rattle.treasury_api.specs.WebReply.{status_of, status_of_number, whole_reply}
-use Rattle.treasury_api.specs.Web.{asked_by, IsNoAnswer, IsBodyIn, AnswersCall, IsOpenButFailed, AnswersOn}
+use Rattle.treasury_api.specs.Web.{asked_by, IsNoAnswer, IsBodyIn, AnswersCall, AnswersOn}
 use Rattle.treasury_api.specs.Web.{IsRefusal44, AnswersRead, FailsBy}
 use Rattle.treasury_api.specs.Web.{ServesOne, AnsweredCall, AreServed, turns_of_calls, OneFails, LeavesCalls, HasServed}
-use Rattle.treasury_api.specs.WebServing.{IsToldBy}
+use Rattle.treasury_api.specs.WebServing.{IsToldBy, LeavesReplied}
 use Rattle.treasury_api.proofs.ReplyLemmas.{state_is, refusal_is, failure_is}
 use Rattle.treasury_api.proofs.ServeLemmas.{plain_line}
 use Rattle.treasury_api.proofs.OneRequestLemmas.{IsToldAs, IsRunTo, request_run, request_leaves}
@@ -130,15 +130,14 @@ told_unasked g t form call status body is said (none, told) =
 pub request_answered : {S : Type 0} (g : Ghosts S) (old new : Treasury S) (form : Form) (call : Call)
     (request : Spelled) (status : ℕ) (body : List ℕ) → asked_by call ≡ Some request
     → RepliesAs g old request (IsBodyIn form body) (λ (reply : Result Answer Refusal). status ≡ status_of reply) new
-    → LeavesRequest g old new request → IsOpenButFailed g old status new → ShutsByFault g old.store.conn new.store.conn
-    → (IsTrue old.store.failed → new ≡ old) → AnswersOn g old form call status body new
-request_answered g old new form call request status body asks replies left open_but shuts closed = record {
+    → LeavesReplied g old request status new → AnswersOn g old form call status body new
+request_answered g old new form call request status body asks replies leaves = record {
   clean = replies.clean;
   answers = λ k f of. let r = replies.answers k f of in (r.0, (r.1.0, inr (request, asks, r.1.1)));
-  left = subst (λ (o : Option Spelled). MatchOption o (new ≡ old) (LeavesRequest g old new)) (sym asks) left;
-  open_but = open_but;
-  shuts = shuts;
-  closed = closed;
+  left = subst (λ (o : Option Spelled). MatchOption o (new ≡ old) (LeavesRequest g old new)) (sym asks) leaves.left;
+  open_but = leaves.open_but;
+  shuts = leaves.shuts;
+  closed = leaves.closed;
 }
 
 -- ---- calls one after another

@@ -1,14 +1,16 @@
 -- What a run did and what it left, from whichever state it began on (own rules; docs/RULES.md, "Books", "Runs").
-use Rattle.std.specs.Prelude.{◌≡◌, ℕ, List, [], ◌∷◌, ◌++◌, Option, Result, MatchResult}
+use Rattle.std.specs.Prelude.{◌≡◌, ◌⊎◌, ℕ, List, [], ◌∷◌, ◌++◌, Option, Result, MatchResult}
 use Rattle.sqlite.specs.Store.{Ghosts}
 use Rattle.money_core.specs.declared.cause.Cause.{Cause}
 use Rattle.money_core.specs.declared.cause.Cause.TheVariants.{OutOfMemory, ReadFault, WriteFault}
 use Rattle.treasury_core.specs.Run.{IsRun as IsCommandRun, state_after}
 use Rattle.treasury_laws.specs.Headline.{KeepsBooks}
-use Rattle.treasury_store.specs.Treasury.{Treasury}
+use Rattle.treasury_state.specs.Federation.{Federation}
+use Rattle.treasury_store.specs.Treasury.{Treasury, IsTreasuryOf}
 use Rattle.treasury_api.specs.RunEnd.{most_input, Finished, EndsBy}
 use Rattle.treasury_api.specs.Step.{Standing, Answers}
 use Rattle.treasury_api.specs.History.{Turn, turn_of, IsRun, commands_of, RefusalsLeave, RefusedLinesLeave}
+use Rattle.treasury_api.specs.Replied.{standing, OfAnyState}
 use Rattle.treasury_api.specs.Left.{LeavesRun}
 
 -- All of the input is answered, at most 64 MiB of it: by turns, one for each request. Their commands are a run of the
@@ -57,3 +59,14 @@ Runs g old new result remaining r0 r1 contents w0 w1 start end = MatchResult res
     (λ _. (run : AnswersAll remaining r0 r1 contents w0 w1 start end) × LeavesRun g old new start run.turns end)
     (λ cause. (run : IsCutOffBy cause remaining r0 r1 contents w0 w1 start end)
     × LeavesRun g old new start run.turns end)
+
+-- the same of whichever state the treasury is: the run leads to a state, of which the treasury then is
+abbrev pub RunsOn : {T S R W : Type 0} → Ghosts S → Treasury S → Treasury S → Result T Cause → (R → Option (List ℕ))
+    → R → R → (W → Option (List ℕ)) → W → W → Type 0
+RunsOn g old new result remaining r0 r1 contents w0 w1 =
+    OfAnyState g old new (λ f. (end : Federation) × (IsTreasuryOf g new end
+    × Runs g old new result remaining r0 r1 contents w0 w1 (standing old f) (standing new end)))
+
+-- what cuts off a run: memory, its input or its output
+abbrev pub CutsOff : Cause → Type 0
+CutsOff cause = (cause ≡ OutOfMemory) ⊎ ((cause ≡ ReadFault) ⊎ (cause ≡ WriteFault))

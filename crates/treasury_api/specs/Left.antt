@@ -1,6 +1,6 @@
 -- What a request leaves of a treasury, beside its state: whether the database is open, and what the next opening may
 -- find, after a crash, a stop, or a failure that shuts it (own rules; docs/RULES.md, "Runs").
-use Rattle.std.specs.Prelude.{◌≡◌, ◌⊎◌, ◌↔◌, Bool, false, List, ◌∷◌, ◌++◌, Result, Err, IsTrue}
+use Rattle.std.specs.Prelude.{◌≡◌, ◌⊎◌, ◌↔◌, Bool, false, List, ◌∷◌, ◌++◌, Result, Err, OnOk, IsTrue}
 use Rattle.sqlite.specs.Store.{Ghosts}
 use Rattle.sqlite.specs.Held.{Held, state}
 use Rattle.money_core.specs.declared.cause.Cause.TheVariants.{OutOfMemory, Store as Failed, Damaged}
@@ -16,7 +16,7 @@ use Rattle.treasury_api.specs.declared.asking.Asked.{Asked}
 use Rattle.treasury_api.specs.Asked.{AsksOf}
 use Rattle.treasury_api.specs.Step.{Standing, reply, after}
 use Rattle.treasury_api.specs.History.{Turn, end_of}
-use Rattle.treasury_tables.specs.Kept.{IsFaithful}
+use Rattle.treasury_tables.specs.Kept.{ShutsByFault, IsFaithful}
 
 -- ---- one request
 
@@ -31,6 +31,13 @@ IsUnread r = (r ≡ Err (Plain Damaged)) ⊎ ((r ≡ Err (Plain OutOfMemory)) �
 -- the database is open after a call, or the call is refused by 41
 abbrev pub IsOpenBut : {S T : Type 0} → Ghosts S → Held S → Result T Refusal → Type 0
 IsOpenBut g new r = IsTrue (state g new).is_open ⊎ (r ≡ Err (Plain Failed))
+
+-- What a request does to the database: one that was open is open after an answer, and after each refusal but 41; no
+-- fault of the disk is forgotten, and only a fault shuts it.
+pub record KeepsDatabase {S T : Type 0} (g : Ghosts S) (old new : Held S) (r : Result T Refusal) : Type 0 where
+  pub still_open : IsFaithful g new → IsTrue (state g old).is_open → OnOk r (IsTrue (state g new).is_open)
+  pub open_but : IsFaithful g new → IsTrue (state g old).is_open → IsOpenBut g new r
+  pub shuts : ShutsByFault g old new
 
 -- the state where what is asked leads, once it is done
 abbrev pub end_state : Federation → Result Asked Refusal → Federation

@@ -17,7 +17,7 @@ use Rattle.treasury_api.specs.Asked.{AsksOf}
 use Rattle.treasury_api.specs.Report.{report_text}
 use Rattle.treasury_api.specs.Step.{Standing, MayReply, next, reply_text}
 use Rattle.treasury_api.specs.History.{command_if}
-use Rattle.treasury_api.specs.Replied.{standing}
+use Rattle.treasury_api.specs.Replied.{standing, OfAnyState}
 use Rattle.treasury_tables.specs.Kept.{IsFaithful}
 
 -- the text of a reply to one request
@@ -66,10 +66,9 @@ pub record RepliesAs {S : Type 0} (g : Ghosts S) (old : Treasury S) (request : S
     (Says : Federation → Result Asked Refusal → Result Answer Refusal → Type 0)
     (Tells : Result Answer Refusal → Type 0) (new : Treasury S) : Type 0 where
   pub clean : IsFaithful g new.store.conn → IsFaithful g old.store.conn
-  pub answers : IsFaithful g new.store.conn → (f : Federation) → IsTreasuryOf g old f
-      → (end : Federation) × (IsTreasuryOf g new end
+  pub answers : OfAnyState g old new (λ f. (end : Federation) × (IsTreasuryOf g new end
       × ((reply : Result Answer Refusal)
-      × (AnswersAs (standing old f) request (Says f) reply (standing new end) × Tells reply)))
+      × (AnswersAs (standing old f) request (Says f) reply (standing new end) × Tells reply))))
 
 -- the same with the text of the reply
 abbrev pub RepliesOn : {S : Type 0} → Ghosts S → Treasury S → Spelled → List ℕ → (Result Answer Refusal → Type 0)

@@ -35,7 +35,7 @@ use Rattle.treasury_api.specs.Report.{report_json}
 use Rattle.treasury_api.specs.Answer.{answer_text}
 use Rattle.treasury_api.specs.Step.{Standing}
 use Rattle.treasury_api.specs.Left.{LeavesAsked, LeavesRequest}
-use Rattle.treasury_api.specs.Replied.{standing}
+use Rattle.treasury_api.specs.Replied.{standing, OfAnyState}
 use Rattle.treasury_api.specs.OneRequest.{AnswersAs, request_text, command_of}
 use Rattle.treasury_api.specs.WebReply.{status_of, form_of_reply, whole_reply}
 use Rattle.treasury_api.specs.JsonReply.{IsJsonOf}
@@ -114,9 +114,8 @@ IsOpenButFailed g old status new =
 pub record AnswersOn {S : Type 0} (g : Ghosts S) (old : Treasury S) (form : Form) (call : Call) (status : ℕ)
     (body : List ℕ) (new : Treasury S) : Type 0 where
   pub clean : IsFaithful g new.store.conn → IsFaithful g old.store.conn
-  pub answers : IsFaithful g new.store.conn → (f : Federation) → IsTreasuryOf g old f
-      → (end : Federation) × (IsTreasuryOf g new end × AnswersCall (standing old f) form call status body
-      (standing new end))
+  pub answers : OfAnyState g old new (λ f. (end : Federation) × (IsTreasuryOf g new end
+      × AnswersCall (standing old f) form call status body (standing new end)))
   pub left : MatchOption (asked_by call) (new ≡ old) (LeavesRequest g old new)
   pub open_but : IsOpenButFailed g old status new
   pub shuts : ShutsByFault g old.store.conn new.store.conn
@@ -219,8 +218,7 @@ AreCommandsOf name turns = AllByRecursion (λ (turn : Turn). IsCommandOf name tu
 pub record HasServed {S : Type 0} (g : Ghosts S) (old new : Treasury S) : Type 0 where
   pub calls : List AnsweredCall
   pub clean : IsFaithful g new.store.conn → IsFaithful g old.store.conn
-  pub served : IsFaithful g new.store.conn → (f : Federation) → IsTreasuryOf g old f
-      → (end : Federation) × (IsTreasuryOf g new end
+  pub served : OfAnyState g old new (λ f. (end : Federation) × (IsTreasuryOf g new end
       × ((answered : AreServed (standing old f) calls (standing new end))
-      × LeavesCalls g old new (standing old f) calls (standing new end) answered))
+      × LeavesCalls g old new (standing old f) calls (standing new end) answered)))
   pub closed : IsTrue old.store.failed → new ≡ old

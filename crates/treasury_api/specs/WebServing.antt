@@ -1,6 +1,6 @@
 -- Mirrors code: how a call is answered, part by part.
 use Rattle.std.specs.Prelude.{◌≡◌, ◌<◌, ◌-◌, ◌⊎◌, ⊤, ℕ, true, List, [], ◌∷◌, ◌++◌, length, take, Option, Some, None}
-use Rattle.std.specs.Prelude.{Err, codes, decimal, if◌then◌else◌}
+use Rattle.std.specs.Prelude.{Err, IsTrue, codes, decimal, if◌then◌else◌}
 use Rattle.std.specs.Str.{is_utf8}
 use Rattle.json_text.specs.JsonText.{string, strings, object_text, lines_of}
 use Rattle.money_core.specs.Cause.{number_of, name_of}
@@ -10,7 +10,9 @@ use Rattle.money_core.specs.declared.cause.Cause.{Cause}
 use Rattle.money_core.specs.declared.cause.Cause.TheVariants.{OutOfMemory, Request as NoRequest}
 use Rattle.book_core.specs.declared.refusal.Refusal.{Refusal}
 use Rattle.book_core.specs.declared.refusal.Refusal.TheVariants.{Plain}
+use Rattle.sqlite.specs.Store.{Ghosts}
 use Rattle.treasury_state.specs.Federation.{Federation}
+use Rattle.treasury_tables.specs.Kept.{ShutsByFault}
 use Rattle.treasury_store.specs.Treasury.{Treasury}
 use Rattle.treasury_requests.specs.declared.request.Spelled.{Spelled}
 use Rattle.treasury_requests.specs.Request.{HasDayNumbers}
@@ -19,12 +21,23 @@ use Rattle.treasury_api.specs.declared.web.status.Status.{Status}
 use Rattle.treasury_api.specs.declared.web.status.Status.TheVariants.{Done, BadRequest, Forbidden, NotFound, Conflict}
 use Rattle.treasury_api.specs.declared.web.status.Status.TheVariants.{Unprocessable, Internal, Unavailable}
 use Rattle.treasury_api.specs.WebReply.{cause_of}
-use Rattle.treasury_api.specs.Web.{asked_by, IsRefusal44, IsNoAnswer}
+use Rattle.treasury_api.specs.Left.{LeavesRequest}
+use Rattle.treasury_api.specs.Web.{asked_by, IsRefusal44, IsNoAnswer, IsOpenButFailed}
 use Rattle.treasury_api.specs.BranchCommand.{is_command_of}
 use Rattle.http_request.specs.declared.call.Call.{Call}
 use Rattle.http_request.specs.declared.call.Form.{Form}
 use Rattle.treasury_api.specs.declared.web.answering.Sought.{Sought}
 use Rattle.treasury_api.specs.declared.web.answering.Sought.TheVariants as sought
+
+-- What a request leaves that is replied to with a status: the rows of the state before it, or of the one after it. A
+-- database that was open is open, or the reply is 503; only a fault of the disk shuts it, and after a call of the
+-- database that failed nothing changes.
+pub record LeavesReplied {S : Type 0} (g : Ghosts S) (old : Treasury S) (request : Spelled) (status : ℕ)
+    (new : Treasury S) : Type 0 where
+  pub left : LeavesRequest g old new request
+  pub open_but : IsOpenButFailed g old status new
+  pub shuts : ShutsByFault g old.store.conn new.store.conn
+  pub closed : IsTrue old.store.failed → new ≡ old
 
 -- the code of a status
 abbrev pub code_of : Status → ℕ

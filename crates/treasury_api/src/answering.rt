@@ -1,18 +1,13 @@
 //! Answers to requests, on a treasury.
 
-ghost use Rattle.std.specs.Prelude.{◌≡◌, ◌≤◌, ◌+◌, length, false, None, Ok, Err, IfErr, OnOk, OnErr, IsTrue, Result};
+ghost use Rattle.std.specs.Prelude.{◌≡◌, ◌≤◌, ◌+◌, length, false, None, Ok, Err, OnOk, OnErr, IsTrue};
 ghost use Rattle.sqlite.specs.Held.{state};
-ghost use Rattle.book_core.specs.declared.refusal.Refusal.{Refusal as Refused};
-ghost use Rattle.treasury_state.specs.Federation.{Federation};
-ghost use Rattle.treasury_tables.specs.Kept.{ShutsByFault, StaysAsIs, IsFaithful};
+ghost use Rattle.treasury_tables.specs.Kept.{StaysAsIs, IsFaithful};
 ghost use Rattle.treasury_store.specs.Shown.{ShowsNoState};
 ghost use Rattle.treasury_store.specs.Left.{LeavesStep};
-ghost use Rattle.treasury_store.specs.Treasury.{IsTreasuryOf, IsListed};
-ghost use Rattle.treasury_api.specs.declared.asking.Asked.{Asked as Meant};
-ghost use Rattle.treasury_api.specs.Asked.{AsksOf};
 ghost use Rattle.treasury_requests.specs.Request.{HasDayNumbers, is_report};
-ghost use Rattle.treasury_api.specs.Left.{FailsWith, IsUnread, IsOpenBut, LeavesRequest};
-ghost use Rattle.treasury_api.specs.Replied.{IsRepliedIn, IsPrintableIn};
+ghost use Rattle.treasury_api.specs.Left.{IsUnread, KeepsDatabase, LeavesRequest};
+ghost use Rattle.treasury_api.specs.Replied.{OfAnyState, IsRepliedIn, IsAnsweredIn, RefusesInAnyCase};
 ghost use Rattle.treasury_api.specs.Serving.{IsHeldFor};
 
 use crate::answers::{MOST_PLAIN, answer_line};
@@ -38,21 +33,12 @@ fn answer_command<S: Alter>(
 ) -> Result<(), Refusal>
     requires held { IsHeldFor treasury.old command }
     requires unfailed { treasury.old.store.failed ≡ false }
-    ensures replies { IsFaithful S.Store treasury.new.store.conn → (f : Federation)
-        → IsTreasuryOf S.Store treasury.old f
-        → (form : Form) → IsRepliedIn form S.Store false treasury.new f
-        (Ok (Asked.Command command)) result out.old.items
-        out.new.items }
+    ensures replies { OfAnyState S.Store treasury.old treasury.new (λ f. (form : Form) → IsRepliedIn form S.Store false
+        treasury.new f (Ok (Asked.Command command)) result out.old.items out.new.items) }
     ensures short { OnOk result (length out.new.items ≤ length out.old.items + MOST_PLAIN) }
     ensures err { OnErr result (out.new.items ≡ out.old.items) }
-    ensures printable { IfErr result (IsPrintableIn treasury.new) }
-    ensures clean { IsFaithful S.Store treasury.new.store.conn
-        → IsFaithful S.Store treasury.old.store.conn }
-    ensures listed { IfErr result IsListed }
-    ensures fails { FailsWith result treasury.new.store.failed }
-    ensures open_but { IsFaithful S.Store treasury.new.store.conn
-        → IsTrue (state S.Store treasury.old.store.conn).is_open → IsOpenBut S.Store treasury.new.store.conn result }
-    ensures shuts { ShutsByFault S.Store treasury.old.store.conn treasury.new.store.conn }
+    ensures refuses { RefusesInAnyCase treasury.old treasury.new result }
+    ensures database { KeepsDatabase S.Store treasury.old.store.conn treasury.new.store.conn result }
     ensures left { LeavesStep S.Store treasury.old treasury.new command }
 {
     left_law::<S>();
@@ -85,21 +71,15 @@ pub fn answer<S: Alter>(
     out: &mut Vec<u8>,
 ) -> Result<(), Refusal>
     requires { HasDayNumbers request.now.request }
-    ensures replies { IsFaithful S.Store treasury.new.store.conn → (f : Federation)
-        → IsTreasuryOf S.Store treasury.old f
-        → (asked : Result Meant Refused) × (AsksOf treasury.old.store.failed f.styles request.now asked
-        × IsRepliedIn form S.Store treasury.old.store.failed treasury.new f asked result out.old.items
-        out.new.items) }
+    // Of whichever state the treasury is, while the disk returned what was written.
+    ensures replies { OfAnyState S.Store treasury.old treasury.new (λ f. IsAnsweredIn form S.Store
+        treasury.old.store.failed treasury.new f request.now result out.old.items out.new.items) }
     // The line of a command, also where it is not known of which state.
     ensures short { is_report request.now.request ≡ false
         → OnOk result (length out.new.items ≤ length out.old.items + MOST_PLAIN) }
     ensures err { OnErr result (out.new.items ≡ out.old.items) }
-    ensures printable { IfErr result (IsPrintableIn treasury.new) }
-    ensures clean { IsFaithful S.Store treasury.new.store.conn
-        → IsFaithful S.Store treasury.old.store.conn }
     // Whatever the disk returned, and whatever the tables are.
-    ensures listed { treasury.old.store.failed ≡ false → IfErr result IsListed }
-    ensures fails { treasury.old.store.failed ≡ false → FailsWith result treasury.new.store.failed }
+    ensures refuses { RefusesInAnyCase treasury.old treasury.new result }
     ensures closed { IsTrue treasury.old.store.failed
         → (result ≡ Err (Refusal.Plain Cause.Closed)) × (treasury.new ≡ treasury.old) }
     // On tables that are no good state's: 43, or 40 or 41, and nothing is written.
@@ -108,12 +88,7 @@ pub fn answer<S: Alter>(
         → IsUnread result × (IsTrue (state S.Store treasury.new.store.conn).is_open
         → StaysAsIs (state S.Store treasury.old.store.conn) (state S.Store treasury.new.store.conn)) }
     // A database that was open is open after each answer but 41. Only a fault of the disk shuts it.
-    ensures still_open { IsFaithful S.Store treasury.new.store.conn
-        → IsTrue (state S.Store treasury.old.store.conn).is_open
-        → OnOk result (IsTrue (state S.Store treasury.new.store.conn).is_open) }
-    ensures open_but { IsFaithful S.Store treasury.new.store.conn
-        → IsTrue (state S.Store treasury.old.store.conn).is_open → IsOpenBut S.Store treasury.new.store.conn result }
-    ensures shuts { ShutsByFault S.Store treasury.old.store.conn treasury.new.store.conn }
+    ensures database { KeepsDatabase S.Store treasury.old.store.conn treasury.new.store.conn result }
     // Whatever is left, also after 41: the rows of the state before the request, or of the one after it.
     ensures left { LeavesRequest S.Store treasury.old treasury.new request.now }
 {

@@ -2,14 +2,11 @@
 
 ghost use Rattle.std.specs.Prelude.{◌≡◌, ◌≤◌, ◌⊎◌, ◌++◌, [], None, Some, Err, vec_capacity, IsTrue, IfOk, IfErr, OnOk};
 ghost use Rattle.std.specs.Prelude.{OnErr};
-ghost use Rattle.sqlite.specs.Held.{state};
-ghost use Rattle.treasury_state.specs.Federation.{Federation};
-ghost use Rattle.treasury_tables.specs.Kept.{ShutsByFault, IsFaithful};
-ghost use Rattle.treasury_store.specs.Treasury.{IsTreasuryOf};
+ghost use Rattle.treasury_tables.specs.Kept.{ShutsByFault};
 ghost use Rattle.treasury_requests.specs.Request.{HasDayNumbers, is_report, spelled};
 ghost use Rattle.treasury_api.specs.Answer.{IsPrintableRefusal};
-ghost use Rattle.treasury_api.specs.Kept.{Runs};
-ghost use Rattle.treasury_api.specs.Replied.{IsPrintableIn, IsLineOf, Serves, standing};
+ghost use Rattle.treasury_api.specs.Kept.{RunsOn, CutsOff};
+ghost use Rattle.treasury_api.specs.Replied.{IsPrintableIn, IsLineOf, Serves};
 ghost use Rattle.treasury_api.specs.Serving.{end_of_report};
 ghost use Rattle.treasury_api.specs.WebReply.{cause_of};
 ghost use Rattle.treasury_api.specs.WebServing.{IsLineBy, IsToldBy};
@@ -196,15 +193,10 @@ pub fn run_heard_lines<R: Read, W: Write, S: Alter, L: Listener>(
 ) -> Result<(), Cause>
     // Of whichever state the treasury is, while the disk returned what was written: a run, and the headline holds of
     // it.
-    ensures runs { IsFaithful S.Store treasury.new.store.conn → (f : Federation)
-        → IsTreasuryOf S.Store treasury.old f
-        → (end : Federation) × (IsTreasuryOf S.Store treasury.new end
-        × Runs S.Store treasury.old treasury.new result R.remaining reader.old reader.new W.contents writer.old
-        writer.new
-        (standing treasury.old f) (standing treasury.new end)) }
+    ensures runs { RunsOn S.Store treasury.old treasury.new result R.remaining reader.old reader.new W.contents
+        writer.old writer.new }
     // Whatever the disk returned, and whatever the tables are.
-    ensures causes { IfErr result (λ cause.
-        (cause ≡ Cause.OutOfMemory) ⊎ ((cause ≡ Cause.ReadFault) ⊎ (cause ≡ Cause.WriteFault))) }
+    ensures causes { IfErr result CutsOff }
     ensures closed { IsTrue treasury.old.store.failed → treasury.new ≡ treasury.old }
     ensures shuts { ShutsByFault S.Store treasury.old.store.conn treasury.new.store.conn }
 {
@@ -229,15 +221,10 @@ pub fn run_lines<R: Read, W: Write, S: Alter>(
 ) -> Result<(), Cause>
     // Of whichever state the treasury is, while the disk returned what was written: a run, and the headline holds of
     // it.
-    ensures runs { IsFaithful S.Store treasury.new.store.conn → (f : Federation)
-        → IsTreasuryOf S.Store treasury.old f
-        → (end : Federation) × (IsTreasuryOf S.Store treasury.new end
-        × Runs S.Store treasury.old treasury.new result R.remaining reader.old reader.new W.contents writer.old
-        writer.new
-        (standing treasury.old f) (standing treasury.new end)) }
+    ensures runs { RunsOn S.Store treasury.old treasury.new result R.remaining reader.old reader.new W.contents
+        writer.old writer.new }
     // Whatever the disk returned, and whatever the tables are.
-    ensures causes { IfErr result (λ cause.
-        (cause ≡ Cause.OutOfMemory) ⊎ ((cause ≡ Cause.ReadFault) ⊎ (cause ≡ Cause.WriteFault))) }
+    ensures causes { IfErr result CutsOff }
     ensures closed { IsTrue treasury.old.store.failed → treasury.new ≡ treasury.old }
     ensures shuts { ShutsByFault S.Store treasury.old.store.conn treasury.new.store.conn }
 {

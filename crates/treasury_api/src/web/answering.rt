@@ -1,16 +1,14 @@
 //! What a treasury replies to a call.
 
-ghost use Rattle.std.specs.Prelude.{◌≡◌, ◌≤◌, [], Ok, Err, IfOk, OnErr, IsTrue, codes, vec_capacity};
+ghost use Rattle.std.specs.Prelude.{◌≡◌, ◌≤◌, [], Ok, Err, IfOk, OnErr, codes, vec_capacity};
 ghost use Rattle.std.specs.Result.{IsOkUnless};
 ghost use Rattle.book_core.specs.declared.refusal.Refusal.{Refusal as Refused};
-ghost use Rattle.treasury_tables.specs.Kept.{ShutsByFault};
 ghost use Rattle.treasury_requests.specs.Request.{HasDayNumbers, in_earnest};
 ghost use Rattle.treasury_api.specs.Answer.{answer_text};
-ghost use Rattle.treasury_api.specs.Left.{LeavesRequest};
 ghost use Rattle.treasury_api.specs.OneRequest.{RepliesAs, RepliesOn};
 ghost use Rattle.treasury_api.specs.WebReply.{status_of, form_of_reply};
-ghost use Rattle.treasury_api.specs.Web.{IsRefusal44, IsBodyIn, IsOpenButFailed, AnswersOn};
-ghost use Rattle.treasury_api.specs.WebServing.{code_of, IsSought, sought_of, SeeksDays};
+ghost use Rattle.treasury_api.specs.Web.{IsRefusal44, IsBodyIn, AnswersOn};
+ghost use Rattle.treasury_api.specs.WebServing.{code_of, IsSought, sought_of, SeeksDays, LeavesReplied};
 
 use crate::answering::answer;
 use crate::answers::{MOST_PLAIN, answer_line};
@@ -216,10 +214,7 @@ fn answer_in_text<S: Alter>(
     ensures form { result.form ≡ Form.Text }
     ensures replies { RepliesOn S.Store treasury.old request.now result.body.items
         (λ reply. code_of result.status ≡ status_of reply) treasury.new }
-    ensures left { LeavesRequest S.Store treasury.old treasury.new request.now }
-    ensures open_but { IsOpenButFailed S.Store treasury.old (code_of result.status) treasury.new }
-    ensures shuts { ShutsByFault S.Store treasury.old.store.conn treasury.new.store.conn }
-    ensures closed { IsTrue treasury.old.store.failed → treasury.new ≡ treasury.old }
+    ensures leaves { LeavesReplied S.Store treasury.old request.now (code_of result.status) treasury.new }
 {
     let mut body = Vec::new(alloc);
     match answer(alloc, Form::Text, request, treasury, &mut body) {
@@ -255,10 +250,7 @@ fn answer_in_json<S: Alter>(
     ensures form { result.form ≡ form_of_reply Form.Json (code_of result.status) }
     ensures replies { RepliesAs S.Store treasury.old request.now (IsBodyIn Form.Json result.body.items)
         (λ reply. code_of result.status ≡ status_of reply) treasury.new }
-    ensures left { LeavesRequest S.Store treasury.old treasury.new request.now }
-    ensures open_but { IsOpenButFailed S.Store treasury.old (code_of result.status) treasury.new }
-    ensures shuts { ShutsByFault S.Store treasury.old.store.conn treasury.new.store.conn }
-    ensures closed { IsTrue treasury.old.store.failed → treasury.new ≡ treasury.old }
+    ensures leaves { LeavesReplied S.Store treasury.old request.now (code_of result.status) treasury.new }
 {
     let held = held_before(treasury.state(), &request.request);
     let mut text = Vec::new(alloc);

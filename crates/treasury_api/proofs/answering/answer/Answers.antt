@@ -7,18 +7,19 @@ use Rattle.treasury_store.specs.Treasury.{Treasury, IsTreasuryOf}
 use Rattle.treasury_store.proofs.TreasuryLemmas.{ok_unfailed}
 use Rattle.treasury_store.proofs.LeftLemmas.{shuts_by, shuts_then}
 use Rattle.treasury_store.proofs.OwnRefusalLemmas.{listed_unheld}
+use Rattle.treasury_api.specs.Answer.{IsPrintableRefusal}
 use Rattle.treasury_api.specs.Asked.{SpelledAsks}
 use Rattle.treasury_api.specs.Report.{report_in, has_its_branch}
 use Rattle.treasury_api.specs.Serving.{OrMemory, IsForeseen}
 use Rattle.treasury_api.specs.declared.asking.Asked.TheVariants.{Command, DryRun, Report}
-use Rattle.treasury_api.proofs.ReplyLemmas.{state_is}
+use Rattle.treasury_api.proofs.ReplyLemmas.{state_is, in_memory}
 use Rattle.treasury_api.proofs.AnswerLemmas.{unheld, held_unfailed, answered, meant, command_fits, refused_texts}
 use Rattle.treasury_api.proofs.AnswerLemmas.{dry_run_fits}
 use Rattle.treasury_api.proofs.ForeseenLemmas.{foreseen, foreseen_listed, foreseen_printable, foreseen_unfailed}
 use Rattle.treasury_api.proofs.ForeseenLemmas.{foreseen_same}
 use Rattle.treasury_api.proofs.AnswerLemmas.{reported, unreported, is_there}
 use Rattle.treasury_api.proofs.ServeLemmas.{asked_report}
-use Rattle.treasury_api.proofs.LeftLemmas.{left_same, left_command, open_unheld, open_done, fails_not}
+use Rattle.treasury_api.proofs.LeftLemmas.{left_same, left_command, keeps_database, open_unheld, fails_not}
 use Rattle.treasury_api.proofs.LeftLemmas.{fails_unheld, fails_ruled, unread_state, refused_closed, ruled_texts}
 use Rattle.treasury_api.proofs.LeftLemmas.{ruled_report}
 use Rattle.treasury_api.proofs.answering.answer.Goals as goal
@@ -44,7 +45,7 @@ returns-in-Err-clause-replies g c clean f of =
 
 pub returns-in-Ok-Command-clause-replies : goal.returns-in-Ok-Command-clause-replies
 returns-in-Ok-Command-clause-replies g c clean f of =
-    let still_of = c.hold.ensures.of (c.answer_command.ensures.clean clean) f of in
+    let still_of = c.hold.ensures.of (c.answer_command.ensures.database.shuts.clean clean) f of in
     let same : c.in-Some.state.now ≡ f =
     state_is g.S.Store c.hold.new.self c.in-Some.state.now f still_of c.in-Some.ensures in
     answered g.S.Store c.args.treasury.now.store.failed c.answer_command.new.treasury f c.args.request.now
@@ -103,11 +104,18 @@ returns-clause-replies g c clean f of =
 
 -- ---- where the state cannot be had
 
-pub returns-in-Err-clause-listed : goal.returns-in-Err-clause-listed
-returns-in-Err-clause-listed g c unfailed = listed_unheld c.in-Err.cause _ (c.in-Err.ensures.answers unfailed)
+pub returns-in-Err-clause-refuses : goal.returns-in-Err-clause-refuses
+returns-in-Err-clause-refuses g c = record {
+  listed = λ unfailed. listed_unheld c.in-Err.cause _ (c.in-Err.ensures.answers unfailed);
+  fails = λ unfailed. fails_unheld c.in-Err.cause _ (c.in-Err.ensures.answers unfailed);
+  printable = tt;
+}
 
-pub returns-in-Err-clause-fails : goal.returns-in-Err-clause-fails
-returns-in-Err-clause-fails g c unfailed = fails_unheld c.in-Err.cause _ (c.in-Err.ensures.answers unfailed)
+pub returns-in-Err-clause-database : goal.returns-in-Err-clause-database
+returns-in-Err-clause-database g c =
+    keeps_database g.S.Store _ _ _ (λ clean is_open. open_unheld g.S.Store c.hold.new.self.store.conn c.in-Err.cause
+    (c.in-Err.ensures.kept clean is_open))
+    (shuts_by g.S.Store c.args.treasury.now.store.conn c.hold.new.self.store.conn _ c.hold.ensures.crash)
 
 pub returns-in-Err-clause-closed : goal.returns-in-Err-clause-closed
 returns-in-Err-clause-closed g c failed =
@@ -117,49 +125,38 @@ pub returns-in-Err-clause-strange : goal.returns-in-Err-clause-strange
 returns-in-Err-clause-strange g c clean unfailed unheld none =
     (unread_state c.in-Err.cause _ (c.in-Err.ensures.answers unfailed), c.hold.ensures.unchanged clean)
 
-pub returns-in-Err-clause-open_but : goal.returns-in-Err-clause-open_but
-returns-in-Err-clause-open_but g c clean is_open =
-    open_unheld g.S.Store c.hold.new.self.store.conn c.in-Err.cause (c.in-Err.ensures.kept clean is_open)
-
-pub returns-in-Err-clause-shuts : goal.returns-in-Err-clause-shuts
-returns-in-Err-clause-shuts g c =
-    shuts_by g.S.Store c.args.treasury.now.store.conn c.hold.new.self.store.conn _ c.hold.ensures.crash
-
 pub returns-in-Err-clause-left : goal.returns-in-Err-clause-left
 returns-in-Err-clause-left g c =
     left_same g.S.Store c.args.treasury.now c.hold.new.self c.args.request.now c.hold.ensures.left
 
 -- ---- a command
 
-pub returns-in-Ok-Command-clause-listed : goal.returns-in-Ok-Command-clause-listed
-returns-in-Ok-Command-clause-listed g c unfailed = c.answer_command.ensures.listed
+pub returns-in-Ok-Command-clause-refuses : goal.returns-in-Ok-Command-clause-refuses
+returns-in-Ok-Command-clause-refuses g c = record {
+  listed = λ unfailed.
+      c.answer_command.ensures.refuses.listed
+      (ok_unfailed c.in-Ok.field-0 _ (c.in-Ok.ensures.answers unfailed));
+  fails = λ unfailed.
+      c.answer_command.ensures.refuses.fails
+      (ok_unfailed c.in-Ok.field-0 _ (c.in-Ok.ensures.answers unfailed));
+  printable = c.answer_command.ensures.refuses.printable;
+}
 
-pub returns-in-Ok-Command-clause-fails : goal.returns-in-Ok-Command-clause-fails
-returns-in-Ok-Command-clause-fails g c unfailed = c.answer_command.ensures.fails
+pub returns-in-Ok-Command-clause-database : goal.returns-in-Ok-Command-clause-database
+returns-in-Ok-Command-clause-database g c =
+    keeps_database g.S.Store _ _ _ (λ clean is_open. c.answer_command.ensures.database.open_but clean
+    (c.in-Ok.ensures.still_open (c.answer_command.ensures.database.shuts.clean clean) is_open))
+    (shuts_then g.S.Store c.args.treasury.now.store.conn c.hold.new.self.store.conn
+    c.answer_command.new.treasury.store.conn
+    (shuts_by g.S.Store c.args.treasury.now.store.conn c.hold.new.self.store.conn _ c.hold.ensures.crash)
+    c.answer_command.ensures.database.shuts)
 
 pub returns-in-Ok-Command-clause-closed : goal.returns-in-Ok-Command-clause-closed
 returns-in-Ok-Command-clause-closed g c failed = absurd (let k = (c.in-Ok.ensures.closed failed).0 in cc)
 
 pub returns-in-Ok-Command-clause-strange : goal.returns-in-Ok-Command-clause-strange
 returns-in-Ok-Command-clause-strange g c clean unfailed unheld none =
-    absurd (c.in-Ok.ensures.shown (c.answer_command.ensures.clean clean) unheld none)
-
-pub returns-in-Ok-Command-clause-open_but : goal.returns-in-Ok-Command-clause-open_but
-returns-in-Ok-Command-clause-open_but g c clean is_open =
-    c.answer_command.ensures.open_but clean
-    (c.in-Ok.ensures.still_open (c.answer_command.ensures.clean clean) is_open)
-
-pub returns-in-Ok-Command-clause-still_open : goal.returns-in-Ok-Command-clause-still_open
-returns-in-Ok-Command-clause-still_open g c clean is_open =
-    open_done g.S.Store c.answer_command.new.treasury.store.conn c.answer_command.result
-    (returns-in-Ok-Command-clause-open_but g c clean is_open)
-
-pub returns-in-Ok-Command-clause-shuts : goal.returns-in-Ok-Command-clause-shuts
-returns-in-Ok-Command-clause-shuts g c =
-    shuts_then g.S.Store c.args.treasury.now.store.conn c.hold.new.self.store.conn
-    c.answer_command.new.treasury.store.conn
-    (shuts_by g.S.Store c.args.treasury.now.store.conn c.hold.new.self.store.conn _ c.hold.ensures.crash)
-    c.answer_command.ensures.shuts
+    absurd (c.in-Ok.ensures.shown (c.answer_command.ensures.database.shuts.clean clean) unheld none)
 
 pub returns-in-Ok-Command-clause-left : goal.returns-in-Ok-Command-clause-left
 returns-in-Ok-Command-clause-left g c =
@@ -171,7 +168,7 @@ returns-in-Ok-Command-clause-left g c =
     c.in-Ok-Command.ensures.asks in
     left_command g.S.Store c.args.treasury.now c.hold.new.self c.answer_command.new.treasury c.args.request.now
     c.in-Ok-Command.command
-    c.answer_command.ensures.clean c.in-Ok.ensures.still_open c.hold.ensures.of
+    c.answer_command.ensures.database.shuts.clean c.in-Ok.ensures.still_open c.hold.ensures.of
     (held_unfailed _ c.in-Ok.field-0 c.hold.result c.in-Ok.is c.hold.ensures.closed) (
       c.in-Some.state.now,
       (
@@ -208,38 +205,29 @@ returns-in-Ok-DryRun-clause-replies g c clean f of =
 pub returns-in-Ok-DryRun-clause-err : goal.returns-in-Ok-DryRun-clause-err
 returns-in-Ok-DryRun-clause-err g c = foreseen_same _ _ _ _ _ c.answer_dry_run.ensures.foreseen
 
-pub returns-in-Ok-DryRun-clause-printable : goal.returns-in-Ok-DryRun-clause-printable
-returns-in-Ok-DryRun-clause-printable g c =
-    foreseen_printable c.hold.new.self c.in-Some.state.now c.in-Ok-DryRun.command c.answer_dry_run.result
-    c.args.out.now.items c.answer_dry_run.new.out.items c.in-Some.ensures c.is_good.ensures
-    (dry_run_fits _ _ _ _ c.styles.ensures c.in-Ok-DryRun.field-0-is c.in-Ok-DryRun.ensures.ready)
-    c.answer_dry_run.ensures.foreseen
+pub returns-in-Ok-DryRun-clause-refuses : goal.returns-in-Ok-DryRun-clause-refuses
+returns-in-Ok-DryRun-clause-refuses g c = record {
+  listed = λ unfailed. foreseen_listed _ _ _ _ _ c.answer_dry_run.ensures.foreseen;
+  fails = λ unfailed.
+      foreseen_unfailed _ _ _ _ _ _ (ok_unfailed c.in-Ok.field-0 _ (c.in-Ok.ensures.answers unfailed))
+      c.answer_dry_run.ensures.foreseen;
+  printable =
+      foreseen_printable c.hold.new.self c.in-Some.state.now c.in-Ok-DryRun.command c.answer_dry_run.result
+      c.args.out.now.items c.answer_dry_run.new.out.items c.in-Some.ensures c.is_good.ensures
+      (dry_run_fits _ _ _ _ c.styles.ensures c.in-Ok-DryRun.field-0-is c.in-Ok-DryRun.ensures.ready)
+      c.answer_dry_run.ensures.foreseen;
+}
 
-pub returns-in-Ok-DryRun-clause-listed : goal.returns-in-Ok-DryRun-clause-listed
-returns-in-Ok-DryRun-clause-listed g c unfailed = foreseen_listed _ _ _ _ _ c.answer_dry_run.ensures.foreseen
-
-pub returns-in-Ok-DryRun-clause-fails : goal.returns-in-Ok-DryRun-clause-fails
-returns-in-Ok-DryRun-clause-fails g c unfailed =
-    foreseen_unfailed _ _ _ _ _ _ (ok_unfailed c.in-Ok.field-0 _ (c.in-Ok.ensures.answers unfailed))
-    c.answer_dry_run.ensures.foreseen
+pub returns-in-Ok-DryRun-clause-database : goal.returns-in-Ok-DryRun-clause-database
+returns-in-Ok-DryRun-clause-database g c =
+    keeps_database g.S.Store _ _ _ (λ clean is_open. inl (c.in-Ok.ensures.still_open clean is_open))
+    (shuts_by g.S.Store c.args.treasury.now.store.conn c.hold.new.self.store.conn _ c.hold.ensures.crash)
 
 pub returns-in-Ok-DryRun-clause-closed : goal.returns-in-Ok-DryRun-clause-closed
 returns-in-Ok-DryRun-clause-closed g c failed = absurd (let k = (c.in-Ok.ensures.closed failed).0 in cc)
 
 pub returns-in-Ok-DryRun-clause-strange : goal.returns-in-Ok-DryRun-clause-strange
 returns-in-Ok-DryRun-clause-strange g c clean unfailed unheld none = absurd (c.in-Ok.ensures.shown clean unheld none)
-
-pub returns-in-Ok-DryRun-clause-still_open : goal.returns-in-Ok-DryRun-clause-still_open
-returns-in-Ok-DryRun-clause-still_open g c clean is_open =
-    open_done g.S.Store c.hold.new.self.store.conn c.answer_dry_run.result
-    (inl (c.in-Ok.ensures.still_open clean is_open))
-
-pub returns-in-Ok-DryRun-clause-open_but : goal.returns-in-Ok-DryRun-clause-open_but
-returns-in-Ok-DryRun-clause-open_but g c clean is_open = inl (c.in-Ok.ensures.still_open clean is_open)
-
-pub returns-in-Ok-DryRun-clause-shuts : goal.returns-in-Ok-DryRun-clause-shuts
-returns-in-Ok-DryRun-clause-shuts g c =
-    shuts_by g.S.Store c.args.treasury.now.store.conn c.hold.new.self.store.conn _ c.hold.ensures.crash
 
 pub returns-in-Ok-DryRun-clause-left : goal.returns-in-Ok-DryRun-clause-left
 returns-in-Ok-DryRun-clause-left g c =
@@ -252,9 +240,19 @@ returns-in-Ok-push_report_in-clause-short g c other =
     absurd (let clash = asked_report _ c.args.request.now _ c.in-Ok-Report.report c.in-Ok-Report.field-0-is
     c.in-Ok-Report.ensures.asks in let k : true ≡ false = sym clash ∙ other in cc)
 
-pub returns-in-Ok-push_report_in-clause-fails : goal.returns-in-Ok-push_report_in-clause-fails
-returns-in-Ok-push_report_in-clause-fails g c unfailed =
-    fails_not _ _ (ok_unfailed c.in-Ok.field-0 _ (c.in-Ok.ensures.answers unfailed)) (λ is. absurd cc)
+pub returns-in-Ok-push_report_in-clause-refuses : goal.returns-in-Ok-push_report_in-clause-refuses
+returns-in-Ok-push_report_in-clause-refuses g c = record {
+  listed = λ unfailed. tt;
+  fails = λ unfailed.
+      fails_not _ _ (ok_unfailed c.in-Ok.field-0 _ (c.in-Ok.ensures.answers unfailed))
+      (λ is. absurd cc);
+  printable = tt;
+}
+
+pub returns-in-Ok-push_report_in-clause-database : goal.returns-in-Ok-push_report_in-clause-database
+returns-in-Ok-push_report_in-clause-database g c =
+    keeps_database g.S.Store _ _ _ (λ clean is_open. inl (c.in-Ok.ensures.still_open clean is_open))
+    (shuts_by g.S.Store c.args.treasury.now.store.conn c.hold.new.self.store.conn _ c.hold.ensures.crash)
 
 pub returns-in-Ok-push_report_in-clause-closed : goal.returns-in-Ok-push_report_in-clause-closed
 returns-in-Ok-push_report_in-clause-closed g c failed = absurd (let k = (c.in-Ok.ensures.closed failed).0 in cc)
@@ -263,30 +261,25 @@ pub returns-in-Ok-push_report_in-clause-strange : goal.returns-in-Ok-push_report
 returns-in-Ok-push_report_in-clause-strange g c clean unfailed unheld none =
     absurd (c.in-Ok.ensures.shown clean unheld none)
 
-pub returns-in-Ok-push_report_in-clause-still_open : goal.returns-in-Ok-push_report_in-clause-still_open
-returns-in-Ok-push_report_in-clause-still_open g c = c.in-Ok.ensures.still_open
-
-pub returns-in-Ok-push_report_in-clause-open_but : goal.returns-in-Ok-push_report_in-clause-open_but
-returns-in-Ok-push_report_in-clause-open_but g c clean is_open = inl (c.in-Ok.ensures.still_open clean is_open)
-
-pub returns-in-Ok-push_report_in-clause-shuts : goal.returns-in-Ok-push_report_in-clause-shuts
-returns-in-Ok-push_report_in-clause-shuts g c =
-    shuts_by g.S.Store c.args.treasury.now.store.conn c.hold.new.self.store.conn _ c.hold.ensures.crash
-
 pub returns-in-Ok-push_report_in-clause-left : goal.returns-in-Ok-push_report_in-clause-left
 returns-in-Ok-push_report_in-clause-left g c =
     left_same g.S.Store c.args.treasury.now c.hold.new.self c.args.request.now c.hold.ensures.left
 
 -- ---- a report that is refused
 
-pub returns-in-Ok-Report-clause-listed : goal.returns-in-Ok-Report-clause-listed
-returns-in-Ok-Report-clause-listed g c unfailed =
-    inl (ruled_report c.in-Err-push_report_in.cause c.in-Err-push_report_in.ensures.causes)
+pub returns-in-Ok-Report-clause-refuses : goal.returns-in-Ok-Report-clause-refuses
+returns-in-Ok-Report-clause-refuses g c = record {
+  listed = λ unfailed. inl (ruled_report c.in-Err-push_report_in.cause c.in-Err-push_report_in.ensures.causes);
+  fails = λ unfailed.
+      fails_ruled _ _ (ruled_report c.in-Err-push_report_in.cause c.in-Err-push_report_in.ensures.causes)
+      (ok_unfailed c.in-Ok.field-0 _ (c.in-Ok.ensures.answers unfailed));
+  printable = tt;
+}
 
-pub returns-in-Ok-Report-clause-fails : goal.returns-in-Ok-Report-clause-fails
-returns-in-Ok-Report-clause-fails g c unfailed =
-    fails_ruled _ _ (ruled_report c.in-Err-push_report_in.cause c.in-Err-push_report_in.ensures.causes)
-    (ok_unfailed c.in-Ok.field-0 _ (c.in-Ok.ensures.answers unfailed))
+pub returns-in-Ok-Report-clause-database : goal.returns-in-Ok-Report-clause-database
+returns-in-Ok-Report-clause-database g c =
+    keeps_database g.S.Store _ _ _ (λ clean is_open. inl (c.in-Ok.ensures.still_open clean is_open))
+    (shuts_by g.S.Store c.args.treasury.now.store.conn c.hold.new.self.store.conn _ c.hold.ensures.crash)
 
 pub returns-in-Ok-Report-clause-closed : goal.returns-in-Ok-Report-clause-closed
 returns-in-Ok-Report-clause-closed g c failed = absurd (let k = (c.in-Ok.ensures.closed failed).0 in cc)
@@ -294,40 +287,34 @@ returns-in-Ok-Report-clause-closed g c failed = absurd (let k = (c.in-Ok.ensures
 pub returns-in-Ok-Report-clause-strange : goal.returns-in-Ok-Report-clause-strange
 returns-in-Ok-Report-clause-strange g c clean unfailed unheld none = absurd (c.in-Ok.ensures.shown clean unheld none)
 
-pub returns-in-Ok-Report-clause-open_but : goal.returns-in-Ok-Report-clause-open_but
-returns-in-Ok-Report-clause-open_but g c clean is_open = inl (c.in-Ok.ensures.still_open clean is_open)
-
-pub returns-in-Ok-Report-clause-shuts : goal.returns-in-Ok-Report-clause-shuts
-returns-in-Ok-Report-clause-shuts g c =
-    shuts_by g.S.Store c.args.treasury.now.store.conn c.hold.new.self.store.conn _ c.hold.ensures.crash
-
 pub returns-in-Ok-Report-clause-left : goal.returns-in-Ok-Report-clause-left
 returns-in-Ok-Report-clause-left g c =
     left_same g.S.Store c.args.treasury.now c.hold.new.self c.args.request.now c.hold.ensures.left
 
 -- ---- a text that is refused
 
-pub returns-clause-listed : goal.returns-clause-listed
-returns-clause-listed g c unfailed =
-    inl (ruled_texts _ c.args.request.now c.in-Err-asked_by.refusal c.in-Err-asked_by.ensures.asks)
+pub returns-clause-refuses : goal.returns-clause-refuses
+returns-clause-refuses g c = record {
+  listed = λ unfailed. inl (ruled_texts _ c.args.request.now c.in-Err-asked_by.refusal c.in-Err-asked_by.ensures.asks);
+  fails = λ unfailed.
+      fails_ruled _ _ (ruled_texts _ c.args.request.now c.in-Err-asked_by.refusal c.in-Err-asked_by.ensures.asks)
+      (ok_unfailed c.in-Ok.field-0 _ (c.in-Ok.ensures.answers unfailed));
+  printable =
+      in_memory c.hold.new.self c.in-Some.state.now c.in-Err-asked_by.refusal c.in-Some.ensures
+      (subst (λ (x : List Style). IsPrintableRefusal x c.in-Err-asked_by.refusal) c.styles.ensures
+      c.in-Err-asked_by.ensures.ready);
+}
 
-pub returns-clause-fails : goal.returns-clause-fails
-returns-clause-fails g c unfailed =
-    fails_ruled _ _ (ruled_texts _ c.args.request.now c.in-Err-asked_by.refusal c.in-Err-asked_by.ensures.asks)
-    (ok_unfailed c.in-Ok.field-0 _ (c.in-Ok.ensures.answers unfailed))
+pub returns-clause-database : goal.returns-clause-database
+returns-clause-database g c =
+    keeps_database g.S.Store _ _ _ (λ clean is_open. inl (c.in-Ok.ensures.still_open clean is_open))
+    (shuts_by g.S.Store c.args.treasury.now.store.conn c.hold.new.self.store.conn _ c.hold.ensures.crash)
 
 pub returns-clause-closed : goal.returns-clause-closed
 returns-clause-closed g c failed = absurd (let k = (c.in-Ok.ensures.closed failed).0 in cc)
 
 pub returns-clause-strange : goal.returns-clause-strange
 returns-clause-strange g c clean unfailed unheld none = absurd (c.in-Ok.ensures.shown clean unheld none)
-
-pub returns-clause-open_but : goal.returns-clause-open_but
-returns-clause-open_but g c clean is_open = inl (c.in-Ok.ensures.still_open clean is_open)
-
-pub returns-clause-shuts : goal.returns-clause-shuts
-returns-clause-shuts g c =
-    shuts_by g.S.Store c.args.treasury.now.store.conn c.hold.new.self.store.conn _ c.hold.ensures.crash
 
 pub returns-clause-left : goal.returns-clause-left
 returns-clause-left g c = left_same g.S.Store c.args.treasury.now c.hold.new.self c.args.request.now c.hold.ensures.left

@@ -2,7 +2,8 @@ use Rattle.std.proofs.Common.{rules, arith, refl, inl}
 use Rattle.treasury_state.specs.Rows.{rows}
 use Rattle.treasury_store.proofs.LeftLemmas.{shuts_same}
 use Rattle.treasury_api.proofs.ReplyLemmas.{performed, refusal_held, fits_of}
-use Rattle.treasury_api.proofs.LeftLemmas.{leaves_first, open_refused, fails_not, fails_refused, fails_done}
+use Rattle.treasury_api.proofs.LeftLemmas.{leaves_first, keeps_database, open_refused}
+use Rattle.treasury_api.proofs.LeftLemmas.{fails_not, fails_refused, fails_done}
 use Rattle.treasury_api.proofs.answering.answer_command.Goals as goal
 
 pub returns-in-Err-perform-clause-replies : goal.returns-in-Err-perform-clause-replies
@@ -11,15 +12,6 @@ returns-in-Err-perform-clause-replies g c clean f of form =
     ((c.perform.ensures.of clean c.requires.unfailed f of).performs
     (fits_of g.S.Store c.args.treasury.now f c.args.command of c.requires.held))
     (c.perform.ensures.replies c.requires.unfailed).fails (c.in-Err-perform.is, c.reserve.ensures.items)
-
-pub returns-in-Err-perform-clause-printable : goal.returns-in-Err-perform-clause-printable
-returns-in-Err-perform-clause-printable g c =
-    refusal_held c.args.treasury.now c.perform.new.self c.args.command c.perform.result c.in-Err-perform.refusal
-    c.in-Err-perform.is c.requires.held
-    (c.perform.ensures.replies c.requires.unfailed).held (c.perform.ensures.nothing c.requires.unfailed)
-
-pub returns-in-Err-perform-clause-clean : goal.returns-in-Err-perform-clause-clean
-returns-in-Err-perform-clause-clean g c = c.perform.ensures.connection.shuts.clean
 
 pub unreachable-requires : goal.unreachable-requires
 unreachable-requires g c =
@@ -32,16 +24,18 @@ returns-clause-replies g c clean f of form =
     (fits_of g.S.Store c.args.treasury.now f c.args.command of c.requires.held))
     (c.perform.ensures.replies c.requires.unfailed).fails (c.in-Ok-perform.answer, (c.in-Ok-perform.is, search rules))
 
-pub returns-clause-clean : goal.returns-clause-clean
-returns-clause-clean g c = c.perform.ensures.connection.shuts.clean
-
 -- ---- where there is no room for the answer
 
-pub returns-in-Err-clause-fails : goal.returns-in-Err-clause-fails
-returns-in-Err-clause-fails g c = fails_not _ _ c.requires.unfailed (λ is. absurd cc)
+pub returns-in-Err-clause-refuses : goal.returns-in-Err-clause-refuses
+returns-in-Err-clause-refuses g c = record {
+  listed = λ unfailed. inl refl;
+  fails = λ unfailed. fails_not _ _ unfailed (λ is. absurd cc);
+  printable = tt;
+}
 
-pub returns-in-Err-clause-shuts : goal.returns-in-Err-clause-shuts
-returns-in-Err-clause-shuts g c = shuts_same g.S.Store c.args.treasury.now.store.conn
+pub returns-in-Err-clause-database : goal.returns-in-Err-clause-database
+returns-in-Err-clause-database g c =
+    keeps_database g.S.Store _ _ _ (λ clean is_open. inl is_open) (shuts_same g.S.Store c.args.treasury.now.store.conn)
 
 pub returns-in-Err-clause-left : goal.returns-in-Err-clause-left
 returns-in-Err-clause-left g c is_open f of fits =
@@ -50,35 +44,39 @@ returns-in-Err-clause-left g c is_open f of fits =
 
 -- ---- where it is refused
 
-pub returns-in-Err-perform-clause-listed : goal.returns-in-Err-perform-clause-listed
-returns-in-Err-perform-clause-listed g c = (c.in-Err-perform.ensures.replies c.requires.unfailed).listed
+pub returns-in-Err-perform-clause-refuses : goal.returns-in-Err-perform-clause-refuses
+returns-in-Err-perform-clause-refuses g c = record {
+  listed = λ unfailed. (c.in-Err-perform.ensures.replies unfailed).listed;
+  fails = λ unfailed. fails_refused c.in-Err-perform.refusal _ (c.in-Err-perform.ensures.replies unfailed).fails;
+  printable =
+      refusal_held c.args.treasury.now c.perform.new.self c.args.command c.perform.result c.in-Err-perform.refusal
+      c.in-Err-perform.is c.requires.held
+      (c.perform.ensures.replies c.requires.unfailed).held (c.perform.ensures.nothing c.requires.unfailed);
+}
 
-pub returns-in-Err-perform-clause-fails : goal.returns-in-Err-perform-clause-fails
-returns-in-Err-perform-clause-fails g c =
-    fails_refused c.in-Err-perform.refusal _ (c.in-Err-perform.ensures.replies c.requires.unfailed).fails
-
-pub returns-in-Err-perform-clause-open_but : goal.returns-in-Err-perform-clause-open_but
-returns-in-Err-perform-clause-open_but g c clean is_open =
-    open_refused g.S.Store c.perform.new.self.store.conn c.in-Err-perform.refusal
-    (c.in-Err-perform.ensures.connection.kept clean is_open)
-
-pub returns-in-Err-perform-clause-shuts : goal.returns-in-Err-perform-clause-shuts
-returns-in-Err-perform-clause-shuts g c = c.perform.ensures.connection.shuts
+pub returns-in-Err-perform-clause-database : goal.returns-in-Err-perform-clause-database
+returns-in-Err-perform-clause-database g c =
+    keeps_database g.S.Store _ _ _
+    (λ clean is_open. open_refused g.S.Store c.perform.new.self.store.conn c.in-Err-perform.refusal
+    (c.in-Err-perform.ensures.connection.kept clean is_open)) c.perform.ensures.connection.shuts
 
 pub returns-in-Err-perform-clause-left : goal.returns-in-Err-perform-clause-left
 returns-in-Err-perform-clause-left g c = c.perform.ensures.leaves.left
 
 -- ---- where it is done
 
-pub returns-clause-fails : goal.returns-clause-fails
-returns-clause-fails g c =
-    fails_done c.in-Ok-perform.answer _ _ (c.in-Ok-perform.ensures.replies c.requires.unfailed).fails
+pub returns-clause-refuses : goal.returns-clause-refuses
+returns-clause-refuses g c = record {
+  listed = λ unfailed. tt;
+  fails = λ unfailed.
+      fails_done c.in-Ok-perform.answer _ _ (c.in-Ok-perform.ensures.replies unfailed).fails;
+  printable = tt;
+}
 
-pub returns-clause-open_but : goal.returns-clause-open_but
-returns-clause-open_but g c clean is_open = inl (c.in-Ok-perform.ensures.connection.still_open clean is_open)
-
-pub returns-clause-shuts : goal.returns-clause-shuts
-returns-clause-shuts g c = c.perform.ensures.connection.shuts
+pub returns-clause-database : goal.returns-clause-database
+returns-clause-database g c =
+    keeps_database g.S.Store _ _ _ (λ clean is_open. inl (c.in-Ok-perform.ensures.connection.still_open clean is_open))
+    c.perform.ensures.connection.shuts
 
 pub returns-clause-left : goal.returns-clause-left
 returns-clause-left g c = c.perform.ensures.leaves.left

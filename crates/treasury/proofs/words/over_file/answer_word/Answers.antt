@@ -2,7 +2,7 @@ use Rattle.std.proofs.Common.{◌≡◌, ℕ, List, true, false, Result, refl, s
 use Rattle.book_core.specs.declared.refusal.Refusal.{Refusal}
 use Rattle.treasury_core.specs.declared.command.Answer.{Answer}
 use Rattle.treasury_api.specs.OneRequest.{is_refusal}
-use Rattle.treasury_api.proofs.AnswerLemmas.{IsAnswered}
+use Rattle.treasury_api.specs.Replied.{IsAnswered}
 use Rattle.treasury_api.proofs.OneRequestLemmas.{said_done, said_refusal}
 use Rattle.treasury.proofs.words.over_file.answer_word.Goals as goal
 
@@ -10,7 +10,7 @@ pub returns-in-Ok-clause-says : goal.returns-in-Ok-clause-says
 returns-in-Ok-clause-says g c =
     said_done g.S.Store c.args.treasury.now c.answer.new.treasury c.answer.new.out.items c.args.request.now
     (λ (reply : Result Answer Refusal). false ≡ is_refusal reply) c.answer.result c.in-Ok.field-0 c.in-Ok.is
-    c.requires.days c.answer.ensures.clean
+    c.requires.days c.answer.ensures.database.shuts.clean
     (λ k f of. subst (λ (xs : List ℕ).
     IsAnswered g.S.Store c.args.treasury.now.store.failed c.answer.new.treasury f c.args.request.now c.answer.result
     xs c.answer.new.out.items) c.new-text.ensures.items (c.answer.ensures.replies k f of))
@@ -20,7 +20,7 @@ pub returns-in-Err-clause-says : goal.returns-in-Err-clause-says
 returns-in-Err-clause-says g c =
     said_refusal g.S.Store c.args.treasury.now c.answer.new.treasury c.answer.new.out.items _ c.args.request.now
     (λ (reply : Result Answer Refusal). true ≡ is_refusal reply) c.answer.result c.in-Err.refusal c.in-Err.is
-    c.requires.days c.answer.ensures.clean
+    c.requires.days c.answer.ensures.database.shuts.clean
     (λ k f of. subst (λ (xs : List ℕ).
     IsAnswered g.S.Store c.args.treasury.now.store.failed c.answer.new.treasury f c.args.request.now c.answer.result
     xs c.answer.new.out.items) c.new-text.ensures.items (c.answer.ensures.replies k f of))

@@ -1,5 +1,5 @@
 use Rattle.std.proofs.Common.{ℕ, List, subst}
-use Rattle.treasury_api.proofs.AnswerLemmas.{IsAnswered}
+use Rattle.treasury_api.specs.Replied.{IsAnswered}
 use Rattle.treasury_api.proofs.ServeLemmas.{unread, served, served_memory, served_refusal}
 use Rattle.treasury_api.proofs.running.TreasuryMachine.answer.Goals as goal
 
@@ -16,9 +16,8 @@ returns-in-Ok-end_report-clause-ok g c =
     c.in-Ok-read_within_memory.request c.answer.result c.in-Ok-answer.field-0 c.in-Ok-read_within_memory.ensures.ok
     c.in-Ok-answer.is
     (record {
-      shuts = c.answer.ensures.shuts;
+      database = c.answer.ensures.database;
       closed = c.answer.ensures.closed;
-      open_but = c.answer.ensures.open_but;
       left = c.answer.ensures.left;
     })
     (λ k f of. subst (λ (xs : List ℕ).
@@ -32,9 +31,8 @@ returns-in-Err-end_report-clause-ok g c =
     c.in-Ok-read_within_memory.request c.answer.result c.in-Ok-answer.field-0 c.in-Ok-read_within_memory.ensures.ok
     c.in-Ok-answer.is
     (record {
-      shuts = c.answer.ensures.shuts;
+      database = c.answer.ensures.database;
       closed = c.answer.ensures.closed;
-      open_but = c.answer.ensures.open_but;
       left = c.answer.ensures.left;
     })
     (λ k f of. subst (λ (xs : List ℕ).
@@ -48,9 +46,8 @@ returns-in-Err-answer-clause-ok g c =
     c.in-Ok-read_within_memory.request c.answer.result c.in-Err-answer.refusal c.in-Ok-read_within_memory.ensures.ok
     c.in-Err-answer.is
     (record {
-      shuts = c.answer.ensures.shuts;
+      database = c.answer.ensures.database;
       closed = c.answer.ensures.closed;
-      open_but = c.answer.ensures.open_but;
       left = c.answer.ensures.left;
     })
     (λ k f of. subst (λ (xs : List ℕ).

@@ -9,8 +9,7 @@ returns-in-Ok-Request-clause-ok g c =
     c.in-Ok-Request.request
     (code_of c.answer_in_json.result.status) c.answer_in_json.result.body.items
     (rw c.in-Ok-Request.field-0-is at c.in-Ok-Request.ensures.sought) c.answer_in_json.ensures.replies
-    c.answer_in_json.ensures.left c.answer_in_json.ensures.open_but c.answer_in_json.ensures.shuts
-    c.answer_in_json.ensures.closed
+    c.answer_in_json.ensures.leaves
 
 pub returns-in-Ok-Request-clause-form : goal.returns-in-Ok-Request-clause-form
 returns-in-Ok-Request-clause-form g c = c.answer_in_json.ensures.form

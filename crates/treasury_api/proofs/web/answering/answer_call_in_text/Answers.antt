@@ -9,5 +9,4 @@ returns-in-Ok-Request-clause-ok g c =
     c.in-Ok-Request.request
     (code_of c.answer_in_text.result.status) c.answer_in_text.result.body.items
     (rw c.in-Ok-Request.field-0-is at c.in-Ok-Request.ensures.sought) c.answer_in_text.ensures.replies
-    c.answer_in_text.ensures.left c.answer_in_text.ensures.open_but c.answer_in_text.ensures.shuts
-    c.answer_in_text.ensures.closed
+    c.answer_in_text.ensures.leaves

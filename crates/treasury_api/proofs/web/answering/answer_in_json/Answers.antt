@@ -4,10 +4,10 @@ use Rattle.book_core.specs.declared.refusal.Refusal.{Refusal}
 use Rattle.treasury_core.specs.declared.command.Answer.{Answer}
 use Rattle.treasury_requests.specs.Request.{is_report}
 use Rattle.money_core.specs.Cause.{number_of}
+use Rattle.treasury_api.specs.Replied.{IsAnsweredIn}
 use Rattle.treasury_api.specs.WebReply.{status_of, form_of_reply}
 use Rattle.treasury_api.specs.WebServing.{code_of}
 use Rattle.treasury_api.specs.Web.{IsBodyIn}
-use Rattle.treasury_api.proofs.AnswerLemmas.{IsAnsweredIn}
 use Rattle.treasury_api.proofs.OneRequestLemmas.{replied_done, replied_as}
 use Rattle.treasury_api.proofs.JsonLemmas.{done_body, refused_in_json, open_but_json, json_status}
 use Rattle.treasury_api.proofs.web.answering.answer_in_json.Goals as goal
@@ -22,7 +22,7 @@ returns-in-Ok-clause-replies g c =
     subst (λ (xs : List ℕ). length text ≤ length xs + 64) none s in
     replied_done form.Json g.S.Store c.args.treasury.now c.answer.new.treasury text c.args.request.now
     (IsBodyIn form.Json body) (λ (reply : Result Answer Refusal). 200 ≡ status_of reply) c.answer.result
-    c.in-Ok.field-0 c.in-Ok.is c.requires.days c.answer.ensures.clean
+    c.in-Ok.field-0 c.in-Ok.is c.requires.days c.answer.ensures.database.shuts.clean
     (λ k f of. subst (λ (xs : List ℕ).
     IsAnsweredIn form.Json g.S.Store c.args.treasury.now.store.failed c.answer.new.treasury f c.args.request.now
     c.answer.result xs text) c.new-text.ensures.items (c.answer.ensures.replies k f of))
@@ -31,11 +31,13 @@ returns-in-Ok-clause-replies g c =
     c.done_in_json.ensures.report (λ other. c.done_in_json.ensures.other other (short other)))
     (λ answer. refl)
 
-pub returns-in-Ok-clause-open_but : goal.returns-in-Ok-clause-open_but
-returns-in-Ok-clause-open_but g c clean is_open = inl (c.in-Ok.ensures.still_open clean is_open)
-
-pub returns-in-Ok-clause-closed : goal.returns-in-Ok-clause-closed
-returns-in-Ok-clause-closed g c failed = (c.answer.ensures.closed failed).1
+pub returns-in-Ok-clause-leaves : goal.returns-in-Ok-clause-leaves
+returns-in-Ok-clause-leaves g c = record {
+  left = c.answer.ensures.left;
+  open_but = λ clean is_open. inl (c.in-Ok.ensures.database.still_open clean is_open);
+  shuts = c.answer.ensures.database.shuts;
+  closed = λ failed. (c.answer.ensures.closed failed).1;
+}
 
 pub returns-in-Err-clause-replies : goal.returns-in-Err-clause-replies
 returns-in-Err-clause-replies g c =
@@ -43,7 +45,7 @@ returns-in-Err-clause-replies g c =
     let body = c.refuse_in_json-object.result.text.items in
     replied_as form.Json g.S.Store c.args.treasury.now c.answer.new.treasury text c.args.request.now
     (IsBodyIn form.Json body) (λ (reply : Result Answer Refusal). code_of c.status_of.result ≡ status_of reply)
-    c.answer.result c.in-Err.refusal c.in-Err.is c.requires.days c.answer.ensures.clean
+    c.answer.result c.in-Err.refusal c.in-Err.is c.requires.days c.answer.ensures.database.shuts.clean
     (λ k f of. subst (λ (xs : List ℕ).
     IsAnsweredIn form.Json g.S.Store c.args.treasury.now.store.failed c.answer.new.treasury f c.args.request.now
     c.answer.result xs text) c.new-text.ensures.items (c.answer.ensures.replies k f of))
@@ -51,16 +53,19 @@ returns-in-Err-clause-replies g c =
     c.refuse_by-line.result.text.items body c.refuse_by-line.result.cause c.refuse_in_json-object.result.cause of
     c.refuse_in_json-object.ensures c.status_of.ensures c.in-Err.refusal c.refuse_by-line.ensures)
 
-pub returns-in-Err-clause-open_but : goal.returns-in-Err-clause-open_but
-returns-in-Err-clause-open_but g c clean is_open =
-    open_but_json g.S.Store c.args.treasury.now c.answer.new.treasury c.answer.result c.in-Err.refusal
-    c.refuse_by-line.result.cause c.refuse_in_json-object.result.cause (code_of c.status_of.result)
-    c.refuse_by-line.result.text.items c.refuse_in_json-object.result.text.items c.in-Err.is
-    c.refuse_by-line.ensures c.refuse_in_json-object.ensures c.status_of.ensures is_open c.answer.ensures.fails
-    (λ failed. (c.answer.ensures.closed failed).1) (c.answer.ensures.open_but clean is_open)
-
-pub returns-in-Err-clause-closed : goal.returns-in-Err-clause-closed
-returns-in-Err-clause-closed g c failed = (c.answer.ensures.closed failed).1
+pub returns-in-Err-clause-leaves : goal.returns-in-Err-clause-leaves
+returns-in-Err-clause-leaves g c = record {
+  left = c.answer.ensures.left;
+  open_but = λ clean is_open.
+      open_but_json g.S.Store c.args.treasury.now c.answer.new.treasury c.answer.result c.in-Err.refusal
+      c.refuse_by-line.result.cause c.refuse_in_json-object.result.cause (code_of c.status_of.result)
+      c.refuse_by-line.result.text.items c.refuse_in_json-object.result.text.items c.in-Err.is
+      c.refuse_by-line.ensures c.refuse_in_json-object.ensures c.status_of.ensures is_open
+      c.answer.ensures.refuses.fails (λ failed. (c.answer.ensures.closed failed).1)
+      (c.answer.ensures.database.open_but clean is_open);
+  shuts = c.answer.ensures.database.shuts;
+  closed = λ failed. (c.answer.ensures.closed failed).1;
+}
 
 pub returns-in-Err-clause-form : goal.returns-in-Err-clause-form
 returns-in-Err-clause-form g c =
