@@ -74,11 +74,11 @@ lacks_number gives bits name f (Some text) result is reads none fails =
     inr (text, sym (one_text-rows f name) ∙ is, fails text unread.0 unread.1)
 
 -- it is no run
-apart : (s r : ℕ) → s ≡ 115 → r ≡ 114 → s ≡ r → ⊥
-apart s r of_serve of_run same = omega arith
+serve_byte_not_run : (s r : ℕ) → s ≡ 115 → r ≡ 114 → s ≡ r → ⊥
+serve_byte_not_run s r of_serve of_run same = omega arith
 
 pub serve_is_not_run : codes "serve" ≡ codes "run" → ⊥
-serve_is_not_run same = apart (slice_index (codes "serve") 0) (slice_index (codes "run") 0) refl refl
+serve_is_not_run same = serve_byte_not_run (slice_index (codes "serve") 0) (slice_index (codes "run") 0) refl refl
     (ap (λ (text : List ℕ). slice_index text 0) same)
 
 -- ---- what is told

@@ -22,13 +22,13 @@ done_status (Ok x) status P is done zero = done
 done_status (Err cause) status P is done zero = let clash : 1 ≡ 0 = sym is ∙ zero in absurd cc
 
 -- words that are not taken, and may not ask for help or for the version, are answered 2, or 1 for want of memory
-pub untaken : {W : Type 0} (words : List (List ℕ)) (kind : ErrorKind) (w0 w1 : W) (status : ℕ)
+pub untaken_status : {W : Type 0} (words : List (List ℕ)) (kind : ErrorKind) (w0 w1 : W) (status : ℕ)
     → (kind ≡ OutOfMemory) ⊎ IsAmong kind (objections words) → (MayAskForHelp words → ⊥)
     → AnswersUntaken kind w0 w1 status → ((status ≡ 2) ⊎ (status ≡ 1)) × (w1 ≡ w0)
-untaken words kind w0 w1 status fails helpless (inl (memory, (one, same))) = (inr one, same)
-untaken words kind w0 w1 status fails helpless (inr (inl (shown, other))) =
+untaken_status words kind w0 w1 status fails helpless (inl (memory, (one, same))) = (inr one, same)
+untaken_status words kind w0 w1 status fails helpless (inr (inl (shown, other))) =
     absurd (helpless (help_shown words kind fails shown))
-untaken words kind w0 w1 status fails helpless (inr (inr (other, (two, same)))) = (inl two, same)
+untaken_status words kind w0 w1 status fails helpless (inr (inr (other, (two, same)))) = (inl two, same)
 
 -- where that is 2, nothing is written
 pub unwritten_on_2 : {W : Type 0} (kind : ErrorKind) (w0 w1 : W) (status : ℕ) → AnswersUntaken kind w0 w1 status

@@ -46,7 +46,7 @@ use Rattle.treasury_api.specs.Replied.{IsRepliedIn, IsAnsweredIn}
 use Rattle.treasury_api.specs.Serving.{IsReady, OrMemory}
 use Rattle.money_core.proofs.ReadingLemmas.{one_of_causes}
 use Rattle.money_core.specs.declared.unit.Unit.{Unit as Commodity}
-use Rattle.treasury_api.proofs.ReplyLemmas.{refused}
+use Rattle.treasury_api.proofs.ReplyLemmas.{refusal_replied}
 use Rattle.treasury_api.proofs.SpelledLemmas.{spelled_refusal}
 
 -- every text has a list or a first fault
@@ -97,27 +97,28 @@ spelled_asks law styles request =
 -- ---- a treasury that holds its state, or does not
 
 -- the state could not be had: the reply is 40, 41 or 42, whatever is asked
-pub unheld : {S T : Type 0} {form : Form} → ReadsAll
+pub answered_unheld : {S T : Type 0} {form : Form} → ReadsAll
     → (g : Ghosts S) (failed : Bool) (new : Treasury S) (f : Federation) (request : Spelled) (cause : Cause)
     (held : Result (Unit {0}) Cause) (result : Result T Refusal) (before written : List ℕ)
     → held ≡ Err cause → result ≡ Err (Plain cause) → IsTreasuryOf g new f → (held ≡ Err Damaged → ⊥)
     → (failed ≡ false → AnswersState held new.store.failed)
     → (IsTrue failed → (held ≡ Err Closed) × (new.store.failed ≡ failed)) → written ≡ before
     → IsAnsweredIn form g failed new f request result before written
-unheld law g true new f request cause held result before written is refuses of undamaged answers closed same =
+answered_unheld law g true new f request cause held result before written is refuses of undamaged answers closed same =
     let k = closed cc in
     let e : cause ≡ Closed = cause_of held cause Closed is k.0 in (
       Err (Plain Closed),
       (
         refl,
-        refused g true new f (Err (Plain Closed)) (Plain cause) result before written refuses
+        refusal_replied g true new f (Err (Plain Closed)) (Plain cause) result before written refuses
             (inl (ap (λ (x : Cause). Err (Plain x)) e)) of k.1 same,
       ),
     )
   where
     cause_of : (r : Result (Unit {0}) Cause) (x y : Cause) → r ≡ Err x → r ≡ Err y → x ≡ y
     cause_of r x y h k = cc
-unheld {form = form} law g false new f request cause held result before written is refuses of undamaged answers closed
+answered_unheld {form = form} law g false new f request cause held result before written is refuses of undamaged answers
+    closed
     same =
     let asked = spelled_asks law f.styles request in (
       asked.0,
@@ -131,11 +132,11 @@ unheld {form = form} law g false new f request cause held result before written 
     by_answer : (asked : Result Asked Refusal) → AnswersState {T = Unit {0}} (Err cause) new.store.failed
         → IsRepliedIn form g false new f asked result before written
     by_answer asked (inl (inl (memory, unfailed))) =
-        refused g false new f asked (Plain cause) result before written refuses
+        refusal_replied g false new f asked (Plain cause) result before written refuses
         (inr (inl (ap (λ (x : Cause). Err (Plain x)) memory))) of
         (unfailed ∙ ap (λ (x : Cause). is_failure (Err (Plain x))) (sym memory)) same
     by_answer asked (inl (inr (failed, closes))) =
-        refused g false new f asked (Plain cause) result before written refuses
+        refusal_replied g false new f asked (Plain cause) result before written refuses
         (inr (inr (refl, ap (λ (x : Cause). Err (Plain x)) failed))) of
         (closes ∙ ap (λ (x : Cause). is_failure (Err (Plain x))) (sym failed)) same
     by_answer asked (inr (damaged, unfailed)) = absurd (undamaged (is ∙ damaged))
@@ -148,20 +149,20 @@ held_unfailed true x held is closed = absurd (let k = (closed cc).0 in cc)
 
 -- ---- the reply, by what is asked
 
-pub answered : {S T : Type 0} {form : Form} (g : Ghosts S) (failed : Bool) (new : Treasury S) (f : Federation)
+pub answered_by_reply : {S T : Type 0} {form : Form} (g : Ghosts S) (failed : Bool) (new : Treasury S) (f : Federation)
     (request : Spelled)
     (asked : Result Asked Refusal) (result : Result T Refusal) (before written : List ℕ)
     → failed ≡ false → SpelledAsks f.styles request asked → IsRepliedIn form g false new f asked result before written
     → IsAnsweredIn form g failed new f request result before written
-answered {form = form} g failed new f request asked result before written unfailed asks replied =
+answered_by_reply {form = form} g failed new f request asked result before written unfailed asks replied =
     subst (λ (b : Bool). IsAnsweredIn form g b new f request result before written) (sym unfailed)
     (asked, (asks, replied))
 
 -- what is asked, where the texts are read
-pub meant : (styles others : List Style) (request : Spelled) (asked other : Asked) → styles ≡ others → asked ≡ other
-    → OrMemory (SpelledAsks styles request) (Ok asked) → SpelledAsks others request (Ok other)
-meant styles others request asked other same is (inl memory) = absurd cc
-meant styles others request asked other same is (inr asks) =
+pub SpelledAsks_of_same : (styles others : List Style) (request : Spelled) (asked other : Asked) → styles ≡ others
+    → asked ≡ other → OrMemory (SpelledAsks styles request) (Ok asked) → SpelledAsks others request (Ok other)
+SpelledAsks_of_same styles others request asked other same is (inl memory) = absurd cc
+SpelledAsks_of_same styles others request asked other same is (inr asks) =
     subst (λ (x : List Style). SpelledAsks x request (Ok other)) same
     (subst (λ (x : Asked). SpelledAsks styles request (Ok x)) is asks)
 
@@ -234,23 +235,23 @@ pub refused_texts : {S T : Type 0} {form : Form} → ReadsAll
 refused_texts law g failed new f request refusal result before written unfailed (inl memory) is of still same =
     let k : refusal ≡ Plain OutOfMemory = cc in
     let asked = spelled_asks law f.styles request in
-    answered g failed new f request asked.0 result before written unfailed asked.1
-    (refused g false new f asked.0 refusal result before written is (inr (inl (ap (λ (x : Refusal). Err x) k)))
+    answered_by_reply g failed new f request asked.0 result before written unfailed asked.1
+    (refusal_replied g false new f asked.0 refusal result before written is (inr (inl (ap (λ (x : Refusal). Err x) k)))
     of (still ∙ ap (λ (x : Refusal). is_failure (Err x)) (sym k)) same)
 refused_texts law g failed new f request refusal result before written unfailed (inr asks) is of still same =
-    answered g failed new f request (Err refusal) result before written unfailed asks
-    (refused g false new f (Err refusal) refusal result before written is (inl refl)
+    answered_by_reply g failed new f request (Err refusal) result before written unfailed asks
+    (refusal_replied g false new f (Err refusal) refusal result before written is (inl refl)
     of (still ∙ sym (texts_stay f.styles request.request refusal (spelled_refusal f.styles request refusal asks))) same)
 
 -- ---- a report
 
 -- its lines stand after what was written before
-pub reported : {S T : Type 0} {form : Form} (g : Ghosts S) (new : Treasury S) (f : Federation) (report : AnyReport)
-    (x : T)
+pub report_replied : {S T : Type 0} {form : Form} (g : Ghosts S) (new : Treasury S) (f : Federation)
+    (report : AnyReport) (x : T)
     (before written : List ℕ) → IsTreasuryOf g new f → new.store.failed ≡ false
     → has_its_branch f report ≡ true → written ≡ before ++ report_in form f report
     → IsRepliedIn form g false new f (Ok (Report report)) (Ok x) before written
-reported g new f report x before written of still there said = record {
+report_replied g new f report x before written of still there said = record {
   reply = Ok Done;
   replies = inl (ap (λ (t : Bool). if not t then Err (Plain UnknownBranch) else Ok Done) (sym there));
   of = of;
@@ -259,21 +260,21 @@ reported g new f report x before written of still there said = record {
 }
 
 -- its branch is not there, or memory is refused
-pub unreported : {S T : Type 0} {form : Form} (g : Ghosts S) (new : Treasury S) (f : Federation) (report : AnyReport)
-    (cause : Cause)
+pub report_refused : {S T : Type 0} {form : Form} (g : Ghosts S) (new : Treasury S) (f : Federation)
+    (report : AnyReport) (cause : Cause)
     (made : Result (Unit {0}) Cause) (result : Result T Refusal) (before written : List ℕ) → made ≡ Err cause
     → result ≡ Err (Plain cause) → IsTreasuryOf g new f → new.store.failed ≡ false
     → (made ≡ Err UnknownBranch) ↔ (has_its_branch f report ≡ false) → (cause ≡ UnknownBranch) ⊎ (cause ≡ OutOfMemory)
     → written ≡ before
     → IsRepliedIn form g false new f (Ok (Report report)) result before written
-unreported g new f report cause made result before written is refuses of still unknown (inl nowhere) same =
+report_refused g new f report cause made result before written is refuses of still unknown (inl nowhere) same =
     let none = unknown.0 (is ∙ ap (λ (x : Cause). Err x) nowhere) in
-    refused g false new f (Ok (Report report)) (Plain cause) result before written refuses
+    refusal_replied g false new f (Ok (Report report)) (Plain cause) result before written refuses
     (inl (ap (λ (x : Cause). Err (Plain x)) nowhere ∙ ap
     (λ (t : Bool). if not t then Err (Plain UnknownBranch) else Ok Done) (sym none))) of
     (still ∙ ap (λ (x : Cause). is_failure (Err (Plain x))) (sym nowhere)) same
-unreported g new f report cause made result before written is refuses of still unknown (inr memory) same =
-    refused g false new f (Ok (Report report)) (Plain cause) result before written refuses
+report_refused g new f report cause made result before written is refuses of still unknown (inr memory) same =
+    refusal_replied g false new f (Ok (Report report)) (Plain cause) result before written refuses
     (inr (inl (ap (λ (x : Cause). Err (Plain x)) memory))) of
     (still ∙ ap (λ (x : Cause). is_failure (Err (Plain x))) (sym memory)) same
 

@@ -75,10 +75,10 @@ may_reply : (f : Federation) (c : AnyCommand) (r : Result Answer Refusal) → St
 may_reply f c r (inl step) = inl step
 may_reply f c r (inr memory) = inr (inl memory)
 
-pub foreseen : {S T : Type 0} {form : Form} (g : Ghosts S) (new : Treasury S) (f : Federation) (c : AnyCommand)
+pub dry_run_replied : {S T : Type 0} {form : Form} (g : Ghosts S) (new : Treasury S) (f : Federation) (c : AnyCommand)
     (result : Result T Refusal) (before written : List ℕ) → IsTreasuryOf g new f → new.store.failed ≡ false
     → IsForeseen f c result before written → IsRepliedIn form g false new f (Ok (DryRun c)) result before written
-foreseen g new f c result before written of still (r, (steps, text)) = record {
+dry_run_replied g new f c result before written of still (r, (steps, text)) = record {
   reply = r;
   replies = may_reply f c r steps;
   of = of;

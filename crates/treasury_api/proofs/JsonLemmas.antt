@@ -40,8 +40,8 @@ use Rattle.treasury_api.proofs.OneRequestLemmas.{IsRefusedAs}
 -- ---- lines
 
 -- a line without the line feed that ends it
-front : (line : List ℕ) → take (length (line ++ codes "\n") - 1) (line ++ codes "\n") ≡ line
-front line =
+take_before_line_feed : (line : List ℕ) → take (length (line ++ codes "\n") - 1) (line ++ codes "\n") ≡ line
+take_before_line_feed line =
     let e = length-append line (codes "\n") in
     take_at line (codes "\n") (length (line ++ codes "\n") - 1) (omega (arith, e))
 
@@ -49,13 +49,13 @@ done_front : (styles : List Style) (answer : Answer) (text : List ℕ) → text 
     → take (length text - 1) text ≡ done_text answer
 unfolding answer_text
 done_front styles answer text said =
-    ap (λ (t : List ℕ). take (length t - 1) t) said ∙ front (done_text answer)
+    ap (λ (t : List ℕ). take (length t - 1) t) said ∙ take_before_line_feed (done_text answer)
 
 refusal_front : (styles : List Style) (refusal : Refusal) (text : List ℕ) → text ≡ answer_text styles (Err refusal)
     → take (length text - 1) text ≡ refusal_text styles refusal
 unfolding answer_text
 refusal_front styles refusal text said =
-    ap (λ (t : List ℕ). take (length t - 1) t) said ∙ front (refusal_text styles refusal)
+    ap (λ (t : List ℕ). take (length t - 1) t) said ∙ take_before_line_feed (refusal_text styles refusal)
 
 -- the line of a plain refusal
 plain_short : (c : Cause) → length (answer_text [] (Err (Plain c))) ≤ 64

@@ -122,15 +122,16 @@ sentence_short is.TooMuch = omega arith
 -- ---- objects
 
 -- the parts of the object of an answer that is no refusal
-nest : (a s e f : List ℕ) → ((a ++ s) ++ e) ++ f ≡ a ++ (s ++ (e ++ f))
-nest a s e f = simp append_assoc
+append_assoc_four : (a s e f : List ℕ) → ((a ++ s) ++ e) ++ f ≡ a ++ (s ++ (e ++ f))
+append_assoc_four a s e f = simp append_assoc
 
 done_parts : (line : List ℕ) → done_json line [] ≡ codes "{\"answer\":" ++ (quoted line
     ++ codes ",\"told\":[],\"notes\":[]}\n")
 unfolding escaped lines_of
 done_parts line =
     ap (λ (t : List ℕ). codes "{\"answer\":\"" ++ t)
-    (nest (flat_map escaped line ++ codes "\"") (codes ",\"told\":[],\"notes\":[]") (codes "}") (codes "\n"))
+    (append_assoc_four (flat_map escaped line
+    ++ codes "\"") (codes ",\"told\":[],\"notes\":[]") (codes "}") (codes "\n"))
 
 -- those of a refusal
 nest_all : (a p b q c r d s e f : List ℕ)
@@ -208,10 +209,10 @@ done_short line noted short none =
     let q = length-quoted line in
     omega (arith, e, k, q)))
 
-total : (a l b n c m d s e : List ℕ)
+length_of_object_parts : (a l b n c m d s e : List ℕ)
     → length (a ++ (l ++ (b ++ (n ++ (c ++ (m ++ (d ++ (s ++ e))))))))
     ≡ length a + (length l + (length b + (length n + (length c + (length m + (length d + (length s + length e)))))))
-total a l b n c m d s e = simp length-append
+length_of_object_parts a l b n c m d s e = simp length-append
 
 pub refused_short : (line : List ℕ) (cause : Cause) (told : List ℕ) → length line ≤ 63 → told ≡ []
     → length (refused_json line cause told) ≤ 2_048
@@ -219,7 +220,8 @@ refused_short line cause told short none =
     subst (λ (t : List ℕ). length (refused_json line cause t) ≤ 2_048) (sym none)
     (subst (λ (t : List ℕ). length t ≤ 2_048)
     (sym (refused_parts line (decimal (number_of cause)) (name_of cause) (sentence_of cause)))
-    (let e = total (codes "{\"answer\":") (quoted line) (codes ",\"number\":") (quoted (decimal (number_of cause)))
+    (let e = length_of_object_parts (codes "{\"answer\":") (quoted line) (codes ",\"number\":")
+    (quoted (decimal (number_of cause)))
     (codes ",\"name\":") (quoted (name_of cause)) (codes ",\"sentence\":") (quoted (sentence_of cause))
     (codes ",\"told\":[],\"notes\":[]}\n") in
     let l = length-quoted line in

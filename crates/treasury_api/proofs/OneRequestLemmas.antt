@@ -26,7 +26,7 @@ use Rattle.treasury_api.specs.Replied.{standing, body_of, IsLineOf, IsAnsweredIn
 use Rattle.treasury_api.proofs.AskedLemmas.{request_fits}
 use Rattle.treasury_api.proofs.SpelledLemmas.{spelled_command}
 use Rattle.treasury_api.proofs.HistoryLemmas.{command_replied, failure_leaves}
-use Rattle.treasury_api.proofs.ServeLemmas.{after_plain, leads, refused_only, data_line}
+use Rattle.treasury_api.proofs.ServeLemmas.{after_plain, standing_is_next, refused_only, data_line}
 use Rattle.treasury_tables.specs.Kept.{IsFaithful}
 
 -- what is written is the text of the reply
@@ -87,7 +87,7 @@ replied_done form g old new written request Says Tells made x ok days clean answ
                   asks = asks;
                   replies = replies;
                   text = says f asked told.0 asks replies told.1.1;
-                  left = leads old new f asked (Ok told.0)
+                  left = standing_is_next old new f asked (Ok told.0)
                       (r.left ∙ ap (λ (y : Result Answer Refusal). old.store.failed || is_failure y) told.1.0);
                 },
                 tells told.0,
@@ -148,7 +148,8 @@ replied_as form g old new written request Says Tells made refusal refused days c
           asks = asks;
           replies = replies;
           text = says asked;
-          left = ap (λ (x : Federation). standing new x) (after_plain f asked refusal) ∙ leads old new f asked
+          left =
+              ap (λ (x : Federation). standing new x) (after_plain f asked refusal) ∙ standing_is_next old new f asked
               (Err refusal) left;
         },
         tells,
@@ -164,7 +165,7 @@ replied_as form g old new written request Says Tells made refusal refused days c
           replies = inr (inl refl);
           text = says asked;
           left = ap (λ (x : Federation). standing new x) (after_plain f asked (Plain OutOfMemory))
-              ∙ leads old new f asked (Err (Plain OutOfMemory))
+              ∙ standing_is_next old new f asked (Err (Plain OutOfMemory))
               (left ∙ ap (λ (b : Bool). old.store.failed || b) harmless);
         },
         tells,
@@ -245,12 +246,12 @@ abbrev pub IsRunTo : Federation → List Turn → Federation → Type 0
 IsRunTo f turns end = IsRun f turns × (end ≡ state_after f turns)
 
 -- the command of a request, if it is one, and those after it
-behind : (f : Federation) (request : Spelled) (asked : Result Asked Refusal) (r : Result Answer Refusal)
+run_behind_command : (f : Federation) (request : Spelled) (asked : Result Asked Refusal) (r : Result Answer Refusal)
     (turns : List Turn) (end : Federation)
     → HasDayNumbers request.request → SpelledAsks f.styles request asked
     → MayReply (record { now = f; failed = false }) asked r
     → IsRunTo (after f asked r) turns end → IsRunTo f (command_if asked r ++ turns) end
-behind f request (Ok (Command c)) r turns end days asks replies rest = commanded (is_failure r) refl
+run_behind_command f request (Ok (Command c)) r turns end days asks replies rest = commanded (is_failure r) refl
   where
     commanded : (failure : Bool) → is_failure r ≡ failure
         → IsRunTo f ((if failure then [] else record { command = c; reply = r } ∷ []) ++ turns) end
@@ -263,9 +264,9 @@ behind f request (Ok (Command c)) r turns end days asks replies rest = commanded
       ),
       rest.1,
     )
-behind f request (Ok (DryRun c)) r turns end days asks replies rest = rest
-behind f request (Ok (Report report)) r turns end days asks replies rest = rest
-behind f request (Err refusal) r turns end days asks replies rest = rest
+run_behind_command f request (Ok (DryRun c)) r turns end days asks replies rest = rest
+run_behind_command f request (Ok (Report report)) r turns end days asks replies rest = rest
+run_behind_command f request (Err refusal) r turns end days asks replies rest = rest
 
 -- the command of a request that is answered, if it is one, and those after it
 pub request_run : (f : Federation) (request : Spelled) (Says : Result Asked Refusal → Result Answer Refusal → Type 0)
@@ -273,7 +274,7 @@ pub request_run : (f : Federation) (request : Spelled) (Says : Result Asked Refu
     → (answers : AnswersAs (record { now = f; failed = false }) request Says reply t) → IsRunTo t.now turns end
     → IsRunTo f (command_of answers ++ turns) end
 request_run f request Says reply t turns end answers rest =
-    behind f request answers.asked reply turns end answers.days answers.asks answers.replies
+    run_behind_command f request answers.asked reply turns end answers.days answers.asks answers.replies
     (subst (λ (g : Federation). IsRunTo g turns end) (ap (λ (s : Standing). s.now) answers.left) rest)
 
 -- a refusal leaves the state

@@ -167,11 +167,11 @@ kept_or : (styles : List Style) (t : Bool) (cause : Cause) (o : Option Refusal) 
 kept_or styles false cause o e h rest = plain_printable styles cause e cc
 kept_or styles true cause o e h rest = rest refl h
 
-chosen : (styles : List Style) (t : Bool) (cause : Cause) (o : Option Refusal) (e : Refusal)
+printable_past_plain : (styles : List Style) (t : Bool) (cause : Cause) (o : Option Refusal) (e : Refusal)
     → (if t then Some (Plain cause) else o) ≡ Some e → (o ≡ Some e → IsPrintableRefusal styles e)
     → IsPrintableRefusal styles e
-chosen styles true cause o e h rest = plain_printable styles cause e cc
-chosen styles false cause o e h rest = rest h
+printable_past_plain styles true cause o e h rest = plain_printable styles cause e cc
+printable_past_plain styles false cause o e h rest = rest h
 
 passed_by : (styles : List Style) (t : Bool) (cause : Cause) (o : Option Refusal) (e : Refusal)
     → (if t then Some (Plain cause) else o) ≡ Some e → (t ≡ false → o ≡ Some e → IsPrintableRefusal styles e)
@@ -182,9 +182,9 @@ passed_by styles false cause o e h rest = rest refl h
 barred_printable : (styles : List Style) (lock : Option Day) (r : Record) (e : Refusal) → barred lock r ≡ Some e
     → IsPrintableRefusal styles e
 barred_printable styles lock r e h =
-    chosen styles (is_product_mark r.mark) _ _ e h
-    (λ h1. chosen styles (list_any is_transit r.entry.legs) _ _ e h1
-    (λ h2. chosen styles (is_locked lock r.entry.day) _ _ e h2 (λ h3. absurd cc)))
+    printable_past_plain styles (is_product_mark r.mark) _ _ e h
+    (λ h1. printable_past_plain styles (list_any is_transit r.entry.legs) _ _ e h1
+    (λ h2. printable_past_plain styles (is_locked lock r.entry.day) _ _ e h2 (λ h3. absurd cc)))
 
 refused_printable : (styles : List Style) (lock : Option Day) (held rs : List Record) (e : Refusal)
     → refused_in styles lock held rs ≡ Some e → IsPrintableRefusal styles e
@@ -200,7 +200,8 @@ refused_printable styles lock held (r ∷ rs) e h =
         → IsPrintableRefusal styles e
     at true h repeat new = repeat h
     at false h repeat new = elim (first_or (refusal_of lock held r) (refused_in styles lock (held ++ r ∷ []) rs) e h) [
-      | inl here ↦ chosen styles (is_held held r.mark) _ _ e here (λ h. barred_printable styles lock r e h)
+      | inl here ↦ printable_past_plain styles (is_held held r.mark) _ _ e here
+          (λ h. barred_printable styles lock r e h)
       | inr later ↦ new later
     ]
 
@@ -275,9 +276,9 @@ dispatch_printable f d e good fits h =
     (λ h5. replied_plain f.styles (is_some (transfer_at f d.id)) _ _ e h5 (λ h6.
     let refused = by_answer f.styles _ (dispatch_refusal (lock_of f d.source) (records_of f d.source) d) e h6 in
     kept_or f.styles (is_account_text d.account) _ _ e refused
-    (λ account k1. chosen f.styles (is_reserved d.account) _ _ e k1 (λ k2.
-    chosen f.styles (int_le d.qty (pos 0)) _ _ e k2
-    (λ k3. chosen f.styles (is_locked (lock_of f d.source) d.day) _ _ e k3 (λ k4.
+    (λ account k1. printable_past_plain f.styles (is_reserved d.account) _ _ e k1 (λ k2.
+    printable_past_plain f.styles (int_le d.qty (pos 0)) _ _ e k2
+    (λ k3. printable_past_plain f.styles (is_locked (lock_of f d.source) d.day) _ _ e k3 (λ k4.
     with_record_printable f d.source (dispatch_record (transfer_of d)) e good
     (dispatch_record_good f d good fits source target id account) k4))))))))))
 
@@ -291,7 +292,7 @@ new_printable f r t e good fits bad at none refused =
     passed_by f.styles (int_le (qty_of t r.part) (pos 0)) _ _ e k2
     (λ some k3. passed_by f.styles (is_too_much t r.part) _ _ e k3 (λ enough k4.
     passed_by f.styles (int_lt r.day.0 t.day.0) _ _ e k4
-    (λ late k5. chosen f.styles (is_locked (lock_of f r.branch) r.day) _ _ e k5 (λ k6.
+    (λ late k5. printable_past_plain f.styles (is_locked (lock_of f r.branch) r.day) _ _ e k5 (λ k6.
     with_record_printable f r.branch (receipt_record t (receipt_of t r)) e good
     (receipt_record_good f r t good fits at (may_receive t r bad none clear some enough late) account) k6))))))
 
@@ -344,10 +345,10 @@ choice_printable : (styles : List Style) (c : Choice) (e : Refusal) → choice_r
 choice_printable styles c e h =
     kept_or styles (list_all is_account_text (listed c.accounts)) _ _ e h
     (λ formed k1. kept_or styles (is_account_text (target_in c.into)) _ _ e k1 (λ target k2.
-    chosen styles (list_any holds_transit (listed c.accounts)) _ _ e k2
-    (λ k3. chosen styles (is_reserved (target_in c.into)) _ _ e k3 (λ k4.
-    chosen styles (is_selected c.accounts (target_in c.into)) _ _ e k4
-    (λ k5. chosen styles (nat_lt list_limit (length (list_text (listed c.accounts)))) _ _ e k5
+    printable_past_plain styles (list_any holds_transit (listed c.accounts)) _ _ e k2
+    (λ k3. printable_past_plain styles (is_reserved (target_in c.into)) _ _ e k3 (λ k4.
+    printable_past_plain styles (is_selected c.accounts (target_in c.into)) _ _ e k4
+    (λ k5. printable_past_plain styles (nat_lt list_limit (length (list_text (listed c.accounts)))) _ _ e k5
     (λ k6. absurd cc))))))
 
 close_printable : (f : Federation) (x : Close) (o : Option Refusal) (e : Refusal) → IsGoodState f → IsDayNumber x.day
@@ -357,7 +358,7 @@ close_printable : (f : Federation) (x : Close) (o : Option Refusal) (e : Refusal
     ≡ Some e → IsPrintableRefusal f.styles e
 close_printable f x (Some refusal) e good days is h = choice_printable f.styles x.choice e (is ∙ h)
 close_printable f x None e good days is h =
-    chosen f.styles (is_locked (lock_of f x.branch) x.day) _ _ e h
+    printable_past_plain f.styles (is_locked (lock_of f x.branch) x.day) _ _ e h
     (λ k. closing_printable f x.branch x.day x.choice (closing_in f x.branch x.day x.choice) e good days is refl k)
 
 closed_printable : (f : Federation) (x : Close) (o : Option Record) (e : Refusal) → IsGoodState f → IsDayNumber x.day

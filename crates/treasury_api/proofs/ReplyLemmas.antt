@@ -67,12 +67,12 @@ refusal_text form f asked r refusal (Err e) before written replied is same =
     (replied ∙ ap (λ (x : Refusal). Err x) k, same)
 
 -- a refusal leaves the state
-pub refused : {S T : Type 0} {form : Form} (g : Ghosts S) (failed : Bool) (new : Treasury S) (f : Federation)
+pub refusal_replied : {S T : Type 0} {form : Form} (g : Ghosts S) (failed : Bool) (new : Treasury S) (f : Federation)
     (asked : Result Asked Refusal) (refusal : Refusal) (result : Result T Refusal) (before written : List ℕ)
     → result ≡ Err refusal → MayReply (record { now = f; failed = failed }) asked (Err refusal) → IsTreasuryOf g new f
     → new.store.failed ≡ (failed || is_failure (Err refusal)) → written ≡ before
     → IsRepliedIn form g failed new f asked result before written
-refused {form = form} g failed new f asked refusal result before written is replies of left same = record {
+refusal_replied {form = form} g failed new f asked refusal result before written is replies of left same = record {
   reply = Err refusal;
   replies = replies;
   of = subst (IsTreasuryOf g new) (sym (after_refusal f asked refusal)) of;
@@ -87,7 +87,7 @@ pub refused_memory : {S T : Type 0} {form : Form} (g : Ghosts S) (new : Treasury
     → result ≡ Err (Plain OutOfMemory) → IsTreasuryOf g new f → new.store.failed ≡ false → written ≡ before
     → IsRepliedIn form g false new f asked result before written
 refused_memory g new f asked result before written is of unfailed same =
-    refused g false new f asked (Plain OutOfMemory) result before written is (inr (inl refl)) of unfailed same
+    refusal_replied g false new f asked (Plain OutOfMemory) result before written is (inr (inl refl)) of unfailed same
 
 -- ---- a command
 
@@ -102,13 +102,13 @@ may_reply f c r (inl (inl step)) = inl step
 may_reply f c r (inl (inr memory)) = inr (inl memory)
 may_reply f c r (inr failed) = inr (inr (refl, failed))
 
-pub performed : {S T : Type 0} {form : Form} (g : Ghosts S) (new : Treasury S) (f : Federation) (c : AnyCommand)
+pub performed_replied : {S T : Type 0} {form : Form} (g : Ghosts S) (new : Treasury S) (f : Federation) (c : AnyCommand)
     (r : Result Answer Refusal) (result : Result T Refusal) (before written : List ℕ)
     → Performs g new f c r → FailsBy r new.store.failed
     → MatchResult result (λ _. (answer : Answer) × ((r ≡ Ok answer) × (written ≡ before ++ answer_text [] (Ok answer))))
     (λ refusal. (r ≡ Err refusal) × (written ≡ before))
     → IsRepliedIn form g false new f (Ok (Command c)) result before written
-performed {T = T} g new f c r result before written performs fails text = record {
+performed_replied {T = T} g new f c r result before written performs fails text = record {
   reply = r;
   replies = may_reply f c r performs.replies;
   of = performs.next;

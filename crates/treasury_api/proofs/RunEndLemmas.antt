@@ -233,10 +233,10 @@ as_run g old new start input output end turns served =
     record { requests = run.requests; follow = run.follow; written = run.written; left = run.left }
 
 -- their transcript
-told : {S : Type 0} (g : Ghosts S) (old new : Treasury S) (start : Standing) (input output : List ℕ) (end : Federation)
-    (turns : List Turn) → AreServed g old new start (requests_in input) output end turns
+served_transcript : {S : Type 0} (g : Ghosts S) (old new : Treasury S) (start : Standing) (input output : List ℕ)
+    (end : Federation) (turns : List Turn) → AreServed g old new start (requests_in input) output end turns
     → IsTranscript Answers start input output (standing new end)
-told g old new start input output end turns served =
+served_transcript g old new start input output end turns served =
     transcript_of start input output (standing new end) turns
     (as_run g old new start input output end turns served)
 
@@ -295,7 +295,8 @@ led_where_cut_off g OutOfMemory r0 r1 w0 w1 old new ends clean f of =
                 written = stops.written;
                 split = stops.split;
                 complete = stops.complete;
-                transcript = told g old new (standing old f) stops.whole stops.written all.0 all.1.1.0 served;
+                transcript =
+                    served_transcript g old new (standing old f) stops.whole stops.written all.0 all.1.1.0 served;
                 appended = stops.appended;
               };
             };
@@ -328,7 +329,8 @@ led_where_cut_off g ReadFault r0 r1 w0 w1 old new ends clean f of =
                 split = answered.split;
                 complete = answered.complete;
                 part = answered.part;
-                transcript = told g old new (standing old f) answered.whole answered.written all.0 all.1.1.0 served;
+                transcript =
+                    served_transcript g old new (standing old f) answered.whole answered.written all.0 all.1.1.0 served;
                 appended = answered.appended;
               };
             };
@@ -371,7 +373,7 @@ led_where_cut_off g WriteFault r0 r1 w0 w1 old new ends clean f of =
                 part = stops.part;
                 split = stops.split;
                 complete = stops.complete;
-                transcript = told g old mid (standing old f) stops.whole stops.written all.0 turns served;
+                transcript = served_transcript g old mid (standing old f) stops.whole stops.written all.0 turns served;
                 next = stops.next;
                 last = a;
                 appended = stops.appended;
@@ -409,14 +411,14 @@ leaves_run g shown old new start turns end of leaving is_open unfailed = by_end 
     by_end (inr (failed, closes)) = inr failed
 
 -- a run on a treasury of a state ends as it may, keeps the books, and leaves of the tables what its turns say
-pub kept : {S T R W : Type 0} (g : Ghosts S) → LeavesShown g
+pub run_keeps_books : {S T R W : Type 0} (g : Ghosts S) → LeavesShown g
     → (result : Result T Cause) (remaining : R → Option (List ℕ)) (r0 r1 : R) (contents : W → Option (List ℕ))
     (w0 w1 : W) (old new : Treasury S)
     → Ends result (Serves g) most_input remaining r0 r1 contents w0 w1 old new → IsFaithful g new.store.conn
     → (f : Federation) → IsTreasuryOf g old f
     → (end : Federation) × (IsTreasuryOf g new end
     × Runs g old new result remaining r0 r1 contents w0 w1 (standing old f) (standing new end))
-kept g shown (Ok x) remaining r0 r1 contents w0 w1 old new finished clean f of =
+run_keeps_books g shown (Ok x) remaining r0 r1 contents w0 w1 old new finished clean f of =
     let start = standing old f in
     let all = serve_all g old new (requests_in finished.seen) finished.written finished.transcript clean f of in
     let turns = all.1.1.0 in
@@ -435,7 +437,7 @@ kept g shown (Ok x) remaining r0 r1 contents w0 w1 old new finished clean f of =
               read = finished.read;
               last = finished.last;
               within = finished.within;
-              transcript = told g old new start finished.seen finished.written all.0 turns served;
+              transcript = served_transcript g old new start finished.seen finished.written all.0 turns served;
               appended = finished.appended;
             };
             run = as_run g old new start finished.seen finished.written all.0 turns served;
@@ -449,7 +451,7 @@ kept g shown (Ok x) remaining r0 r1 contents w0 w1 old new finished clean f of =
         ),
       ),
     )
-kept g shown (Err cause) remaining r0 r1 contents w0 w1 old new ends clean f of =
+run_keeps_books g shown (Err cause) remaining r0 r1 contents w0 w1 old new ends clean f of =
     let start = standing old f in
     let all =
     led_where_cut_off g cause (remaining r0) (remaining r1) (contents w0) (contents w1) old new ends clean f of in

@@ -120,11 +120,11 @@ gave_up {S = S} Step w0 w1 w2 s m t seen line further all so_far failed split = 
   appended = Appends-trans w0 w1 w2 so_far.written [] so_far.appended failed.appended;
 }
 
-torn : {S : Type 0} (Step : Stepping S) (AtEnd : Type 0) (w0 w1 w2 : Option (List ℕ)) (s m t : S)
+half_served_is_torn : {S : Type 0} (Step : Stepping S) (AtEnd : Type 0) (w0 w1 w2 : Option (List ℕ)) (s m t : S)
     (seen line further all : List ℕ) (requests : List (List ℕ)) → AnswersWhole Step w0 w1 s seen line m
     → HalfServed Step w1 w2 m requests t → ((request : List ℕ) → requests ≡ request ∷ [] → GoesOn AtEnd further request)
     → ((whole : List ℕ) → seen ≡ whole ++ line → all ≡ whole ++ further) → Torn Step AtEnd w0 w2 s all t
-torn Step AtEnd w0 w1 w2 s m t seen line further all requests so_far failed next split = record {
+half_served_is_torn Step AtEnd w0 w1 w2 s m t seen line further all requests so_far failed next split = record {
   whole = so_far.whole;
   further = further;
   written = so_far.written;
@@ -141,16 +141,16 @@ torn Step AtEnd w0 w1 w2 s m t seen line further all requests so_far failed next
   appended = Appends-trans w0 w1 w2 so_far.written (take failed.taken failed.answer) so_far.appended failed.appended;
 }
 
-stops : {S : Type 0} (cause : Cause) (Step : Stepping S) (AtEnd : Type 0) (w0 w1 w2 : Option (List ℕ)) (s m t : S)
-    (seen line further all : List ℕ) (requests : List (List ℕ)) → AnswersWhole Step w0 w1 s seen line m
+stops_by_failing : {S : Type 0} (cause : Cause) (Step : Stepping S) (AtEnd : Type 0) (w0 w1 w2 : Option (List ℕ))
+    (s m t : S) (seen line further all : List ℕ) (requests : List (List ℕ)) → AnswersWhole Step w0 w1 s seen line m
     → FailsBy cause Step w1 w2 m requests t
     → ((request : List ℕ) → requests ≡ request ∷ [] → GoesOn AtEnd further request)
     → ((whole : List ℕ) → seen ≡ whole ++ line → all ≡ whole ++ further) → StopsBy cause Step AtEnd w0 w2 s all t
-stops OutOfMemory Step AtEnd w0 w1 w2 s m t seen line further all requests so_far failed next split =
+stops_by_failing OutOfMemory Step AtEnd w0 w1 w2 s m t seen line further all requests so_far failed next split =
     gave_up Step w0 w1 w2 s m t seen line further all so_far failed split
-stops WriteFault Step AtEnd w0 w1 w2 s m t seen line further all requests so_far failed next split =
-    torn Step AtEnd w0 w1 w2 s m t seen line further all requests so_far failed next split
-stops _ Step AtEnd w0 w1 w2 s m t seen line further all requests so_far failed next split = absurd failed
+stops_by_failing WriteFault Step AtEnd w0 w1 w2 s m t seen line further all requests so_far failed next split =
+    half_served_is_torn Step AtEnd w0 w1 w2 s m t seen line further all requests so_far failed next split
+stops_by_failing _ Step AtEnd w0 w1 w2 s m t seen line further all requests so_far failed next split = absurd failed
 
 goes_on_line : (AtEnd : Type 0) (line rest : List ℕ) → HasNoLineFeed line → (request : List ℕ)
     → requests_among (strip_carriage_return line ∷ []) ≡ request ∷ [] → GoesOn AtEnd (line ++ (10 ∷ rest)) request
@@ -178,7 +178,7 @@ pub stops_at_line : {S : Type 0} (cause : Cause) (Step : Stepping S) (AtEnd : Ty
     → FailsBy cause Step w1 w2 m (requests_among (strip_carriage_return line ∷ [])) t → b ≡ 10
     → all ≡ seen ++ (b ∷ rest) → StopsBy cause Step AtEnd w0 w2 s all t
 stops_at_line cause Step AtEnd w0 w1 w2 s m t seen line rest all b so_far failed feed split =
-    stops cause Step AtEnd w0 w1 w2 s m t seen line (line ++ (10 ∷ rest)) all _ so_far failed
+    stops_by_failing cause Step AtEnd w0 w1 w2 s m t seen line (line ++ (10 ∷ rest)) all _ so_far failed
     (goes_on_line AtEnd line rest so_far.part)
     (λ whole e. split ∙ ap (λ x. seen ++ (x ∷ rest)) feed ∙ ap (λ x. x ++ (10 ∷ rest)) e ∙ append_assoc whole line
     (10 ∷ rest))
@@ -188,8 +188,8 @@ pub stops_at_last : {S : Type 0} (cause : Cause) (Step : Stepping S) (AtEnd : Ty
     (s m t : S) (seen line : List ℕ) → AnswersWhole Step w0 w1 s seen line m
     → FailsBy cause Step w1 w2 m (requests_among (line ∷ [])) t → AtEnd → StopsBy cause Step AtEnd w0 w2 s seen t
 stops_at_last cause Step AtEnd w0 w1 w2 s m t seen line so_far failed last =
-    stops cause Step AtEnd w0 w1 w2 s m t seen line line seen _ so_far failed (goes_on_last AtEnd line so_far.part last)
-    (λ whole e. e)
+    stops_by_failing cause Step AtEnd w0 w1 w2 s m t seen line line seen _ so_far failed
+    (goes_on_last AtEnd line so_far.part last) (λ whole e. e)
 
 goes_on : (AtEnd : Type 0) (text request : List ℕ) → GoesOn ⊥ text request → GoesOn AtEnd text request
 goes_on AtEnd text request next = record {
@@ -200,10 +200,10 @@ goes_on AtEnd text request next = record {
   ended = (elim next.ended [ inl whole ↦ inl whole | inr (e, never) ↦ absurd never ]);
 }
 
-later : {S : Type 0} (Step : Stepping S) (w0 w1 : Option (List ℕ)) (s m : S) (seen line new whole further : List ℕ)
+seen_split : {S : Type 0} (Step : Stepping S) (w0 w1 : Option (List ℕ)) (s m : S) (seen line new whole further : List ℕ)
     (so_far : AnswersWhole Step w0 w1 s seen line m) → line ++ new ≡ whole ++ further
     → seen ++ new ≡ (so_far.whole ++ whole) ++ further
-later Step w0 w1 s m seen line new whole further so_far split =
+seen_split Step w0 w1 s m seen line new whole further so_far split =
     ap (λ x. x ++ new) so_far.split ∙ append_assoc so_far.whole line new ∙ ap (λ x. so_far.whole ++ x) split ∙ sym
     (append_assoc so_far.whole whole further)
 
@@ -213,7 +213,7 @@ gave_up_later Step w0 w1 w2 s m t seen line new so_far next = record {
   whole = so_far.whole ++ next.whole;
   further = next.further;
   written = so_far.written ++ next.written;
-  split = later Step w0 w1 s m seen line new next.whole next.further so_far next.split;
+  split = seen_split Step w0 w1 s m seen line new next.whole next.further so_far next.split;
   complete = whole-append so_far.whole next.whole so_far.complete next.complete;
   transcript = transcript-append Step s m t so_far.whole next.whole so_far.written next.written so_far.complete
       so_far.transcript next.transcript;
@@ -232,7 +232,7 @@ torn_later Step AtEnd w0 w1 w2 s m t seen line new so_far next = record {
   answer = next.answer;
   taken = next.taken;
   part = next.part;
-  split = later Step w0 w1 s m seen line new next.whole next.further so_far next.split;
+  split = seen_split Step w0 w1 s m seen line new next.whole next.further so_far next.split;
   complete = whole-append so_far.whole next.whole so_far.complete next.complete;
   transcript = transcript-append Step s m next.mid so_far.whole next.whole so_far.written next.written so_far.complete
       so_far.transcript next.transcript;
@@ -321,10 +321,10 @@ within_most : (seen : List ℕ) (left most : ℕ) → length seen + left ≡ mos
 within_most seen left most count = omega arith
 
 -- nothing more is there, and the last line is served
-pub finished : {S : Type 0} (Step : Stepping S) (r0 r1 r2 w0 w1 w2 : Option (List ℕ)) (s m t : S) (line : List ℕ)
+pub run_finished : {S : Type 0} (Step : Stepping S) (r0 r1 r2 w0 w1 w2 : Option (List ℕ)) (s m t : S) (line : List ℕ)
     (left most : ℕ) → Passed Step r0 r1 w0 w1 s m line left most → Consumes r1 r2 [] → IsAtEnd r2
     → Served Step w1 w2 m (requests_among (line ∷ [])) t → Finished Step most r0 r2 w0 w2 s t
-finished Step r0 r1 r2 w0 w1 w2 s m t line left most passed read last served =
+run_finished Step r0 r1 r2 w0 w1 w2 s m t line left most passed read last served =
     let so_far = passed.answered in record {
       seen = passed.seen;
       written = so_far.written ++ served.written;
@@ -345,10 +345,10 @@ finished Step r0 r1 r2 w0 w1 w2 s m t line left most passed read last served =
     }
 
 -- a read failed, or gave the byte past the bound
-pub broken : {S : Type 0} (Step : Stepping S) (r0 r1 r2 w0 w1 : Option (List ℕ)) (s t : S) (line over : List ℕ)
+pub run_broken : {S : Type 0} (Step : Stepping S) (r0 r1 r2 w0 w1 : Option (List ℕ)) (s t : S) (line over : List ℕ)
     (left most : ℕ) → Passed Step r0 r1 w0 w1 s t line left most → Consumes r1 r2 over
     → (over ≡ []) ⊎ ((length over ≡ 1) × (left ≡ 0)) → Broken Step most r0 r2 w0 w1 s t
-broken Step r0 r1 r2 w0 w1 s t line over left most passed read past = record {
+run_broken Step r0 r1 r2 w0 w1 s t line over left most passed read past = record {
   seen = passed.seen;
   begun = line;
   over = over;
@@ -361,8 +361,8 @@ broken Step r0 r1 r2 w0 w1 s t line over left most passed read past = record {
   answered = passed.answered;
 }
 
-pub kept : (a b : Option (List ℕ)) → Keeps a b → Consumes a b []
-kept a b same = Consumes-kept a a b [] (Consumes-nil a) same
+pub Keeps_consumes_nothing : (a b : Option (List ℕ)) → Keeps a b → Consumes a b []
+Keeps_consumes_nothing a b same = Consumes-kept a a b [] (Consumes-nil a) same
 
 ends_by : {S : Type 0} (cause : Cause) (Step : Stepping S) (most : ℕ) (r0 r1 w0 w1 : Option (List ℕ)) (s t : S)
     (seen : List ℕ) → Consumes r0 r1 seen → length seen ≤ most → StopsBy cause Step (IsAtEnd r1) w0 w1 s seen t

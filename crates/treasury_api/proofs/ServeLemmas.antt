@@ -133,19 +133,19 @@ after_plain f (Ok (DryRun c)) refusal = refl
 after_plain f (Ok (Report report)) refusal = refl
 after_plain f (Err e) refusal = refl
 
-stays : {S : Type 0} (t : Treasury S) (f : Federation) (asked : Result Asked Refusal) (cause : Cause)
+next_of_harmless : {S : Type 0} (t : Treasury S) (f : Federation) (asked : Result Asked Refusal) (cause : Cause)
     → is_failure (Err (Plain cause)) ≡ false → standing t f ≡ next (standing t f) asked (Err (Plain cause))
-stays t f asked cause harmless =
+next_of_harmless t f asked cause harmless =
     let same : t.store.failed ≡ (t.store.failed || is_failure (Err (Plain cause))) =
     or_false t.store.failed ∙ ap (λ (b : Bool). t.store.failed || b) (sym harmless) in
     ap (λ (now : Federation). record { now = now; failed = t.store.failed }) (after_plain f asked (Plain cause)) ∙ ap
     (λ (b : Bool). record { now = after f asked (Err (Plain cause)); failed = b }) same
 
-pub unread : {S : Type 0} → ReadsAll → (g : Ghosts S) → LeavesShown g
+pub unread_line_served : {S : Type 0} → ReadsAll → (g : Ghosts S) → LeavesShown g
     → (t : Treasury S) (line text : List ℕ) (cause : Cause) (read : Result Spelled Cause) → read ≡ Err cause
     → (read ≡ Err NoRequest → spelled line ≡ None)
     → (cause ≡ NoRequest) ⊎ (cause ≡ OutOfMemory) → text ≡ answer_text [] (Err (Plain cause)) → Serves g t line text t
-unread law g shown t line text cause read is none causes said = record {
+unread_line_served law g shown t line text cause read is none causes said = record {
   answers = λ clean f of. (
     f,
     (
@@ -169,7 +169,7 @@ unread law g shown t line text cause read is none causes said = record {
       asks = inr (none (is ∙ ap (λ (x : Cause). Err x) form), refl);
       replies = (inl refl, λ e. absurd cc);
       text = said ∙ (plain_line f.styles cause ∙ ap (λ (x : Cause). answer_text f.styles (Err (Plain x))) form);
-      left = stays t f (Err (Plain NoRequest)) NoRequest refl;
+      left = next_of_harmless t f (Err (Plain NoRequest)) NoRequest refl;
     }
     by_cause f (inr memory) =
         let asked = line_asks law t.store.failed f.styles line in
@@ -179,7 +179,7 @@ unread law g shown t line text cause read is none causes said = record {
           asks = asked.1;
           replies = (inr (inl refl), λ e. absurd cc);
           text = said ∙ (plain_line f.styles cause ∙ ap (λ (x : Cause). answer_text f.styles (Err (Plain x))) memory);
-          left = stays t f asked.0 OutOfMemory refl;
+          left = next_of_harmless t f asked.0 OutOfMemory refl;
         }
 
 -- ---- a request that is answered
@@ -286,10 +286,10 @@ asked_report styles request asked report is (inr asks) =
     (subst (λ (x : Asked). SpelledAsks styles request (Ok x)) is asks)
 
 -- what is replied leads on
-pub leads : {S : Type 0} (old new : Treasury S) (f : Federation) (asked : Result Asked Refusal)
+pub standing_is_next : {S : Type 0} (old new : Treasury S) (f : Federation) (asked : Result Asked Refusal)
     (r : Result Answer Refusal) → new.store.failed ≡ (old.store.failed || is_failure r)
     → standing new (after f asked r) ≡ next (standing old f) asked r
-leads old new f asked r left = ap (λ (b : Bool). record { now = after f asked r; failed = b }) left
+standing_is_next old new f asked r left = ap (λ (b : Bool). record { now = after f asked r; failed = b }) left
 
 spelled_some : (line : List ℕ) (request : Spelled) → spelled line ≡ Some request → IsSome (spelled line)
 spelled_some line request is = subst (λ (o : Option Spelled). IsSome o) (sym is) cc
@@ -353,13 +353,13 @@ done_not : (r : Result (Unit {0}) Refusal) (x : Unit {0}) (e : Refusal) → r �
 done_not r x e h k = cc
 
 -- an answer with its end
-pub served : {S : Type 0} (g : Ghosts S) (old new : Treasury S) (line written text : List ℕ) (request : Spelled)
-    (made : Result (Unit {0}) Refusal) (x : Unit {0}) → spelled line ≡ Some request → made ≡ Ok x
+pub answered_line_served : {S : Type 0} (g : Ghosts S) (old new : Treasury S) (line written text : List ℕ)
+    (request : Spelled) (made : Result (Unit {0}) Refusal) (x : Unit {0}) → spelled line ≡ Some request → made ≡ Ok x
     → Beside g old new request made
     → (IsFaithful g new.store.conn → (f : Federation) → IsTreasuryOf g old f
     → IsAnswered g old.store.failed new f request made [] written)
     → text ≡ written ++ end_of_report request.request → Serves g old line text new
-served g old new line written text request made x is ok beside answers ended = record {
+answered_line_served g old new line written text request made x is ok beside answers ended = record {
   answers = λ k f of. by_reply k f of (answers k f of);
   shuts = beside.database.shuts;
   closed = λ failed. (beside.closed failed).1;
@@ -387,7 +387,7 @@ served g old new line written text request made x is ok beside answers ended = r
                     (subst (λ (y : Result Answer Refusal).
                     MayReply (record { now = f; failed = old.store.failed }) asked y) told.1.0 r.replies) told.1.1 ended
                     ∙ ap (λ (y : Result Answer Refusal). reply_text f asked y) (sym told.1.0);
-                left = leads old new f asked r.reply r.left;
+                left = standing_is_next old new f asked r.reply r.left;
               },
               λ is_open unfailed. (
                 beside.left clean is_open f of asked asks,
@@ -435,7 +435,7 @@ served_memory g old new line written text request made x is ok beside answers re
             asks = inl (request, (is, asks));
             replies = (inr (inl refl), λ e. absurd cc);
             text = said ∙ plain_line f.styles OutOfMemory;
-            left = leads old new f (Ok (Report asked)) (Err (Plain OutOfMemory)) left;
+            left = standing_is_next old new f (Ok (Report asked)) (Err (Plain OutOfMemory)) left;
           },
           leaves,
         ),
@@ -514,7 +514,8 @@ served_refusal g old new line written text request made refusal is refused besid
             asks = inl (request, (is, asks));
             replies = (replies, λ _. spelled_some line request is);
             text = told;
-            left = ap (λ (x : Federation). standing new x) (after_plain f asked refusal) ∙ leads old new f asked
+            left =
+                ap (λ (x : Federation). standing new x) (after_plain f asked refusal) ∙ standing_is_next old new f asked
                 (Err refusal) left;
           },
           λ is_open unfailed. (
@@ -538,7 +539,7 @@ served_refusal g old new line written text request made refusal is refused besid
             replies = (inr (inl refl), λ _. spelled_some line request is);
             text = told;
             left = ap (λ (x : Federation). standing new x) (after_plain f asked (Plain OutOfMemory))
-                ∙ leads old new f asked (Err (Plain OutOfMemory))
+                ∙ standing_is_next old new f asked (Err (Plain OutOfMemory))
                 (left ∙ ap (λ (b : Bool). old.store.failed || b) harmless);
           },
           λ is_open unfailed. (

@@ -187,16 +187,17 @@ calls_leave s (c ∷ cs) end failed (mid, answers, rest) =
     calls_leave mid cs end stays.1 rest ∙ stays.0
 
 -- a reply of another status leaves the state
-refuses : (status : ℕ) (reply : Result Answer Refusal) → status ≡ status_of reply → status ≢ 200
+refusal_of_other_status : (status : ℕ) (reply : Result Answer Refusal) → status ≡ status_of reply → status ≢ 200
     → is_refusal reply ≡ true
-refuses status (Ok answer) is other = absurd (other is)
-refuses status (Err refusal) is other = refl
+refusal_of_other_status status (Ok answer) is other = absurd (other is)
+refusal_of_other_status status (Err refusal) is other = refl
 
 pub refused_leaves : (s : Standing) (form : Form) (call : Call) (status : ℕ) (body : List ℕ) (t : Standing)
     → AnswersCall s form call status body t → status ≢ 200 → t.now ≡ s.now
 refused_leaves s form call status body t (inl (none, answer, left)) other = ap (λ (x : Standing). x.now) left
 refused_leaves s form call status body t (inr (request, asks, (reply, (answers, told)))) other =
-    request_leaves s request (IsBodyIn form body s.now) reply t answers (refuses status reply told other)
+    request_leaves s request (IsBodyIn form body s.now) reply t answers
+    (refusal_of_other_status status reply told other)
 
 -- ---- a call that failed
 

@@ -24,10 +24,10 @@ pieces digits reason type bytes =
     ++ (type ++ (codes "\r\nContent-Length: "
     ++ (bytes ++ (codes "\r\nConnection: close\r\n\r\n" ++ []))))))))
 
-regroup : (h a s b x1 x2 k x3 x4 c y1 y2 y3 : List ℕ)
+append_assoc_thirteen : (h a s b x1 x2 k x3 x4 c y1 y2 y3 : List ℕ)
     → h ++ (a ++ (s ++ (b ++ ((x1 ++ x2) ++ (k ++ ((x3 ++ x4) ++ (c ++ ((y1 ++ (y2 ++ y3)) ++ []))))))))
     ≡ h ++ a ++ s ++ b ++ x1 ++ x2 ++ k ++ x3 ++ x4 ++ c ++ y1 ++ y2 ++ y3
-regroup h a s b x1 x2 k x3 x4 c y1 y2 y3 = simp (append_assoc, append-nil)
+append_assoc_thirteen h a s b x1 x2 k x3 x4 c y1 y2 y3 = simp (append_assoc, append-nil)
 
 pieces_are : (digits reason type bytes : List ℕ) (form : Form) (status size : ℕ) → digits ≡ code_digits status
     → reason ≡ reason_of status → type ≡ type_of form → bytes ≡ decimal size
@@ -37,7 +37,7 @@ pieces_are digits reason type bytes form status size d r k b =
     (ap (λ (x : List ℕ). pieces (code_digits status) x type bytes) r ∙
     (ap (λ (x : List ℕ). pieces (code_digits status) (reason_of status) x bytes) k ∙
     (ap (λ (x : List ℕ). pieces (code_digits status) (reason_of status) (type_of form) x) b
-    ∙ regroup (codes "HTTP/1.1 ") (code_digits status) (codes " ") (reason_of status) (codes "\r\n")
+    ∙ append_assoc_thirteen (codes "HTTP/1.1 ") (code_digits status) (codes " ") (reason_of status) (codes "\r\n")
     (codes "Content-Type: ") (type_of form) (codes "\r\n") (codes "Content-Length: ") (decimal size) (codes "\r\n")
     (codes "Connection: close\r\n") (codes "\r\n"))))
 
@@ -50,16 +50,16 @@ head_appended (Ok x) old new digits reason type bytes form status size d r k b t
     told ∙ ap (λ (t : List ℕ). old ++ t) (pieces_are digits reason type bytes form status size d r k b)
 head_appended (Err e) old new digits reason type bytes form status size d r k b told = tt
 
-total : (h a s b m k n c l : List ℕ)
+length_of_reply_parts : (h a s b m k n c l : List ℕ)
     → length (h ++ (a ++ (s ++ (b ++ (m ++ (k ++ (n ++ (c ++ (l ++ [])))))))))
     ≡ length h + (length a + (length s + (length b + (length m + (length k + (length n + (length c + length l)))))))
-total h a s b m k n c l = simp (length-append, append-nil)
+length_of_reply_parts h a s b m k n c l = simp (length-append, append-nil)
 
 pub head_fits : (n cap : ℕ) (digits reason type bytes : List ℕ) → length digits ≡ 3 → length reason ≤ 21
     → length type ≤ 25 → length bytes ≤ 40
     → n + 192 ≤ cap → n + length (pieces digits reason type bytes) ≤ cap
 head_fits n cap digits reason type bytes d r k b fits =
-    let e = total (codes "HTTP/1.1 ") digits (codes " ") reason (codes "\r\nContent-Type: ") type
+    let e = length_of_reply_parts (codes "HTTP/1.1 ") digits (codes " ") reason (codes "\r\nContent-Type: ") type
     (codes "\r\nContent-Length: ") bytes (codes "\r\nConnection: close\r\n\r\n") in
     omega (arith, e)
 

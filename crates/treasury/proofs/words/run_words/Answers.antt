@@ -1,6 +1,6 @@
 use Rattle.std.proofs.Common.{◌≡◌, refl, sym, ◌∙◌, inl}
 use Rattle.treasury_spelling.proofs.WordLemmas.{named_by}
-use Rattle.treasury.proofs.UntakenLemmas.{taken_untold, untaken, unwritten_on_2}
+use Rattle.treasury.proofs.UntakenLemmas.{taken_untold, untaken_status, unwritten_on_2}
 use Rattle.treasury.proofs.OverFileLemmas.{told_nothing}
 use Rattle.treasury.proofs.ServingLemmas.{served_nothing}
 use Rattle.treasury.proofs.words.run_words.Goals as goal
@@ -66,7 +66,7 @@ returns-in-Err-clause-serve g c = λ values asks.
 
 pub returns-in-Err-clause-wrong : goal.returns-in-Err-clause-wrong
 returns-in-Err-clause-wrong g c = λ _ helpless.
-    untaken _ _ _ _ _ c.in-Err.ensures.fails helpless
+    untaken_status _ _ _ _ _ c.in-Err.ensures.fails helpless
     c.answer_untaken.ensures
 
 pub returns-in-Err-clause-usage : goal.returns-in-Err-clause-usage

@@ -13,11 +13,12 @@ use Rattle.treasury_api.specs.Report.{report_in, has_its_branch}
 use Rattle.treasury_api.specs.Serving.{OrMemory, IsForeseen}
 use Rattle.treasury_api.specs.declared.asking.Asked.TheVariants.{Command, DryRun, Report}
 use Rattle.treasury_api.proofs.ReplyLemmas.{state_is, in_memory}
-use Rattle.treasury_api.proofs.AnswerLemmas.{unheld, held_unfailed, answered, meant, command_fits, refused_texts}
+use Rattle.treasury_api.proofs.AnswerLemmas.{answered_unheld, held_unfailed, answered_by_reply, SpelledAsks_of_same}
+use Rattle.treasury_api.proofs.AnswerLemmas.{command_fits, refused_texts}
 use Rattle.treasury_api.proofs.AnswerLemmas.{dry_run_fits}
-use Rattle.treasury_api.proofs.ForeseenLemmas.{foreseen, foreseen_listed, foreseen_printable, foreseen_unfailed}
+use Rattle.treasury_api.proofs.ForeseenLemmas.{dry_run_replied, foreseen_listed, foreseen_printable, foreseen_unfailed}
 use Rattle.treasury_api.proofs.ForeseenLemmas.{foreseen_same}
-use Rattle.treasury_api.proofs.AnswerLemmas.{reported, unreported, is_there}
+use Rattle.treasury_api.proofs.AnswerLemmas.{report_replied, report_refused, is_there}
 use Rattle.treasury_api.proofs.ServeLemmas.{asked_report}
 use Rattle.treasury_api.proofs.LeftLemmas.{left_same, left_command, keeps_database, open_unheld, fails_not}
 use Rattle.treasury_api.proofs.LeftLemmas.{fails_unheld, fails_ruled, unread_state, refused_closed, ruled_texts}
@@ -38,8 +39,8 @@ answer_command-requires-clause-held g c = (
 
 pub returns-in-Err-clause-replies : goal.returns-in-Err-clause-replies
 returns-in-Err-clause-replies g c clean f of =
-    unheld c.reading_law.ensures.some g.S.Store c.args.treasury.now.store.failed c.hold.new.self f c.args.request.now
-    c.in-Err.cause c.hold.result _ _ _ c.in-Err.is refl
+    answered_unheld c.reading_law.ensures.some g.S.Store c.args.treasury.now.store.failed c.hold.new.self f
+    c.args.request.now c.in-Err.cause c.hold.result _ _ _ c.in-Err.is refl
     (c.hold.ensures.of clean f of) (λ e. c.hold.ensures.damaged e clean f of) c.hold.ensures.answers
     (λ t. let k = c.hold.ensures.closed t in (k.0, ap (λ (x : Treasury _). x.store.failed) k.1)) refl
 
@@ -48,10 +49,11 @@ returns-in-Ok-Command-clause-replies g c clean f of =
     let still_of = c.hold.ensures.of (c.answer_command.ensures.database.shuts.clean clean) f of in
     let same : c.in-Some.state.now ≡ f =
     state_is g.S.Store c.hold.new.self c.in-Some.state.now f still_of c.in-Some.ensures in
-    answered g.S.Store c.args.treasury.now.store.failed c.answer_command.new.treasury f c.args.request.now
+    answered_by_reply g.S.Store c.args.treasury.now.store.failed c.answer_command.new.treasury f c.args.request.now
     (Ok (Command c.in-Ok-Command.command)) c.answer_command.result _ _
     (held_unfailed _ c.in-Ok.field-0 c.hold.result c.in-Ok.is c.hold.ensures.closed)
-    (meant _ _ _ _ _ (c.styles.ensures ∙ ap (λ (x : Federation). x.styles) same) c.in-Ok-Command.field-0-is
+    (SpelledAsks_of_same _ _ _ _ _ (c.styles.ensures ∙ ap (λ (x : Federation). x.styles) same)
+    c.in-Ok-Command.field-0-is
     c.in-Ok-Command.ensures.asks)
     (c.answer_command.ensures.replies clean f still_of c.args.form)
 
@@ -63,11 +65,11 @@ returns-in-Ok-push_report_in-clause-replies g c clean f of =
     let was = held_unfailed _ c.in-Ok.field-0 c.hold.result c.in-Ok.is c.hold.ensures.closed in
     let there = is_there _ c.in-Ok-push_report_in.field-0 c.push_report_in.result c.in-Ok-push_report_in.is
     c.push_report_in.ensures.unknown in
-    answered g.S.Store c.args.treasury.now.store.failed c.hold.new.self f c.args.request.now
+    answered_by_reply g.S.Store c.args.treasury.now.store.failed c.hold.new.self f c.args.request.now
     (Ok (Report c.in-Ok-Report.report)) _ _ _ was
-    (meant _ _ _ _ _ (c.styles.ensures ∙ ap (λ (x : Federation). x.styles) same) c.in-Ok-Report.field-0-is
+    (SpelledAsks_of_same _ _ _ _ _ (c.styles.ensures ∙ ap (λ (x : Federation). x.styles) same) c.in-Ok-Report.field-0-is
     c.in-Ok-Report.ensures.asks)
-    (reported g.S.Store c.hold.new.self f c.in-Ok-Report.report _ _ _ still_of
+    (report_replied g.S.Store c.hold.new.self f c.in-Ok-Report.report _ _ _ still_of
     (ok_unfailed c.in-Ok.field-0 _ (c.in-Ok.ensures.answers was))
     (subst (λ (x : Federation). has_its_branch x c.in-Ok-Report.report ≡ true) same there)
     (subst (λ (x : Federation). c.push_report_in.new.out.items
@@ -79,11 +81,12 @@ returns-in-Ok-Report-clause-replies g c clean f of =
     let same : c.in-Some.state.now ≡ f =
     state_is g.S.Store c.hold.new.self c.in-Some.state.now f still_of c.in-Some.ensures in
     let was = held_unfailed _ c.in-Ok.field-0 c.hold.result c.in-Ok.is c.hold.ensures.closed in
-    answered g.S.Store c.args.treasury.now.store.failed c.hold.new.self f c.args.request.now
+    answered_by_reply g.S.Store c.args.treasury.now.store.failed c.hold.new.self f c.args.request.now
     (Ok (Report c.in-Ok-Report.report)) _ _ _ was
-    (meant _ _ _ _ _ (c.styles.ensures ∙ ap (λ (x : Federation). x.styles) same) c.in-Ok-Report.field-0-is
+    (SpelledAsks_of_same _ _ _ _ _ (c.styles.ensures ∙ ap (λ (x : Federation). x.styles) same) c.in-Ok-Report.field-0-is
     c.in-Ok-Report.ensures.asks)
-    (unreported g.S.Store c.hold.new.self f c.in-Ok-Report.report c.in-Err-push_report_in.cause c.push_report_in.result
+    (report_refused g.S.Store c.hold.new.self f c.in-Ok-Report.report c.in-Err-push_report_in.cause
+    c.push_report_in.result
     _ _ _
     c.in-Err-push_report_in.is refl still_of (ok_unfailed c.in-Ok.field-0 _ (c.in-Ok.ensures.answers was))
     (subst (λ (x : Federation). (c.push_report_in.result ≡ Err UnknownBranch)
@@ -164,7 +167,7 @@ returns-in-Ok-Command-clause-left g c =
     → SpelledAsks f.styles c.args.request.now (Ok (Command c.in-Ok-Command.command)) = λ f of.
     let same : c.in-Some.state.now ≡ f =
     state_is g.S.Store c.hold.new.self c.in-Some.state.now f of c.in-Some.ensures in
-    meant _ _ _ _ _ (c.styles.ensures ∙ ap (λ (x : Federation). x.styles) same) c.in-Ok-Command.field-0-is
+    SpelledAsks_of_same _ _ _ _ _ (c.styles.ensures ∙ ap (λ (x : Federation). x.styles) same) c.in-Ok-Command.field-0-is
     c.in-Ok-Command.ensures.asks in
     left_command g.S.Store c.args.treasury.now c.hold.new.self c.answer_command.new.treasury c.args.request.now
     c.in-Ok-Command.command
@@ -193,11 +196,11 @@ returns-in-Ok-DryRun-clause-replies g c clean f of =
     let same : c.in-Some.state.now ≡ f =
     state_is g.S.Store c.hold.new.self c.in-Some.state.now f still_of c.in-Some.ensures in
     let was = held_unfailed _ c.in-Ok.field-0 c.hold.result c.in-Ok.is c.hold.ensures.closed in
-    answered g.S.Store c.args.treasury.now.store.failed c.hold.new.self f c.args.request.now
+    answered_by_reply g.S.Store c.args.treasury.now.store.failed c.hold.new.self f c.args.request.now
     (Ok (DryRun c.in-Ok-DryRun.command)) c.answer_dry_run.result _ _ was
-    (meant _ _ _ _ _ (c.styles.ensures ∙ ap (λ (x : Federation). x.styles) same) c.in-Ok-DryRun.field-0-is
+    (SpelledAsks_of_same _ _ _ _ _ (c.styles.ensures ∙ ap (λ (x : Federation). x.styles) same) c.in-Ok-DryRun.field-0-is
     c.in-Ok-DryRun.ensures.asks)
-    (foreseen g.S.Store c.hold.new.self f c.in-Ok-DryRun.command c.answer_dry_run.result c.args.out.now.items
+    (dry_run_replied g.S.Store c.hold.new.self f c.in-Ok-DryRun.command c.answer_dry_run.result c.args.out.now.items
     c.answer_dry_run.new.out.items still_of (ok_unfailed c.in-Ok.field-0 _ (c.in-Ok.ensures.answers was))
     (subst (λ (x : Federation). IsForeseen x c.in-Ok-DryRun.command c.answer_dry_run.result c.args.out.now.items
     c.answer_dry_run.new.out.items) same c.answer_dry_run.ensures.foreseen))

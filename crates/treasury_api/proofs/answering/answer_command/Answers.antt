@@ -1,14 +1,14 @@
 use Rattle.std.proofs.Common.{rules, arith, refl, inl}
 use Rattle.treasury_state.specs.Rows.{rows}
 use Rattle.treasury_store.proofs.LeftLemmas.{shuts_same}
-use Rattle.treasury_api.proofs.ReplyLemmas.{performed, refusal_held, fits_of}
+use Rattle.treasury_api.proofs.ReplyLemmas.{performed_replied, refusal_held, fits_of}
 use Rattle.treasury_api.proofs.LeftLemmas.{leaves_first, keeps_database, open_refused}
 use Rattle.treasury_api.proofs.LeftLemmas.{fails_not, fails_refused, fails_done}
 use Rattle.treasury_api.proofs.answering.answer_command.Goals as goal
 
 pub returns-in-Err-perform-clause-replies : goal.returns-in-Err-perform-clause-replies
 returns-in-Err-perform-clause-replies g c clean f of form =
-    performed g.S.Store c.perform.new.self f c.args.command c.perform.result _ c.args.out.now.items _
+    performed_replied g.S.Store c.perform.new.self f c.args.command c.perform.result _ c.args.out.now.items _
     ((c.perform.ensures.of clean c.requires.unfailed f of).performs
     (fits_of g.S.Store c.args.treasury.now f c.args.command of c.requires.held))
     (c.perform.ensures.replies c.requires.unfailed).fails (c.in-Err-perform.is, c.reserve.ensures.items)
@@ -19,7 +19,7 @@ unreachable-requires g c =
 
 pub returns-clause-replies : goal.returns-clause-replies
 returns-clause-replies g c clean f of form =
-    performed g.S.Store c.perform.new.self f c.args.command c.perform.result _ c.args.out.now.items _
+    performed_replied g.S.Store c.perform.new.self f c.args.command c.perform.result _ c.args.out.now.items _
     ((c.perform.ensures.of clean c.requires.unfailed f of).performs
     (fits_of g.S.Store c.args.treasury.now f c.args.command of c.requires.held))
     (c.perform.ensures.replies c.requires.unfailed).fails (c.in-Ok-perform.answer, (c.in-Ok-perform.is, search rules))

@@ -1,7 +1,7 @@
 use Rattle.std.proofs.Common.{arith, drop, refl}
 use Rattle.std.proofs.lemmas.Grind.{common_steps}
 use Rattle.std.proofs.lemmas.List.{take-append-le}
-use Rattle.treasury_api.proofs.RunLemmas.{passed_more, finished, stopped_last, stopped_later}
+use Rattle.treasury_api.proofs.RunLemmas.{passed_more, run_finished, stopped_last, stopped_later}
 use Rattle.treasury_api.proofs.lines.run.run_machine.Goals as goal
 
 pub reading-preserved : goal.reading-preserved
@@ -22,7 +22,7 @@ returns-in-Err-feed g c =
 pub returns-in-Ok-serve_line : goal.returns-in-Ok-serve_line
 returns-in-Ok-serve_line g c =
     let read = rw c.in-Ok-eq0.field-0-test at c.in-Ok-eq0.ensures.bytes in
-    finished g.M.Machine.step _ _ _ _ _ _ _ _ _ _ _ _ c.reading.invariant read.0
+    run_finished g.M.Machine.step _ _ _ _ _ _ _ _ _ _ _ _ c.reading.invariant read.0
     (read.1 refl (grind (arith, common_steps)))
     (rw c.as_slice.ensures.value at c.in-Ok-serve_line.ensures)
 

@@ -1,18 +1,18 @@
 use Rattle.std.proofs.Common.{ℕ, List, subst}
 use Rattle.treasury_api.specs.Replied.{IsAnswered}
-use Rattle.treasury_api.proofs.ServeLemmas.{unread, served, served_memory, served_refusal}
+use Rattle.treasury_api.proofs.ServeLemmas.{unread_line_served, answered_line_served, served_memory, served_refusal}
 use Rattle.treasury_api.proofs.running.TreasuryMachine.answer.Goals as goal
 
 pub returns-in-Err-read_within_memory-clause-ok : goal.returns-in-Err-read_within_memory-clause-ok
 returns-in-Err-read_within_memory-clause-ok g c =
-    unread c.reading_law.ensures.some g.S.Store c.left_law.ensures.rows c.args.self.now c.args.line.now _
+    unread_line_served c.reading_law.ensures.some g.S.Store c.left_law.ensures.rows c.args.self.now c.args.line.now _
     c.in-Err-read_within_memory.cause c.read_within_memory.result c.in-Err-read_within_memory.is
     c.read_within_memory.ensures.refused
     c.in-Err-read_within_memory.ensures.causes c.refuse.ensures
 
 pub returns-in-Ok-end_report-clause-ok : goal.returns-in-Ok-end_report-clause-ok
 returns-in-Ok-end_report-clause-ok g c =
-    served g.S.Store c.args.self.now c.answer.new.treasury c.args.line.now c.answer.new.out.items _
+    answered_line_served g.S.Store c.args.self.now c.answer.new.treasury c.args.line.now c.answer.new.out.items _
     c.in-Ok-read_within_memory.request c.answer.result c.in-Ok-answer.field-0 c.in-Ok-read_within_memory.ensures.ok
     c.in-Ok-answer.is
     (record {
