@@ -25,7 +25,7 @@ use Rattle.treasury_requests.specs.declared.request.Spelled.{Spelled}
 use Rattle.treasury_api.specs.Answer.{answer_text}
 use Rattle.treasury_api.specs.Asked.{AsksOf}
 use Rattle.treasury_api.specs.Replied.{standing}
-use Rattle.treasury_api.specs.Step.{Standing, reply, next}
+use Rattle.treasury_api.specs.Step.{Standing, reply_to, next}
 use Rattle.treasury_api.specs.OneRequest.{request_text, is_refusal}
 use Rattle.treasury_api.specs.Left.{LeavesRequest}
 use Rattle.treasury_files.specs.declared.file.Unopened.{Unopened as Why}
@@ -41,7 +41,7 @@ use Rattle.treasury.specs.OverFile.{HaveRowsBehind, MayHaveDone, Tells, SaysOver
 use Rattle.treasury.specs.declared.words.said.Said.{Said}
 use Rattle.treasury.specs.declared.words.over_file.Answered.{Answered}
 use Rattle.treasury.specs.OverFileParts.{spoken}
-use Rattle.treasury_files.specs.Started.{refusal_of, IsUnserved, IsStarted, IsClosedAs, IsUnclosed}
+use Rattle.treasury_files.specs.Started.{cause_of_why, IsUnserved, IsStarted, IsClosedAs, IsStillOpen}
 use Rattle.treasury_files.proofs.LeftLemmas.{shows_rows, keeps_untouched}
 use Rattle.treasury_files.proofs.StartedLemmas.{left_behind, committed_in}
 
@@ -65,7 +65,7 @@ tells_nothing {W} contents w0 w1 status same one =
     )
 
 -- a file is refused by one of three causes
-pub file_refused : (why : Why) (said : Spoken) → IsRefusedBy (refusal_of why) said → IsFileRefused said
+pub file_refused : (why : Why) (said : Spoken) → IsRefusedBy (cause_of_why why) said → IsFileRefused said
 file_refused why.NoMemory said refused = inl refused
 file_refused (why.Unusable reason) said refused = inr (inl refused)
 file_refused (why.NoTreasury reason) said refused = inr (inr refused)
@@ -111,7 +111,7 @@ module _ {D : Type 0} (g : disk.Ghosts D) where
     pub may_have_done : (image : Image) (request : Spelled) (old new : Treasury (FileStore D g)) (text : List ℕ)
         (refused : Bool) (it : FileStore D g)
         → IsStarted g image old → SaysTo over_files old request text refused new
-        → LeavesRequest over_files old new request → IsUnclosed g new.store.conn it
+        → LeavesRequest over_files old new request → IsStillOpen g new.store.conn it
         → MayHaveDone g image request (Shut it)
     may_have_done image request old new text refused it started says leaves quiet = record {
       finds = λ clean next none. absurd none;
@@ -136,7 +136,7 @@ module _ {D : Type 0} (g : disk.Ghosts D) where
             let asks = subst (λ (failed : Bool). AsksOf failed f.styles request answered.asked) started.starts.unfailed
             answered.asks in
             let asked = answered.asked in
-            let r = reply f asked in
+            let r = reply_to f asked in
             elim (leaves last (started.starts.is_open before) f of asked answered.asks last trees may) [
               | inl was ↦ inl (inl was)
               | inr made ↦ inr (
@@ -172,7 +172,7 @@ module _ {D : Type 0} (g : disk.Ghosts D) where
 
   -- a file that serves no word keeps what it held, whatever the cause is, and 43 has its reason
   pub says_refused : (image : Image) (request : Spelled) (why : Why) (said : Spoken) (left : Left D g)
-      → IsRefusedBy (refusal_of why) said → IsUnserved g image why left → SaysOver g image request said left
+      → IsRefusedBy (cause_of_why why) said → IsUnserved g image why left → SaysOver g image request said left
   says_refused image request why.NoMemory said left refused unserved = inl (inl refused, unserved.keeps)
   says_refused image request (why.Unusable reason) said left refused unserved =
       inr (inl (refused, keeps_undone image request left unserved.keeps))

@@ -7,7 +7,7 @@ use Rattle.treasury_store.specs.Treasury.{Treasury}
 use Rattle.treasury_api.specs.Step.{Standing, at_first}
 use Rattle.treasury_api.specs.Replied.{standing}
 use Rattle.treasury_api.specs.Kept.{AnswersAll, Runs}
-use Rattle.treasury.specs.CutOff.{IsCutOff}
+use Rattle.treasury.specs.CutOff.{IsCutShort}
 
 -- a treasury on which no call has failed, of a federation that has nothing yet, stands where a run begins
 pub from_first : {T R W S : Type 0} (g : Ghosts S) (new : Treasury S) (result : Result T Cause)
@@ -31,6 +31,6 @@ answers_all g old new (Err cause) remaining r0 r1 contents w0 w1 end cut = tt
 pub cut_off : {T S R W : Type 0} (g : Ghosts S) (old new : Treasury S) (result : Result T Cause)
     (remaining : R → Option (List ℕ)) (r0 r1 : R) (contents : W → Option (List ℕ)) (w0 w1 : W) (end : Standing)
     → Runs g old new result remaining r0 r1 contents w0 w1 at_first end
-    → OnErr result (IsCutOff remaining r0 r1 contents w0 w1)
+    → OnErr result (IsCutShort remaining r0 r1 contents w0 w1)
 cut_off g old new (Ok x) remaining r0 r1 contents w0 w1 end all = tt
 cut_off g old new (Err cause) remaining r0 r1 contents w0 w1 end (cut, left) = inr (cause, end, cut)

@@ -50,10 +50,11 @@ use Rattle.treasury.specs.OverFile.{Spoken, IsRefusedBy, Tells}
 use Rattle.treasury_files.specs.InFile.{ShowsState, LeavesState}
 use Rattle.treasury_files.specs.Left.{HoldsOf, IsImageOf, IsCleanStore, KeepsFile}
 use Rattle.treasury.specs.Serving.{IsNumber, LacksNumber, listening, after_listening, ServesOver, LeavesOpen}
-use Rattle.treasury.specs.Serving.{HaveRowsAfter, ComesBack, ServesOpen, ServesShut, RefusesFile, IsNotClosed, IsServed}
-use Rattle.treasury_files.specs.Started.{refusal_of, IsUnserved, IsStarted, IsClosedAs, IsUnclosed, IsLeftAs}
+use Rattle.treasury.specs.Serving.{HaveRowsAfter, ComesBack, ServesOpen, ServesShut, RefusesFile, IsNotClosed}
+use Rattle.treasury.specs.Serving.{IsServedOver}
+use Rattle.treasury_files.specs.Started.{cause_of_why, IsUnserved, IsStarted, IsClosedAs, IsStillOpen, IsLeftAs}
 use Rattle.treasury.specs.ServingParts.{ends_unwritten, IsAnnounced, SaysAtEnd, SaysServing, ServesIfHeard}
-use Rattle.treasury.specs.ServingParts.{KeepsUnheard, EndsBy}
+use Rattle.treasury.specs.ServingParts.{KeepsUnheard, EndsServeBy}
 use Rattle.treasury.specs.declared.words.serving.Ending.{Ending}
 use Rattle.treasury.specs.declared.words.serving.Ending.TheVariants.{Unbound, Unwritten, Unaccepted, Changed, Finished}
 use Rattle.treasury_files.proofs.LeftLemmas.{image_holds, stored_in, settles}
@@ -278,7 +279,7 @@ module _ {D : Type 0} (g : disk.Ghosts D) where
 
     -- or cannot be closed
     pub serves_shut : (image : Image) (old new : Treasury (FileStore D g)) (it : FileStore D g)
-        → IsStarted g image old → HasServed over_files old new → IsUnclosed g new.store.conn it
+        → IsStarted g image old → HasServed over_files old new → IsStillOpen g new.store.conn it
         → ServesShut g image (Shut it)
     serves_shut image old new it started served quiet = record {
       opened = started.opened;
@@ -314,7 +315,7 @@ module _ {D : Type 0} (g : disk.Ghosts D) where
             (standing new r.0, told.0, told.1)
 
   -- a file that serves no word refuses `serve`, whatever the cause is, and 43 has its reason
-  pub refuses_file : (image : Image) (why : Why) (said : Spoken) (left : Left D g) → IsRefusedBy (refusal_of why) said
+  pub refuses_file : (image : Image) (why : Why) (said : Spoken) (left : Left D g) → IsRefusedBy (cause_of_why why) said
       → IsUnserved g image why left → RefusesFile g image said left
   refuses_file image why.NoMemory said left refused unserved = (inl refused, unserved.keeps)
   refuses_file image (why.Unusable reason) said left refused unserved = (inr (inl refused), unserved.keeps)
@@ -327,7 +328,7 @@ module _ {D : Type 0} (g : disk.Ghosts D) where
 
   -- a file that is left open was not closed, however serving ended
   pub ends_open : (image : Image) (ending : Ending) (said : Spoken) (left : Left D g) → IsRefusedBy Failed said
-      → ServesOpen g image left → KeepsUnheard g image ending left → EndsBy g image ending said left
+      → ServesOpen g image left → KeepsUnheard g image ending left → EndsServeBy g image ending said left
   ends_open image (Unbound reason) said left refused serves keeps = (inl (refused, inl serves), keeps)
   ends_open image Unwritten said left refused serves keeps = (inl (refused, inl serves), keeps)
   ends_open image (Unaccepted port) said left refused serves keeps = (inl (refused, inl serves), keeps)
@@ -337,7 +338,7 @@ module _ {D : Type 0} (g : disk.Ghosts D) where
   -- one that another program did not change is closed, or cannot be
   pub ends_otherwise : (image : Image) (ending : Ending) (said : Spoken) (left : Left D g) → ending ≢ Changed
       → IsNotClosed g image said left ⊎ (ServesOver g image left × SaysAtEnd ending said)
-      → KeepsUnheard g image ending left → EndsBy g image ending said left
+      → KeepsUnheard g image ending left → EndsServeBy g image ending said left
   ends_otherwise image (Unbound reason) said left other ends keeps = (ends, keeps)
   ends_otherwise image Unwritten said left other ends keeps = (ends, keeps)
   ends_otherwise image (Unaccepted port) said left other ends keeps = (ends, keeps)
@@ -358,7 +359,7 @@ module _ {D : Type 0} (g : disk.Ghosts D) where
       (values : List Row) (ending : Option Ending) (said : Spoken) (left : Left D g)
       → IsAnnounced contents w0 w1 ending → SaysServing g image values ending said left → ends_unwritten ending ≡ false
       → Tells contents w1 w2 status said
-      → IsServed g image contents w0 w2 status values left
+      → IsServedOver g image contents w0 w2 status values left
   told_served image contents w0 w1 w2 status values None said left same (inl lacks) other tells =
       inl (said, tells_alone contents w0 w1 w2 status said same tells, inr (inl lacks))
   told_served image contents w0 w1 w2 status values None said left same (inr file) other tells =
@@ -411,7 +412,7 @@ module _ {D : Type 0} (g : disk.Ghosts D) where
       (values : List Row) (ending : Option Ending) (said : Spoken) (left : Left D g)
       → IsAnnounced contents w0 w1 ending → SaysServing g image values ending said left → ends_unwritten ending ≡ true
       → status ≡ 1
-      → IsServed g image contents w0 w1 status values left
+      → IsServedOver g image contents w0 w1 status values left
   told_unwritten image contents w0 w1 status values (Some Unwritten) said left (inl (taken, within, written))
       (inl file, keeps) is one = inl (
         after_listening said,
@@ -444,7 +445,7 @@ module _ {D : Type 0} (g : disk.Ghosts D) where
       (values : List Row) (left : Left D g)
       → left ≡ Untouched → Tells contents w0 w1 status
       (record { text = codes "refused 40 OutOfMemory\n"; refused = true })
-      → IsServed g image contents w0 w1 status values left
+      → IsServedOver g image contents w0 w1 status values left
   told_served_40 image contents w0 w1 status values left none tells = inl (
     record { text = codes "refused 40 OutOfMemory\n"; refused = true },
     tells,
@@ -454,7 +455,7 @@ module _ {D : Type 0} (g : disk.Ghosts D) where
   -- or nothing, where there is no memory to read the words
   pub served_nothing : {W : Type 0} (image : Image) (contents : W → Option (List ℕ)) (w0 w1 : W) (status : ℕ)
       (values : List Row) (left : Left D g)
-      → left ≡ Untouched → w1 ≡ w0 → status ≡ 1 → IsServed g image contents w0 w1 status values left
+      → left ≡ Untouched → w1 ≡ w0 → status ≡ 1 → IsServedOver g image contents w0 w1 status values left
   served_nothing image contents w0 w1 status values left none same one = inl (
     record { text = answer_text [] (Err (Plain OutOfMemory)); refused = true },
     tells_nothing contents w0 w1 status same one,
@@ -464,7 +465,7 @@ module _ {D : Type 0} (g : disk.Ghosts D) where
   -- what is told to some values is told to equal ones
   pub served_alike : {W : Type 0} (image : Image) (contents : W → Option (List ℕ)) (w0 w1 : W) (status : ℕ)
       (these those : List Row) (left : Left D g)
-      → these ≡ those → IsServed g image contents w0 w1 status these left
-      → IsServed g image contents w0 w1 status those left
+      → these ≡ those → IsServedOver g image contents w0 w1 status these left
+      → IsServedOver g image contents w0 w1 status those left
   served_alike image contents w0 w1 status these those left alike is =
-      subst (λ (values : List Row). IsServed g image contents w0 w1 status values left) alike is
+      subst (λ (values : List Row). IsServedOver g image contents w0 w1 status values left) alike is

@@ -24,15 +24,15 @@ AsksFor port form request call =
     (body : List ℕ) × (IsSendable request → spelled body ≡ Some request) × (call ≡ call_text port form body)
 
 -- such a call is sent
-abbrev pub Asks : {W : Type 0} → (W → Option (List ℕ)) → W → W → ℕ → Form → Spelled → Type 0
-Asks contents w0 w1 port form request =
+abbrev pub AsksService : {W : Type 0} → (W → Option (List ℕ)) → W → W → ℕ → Form → Spelled → Type 0
+AsksService contents w0 w1 port form request =
     (call : List ℕ) × AsksFor port form request call × Appends (contents w0) (contents w1) call
 
 -- nothing is sent, or such a call, or a first part of one
 abbrev pub MayAsk : {W : Type 0} → (W → Option (List ℕ)) → W → W → ℕ → Form → Spelled → Type 0
 MayAsk contents w0 w1 port form request =
     (w1 ≡ w0)
-    ⊎ (Asks contents w0 w1 port form request
+    ⊎ (AsksService contents w0 w1 port form request
     ⊎ ((call : List ℕ) × AsksFor port form request call
     × ((taken : ℕ) × (taken < length call) × Appends (contents w0) (contents w1) (take taken call))))
 

@@ -164,8 +164,8 @@ module _ {D : Type 0} (g : disk.Ghosts D) where
       Appends (contents w0) (contents w1) listening × (status ≡ 1) × ServesOver image left × KeepsFile g image left
 
   -- `serve` is told what is said to it; or 40, and no file was opened; or nobody hears that it listens
-  abbrev pub IsServed : {W : Type 0} → Image → (W → Option (List ℕ)) → W → W → ℕ → List Row → Left D g → Type 0
-  IsServed image contents w0 w1 status values left =
+  abbrev pub IsServedOver : {W : Type 0} → Image → (W → Option (List ℕ)) → W → W → ℕ → List Row → Left D g → Type 0
+  IsServedOver image contents w0 w1 status values left =
       ((said : Spoken) × Tells contents w0 w1 status said
       × (IsRefusedBefore g OutOfMemory said left ⊎ SaysToServe image values said left))
       ⊎ IsUnheard image contents w0 w1 status left

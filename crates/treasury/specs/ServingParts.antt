@@ -58,9 +58,9 @@ module _ {D : Type 0} (g : disk.Ghosts D) where
   KeepsUnheard image _ left = ⊤
 
   -- and where it may not be closed, or is not closed because another program changed it
-  abbrev pub EndsBy : Image → Ending → Spoken → Left D g → Type 0
-  EndsBy image Changed said left = IsRefusedBy Store said × ServesOpen g image left
-  EndsBy image ending said left =
+  abbrev pub EndsServeBy : Image → Ending → Spoken → Left D g → Type 0
+  EndsServeBy image Changed said left = IsRefusedBy Store said × ServesOpen g image left
+  EndsServeBy image ending said left =
       (IsNotClosed g image said left ⊎ (ServesOver g image left × SaysAtEnd ending said))
       × KeepsUnheard image ending left
 
@@ -68,4 +68,4 @@ module _ {D : Type 0} (g : disk.Ghosts D) where
   abbrev pub SaysServing : Image → List Row → Option Ending → Spoken → Left D g → Type 0
   SaysServing image values None said left =
       (LacksValue values × IsRefusedBefore g NoRequest said left) ⊎ RefusesFile g image said left
-  SaysServing image values (Some ending) said left = EndsBy image ending said left
+  SaysServing image values (Some ending) said left = EndsServeBy image ending said left

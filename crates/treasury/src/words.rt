@@ -22,9 +22,9 @@ ghost use Rattle.std.specs.String.{string_bytes};
 ghost use Rattle.treasury_api.specs.Step.{Standing, at_first};
 ghost use Rattle.treasury_api.specs.Kept.{AnswersAll};
 ghost use Rattle.treasury_spelling.specs.Words.{AreTaken, named, AskForRun, AskForWord, AskToServe, MayAskForHelp};
-ghost use Rattle.treasury.specs.CutOff.{IsCutOff};
+ghost use Rattle.treasury.specs.CutOff.{IsCutShort};
 ghost use Rattle.treasury.specs.OverFile.{Tells, IsTold};
-ghost use Rattle.treasury.specs.Serving.{IsServed};
+ghost use Rattle.treasury.specs.Serving.{IsServedOver};
 ghost use Rattle.treasury.specs.OverFileParts.{AnswersUntaken};
 ghost use Rattle.clap.specs.Values.{kind_of};
 
@@ -115,7 +115,7 @@ fn run<R: Read, W: Write, L: Listener>(
 ) -> Result<(), Cause>
     ensures done { OnOk result ((end : Standing)
         × AnswersAll R.remaining input.old input.new W.contents output.old output.new at_first end) }
-    ensures cut_off { OnErr result (IsCutOff R.remaining input.old input.new W.contents output.old output.new) }
+    ensures cut_off { OnErr result (IsCutShort R.remaining input.old input.new W.contents output.old output.new) }
 {
     run_law();
     commands_law();
@@ -149,7 +149,7 @@ fn do_run<R: Read, W: Write>(
     ensures done { result ≡ 0
         → (end : Standing) × AnswersAll R.remaining input.old input.new W.contents output.old output.new at_first end }
     ensures cut_off { result ≢ 0
-        → (result ≡ 1) × IsCutOff R.remaining input.old input.new W.contents output.old output.new }
+        → (result ≡ 1) × IsCutShort R.remaining input.old input.new W.contents output.old output.new }
 {
     if is_explained(values) {
         status(rt, run(rt.alloc(), input, output, &mut Explainer::new(rt)))
@@ -260,8 +260,8 @@ fn do_serve<W: Write, S: Start>(
     output: &mut W,
     start: S,
 ) -> Ended<FileFrom<S>>
-    ensures served { IsServed ⟦<FileFrom<S> as Disk>⟧ (image_at S.Start) W.contents output.old output.new result.status
-        (rows_of (found_of values.now)) result.left }
+    ensures served { IsServedOver ⟦<FileFrom<S> as Disk>⟧ (image_at S.Start) W.contents output.old output.new
+        result.status (rows_of (found_of values.now)) result.left }
     ensures usage { result.status ≢ 2 }
 {
     serving_law::<FileFrom<S>>();
@@ -296,13 +296,13 @@ fn do_word<R: Read, W: Write, S: Start>(
     ensures done { subcommand_name_of matches.now ≡ Some (codes "run") → result.status ≡ 0
         → (end : Standing) × AnswersAll R.remaining input.old input.new W.contents output.old output.new at_first end }
     ensures cut_off { subcommand_name_of matches.now ≡ Some (codes "run") → result.status ≢ 0
-        → (result.status ≡ 1) × IsCutOff R.remaining input.old input.new W.contents output.old output.new }
+        → (result.status ≡ 1) × IsCutShort R.remaining input.old input.new W.contents output.old output.new }
     ensures word { (word : List ℕ) → (values : List Row) → subcommand_rows_of matches.now ≡ Some (word, values)
         → word ≢ codes "run" → word ≢ codes "serve"
         → IsTold ⟦<FileFrom<S> as Disk>⟧ (image_at S.Start) W.contents output.old output.new result.status word values
         result.left }
     ensures serve { (values : List Row) → subcommand_rows_of matches.now ≡ Some (codes "serve", values)
-        → IsServed ⟦<FileFrom<S> as Disk>⟧ (image_at S.Start) W.contents output.old output.new result.status values
+        → IsServedOver ⟦<FileFrom<S> as Disk>⟧ (image_at S.Start) W.contents output.old output.new result.status values
         result.left }
     ensures other { (subcommand_name_of matches.now ≡ Some (codes "run") → ⊥) → input.new ≡ input.old }
     ensures usage { result.status ≡ 2
@@ -362,7 +362,7 @@ where
     ensures done { AskForRun (map string_bytes words.now) → result.status ≡ 0
         → (end : Standing) × AnswersAll R.remaining input.old input.new W.contents output.old output.new at_first end }
     ensures cut_off { AskForRun (map string_bytes words.now) → result.status ≢ 0
-        → (result.status ≡ 1) × IsCutOff R.remaining input.old input.new W.contents output.old output.new }
+        → (result.status ≡ 1) × IsCutShort R.remaining input.old input.new W.contents output.old output.new }
 
     // A word over a database file is answered over that file, and leaves it as is said.
     ensures word { (word : List ℕ) → (values : List Row) → AskForWord (map string_bytes words.now) word values
@@ -371,7 +371,7 @@ where
 
     // `serve` answers the calls of connections over it.
     ensures serve { (values : List Row) → AskToServe (map string_bytes words.now) values
-        → IsServed ⟦<FileFrom<S> as Disk>⟧ (image_at S.Start) W.contents output.old output.new result.status values
+        → IsServedOver ⟦<FileFrom<S> as Disk>⟧ (image_at S.Start) W.contents output.old output.new result.status values
         result.left }
 
     // Others read none, and those that are not taken, but for those that may ask for help or for the version, are

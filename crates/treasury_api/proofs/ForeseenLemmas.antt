@@ -20,7 +20,7 @@ use Rattle.treasury_store.proofs.OwnRefusalLemmas.{reply_not_failed, listed_repl
 use Rattle.http_request.specs.declared.call.Form.{Form}
 use Rattle.treasury_api.specs.declared.asking.Asked.TheVariants.{DryRun}
 use Rattle.treasury_api.specs.Answer.{answer_text}
-use Rattle.treasury_api.specs.Step.{MayReply}
+use Rattle.treasury_api.specs.Step.{MayReplyAsked}
 use Rattle.treasury_api.specs.Left.{FailsWith}
 use Rattle.treasury_api.specs.Replied.{IsRepliedIn, IsPrintableIn}
 use Rattle.treasury_api.specs.Serving.{IsForeseen}
@@ -71,7 +71,7 @@ steps_unfailed f c r steps = either (is_failure r) refl steps
     either true e (inr memory) = ap is_failure memory
 
 may_reply : (f : Federation) (c : AnyCommand) (r : Result Answer Refusal) → Steps f c r
-    → MayReply (record { now = f; failed = false }) (Ok (DryRun c)) r
+    → MayReplyAsked (record { now = f; failed = false }) (Ok (DryRun c)) r
 may_reply f c r (inl step) = inl step
 may_reply f c r (inr memory) = inr (inl memory)
 

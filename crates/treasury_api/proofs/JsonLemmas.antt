@@ -26,7 +26,7 @@ use Rattle.treasury_api.specs.declared.asking.Asked.{Asked}
 use Rattle.treasury_api.specs.declared.asking.Asked.TheVariants.{Command, DryRun, Report}
 use Rattle.treasury_api.specs.Asked.{AsksOf}
 use Rattle.treasury_api.specs.Answer.{answer_text, done_text, refusal_text}
-use Rattle.treasury_api.specs.Step.{MayReply}
+use Rattle.treasury_api.specs.Step.{MayReplyAsked}
 use Rattle.treasury_api.specs.Left.{FailsWith, IsOpenBut}
 use Rattle.treasury_api.specs.Replied.{body_of}
 use Rattle.treasury_api.specs.WebReply.{status_of, status_of_number, cause_of, form_of_reply}
@@ -117,7 +117,7 @@ done_object styles answer text body said done =
 
 pub done_body : (failed : Bool) (f : Federation) (request : Spelled) (asked : Result Asked Refusal) (answer : Answer)
     (text body : List ℕ) → AsksOf failed f.styles request asked
-    → MayReply (record { now = f; failed = failed }) asked (Ok answer)
+    → MayReplyAsked (record { now = f; failed = failed }) asked (Ok answer)
     → text ≡ [] ++ body_of form.Json f asked answer
     → (IsTrue (is_report request.request) → body ≡ text)
     → (is_report request.request ≡ false → IsJsonDone (take (length text - 1) text) body)

@@ -18,7 +18,7 @@ use Rattle.treasury_api.specs.declared.asking.Asked.TheVariants.{Command, DryRun
 use Rattle.treasury_requests.specs.Request.{HasDayNumbers}
 use Rattle.treasury_api.specs.Asked.{AsksOf, SpelledAsks}
 use Rattle.treasury_api.specs.Answer.{answer_text}
-use Rattle.treasury_api.specs.Step.{Standing, MayReply, after}
+use Rattle.treasury_api.specs.Step.{Standing, MayReplyAsked, after_asked}
 use Rattle.treasury_api.specs.History.{command_if}
 use Rattle.treasury_api.specs.OneRequest.{AnswersAs, AnswersRequest, RepliesAs, RepliesOn, request_text}
 use Rattle.treasury_api.specs.OneRequest.{is_refusal, command_of}
@@ -31,7 +31,7 @@ use Rattle.treasury_tables.specs.Kept.{IsFaithful}
 
 -- what is written is the text of the reply
 written_text : (f : Federation) (failed : Bool) (asked : Result Asked Refusal) (answer : Answer) (written : List ℕ)
-    → MayReply (record { now = f; failed = failed }) asked (Ok answer)
+    → MayReplyAsked (record { now = f; failed = failed }) asked (Ok answer)
     → written ≡ [] ++ body_of form.Text f asked answer → written ≡ request_text f asked (Ok answer)
 written_text f failed (Ok (Command c)) answer written replies said = said
 written_text f failed (Ok (DryRun c)) answer written replies said = said
@@ -56,7 +56,7 @@ pub replied_done : {S : Type 0} (form : Form) (g : Ghosts S) (old new : Treasury
     → IsAnsweredIn form g old.store.failed new f request made [] written)
     → ((f : Federation) (asked : Result Asked Refusal) (answer : Answer)
     → AsksOf old.store.failed f.styles request asked
-    → MayReply (record { now = f; failed = old.store.failed }) asked (Ok answer)
+    → MayReplyAsked (record { now = f; failed = old.store.failed }) asked (Ok answer)
     → written ≡ [] ++ body_of form f asked answer → Says f asked (Ok answer))
     → ((answer : Answer) → Tells (Ok answer)) → RepliesAs g old request Says Tells new
 replied_done form g old new written request Says Tells made x ok days clean answers says tells = record {
@@ -74,10 +74,10 @@ replied_done form g old new written request Says Tells made x ok days clean answ
         × (written ≡ [] ++ body_of form f asked answer)))
         (λ refusal. (r.reply ≡ Err refusal) × (written ≡ []))) ok r.text in
         let replies = subst (λ (y : Result Answer Refusal).
-        MayReply (record { now = f; failed = old.store.failed }) asked y) told.1.0 r.replies in (
-          after f asked (Ok told.0),
+        MayReplyAsked (record { now = f; failed = old.store.failed }) asked y) told.1.0 r.replies in (
+          after_asked f asked (Ok told.0),
           (
-            subst (λ (y : Result Answer Refusal). IsTreasuryOf g new (after f asked y)) told.1.0 r.of,
+            subst (λ (y : Result Answer Refusal). IsTreasuryOf g new (after_asked f asked y)) told.1.0 r.of,
             (
               Ok told.0,
               (
@@ -134,7 +134,7 @@ replied_as form g old new written request Says Tells made refusal refused days c
 }
   where
     by_line : (f : Federation) (asked : Result Asked Refusal) → AsksOf old.store.failed f.styles request asked
-        → MayReply (record { now = f; failed = old.store.failed }) asked (Err refusal) → IsTreasuryOf g new f
+        → MayReplyAsked (record { now = f; failed = old.store.failed }) asked (Err refusal) → IsTreasuryOf g new f
         → new.store.failed ≡ (old.store.failed || is_failure (Err refusal))
         → IsRefusedAs Says Tells f refusal
         → (reply : Result Answer Refusal)
@@ -183,12 +183,12 @@ replied_as form g old new written request Says Tells made refusal refused days c
         (λ e. (r.reply ≡ Err e) × (written ≡ []))) refused r.text in
         let of : IsTreasuryOf g new f =
         subst (IsTreasuryOf g new) (sym (after_plain f asked refusal))
-        (subst (λ (y : Result Answer Refusal). IsTreasuryOf g new (after f asked y)) told.0 r.of) in (
+        (subst (λ (y : Result Answer Refusal). IsTreasuryOf g new (after_asked f asked y)) told.0 r.of) in (
           f,
           (
             of,
             by_line f asked asks (subst (λ (y : Result Answer Refusal).
-                MayReply (record { now = f; failed = old.store.failed }) asked y) told.0 r.replies) of
+                MayReplyAsked (record { now = f; failed = old.store.failed }) asked y) told.0 r.replies) of
                 (r.left ∙ ap (λ (y : Result Answer Refusal). old.store.failed || is_failure y) told.0) (said f of),
           ),
         )
@@ -249,8 +249,8 @@ IsRunTo f turns end = IsRun f turns × (end ≡ state_after f turns)
 run_behind_command : (f : Federation) (request : Spelled) (asked : Result Asked Refusal) (r : Result Answer Refusal)
     (turns : List Turn) (end : Federation)
     → HasDayNumbers request.request → SpelledAsks f.styles request asked
-    → MayReply (record { now = f; failed = false }) asked r
-    → IsRunTo (after f asked r) turns end → IsRunTo f (command_if asked r ++ turns) end
+    → MayReplyAsked (record { now = f; failed = false }) asked r
+    → IsRunTo (after_asked f asked r) turns end → IsRunTo f (command_if asked r ++ turns) end
 run_behind_command f request (Ok (Command c)) r turns end days asks replies rest = commanded (is_failure r) refl
   where
     commanded : (failure : Bool) → is_failure r ≡ failure
@@ -279,7 +279,7 @@ request_run f request Says reply t turns end answers rest =
 
 -- a refusal leaves the state
 refusal_leaves : (f : Federation) (asked : Result Asked Refusal) (r : Result Answer Refusal) → is_refusal r ≡ true
-    → after f asked r ≡ f
+    → after_asked f asked r ≡ f
 refusal_leaves f asked (Ok answer) refused = absurd cc
 refusal_leaves f (Ok (Command c)) (Err refusal) refused = refl
 refusal_leaves f (Ok (DryRun c)) (Err refusal) refused = refl

@@ -20,7 +20,7 @@ use Rattle.http_request.specs.declared.call.Form.{Form}
 use Rattle.treasury_api.specs.declared.asking.Asked.{Asked}
 use Rattle.treasury_api.specs.declared.asking.Asked.TheVariants.{Command, DryRun, Report}
 use Rattle.treasury_api.specs.Answer.{answer_text, IsPrintableRefusal}
-use Rattle.treasury_api.specs.Step.{MayReply, after}
+use Rattle.treasury_api.specs.Step.{MayReplyAsked, after_asked}
 use Rattle.treasury_api.specs.Replied.{IsRepliedIn, IsPrintableIn, body_of}
 use Rattle.treasury_api.specs.Serving.{IsHeldFor}
 use Rattle.treasury_api.proofs.PrintableLemmas.{decided_printable}
@@ -46,7 +46,8 @@ failed_by r failed by = either (is_failure r) refl failed by
 
 -- ---- what is refused
 
-after_refusal : (f : Federation) (asked : Result Asked Refusal) (refusal : Refusal) → after f asked (Err refusal) ≡ f
+after_refusal : (f : Federation) (asked : Result Asked Refusal) (refusal : Refusal)
+    → after_asked f asked (Err refusal) ≡ f
 after_refusal f (Ok (Command c)) refusal = refl
 after_refusal f (Ok (DryRun c)) refusal = refl
 after_refusal f (Ok (Report report)) refusal = refl
@@ -69,8 +70,8 @@ refusal_text form f asked r refusal (Err e) before written replied is same =
 -- a refusal leaves the state
 pub refusal_replied : {S T : Type 0} {form : Form} (g : Ghosts S) (failed : Bool) (new : Treasury S) (f : Federation)
     (asked : Result Asked Refusal) (refusal : Refusal) (result : Result T Refusal) (before written : List ℕ)
-    → result ≡ Err refusal → MayReply (record { now = f; failed = failed }) asked (Err refusal) → IsTreasuryOf g new f
-    → new.store.failed ≡ (failed || is_failure (Err refusal)) → written ≡ before
+    → result ≡ Err refusal → MayReplyAsked (record { now = f; failed = failed }) asked (Err refusal)
+    → IsTreasuryOf g new f → new.store.failed ≡ (failed || is_failure (Err refusal)) → written ≡ before
     → IsRepliedIn form g failed new f asked result before written
 refusal_replied {form = form} g failed new f asked refusal result before written is replies of left same = record {
   reply = Err refusal;
@@ -97,7 +98,7 @@ unfolding answer_text
 same_line styles answer = refl
 
 may_reply : (f : Federation) (c : AnyCommand) (r : Result Answer Refusal) → MayPerform f c r
-    → MayReply (record { now = f; failed = false }) (Ok (Command c)) r
+    → MayReplyAsked (record { now = f; failed = false }) (Ok (Command c)) r
 may_reply f c r (inl (inl step)) = inl step
 may_reply f c r (inl (inr memory)) = inr (inl memory)
 may_reply f c r (inr failed) = inr (inr (refl, failed))

@@ -17,7 +17,8 @@ use Rattle.treasury_store.proofs.LeftLemmas.{shuts_same, shuts_then}
 use Rattle.treasury_api.specs.Step.{Standing, Answers}
 use Rattle.treasury_api.specs.Transcript.{requests_in, AnswersInTurn, IsTranscript}
 use Rattle.treasury_api.specs.RunEnd.{most_input, EndsBy, Ends}
-use Rattle.treasury_api.specs.History.{Turn, turn_of, after_turn, AreTurns, end_of, texts_of, IsRun, commands_of}
+use Rattle.treasury_api.specs.History.{LineTurn, turn_of, after_line_turn, AreTurns, standing_after, texts_of}
+use Rattle.treasury_api.specs.History.{IsRunOfLines, commands_of}
 use Rattle.treasury_api.specs.Left.{LeavesAsked, IsOpenBut, FailedAt, LeavesRun}
 use Rattle.treasury_api.specs.Replied.{standing, Serves}
 use Rattle.treasury_api.specs.Kept.{AreTurnsOf, Runs}
@@ -27,13 +28,16 @@ use Rattle.treasury_api.proofs.LeftLemmas.{LeavesShown}
 
 -- ---- turns, and further ones after them
 
-turns_then : (s : Standing) (ts us : List Turn) → AreTurns s ts → AreTurns (end_of s ts) us → AreTurns s (ts ++ us)
+turns_then : (s : Standing) (ts us : List LineTurn) → AreTurns s ts → AreTurns (standing_after s ts) us
+    → AreTurns s (ts ++ us)
 turns_then s [] us first then = then
-turns_then s (t ∷ ts) us (asks, replies, first) then = (asks, replies, turns_then (after_turn s t) ts us first then)
+turns_then s (t ∷ ts) us (asks, replies, first) then =
+    (asks, replies, turns_then (after_line_turn s t) ts us first then)
 
-end_then : (s : Standing) (ts us : List Turn) → end_of s (ts ++ us) ≡ end_of (end_of s ts) us
+end_then : (s : Standing) (ts us : List LineTurn)
+    → standing_after s (ts ++ us) ≡ standing_after (standing_after s ts) us
 end_then s [] us = refl
-end_then s (t ∷ ts) us = end_then (after_turn s t) ts us
+end_then s (t ∷ ts) us = end_then (after_line_turn s t) ts us
 
 -- ---- lines that are served one after another
 
@@ -55,29 +59,30 @@ closed_along {S = S} g a b (request ∷ requests) output (mid, answer, rest, (st
 -- ---- what is left along turns
 
 -- the treasury is open; or one of the turns was answered 41, and a call has failed
-abbrev Leaving : {S : Type 0} → Ghosts S → Treasury S → Standing → List Turn → Type 0
+abbrev Leaving : {S : Type 0} → Ghosts S → Treasury S → Standing → List LineTurn → Type 0
 Leaving g new start turns =
     IsTrue (state g new.store.conn).is_open
     ⊎ (FailedAt g new.store.conn start turns × IsTrue new.store.failed)
 
 -- the same of turns that begin on an open treasury, on which no call has failed
-abbrev LeavingIf : {S : Type 0} → Ghosts S → Treasury S → Treasury S → Standing → List Turn → Type 0
+abbrev LeavingIf : {S : Type 0} → Ghosts S → Treasury S → Treasury S → Standing → List LineTurn → Type 0
 LeavingIf g old new start turns =
     IsTrue (state g old.store.conn).is_open → old.store.failed ≡ false → Leaving g new start turns
 
 module _ {S : Type 0} (g : Ghosts S) (old mid new : Treasury S)
     (closed : IsTrue mid.store.failed → new ≡ mid) where
   -- a turn, and what is left along those after it
-  leaving_first : (f e : Federation) (turn : Turn) (turns : List Turn)
-      → standing mid e ≡ after_turn (standing old f) turn → old.store.failed ≡ false
+  leaving_first : (f e : Federation) (turn : LineTurn) (turns : List LineTurn)
+      → standing mid e ≡ after_line_turn (standing old f) turn → old.store.failed ≡ false
       → LeavesAsked g mid.store.conn f turn.asked × IsOpenBut g mid.store.conn turn.reply
-      → LeavingIf g mid new (after_turn (standing old f) turn) turns → Leaving g new (standing old f) (turn ∷ turns)
+      → LeavingIf g mid new (after_line_turn (standing old f) turn) turns
+      → Leaving g new (standing old f) (turn ∷ turns)
   leaving_first f e turn turns at unfailed (asked, but) then = by_failure (is_failure turn.reply) refl
     where
       flag : mid.store.failed ≡ is_failure turn.reply
       flag = ap (λ (s : Standing). s.failed) at ∙ ap (λ (b : Bool). b || is_failure turn.reply) unfailed
 
-      shift : Leaving g new (after_turn (standing old f) turn) turns
+      shift : Leaving g new (after_line_turn (standing old f) turn) turns
           → Leaving g new (standing old f) (turn ∷ turns)
       shift (inl still) = inl still
       shift (inr (there, closes)) = inr (
@@ -85,7 +90,7 @@ module _ {S : Type 0} (g : Ghosts S) (old mid new : Treasury S)
           before = turn ∷ there.before;
           turn = there.turn;
           behind = there.behind;
-          split = ap (λ (ts : List Turn). turn ∷ ts) there.split;
+          split = ap (λ (ts : List LineTurn). turn ∷ ts) there.split;
           failed = there.failed;
           left = there.left;
         },
@@ -116,8 +121,8 @@ module _ {S : Type 0} (g : Ghosts S) (old mid new : Treasury S)
       by_failure false is = by_open is but
 
   -- turns, and one more after them
-  leaving_last : (start : Standing) (e end : Federation) (turns : List Turn) (turn : Turn)
-      → standing mid e ≡ end_of start turns → standing new end ≡ after_turn (standing mid e) turn
+  leaving_last : (start : Standing) (e end : Federation) (turns : List LineTurn) (turn : LineTurn)
+      → standing mid e ≡ standing_after start turns → standing new end ≡ after_line_turn (standing mid e) turn
       → (IsTrue (state g mid.store.conn).is_open → mid.store.failed ≡ false
       → LeavesAsked g new.store.conn e turn.asked × IsOpenBut g new.store.conn turn.reply)
       → Leaving g mid start turns → Leaving g new start (turns ++ turn ∷ [])
@@ -156,11 +161,11 @@ module _ {S : Type 0} (g : Ghosts S) (old mid new : Treasury S)
           before = there.before;
           turn = there.turn;
           behind = there.behind ++ turn ∷ [];
-          split = ap (λ (ts : List Turn). ts ++ turn ∷ []) there.split ∙ append_assoc there.before
+          split = ap (λ (ts : List LineTurn). ts ++ turn ∷ []) there.split ∙ append_assoc there.before
               (there.turn ∷ there.behind) (turn ∷ []);
           failed = there.failed;
-          left = subst (λ (t : Treasury S). LeavesAsked g t.store.conn (end_of start there.before).now there.turn.asked)
-              same there.left;
+          left = subst (λ (t : Treasury S). LeavesAsked g t.store.conn (standing_after start there.before).now
+              there.turn.asked) same there.left;
         },
         subst (λ (t : Treasury S). IsTrue t.store.failed) same closes,
       )
@@ -168,7 +173,7 @@ module _ {S : Type 0} (g : Ghosts S) (old mid new : Treasury S)
 -- ---- the turns of lines that are served
 
 record AreServed {S : Type 0} (g : Ghosts S) (old new : Treasury S) (start : Standing) (requests : List (List ℕ))
-    (output : List ℕ) (end : Federation) (turns : List Turn) : Type 0 where
+    (output : List ℕ) (end : Federation) (turns : List LineTurn) : Type 0 where
   run : IsRunOf start requests output (standing new end) turns
   leaving : LeavingIf g old new start turns
 
@@ -177,7 +182,7 @@ serve_all : {S : Type 0} (g : Ghosts S) (old new : Treasury S) (requests : List 
     → AnswersInTurn (Serves g) old requests output new → IsFaithful g new.store.conn
     → (f : Federation) → IsTreasuryOf g old f
     → (end : Federation) × (IsTreasuryOf g new end
-    × ((turns : List Turn) × AreServed g old new (standing old f) requests output end turns))
+    × ((turns : List LineTurn) × AreServed g old new (standing old f) requests output end turns))
 serve_all {S = S} g old new [] output (none, same) clean f of = (
   f,
   (
@@ -197,11 +202,11 @@ serve_all {S = S} g old new (request ∷ requests) output (mid, answer, rest, (s
     let later = shuts_along g mid new requests rest more in
     let first = step.answers (later.clean clean) f of in
     let a = first.1.1.0 in
-    let turn : Turn = record { line = request; asked = a.asked; reply = a.reply } in
+    let turn : LineTurn = record { line = request; asked = a.asked; reply = a.reply } in
     let then = serve_all g mid new requests rest more clean first.0 first.1.0 in
-    let from : (turns : List Turn)
-    × AreServed g mid new (after_turn (standing old f) turn) requests rest then.0 turns =
-    subst (λ (s : Standing). (turns : List Turn) × AreServed g mid new s requests rest then.0 turns) a.left
+    let from : (turns : List LineTurn)
+    × AreServed g mid new (after_line_turn (standing old f) turn) requests rest then.0 turns =
+    subst (λ (s : Standing). (turns : List LineTurn) × AreServed g mid new s requests rest then.0 turns) a.left
     then.1.1 in (
       then.0,
       (
@@ -213,7 +218,7 @@ serve_all {S = S} g old new (request ∷ requests) output (mid, answer, rest, (s
               requests = ap (λ (lines : List (List ℕ)). request ∷ lines) from.1.run.requests;
               follow = (a.asks, a.replies, from.1.run.follow);
               written = split ∙ (ap (λ (xs : List ℕ). answer ++ xs) from.1.run.written ∙ ap
-                  (λ (xs : List ℕ). xs ++ texts_of (after_turn (standing old f) turn) from.0) a.text);
+                  (λ (xs : List ℕ). xs ++ texts_of (after_line_turn (standing old f) turn) from.0) a.text);
               left = from.1.run.left;
             };
             leaving = λ is_open unfailed.
@@ -226,15 +231,15 @@ serve_all {S = S} g old new (request ∷ requests) output (mid, answer, rest, (s
 
 -- they are a run
 as_run : {S : Type 0} (g : Ghosts S) (old new : Treasury S) (start : Standing) (input output : List ℕ)
-    (end : Federation) (turns : List Turn) → AreServed g old new start (requests_in input) output end turns
-    → IsRun start input output (standing new end) turns
+    (end : Federation) (turns : List LineTurn) → AreServed g old new start (requests_in input) output end turns
+    → IsRunOfLines start input output (standing new end) turns
 as_run g old new start input output end turns served =
     let run = served.run in
     record { requests = run.requests; follow = run.follow; written = run.written; left = run.left }
 
 -- their transcript
 served_transcript : {S : Type 0} (g : Ghosts S) (old new : Treasury S) (start : Standing) (input output : List ℕ)
-    (end : Federation) (turns : List Turn) → AreServed g old new start (requests_in input) output end turns
+    (end : Federation) (turns : List LineTurn) → AreServed g old new start (requests_in input) output end turns
     → IsTranscript Answers start input output (standing new end)
 served_transcript g old new start input output end turns served =
     transcript_of start input output (standing new end) turns
@@ -244,20 +249,20 @@ served_transcript g old new start input output end turns served =
 
 -- they follow one another, and lead to its end
 turns_lead : (cause : Cause) (r0 r1 w0 w1 : Option (List ℕ)) (start end : Standing)
-    (ends : EndsBy cause Answers most_input r0 r1 w0 w1 start end) (turns : List Turn)
-    → AreTurnsOf cause r0 r1 w0 w1 start end ends turns → AreTurns start turns × (end ≡ end_of start turns)
+    (ends : EndsBy cause Answers most_input r0 r1 w0 w1 start end) (turns : List LineTurn)
+    → AreTurnsOf cause r0 r1 w0 w1 start end ends turns → AreTurns start turns × (end ≡ standing_after start turns)
 turns_lead OutOfMemory r0 r1 w0 w1 start end ends turns run = (run.follow, run.left)
 turns_lead ReadFault r0 r1 w0 w1 start end ends turns run = (run.follow, run.left)
 turns_lead WriteFault r0 r1 w0 w1 start end ends turns (front, run, split) =
     let torn = ends.stops in
     let a = torn.last in
-    let turn : Turn = turn_of a in
+    let turn : LineTurn = turn_of a in
     let at = run.left in
     let follow : AreTurns torn.mid (turn ∷ []) = (a.asks, a.replies, tt) in (
       subst (AreTurns start) (sym split) (turns_then start front (turn ∷ []) run.follow
           (subst (λ (s : Standing). AreTurns s (turn ∷ [])) at follow)),
-      a.left ∙ (ap (λ (s : Standing). end_of s (turn ∷ [])) at ∙ (sym (end_then start front (turn ∷ [])) ∙ ap
-          (end_of start) (sym split))),
+      a.left ∙ (ap (λ (s : Standing). standing_after s (turn ∷ [])) at ∙ (sym (end_then start front (turn ∷ [])) ∙ ap
+          (standing_after start) (sym split))),
     )
 turns_lead _ r0 r1 w0 w1 start end ends turns run = absurd run
 
@@ -265,7 +270,7 @@ turns_lead _ r0 r1 w0 w1 start end ends turns run = absurd run
 
 -- turns that lead to the end of a run that is cut off
 record IsLed {S : Type 0} (g : Ghosts S) (cause : Cause) (r0 r1 w0 w1 : Option (List ℕ)) (old new : Treasury S)
-    (start : Standing) (end : Federation) (turns : List Turn) : Type 0 where
+    (start : Standing) (end : Federation) (turns : List LineTurn) : Type 0 where
   ends : EndsBy cause Answers most_input r0 r1 w0 w1 start (standing new end)
   run : AreTurnsOf cause r0 r1 w0 w1 start (standing new end) ends turns
   leaving : LeavingIf g old new start turns
@@ -274,7 +279,7 @@ led_where_cut_off : {S : Type 0} (g : Ghosts S) (cause : Cause) (r0 r1 w0 w1 : O
     → EndsBy cause (Serves g) most_input r0 r1 w0 w1 old new
     → IsFaithful g new.store.conn → (f : Federation) → IsTreasuryOf g old f
     → (end : Federation) × (IsTreasuryOf g new end
-    × ((turns : List Turn) × IsLed g cause r0 r1 w0 w1 old new (standing old f) end turns))
+    × ((turns : List LineTurn) × IsLed g cause r0 r1 w0 w1 old new (standing old f) end turns))
 led_where_cut_off g OutOfMemory r0 r1 w0 w1 old new ends clean f of =
     let stops = ends.stops in
     let all = serve_all g old new (requests_in stops.whole) stops.written stops.transcript clean f of in
@@ -350,7 +355,7 @@ led_where_cut_off g WriteFault r0 r1 w0 w1 old new ends clean f of =
     let turns = all.1.1.0 in
     let then = step.answers clean all.0 all.1.0 in
     let a = then.1.1.0 in
-    let turn : Turn = record { line = stops.request; asked = a.asked; reply = a.reply } in
+    let turn : LineTurn = record { line = stops.request; asked = a.asked; reply = a.reply } in
     let at = served.run.left in (
       then.0,
       (
@@ -395,12 +400,12 @@ led_where_cut_off g WriteFault r0 r1 w0 w1 old new ends clean f of =
 led_where_cut_off g _ r0 r1 w0 w1 old new ends clean f of = absurd ends
 
 -- the state after turns is the one after their commands
-left_by : (start : Standing) (turns : List Turn) (end : Standing) → end ≡ end_of start turns
+left_by : (start : Standing) (turns : List LineTurn) (end : Standing) → end ≡ standing_after start turns
     → end.now ≡ state_after start.now (commands_of turns)
 left_by start turns end last = ap (λ (s : Standing). s.now) last ∙ commands_end start turns
 
 leaves_run : {S : Type 0} (g : Ghosts S) → LeavesShown g
-    → (old new : Treasury S) (start : Standing) (turns : List Turn) (end : Federation) → IsTreasuryOf g new end
+    → (old new : Treasury S) (start : Standing) (turns : List LineTurn) (end : Federation) → IsTreasuryOf g new end
     → LeavingIf g old new start turns → LeavesRun g old new start turns (standing new end)
 leaves_run g shown old new start turns end of leaving is_open unfailed = by_end (leaving is_open unfailed)
   where

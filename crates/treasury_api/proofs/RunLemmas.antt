@@ -10,7 +10,7 @@ use Rattle.money_core.specs.declared.cause.Cause.TheVariants.{OutOfMemory, ReadF
 use Rattle.treasury_api.specs.Transcript.{requests_among, AnswersInTurn, IsTranscript}
 use Rattle.treasury_api.specs.RunEnd.{IsWholeLines, HasNoLineFeed, AnswersWhole, GoesOn, GaveUp, Torn, StopsBy}
 use Rattle.treasury_api.specs.RunEnd.{Finished, Broken, EndsBy}
-use Rattle.treasury_api.specs.Served.{Served, Unserved, HalfServed, FailsBy}
+use Rattle.treasury_api.specs.Served.{Served, Unserved, HalfServed, FailsLineBy}
 use Rattle.treasury_api.proofs.LineLemmas.{requests_one, requests_last, whole-append, transcript-append}
 
 abbrev pub Stepping : Type 0 → Type 1
@@ -143,7 +143,7 @@ half_served_is_torn Step AtEnd w0 w1 w2 s m t seen line further all requests so_
 
 stops_by_failing : {S : Type 0} (cause : Cause) (Step : Stepping S) (AtEnd : Type 0) (w0 w1 w2 : Option (List ℕ))
     (s m t : S) (seen line further all : List ℕ) (requests : List (List ℕ)) → AnswersWhole Step w0 w1 s seen line m
-    → FailsBy cause Step w1 w2 m requests t
+    → FailsLineBy cause Step w1 w2 m requests t
     → ((request : List ℕ) → requests ≡ request ∷ [] → GoesOn AtEnd further request)
     → ((whole : List ℕ) → seen ≡ whole ++ line → all ≡ whole ++ further) → StopsBy cause Step AtEnd w0 w2 s all t
 stops_by_failing OutOfMemory Step AtEnd w0 w1 w2 s m t seen line further all requests so_far failed next split =
@@ -175,7 +175,7 @@ goes_on_last AtEnd line part last request one = record {
 -- the answers stop at a line that a line feed ends
 pub stops_at_line : {S : Type 0} (cause : Cause) (Step : Stepping S) (AtEnd : Type 0) (w0 w1 w2 : Option (List ℕ))
     (s m t : S) (seen line rest all : List ℕ) (b : ℕ) → AnswersWhole Step w0 w1 s seen line m
-    → FailsBy cause Step w1 w2 m (requests_among (strip_carriage_return line ∷ [])) t → b ≡ 10
+    → FailsLineBy cause Step w1 w2 m (requests_among (strip_carriage_return line ∷ [])) t → b ≡ 10
     → all ≡ seen ++ (b ∷ rest) → StopsBy cause Step AtEnd w0 w2 s all t
 stops_at_line cause Step AtEnd w0 w1 w2 s m t seen line rest all b so_far failed feed split =
     stops_by_failing cause Step AtEnd w0 w1 w2 s m t seen line (line ++ (10 ∷ rest)) all _ so_far failed
@@ -186,7 +186,7 @@ stops_at_line cause Step AtEnd w0 w1 w2 s m t seen line rest all b so_far failed
 -- the answers stop at the last line, which has no end
 pub stops_at_last : {S : Type 0} (cause : Cause) (Step : Stepping S) (AtEnd : Type 0) (w0 w1 w2 : Option (List ℕ))
     (s m t : S) (seen line : List ℕ) → AnswersWhole Step w0 w1 s seen line m
-    → FailsBy cause Step w1 w2 m (requests_among (line ∷ [])) t → AtEnd → StopsBy cause Step AtEnd w0 w2 s seen t
+    → FailsLineBy cause Step w1 w2 m (requests_among (line ∷ [])) t → AtEnd → StopsBy cause Step AtEnd w0 w2 s seen t
 stops_at_last cause Step AtEnd w0 w1 w2 s m t seen line so_far failed last =
     stops_by_failing cause Step AtEnd w0 w1 w2 s m t seen line line seen _ so_far failed
     (goes_on_last AtEnd line so_far.part last) (λ whole e. e)
@@ -388,7 +388,7 @@ stopped_later cause Step r0 r1 r2 w0 w1 w2 s m t line new left count most passed
 -- the run stops at the last line, which has no end
 pub stopped_last : {S : Type 0} (cause : Cause) (Step : Stepping S) (r0 r1 r2 w0 w1 w2 : Option (List ℕ)) (s m t : S)
     (line : List ℕ) (left most : ℕ) → Passed Step r0 r1 w0 w1 s m line left most → Consumes r1 r2 [] → IsAtEnd r2
-    → FailsBy cause Step w1 w2 m (requests_among (line ∷ [])) t → EndsBy cause Step most r0 r2 w0 w2 s t
+    → FailsLineBy cause Step w1 w2 m (requests_among (line ∷ [])) t → EndsBy cause Step most r0 r2 w0 w2 s t
 stopped_last cause Step r0 r1 r2 w0 w1 w2 s m t line left most passed read last failed =
     let P : List ℕ → Type 0 = λ x. Consumes r0 r2 x in
     ends_by cause Step most r0 r2 w0 w2 s t passed.seen

@@ -43,7 +43,7 @@ use Rattle.treasury_api.specs.Asked.{AsksOf, Asks, RequestAsks, SpelledAsks, ask
 use Rattle.treasury_api.specs.Asked.{asked_by_part}
 use Rattle.treasury_api.specs.Report.{report_text, has_its_branch}
 use Rattle.treasury_api.specs.Answer.{answer_text, IsPlainAnswer}
-use Rattle.treasury_api.specs.Step.{Answers, MayReply, after, next, reply_text}
+use Rattle.treasury_api.specs.Step.{Answers, MayReplyAsked, after_asked, next, reply_text}
 use Rattle.treasury_api.specs.Left.{IsOpenBut, KeepsDatabase, LeavesRequest, LeavesReply}
 use Rattle.treasury_api.specs.Replied.{standing, body_of, IsLineOf, IsLineIn, IsAnswered, Serves}
 use Rattle.treasury_api.specs.Serving.{end_of_report, OrMemory}
@@ -127,7 +127,8 @@ line_of t (ClaimFailed failure) cause text (s, (held, by)) =
 
 -- ---- a line that spells no request, or for which there was no memory
 
-pub after_plain : (f : Federation) (asked : Result Asked Refusal) (refusal : Refusal) → f ≡ after f asked (Err refusal)
+pub after_plain : (f : Federation) (asked : Result Asked Refusal) (refusal : Refusal)
+    → f ≡ after_asked f asked (Err refusal)
 after_plain f (Ok (Command c)) refusal = refl
 after_plain f (Ok (DryRun c)) refusal = refl
 after_plain f (Ok (Report report)) refusal = refl
@@ -139,7 +140,7 @@ next_of_harmless t f asked cause harmless =
     let same : t.store.failed ≡ (t.store.failed || is_failure (Err (Plain cause))) =
     or_false t.store.failed ∙ ap (λ (b : Bool). t.store.failed || b) (sym harmless) in
     ap (λ (now : Federation). record { now = now; failed = t.store.failed }) (after_plain f asked (Plain cause)) ∙ ap
-    (λ (b : Bool). record { now = after f asked (Err (Plain cause)); failed = b }) same
+    (λ (b : Bool). record { now = after_asked f asked (Err (Plain cause)); failed = b }) same
 
 pub unread_line_served : {S : Type 0} → ReadsAll → (g : Ghosts S) → LeavesShown g
     → (t : Treasury S) (line text : List ℕ) (cause : Cause) (read : Result Spelled Cause) → read ≡ Err cause
@@ -288,15 +289,15 @@ asked_report styles request asked report is (inr asks) =
 -- what is replied leads on
 pub standing_is_next : {S : Type 0} (old new : Treasury S) (f : Federation) (asked : Result Asked Refusal)
     (r : Result Answer Refusal) → new.store.failed ≡ (old.store.failed || is_failure r)
-    → standing new (after f asked r) ≡ next (standing old f) asked r
-standing_is_next old new f asked r left = ap (λ (b : Bool). record { now = after f asked r; failed = b }) left
+    → standing new (after_asked f asked r) ≡ next (standing old f) asked r
+standing_is_next old new f asked r left = ap (λ (b : Bool). record { now = after_asked f asked r; failed = b }) left
 
 spelled_some : (line : List ℕ) (request : Spelled) → spelled line ≡ Some request → IsSome (spelled line)
 spelled_some line request is = subst (λ (o : Option Spelled). IsSome o) (sym is) cc
 
 -- a report whose branch is there is replied to by `ok`
 done_only : (f : Federation) (failed : Bool) (report : AnyReport) (answer : Answer)
-    → MayReply (record { now = f; failed = failed }) (Ok (Report report)) (Ok answer) → answer ≡ Done
+    → MayReplyAsked (record { now = f; failed = failed }) (Ok (Report report)) (Ok answer) → answer ≡ Done
 done_only f failed report answer (inl e) = by_branch (has_its_branch f report) e
   where
     by_branch : (t : Bool) → Ok answer ≡ (if not t then Err (Plain UnknownBranch) else Ok Done) → answer ≡ Done
@@ -307,7 +308,7 @@ done_only f failed report answer (inr (inr e)) = absurd (let k = e.1 in cc)
 
 -- nothing that is refused is answered
 pub refused_only : (f : Federation) (failed : Bool) (refusal : Refusal) (answer : Answer) (P : Type 0)
-    → MayReply (record { now = f; failed = failed }) (Err refusal) (Ok answer) → P
+    → MayReplyAsked (record { now = f; failed = failed }) (Err refusal) (Ok answer) → P
 refused_only f failed refusal answer P (inl e) = absurd cc
 refused_only f failed refusal answer P (inr (inl e)) = absurd cc
 refused_only f failed refusal answer P (inr (inr e)) = absurd (let k = e.1 in cc)
@@ -315,7 +316,7 @@ refused_only f failed refusal answer P (inr (inr e)) = absurd (let k = e.1 in cc
 -- the text of an answer: the line that ends a report stands after it
 whole_text : (f : Federation) (failed : Bool) (request : Spelled) (asked : Result Asked Refusal) (answer : Answer)
     (written text : List ℕ) → AsksOf failed f.styles request asked
-    → MayReply (record { now = f; failed = failed }) asked (Ok answer) → written ≡ []
+    → MayReplyAsked (record { now = f; failed = failed }) asked (Ok answer) → written ≡ []
     ++ body_of form.Text f asked answer
     → text ≡ written ++ end_of_report request.request → text ≡ reply_text f asked (Ok answer)
 whole_text f failed request (Ok (Command c)) answer written text asks replies said ended =
@@ -374,7 +375,7 @@ answered_line_served g old new line written text request made x is ok beside ans
         MatchResult m (λ _. (answer : Answer)
         × ((r.reply ≡ Ok answer) × (written ≡ [] ++ body_of form.Text f asked answer)))
         (λ refusal. (r.reply ≡ Err refusal) × (written ≡ []))) ok r.text in (
-          after f asked r.reply,
+          after_asked f asked r.reply,
           (
             r.of,
             (
@@ -385,7 +386,8 @@ answered_line_served g old new line written text request made x is ok beside ans
                 replies = (r.replies, λ _. spelled_some line request is);
                 text = whole_text f old.store.failed request asked told.0 written text asks
                     (subst (λ (y : Result Answer Refusal).
-                    MayReply (record { now = f; failed = old.store.failed }) asked y) told.1.0 r.replies) told.1.1 ended
+                    MayReplyAsked (record { now = f; failed = old.store.failed }) asked y) told.1.0 r.replies) told.1.1
+                    ended
                     ∙ ap (λ (y : Result Answer Refusal). reply_text f asked y) (sym told.1.0);
                 left = standing_is_next old new f asked r.reply r.left;
               },
@@ -417,8 +419,8 @@ served_memory g old new line written text request made x is ok beside answers re
 
     by_asked : (f : Federation) (asked : Result Asked Refusal) (answer : Answer)
         → AsksOf old.store.failed f.styles request asked
-        → MayReply (record { now = f; failed = old.store.failed }) asked (Ok answer)
-        → IsTreasuryOf g new (after f asked (Ok answer)) → new.store.failed ≡ (old.store.failed || false)
+        → MayReplyAsked (record { now = f; failed = old.store.failed }) asked (Ok answer)
+        → IsTreasuryOf g new (after_asked f asked (Ok answer)) → new.store.failed ≡ (old.store.failed || false)
         → LeavesReply g old new f asked (Err (Plain OutOfMemory)) → Told f
     by_asked f (Ok (Command c)) answer asks replies of left leaves =
         absurd (let e : true ≡ false = sym report ∙ asks_report old.store.failed f.styles request c asks in cc)
@@ -452,9 +454,9 @@ served_memory g old new line written text request made x is ok beside answers re
         × ((r.reply ≡ Ok answer) × (written ≡ [] ++ body_of form.Text f asked answer)))
         (λ refusal. (r.reply ≡ Err refusal) × (written ≡ []))) ok r.text in
         by_asked f asked told.0 asks (subst
-        (λ (y : Result Answer Refusal). MayReply (record { now = f; failed = old.store.failed }) asked y) told.1.0
+        (λ (y : Result Answer Refusal). MayReplyAsked (record { now = f; failed = old.store.failed }) asked y) told.1.0
         r.replies)
-        (subst (λ (y : Result Answer Refusal). IsTreasuryOf g new (after f asked y)) told.1.0 r.of)
+        (subst (λ (y : Result Answer Refusal). IsTreasuryOf g new (after_asked f asked y)) told.1.0 r.of)
         (r.left ∙ ap (λ (y : Result Answer Refusal). old.store.failed || is_failure y) told.1.0)
         (λ is_open unfailed. (
           beside.left clean is_open f of asked asks,
@@ -499,7 +501,7 @@ served_refusal g old new line written text request made refusal is refused besid
 
     by_line : IsFaithful g new.store.conn → (f : Federation) → IsTreasuryOf g old f
         → (asked : Result Asked Refusal) → AsksOf old.store.failed f.styles request asked
-        → MayReply (record { now = f; failed = old.store.failed }) asked (Err refusal) → IsTreasuryOf g new f
+        → MayReplyAsked (record { now = f; failed = old.store.failed }) asked (Err refusal) → IsTreasuryOf g new f
         → new.store.failed ≡ (old.store.failed || is_failure (Err refusal))
         → (text ≡ answer_text f.styles (Err refusal))
         ⊎ ((text ≡ answer_text f.styles (Err (Plain OutOfMemory))) × (is_failure (Err refusal) ≡ false)) → Told f
@@ -562,9 +564,9 @@ served_refusal g old new line written text request made refusal is refused besid
         (λ e. (r.reply ≡ Err e) × (written ≡ []))) refused r.text in
         let of : IsTreasuryOf g new f =
         subst (IsTreasuryOf g new) (sym (after_plain f asked refusal))
-        (subst (λ (y : Result Answer Refusal). IsTreasuryOf g new (after f asked y)) told.0 r.of) in
+        (subst (λ (y : Result Answer Refusal). IsTreasuryOf g new (after_asked f asked y)) told.0 r.of) in
         by_line clean f was asked asks (subst
-        (λ (y : Result Answer Refusal). MayReply (record { now = f; failed = old.store.failed }) asked y) told.0
+        (λ (y : Result Answer Refusal). MayReplyAsked (record { now = f; failed = old.store.failed }) asked y) told.0
         r.replies) of
         (r.left ∙ ap (λ (y : Result Answer Refusal). old.store.failed || is_failure y) told.0)
         (data_line g new f refusal text of said)

@@ -25,14 +25,14 @@ use Rattle.treasury_store.proofs.LeftLemmas.{shuts_same}
 use Rattle.treasury_requests.specs.declared.request.Spelled.{Spelled}
 use Rattle.treasury_api.specs.declared.asking.Asked.{Asked}
 use Rattle.treasury_api.specs.Answer.{answer_text}
-use Rattle.treasury_api.specs.Step.{Standing, after}
+use Rattle.treasury_api.specs.Step.{Standing, after_asked}
 use Rattle.treasury_api.specs.Left.{FailsWith, IsOpenBut, LeavesAsked, LeavesRequest}
 use Rattle.treasury_api.specs.Replied.{standing}
 use Rattle.treasury_api.specs.History.{command_if}
 use Rattle.treasury_api.specs.OneRequest.{AnswersAs, RepliesAs, is_refusal, command_of}
 use Rattle.treasury_api.specs.WebReply.{status_of, status_of_number, whole_reply}
 use Rattle.treasury_api.specs.Web.{asked_by, IsNoAnswer, IsBodyIn, AnswersCall, AnswersOn}
-use Rattle.treasury_api.specs.Web.{IsRefusal44, AnswersRead, FailsBy}
+use Rattle.treasury_api.specs.Web.{IsRefusal44, AnswersRead, FailsCallBy}
 use Rattle.treasury_api.specs.Web.{ServesOne, AnsweredCall, AreServed, turns_of_calls, OneFails, LeavesCalls, HasServed}
 use Rattle.treasury_api.specs.WebServing.{IsToldBy, LeavesReplied}
 use Rattle.treasury_api.proofs.ReplyLemmas.{state_is, refusal_is, failure_is}
@@ -152,7 +152,7 @@ request_run_of false f request Says reply t turns end answers rest =
     request_run f request Says reply t turns end answers rest
 request_run_of true f request Says reply t turns end answers rest =
     let left : t.now ≡ f = ap (λ (s : Standing). s.now) answers.left ∙ ap
-    (λ (asked : Result Asked Refusal). after f asked reply) answers.asks in
+    (λ (asked : Result Asked Refusal). after_asked f asked reply) answers.asks in
     subst (λ (asked : Result Asked Refusal). IsRunTo f (command_if asked reply ++ turns) end) (sym answers.asks)
     (subst (λ (g : Federation). IsRunTo g turns end) left rest)
 
@@ -175,7 +175,8 @@ closed_leaves false f form call status body t is answered = absurd cc
 closed_leaves true f form call status body t is (inl (none, answer, left)) =
     (ap (λ (s : Standing). s.now) left, ap (λ (s : Standing). s.failed) left)
 closed_leaves true f form call status body t is (inr (request, asks, (reply, (answers, told)))) = (
-  ap (λ (s : Standing). s.now) answers.left ∙ ap (λ (asked : Result Asked Refusal). after f asked reply) answers.asks,
+  ap (λ (s : Standing). s.now) answers.left
+      ∙ ap (λ (asked : Result Asked Refusal). after_asked f asked reply) answers.asks,
   ap (λ (s : Standing). s.failed) answers.left,
 )
 
@@ -243,18 +244,18 @@ one_fails_map Holds Then s (c ∷ cs) end (mid, inr (request, asks, (reply, (ans
 pub ends_early : {S W : Type 0} (g : Ghosts S) (r0 r1 : Option (List ℕ)) (contents : W → Option (List ℕ)) (w : W)
     (t : Treasury S) (cause : Cause) → (cause ≡ ReadFault) ⊎ (cause ≡ OutOfMemory)
     → (cause ≡ ReadFault → IsStopped r0 r1)
-    → FailsBy cause g r0 r1 contents w w t t
+    → FailsCallBy cause g r0 r1 contents w w t t
 ends_early g r0 r1 contents w t cause (inl read) stopped =
-    subst (λ (x : Cause). FailsBy x g r0 r1 contents w w t t) (sym read) (stopped read, refl, refl)
+    subst (λ (x : Cause). FailsCallBy x g r0 r1 contents w w t t) (sym read) (stopped read, refl, refl)
 ends_early g r0 r1 contents w t cause (inr memory) stopped =
-    subst (λ (x : Cause). FailsBy x g r0 r1 contents w w t t) (sym memory) (refl, refl)
+    subst (λ (x : Cause). FailsCallBy x g r0 r1 contents w w t t) (sym memory) (refl, refl)
 
 -- there is no memory to read what is asked
 pub ends_unread : {S W : Type 0} (g : Ghosts S) (r0 r1 : Option (List ℕ)) (contents : W → Option (List ℕ)) (w : W)
     (old new : Treasury S) (cause : Cause) → cause ≡ OutOfMemory → new ≡ old
-    → FailsBy cause g r0 r1 contents w w old new
+    → FailsCallBy cause g r0 r1 contents w w old new
 ends_unread g r0 r1 contents w old new cause memory same =
-    subst (λ (x : Cause). FailsBy x g r0 r1 contents w w old new) (sym memory) (refl, same)
+    subst (λ (x : Cause). FailsCallBy x g r0 r1 contents w w old new) (sym memory) (refl, same)
 
 -- its reply is cut off
 pub ends_torn : {S W : Type 0} (g : Ghosts S) (r0 r1 : Option (List ℕ)) (contents : W → Option (List ℕ)) (w0 w1 : W)
@@ -262,9 +263,9 @@ pub ends_torn : {S W : Type 0} (g : Ghosts S) (r0 r1 : Option (List ℕ)) (conte
     → AnswersRead g r0 r1 old form status body new
     → (cause ≡ WriteFault) × ((taken : ℕ) × (taken < length (whole_reply form status body))
     × Appends (contents w0) (contents w1) (take taken (whole_reply form status body)))
-    → FailsBy cause g r0 r1 contents w0 w1 old new
+    → FailsCallBy cause g r0 r1 contents w0 w1 old new
 ends_torn g r0 r1 contents w0 w1 old new cause form status body answered (write, (taken, part, written)) =
-    subst (λ (x : Cause). FailsBy x g r0 r1 contents w0 w1 old new) (sym write)
+    subst (λ (x : Cause). FailsCallBy x g r0 r1 contents w0 w1 old new) (sym write)
     (record {
       form = form;
       status = status;
@@ -342,7 +343,7 @@ served_read g r0 r1 old new form status body read =
     served_call g old new read.received.form read.received.call status body read.answers
 
 served_failed : {S W : Type 0} (g : Ghosts S) (cause : Cause) (r0 r1 : Option (List ℕ)) (contents : W → Option (List ℕ))
-    (w0 w1 : W) (old new : Treasury S) → FailsBy cause g r0 r1 contents w0 w1 old new → HasServed g old new
+    (w0 w1 : W) (old new : Treasury S) → FailsCallBy cause g r0 r1 contents w0 w1 old new → HasServed g old new
 served_failed g OutOfMemory r0 r1 contents w0 w1 old new fails =
     subst (λ (t : Treasury _). HasServed g old t) (sym fails.1) (has_served_none g old)
 served_failed g ReadFault r0 r1 contents w0 w1 old new fails =

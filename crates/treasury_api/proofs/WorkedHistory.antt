@@ -15,12 +15,12 @@ use Rattle.treasury_api.specs.declared.asking.Asked.{Asked}
 use Rattle.treasury_api.specs.declared.asking.Asked.TheVariants.{Command, Report}
 use Rattle.treasury_api.specs.declared.report.Report.TheVariants as report
 use Rattle.treasury_api.specs.Answer.{answer_text}
-use Rattle.treasury_api.specs.Step.{at_first, reply, reply_text}
-use Rattle.treasury_api.specs.History.{Turn, end_of, commands_of, IsRefusalOrRepeat}
+use Rattle.treasury_api.specs.Step.{at_first, reply_to, reply_text}
+use Rattle.treasury_api.specs.History.{LineTurn, standing_after, commands_of, IsRefusalOrRepeat}
 
 -- Of six turns the first makes a branch, and the others leave the state. Three of them are commands, of which the last
 -- is answered 41: it is left out, and the run is failed, so that what comes after it is answered 42.
-abbrev turns : Day → List Turn
+abbrev turns : Day → List LineTurn
 turns day =
     record { line = codes "a"; asked = Ok (Command (cmd.Branch (codes "north"))); reply = Ok Done }
     ∷ record { line = codes "b"; asked = Err (Plain Amount); reply = Err (Plain Amount) }
@@ -34,7 +34,7 @@ turns day =
     ∷ record { line = codes "f"; asked = Err (Plain Closed); reply = Err (Plain Closed) } ∷ []
 
 pub run : (day : Day)
-    → (end_of at_first (turns day) ≡ record
+    → (standing_after at_first (turns day) ≡ record
     { now = record { styles = []; branches = new_branch (codes "north") ∷ []; transfers = [] }; failed = true })
     × (commands_of (turns day)
     ≡ record { command = cmd.Branch (codes "north"); reply = Ok Done }
@@ -43,7 +43,7 @@ unfolding done
 run day = (refl, refl)
 
 -- a report on a branch that is not there
-pub nowhere : (day : Day) → reply empty_state (Ok (Report (report.Balance (codes "north") day)))
+pub nowhere : (day : Day) → reply_to empty_state (Ok (Report (report.Balance (codes "north") day)))
     ≡ Err (Plain UnknownBranch)
 nowhere day = refl
 

@@ -18,9 +18,9 @@ abbrev pub refused_text : Cause → List ℕ
 refused_text cause = codes "refused " ++ decimal (number_of cause) ++ codes " " ++ name_of cause
 
 -- the line of the journal that has the fault; want of memory is no fault of a line
-abbrev pub line_text : Cause → ℕ → List ℕ
-line_text OutOfMemory line = []
-line_text _ line = codes " line " ++ decimal line
+abbrev pub at_line_text : Cause → ℕ → List ℕ
+at_line_text OutOfMemory line = []
+at_line_text _ line = codes " line " ++ decimal line
 
 -- where a leg stands
 abbrev pub place_text : Place → List ℕ
@@ -37,7 +37,7 @@ difference_text styles failure =
 -- what a refusal is answered with
 abbrev pub refusal_text : List Style → Refusal → List ℕ
 refusal_text styles (Plain cause) = refused_text cause
-refusal_text styles (Text fault) = refused_text fault.cause ++ line_text fault.cause fault.line
+refusal_text styles (Text fault) = refused_text fault.cause ++ at_line_text fault.cause fault.line
 refusal_text styles (ClaimFailed failure) =
     refused_text ClaimCause ++ place_text failure.place ++ difference_text styles failure
 

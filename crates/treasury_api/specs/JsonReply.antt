@@ -13,9 +13,9 @@ use Rattle.treasury_api.specs.Answer.{done_text, refusal_text}
 use Rattle.treasury_api.specs.WebReply.{cause_of}
 
 -- the line of an answer, without the line feed that ends it
-abbrev pub line_text : List Style → Result Answer Refusal → List ℕ
-line_text styles (Ok answer) = done_text answer
-line_text styles (Err refusal) = refusal_text styles refusal
+abbrev pub json_line_text : List Style → Result Answer Refusal → List ℕ
+json_line_text styles (Ok answer) = done_text answer
+json_line_text styles (Err refusal) = refusal_text styles refusal
 
 -- the number and the name of a refusal, and its sentence
 abbrev pub cause_members : Cause → List (List ℕ × Held)
@@ -32,7 +32,7 @@ refused_members (Err refusal) = cause_members (cause_of refusal)
 -- refusal and noted of another answer
 abbrev pub reply_members : List Style → Result Answer Refusal → List ℕ → List ℕ → List (List ℕ × Held)
 reply_members styles reply told noted =
-    (codes "answer", string (line_text styles reply)) ∷ refused_members reply
+    (codes "answer", string (json_line_text styles reply)) ∷ refused_members reply
     ++ (codes "told", strings (lines_of told)) ∷ (codes "notes", strings (lines_of noted)) ∷ []
 
 -- the object, with a line feed after it

@@ -9,7 +9,8 @@ use Rattle.treasury_state.specs.Federation.{Federation}
 use Rattle.treasury_store.specs.Treasury.{Treasury, IsTreasuryOf}
 use Rattle.treasury_api.specs.RunEnd.{most_input, Finished, EndsBy}
 use Rattle.treasury_api.specs.Step.{Standing, Answers}
-use Rattle.treasury_api.specs.History.{Turn, turn_of, IsRun, commands_of, RefusalsLeave, RefusedLinesLeave}
+use Rattle.treasury_api.specs.History.{LineTurn, turn_of, IsRunOfLines, commands_of, RefusalsLeaveStanding}
+use Rattle.treasury_api.specs.History.{RefusedLinesLeave}
 use Rattle.treasury_api.specs.Replied.{standing, OfAnyState}
 use Rattle.treasury_api.specs.Left.{LeavesRun}
 
@@ -18,23 +19,25 @@ use Rattle.treasury_api.specs.Left.{LeavesRun}
 -- refusal or `repeated`, and each whose text is the line of one, left the state as it was.
 pub record AnswersAll {R W : Type 0} (remaining : R → Option (List ℕ)) (r0 r1 : R)
     (contents : W → Option (List ℕ)) (w0 w1 : W) (start end : Standing) : Type 0 where
-  pub turns : List Turn
+  pub turns : List LineTurn
   pub finished : Finished Answers most_input (remaining r0) (remaining r1) (contents w0) (contents w1) start end
-  pub run : IsRun start finished.seen finished.written end turns
+  pub run : IsRunOfLines start finished.seen finished.written end turns
   pub commands : IsCommandRun start.now (commands_of turns)
   pub left : end.now ≡ state_after start.now (commands_of turns)
   pub headline : KeepsBooks start.now (commands_of turns)
-  pub refusals : RefusalsLeave start turns
+  pub refusals : RefusalsLeaveStanding start turns
   pub lines : RefusedLinesLeave start turns
 
 -- The turns of a run that is cut off are those of the complete lines that were answered; where a write failed, also
 -- that of the request after them, whose answer is torn.
 abbrev pub AreTurnsOf : (cause : Cause) (r0 r1 w0 w1 : Option (List ℕ)) (start end : Standing)
-    → EndsBy cause Answers most_input r0 r1 w0 w1 start end → List Turn → Type 0
-AreTurnsOf OutOfMemory r0 r1 w0 w1 start end ends turns = IsRun start ends.stops.whole ends.stops.written end turns
-AreTurnsOf ReadFault r0 r1 w0 w1 start end ends turns = IsRun start ends.answered.whole ends.answered.written end turns
+    → EndsBy cause Answers most_input r0 r1 w0 w1 start end → List LineTurn → Type 0
+AreTurnsOf OutOfMemory r0 r1 w0 w1 start end ends turns =
+    IsRunOfLines start ends.stops.whole ends.stops.written end turns
+AreTurnsOf ReadFault r0 r1 w0 w1 start end ends turns =
+    IsRunOfLines start ends.answered.whole ends.answered.written end turns
 AreTurnsOf WriteFault r0 r1 w0 w1 start end ends turns =
-    (front : List Turn) × IsRun start ends.stops.whole ends.stops.written ends.stops.mid front
+    (front : List LineTurn) × IsRunOfLines start ends.stops.whole ends.stops.written ends.stops.mid front
     × (turns ≡ front ++ turn_of ends.stops.last ∷ [])
 AreTurnsOf _ r0 r1 w0 w1 start end ends turns = ⊥
 
@@ -43,12 +46,12 @@ AreTurnsOf _ r0 r1 w0 w1 start end ends turns = ⊥
 pub record IsCutOffBy {R W : Type 0} (cause : Cause) (remaining : R → Option (List ℕ)) (r0 r1 : R)
     (contents : W → Option (List ℕ)) (w0 w1 : W) (start end : Standing) : Type 0 where
   pub ends : EndsBy cause Answers most_input (remaining r0) (remaining r1) (contents w0) (contents w1) start end
-  pub turns : List Turn
+  pub turns : List LineTurn
   pub run : AreTurnsOf cause (remaining r0) (remaining r1) (contents w0) (contents w1) start end ends turns
   pub commands : IsCommandRun start.now (commands_of turns)
   pub left : end.now ≡ state_after start.now (commands_of turns)
   pub headline : KeepsBooks start.now (commands_of turns)
-  pub refusals : RefusalsLeave start turns
+  pub refusals : RefusalsLeaveStanding start turns
 
 -- A run on a treasury of a state, by its result: all is answered, or it is cut off; and it leaves of the tables what
 -- its turns say.

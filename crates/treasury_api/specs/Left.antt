@@ -14,8 +14,8 @@ use Rattle.treasury_store.specs.Left.{LeavesRows, LeavesEither}
 use Rattle.treasury_requests.specs.declared.request.Spelled.{Spelled}
 use Rattle.treasury_api.specs.declared.asking.Asked.{Asked}
 use Rattle.treasury_api.specs.Asked.{AsksOf}
-use Rattle.treasury_api.specs.Step.{Standing, reply, after}
-use Rattle.treasury_api.specs.History.{Turn, end_of}
+use Rattle.treasury_api.specs.Step.{Standing, reply_to, after_asked}
+use Rattle.treasury_api.specs.History.{LineTurn, standing_after}
 use Rattle.treasury_tables.specs.Kept.{ShutsByFault, IsFaithful}
 
 -- ---- one request
@@ -41,7 +41,7 @@ pub record KeepsDatabase {S T : Type 0} (g : Ghosts S) (old new : Held S) (r : R
 
 -- the state where what is asked leads, once it is done
 abbrev pub end_state : Federation → Result Asked Refusal → Federation
-end_state f asked = after f asked (reply f asked)
+end_state f asked = after_asked f asked (reply_to f asked)
 
 -- whatever is left are the rows of the state, or of the one where what is asked leads
 abbrev pub LeavesAsked : {S : Type 0} → Ghosts S → Held S → Federation → Result Asked Refusal → Type 0
@@ -69,17 +69,17 @@ LeavesReply g old new f asked r =
 
 -- One of the turns was answered 41: whatever is left are the rows of the state before what it asks, or of the one after
 -- it.
-pub record FailedAt {S : Type 0} (g : Ghosts S) (new : Held S) (start : Standing) (turns : List Turn) : Type 0 where
-  pub before : List Turn
-  pub turn : Turn
-  pub behind : List Turn
+pub record FailedAt {S : Type 0} (g : Ghosts S) (new : Held S) (start : Standing) (turns : List LineTurn) : Type 0 where
+  pub before : List LineTurn
+  pub turn : LineTurn
+  pub behind : List LineTurn
   pub split : turns ≡ before ++ turn ∷ behind
   pub failed : turn.reply ≡ Err (Plain Failed)
-  pub left : LeavesAsked g new (end_of start before).now turn.asked
+  pub left : LeavesAsked g new (standing_after start before).now turn.asked
 
 -- What a run leaves of an open treasury of a state, on which no call has failed: it is open, and whatever is left are
 -- the rows of the state at the end; or it failed at one turn, with the rows of the state before that or after it.
-abbrev pub LeavesRun : {S : Type 0} → Ghosts S → Treasury S → Treasury S → Standing → List Turn → Standing → Type 0
+abbrev pub LeavesRun : {S : Type 0} → Ghosts S → Treasury S → Treasury S → Standing → List LineTurn → Standing → Type 0
 LeavesRun g old new start turns end =
     IsTrue (state g old.store.conn).is_open → old.store.failed ≡ false
     → (IsTrue (state g new.store.conn).is_open × LeavesRows g new.store.conn (rows end.now))

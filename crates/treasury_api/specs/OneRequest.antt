@@ -15,7 +15,7 @@ use Rattle.treasury_api.specs.declared.asking.Asked.TheVariants.{Command, DryRun
 use Rattle.treasury_requests.specs.Request.{HasDayNumbers}
 use Rattle.treasury_api.specs.Asked.{AsksOf}
 use Rattle.treasury_api.specs.Report.{report_text}
-use Rattle.treasury_api.specs.Step.{Standing, MayReply, next, reply_text}
+use Rattle.treasury_api.specs.Step.{Standing, MayReplyAsked, next, reply_text}
 use Rattle.treasury_api.specs.History.{command_if}
 use Rattle.treasury_api.specs.Replied.{standing, OfAnyState}
 use Rattle.treasury_tables.specs.Kept.{IsFaithful}
@@ -41,7 +41,7 @@ pub record AnswersAs (s : Standing) (request : Spelled) (Says : Result Asked Ref
   pub asked : Result Asked Refusal
   pub days : HasDayNumbers request.request
   pub asks : AsksOf s.failed s.now.styles request asked
-  pub replies : MayReply s asked reply
+  pub replies : MayReplyAsked s asked reply
   pub text : Says asked reply
   pub left : t ≡ next s asked reply
 

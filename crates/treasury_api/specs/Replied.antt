@@ -19,7 +19,7 @@ use Rattle.http_request.specs.declared.call.Form.TheVariants as form
 use Rattle.treasury_api.specs.Asked.{AsksOf}
 use Rattle.treasury_api.specs.Report.{report_in}
 use Rattle.treasury_api.specs.Answer.{answer_text, IsPrintableRefusal}
-use Rattle.treasury_api.specs.Step.{Standing, MayReply, Answers, after}
+use Rattle.treasury_api.specs.Step.{Standing, MayReplyAsked, Answers, after_asked}
 use Rattle.treasury_api.specs.Left.{FailsWith, LeavesReply}
 
 -- said of whichever state the treasury was of before a call, as long as the disk returned what was written
@@ -42,8 +42,8 @@ body_of form f (Err refusal) answer = []
 pub record IsRepliedIn {S T : Type 0} (form : Form) (g : Ghosts S) (failed : Bool) (new : Treasury S) (f : Federation)
     (asked : Result Asked Refusal) (result : Result T Refusal) (before written : List ℕ) : Type 0 where
   pub reply : Result Answer Refusal
-  pub replies : MayReply (record { now = f; failed = failed }) asked reply
-  pub of : IsTreasuryOf g new (after f asked reply)
+  pub replies : MayReplyAsked (record { now = f; failed = failed }) asked reply
+  pub of : IsTreasuryOf g new (after_asked f asked reply)
   pub left : new.store.failed ≡ (failed || is_failure reply)
   pub text : MatchResult result
       (λ _. (answer : Answer) × ((reply ≡ Ok answer) × (written ≡ before ++ body_of form f asked answer)))

@@ -31,18 +31,18 @@ pub record HalfServed {S : Type 0} (Step : S → List ℕ → List ℕ → S →
   pub appended : Appends w0 w1 (take taken answer)
 
 -- the requests are not served, for this cause
-abbrev pub FailsBy : {S : Type 0} → Cause → (S → List ℕ → List ℕ → S → Type 0)
+abbrev pub FailsLineBy : {S : Type 0} → Cause → (S → List ℕ → List ℕ → S → Type 0)
     → Option (List ℕ) → Option (List ℕ) → S → List (List ℕ) → S → Type 0
-FailsBy OutOfMemory Step w0 w1 start requests end = Unserved w0 w1 start end
-FailsBy WriteFault Step w0 w1 start requests end = HalfServed Step w0 w1 start requests end
-FailsBy _ Step w0 w1 start requests end = ⊥
+FailsLineBy OutOfMemory Step w0 w1 start requests end = Unserved w0 w1 start end
+FailsLineBy WriteFault Step w0 w1 start requests end = HalfServed Step w0 w1 start requests end
+FailsLineBy _ Step w0 w1 start requests end = ⊥
 
 -- the requests are served, or not, by the result
 abbrev pub Serves : {T S : Type 0} → Result T Cause → (S → List ℕ → List ℕ → S → Type 0)
     → Option (List ℕ) → Option (List ℕ) → S → List (List ℕ) → S → Type 0
 Serves result Step w0 w1 start requests end = MatchResult result
     (λ _. Served Step w0 w1 start requests end)
-    (λ cause. FailsBy cause Step w0 w1 start requests end)
+    (λ cause. FailsLineBy cause Step w0 w1 start requests end)
 
 -- the complete lines of what was seen are answered, or the answers stop, by the result
 abbrev pub Feeds : {T S : Type 0} → Result T Cause → (S → List ℕ → List ℕ → S → Type 0)
@@ -56,8 +56,8 @@ abbrev pub feed_place : List ℕ → Option ℕ
 feed_place text = position (λ b. b == 10) text
 
 -- the line, which a line feed ends, is answered, or the answers stop there, whatever stands after it
-abbrev pub EndsLine : {T S : Type 0} → Result T Cause → (S → List ℕ → List ℕ → S → Type 0)
+abbrev pub EndsWithLine : {T S : Type 0} → Result T Cause → (S → List ℕ → List ℕ → S → Type 0)
     → Option (List ℕ) → Option (List ℕ) → S → List ℕ → List ℕ → S → Type 0
-EndsLine result Step w0 w1 start line begun end = MatchResult result
+EndsWithLine result Step w0 w1 start line begun end = MatchResult result
     (λ _. AnswersWhole Step w0 w1 start (line ++ 10 ∷ []) begun end)
     (λ cause. (rest : List ℕ) → StopsBy cause Step ⊥ w0 w1 start (line ++ 10 ∷ rest) end)

@@ -24,18 +24,18 @@ abbrev pub report_reply : Federation → AnyReport → Result Answer Refusal
 report_reply f report = if not (has_its_branch f report) then Err (Plain UnknownBranch) else Ok Done
 
 -- the reply to what is asked; a dry run is replied to as its command is
-abbrev pub reply : Federation → Result Asked Refusal → Result Answer Refusal
-reply f (Ok (Command c)) = command_reply f c
-reply f (Ok (DryRun c)) = command_reply f c
-reply f (Ok (Report report)) = report_reply f report
-reply f (Err refusal) = Err refusal
+abbrev pub reply_to : Federation → Result Asked Refusal → Result Answer Refusal
+reply_to f (Ok (Command c)) = command_reply f c
+reply_to f (Ok (DryRun c)) = command_reply f c
+reply_to f (Ok (Report report)) = report_reply f report
+reply_to f (Err refusal) = Err refusal
 
 -- the state after the reply: only a command that is performed changes it
-abbrev pub after : Federation → Result Asked Refusal → Result Answer Refusal → Federation
-after f (Ok (Command c)) r = after_command f c r
-after f (Ok (DryRun c)) r = f
-after f (Ok (Report report)) r = f
-after f (Err refusal) r = f
+abbrev pub after_asked : Federation → Result Asked Refusal → Result Answer Refusal → Federation
+after_asked f (Ok (Command c)) r = after_command f c r
+after_asked f (Ok (DryRun c)) r = f
+after_asked f (Ok (Report report)) r = f
+after_asked f (Err refusal) r = f
 
 -- the lines of the report that is asked for
 abbrev pub report_lines : Federation → Result Asked Refusal → List ℕ
@@ -60,22 +60,22 @@ at_first = record { now = empty_state; failed = false }
 
 -- where a run stands after the reply: 41 closes the database for good
 abbrev pub next : Standing → Result Asked Refusal → Result Answer Refusal → Standing
-next s asked r = record { now = after s.now asked r; failed = s.failed || is_failure r }
+next s asked r = record { now = after_asked s.now asked r; failed = s.failed || is_failure r }
 
 -- what may be replied: what the step says, 40, or 41 while no call of the database has failed
-abbrev pub MayReply : Standing → Result Asked Refusal → Result Answer Refusal → Type 0
-MayReply s asked r =
-    (r ≡ reply s.now asked) ⊎ ((r ≡ Err (Plain OutOfMemory)) ⊎ ((s.failed ≡ false) × (r ≡ Err (Plain Failed))))
+abbrev pub MayReplyAsked : Standing → Result Asked Refusal → Result Answer Refusal → Type 0
+MayReplyAsked s asked r =
+    (r ≡ reply_to s.now asked) ⊎ ((r ≡ Err (Plain OutOfMemory)) ⊎ ((s.failed ≡ false) × (r ≡ Err (Plain Failed))))
 
 -- the same of a line: only a request is replied to by 41
-abbrev pub Replies : Standing → List ℕ → Result Asked Refusal → Result Answer Refusal → Type 0
-Replies s line asked r = MayReply s asked r × (r ≡ Err (Plain Failed) → IsSome (spelled line))
+abbrev pub RepliesToLine : Standing → List ℕ → Result Asked Refusal → Result Answer Refusal → Type 0
+RepliesToLine s line asked r = MayReplyAsked s asked r × (r ≡ Err (Plain Failed) → IsSome (spelled line))
 
 -- a line is answered with a text, and leads on: by what it asks, what is replied to that, and what the reply leaves
 pub record Answers (s : Standing) (line answer : List ℕ) (t : Standing) : Type 0 where
   pub asked : Result Asked Refusal
   pub reply : Result Answer Refusal
   pub asks : Asks s.failed s.now.styles line asked
-  pub replies : Replies s line asked reply
+  pub replies : RepliesToLine s line asked reply
   pub text : answer ≡ reply_text s.now asked reply
   pub left : t ≡ next s asked reply

@@ -148,12 +148,12 @@ pub record IsTorn {S : Type 0} (g : Ghosts S) (r0 r1 w0 w1 : Option (List ℕ)) 
   pub written : Appends w0 w1 (take taken (whole_reply form status body))
 
 -- how a connection ends that is refused by this cause: by 40 and 45 nothing is written, and nothing has changed
-abbrev pub FailsBy : {S W : Type 0} → Cause → Ghosts S → Option (List ℕ) → Option (List ℕ) → (W → Option (List ℕ)) → W
-    → W → Treasury S → Treasury S → Type 0
-FailsBy OutOfMemory g r0 r1 contents w0 w1 old new = (w1 ≡ w0) × (new ≡ old)
-FailsBy ReadFault g r0 r1 contents w0 w1 old new = IsStopped r0 r1 × (w1 ≡ w0) × (new ≡ old)
-FailsBy WriteFault g r0 r1 contents w0 w1 old new = IsTorn g r0 r1 (contents w0) (contents w1) old new
-FailsBy _ g r0 r1 contents w0 w1 old new = ⊥
+abbrev pub FailsCallBy : {S W : Type 0} → Cause → Ghosts S → Option (List ℕ) → Option (List ℕ) → (W → Option (List ℕ))
+    → W → W → Treasury S → Treasury S → Type 0
+FailsCallBy OutOfMemory g r0 r1 contents w0 w1 old new = (w1 ≡ w0) × (new ≡ old)
+FailsCallBy ReadFault g r0 r1 contents w0 w1 old new = IsStopped r0 r1 × (w1 ≡ w0) × (new ≡ old)
+FailsCallBy WriteFault g r0 r1 contents w0 w1 old new = IsTorn g r0 r1 (contents w0) (contents w1) old new
+FailsCallBy _ g r0 r1 contents w0 w1 old new = ⊥
 
 -- how a connection ends, by its result; `remaining` and `contents` are what a reader has left and what a writer holds,
 -- where they are known
@@ -161,7 +161,7 @@ abbrev pub ServesOne : {T S R W : Type 0} → Result T Cause → Ghosts S → (R
     → (W → Option (List ℕ)) → W → W → Treasury S → Treasury S → Type 0
 ServesOne result g remaining r0 r1 contents w0 w1 old new = MatchResult result
     (λ _. IsServed g (remaining r0) (remaining r1) (contents w0) (contents w1) old new)
-    (λ cause. FailsBy cause g (remaining r0) (remaining r1) contents w0 w1 old new)
+    (λ cause. FailsCallBy cause g (remaining r0) (remaining r1) contents w0 w1 old new)
 
 -- ---- connections one after another
 

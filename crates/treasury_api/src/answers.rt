@@ -6,7 +6,7 @@ ghost use Rattle.std.specs.List.{flat_map};
 ghost use Rattle.std.specs.Result.{IsOkUnless};
 ghost use Rattle.money_core.specs.AmountText.{IsDeclared};
 ghost use Rattle.journal_lines.specs.Date.{IsDayNumber};
-ghost use Rattle.treasury_api.specs.Answer.{refused_text, line_text, place_text, difference_text, refusal_text};
+ghost use Rattle.treasury_api.specs.Answer.{refused_text, at_line_text, place_text, difference_text, refusal_text};
 ghost use Rattle.treasury_api.specs.Answer.{done_text, answer_text, IsPrintableRefusal, IsPrintableAnswer};
 ghost use Rattle.treasury_api.specs.Answer.{IsPlainAnswer};
 
@@ -109,7 +109,7 @@ fn push_refused(cause: Cause, detail: &[u8], line: &mut Vec<u8>) -> Result<(), A
 
 /// Appends the line of the journal that has the fault; want of memory is no fault of a line.
 fn push_line(alloc: Global, cause: Cause, nr: usize, line: &mut Vec<u8>) -> Result<(), AllocError>
-    ensures { OnOk result (line.new.items ≡ line.old.items ++ line_text cause nr) }
+    ensures { OnOk result (line.new.items ≡ line.old.items ++ at_line_text cause nr) }
 {
     match cause {
         Cause::OutOfMemory => Ok(()),

@@ -8,9 +8,9 @@ ghost use Rattle.treasury_core.specs.declared.command.Command.{Command};
 ghost use Rattle.treasury_core.specs.Run.{IsRun as IsCommandRun, state_after};
 ghost use Rattle.treasury_api.specs.declared.report.Report.{Report};
 ghost use Rattle.treasury_api.specs.Transcript.{IsTranscript};
-ghost use Rattle.treasury_api.specs.Step.{Standing, after, Answers};
-ghost use Rattle.treasury_api.specs.History.{Turn, AreTurns, end_of, IsRun, commands_of};
-ghost use Rattle.treasury_api.specs.History.{RefusalsLeave, IsRefusalOrRepeat, RefusedLinesLeave};
+ghost use Rattle.treasury_api.specs.Step.{Standing, after_asked, Answers};
+ghost use Rattle.treasury_api.specs.History.{LineTurn, AreTurns, standing_after, IsRunOfLines, commands_of};
+ghost use Rattle.treasury_api.specs.History.{RefusalsLeaveStanding, IsRefusalOrRepeat, RefusedLinesLeave};
 ghost use Rattle.money_core.specs.declared.day.Day.{Day as Number};
 ghost use Rattle.treasury_reports.specs.TransfersReport.{AddUpToTransit};
 ghost use Rattle.treasury_api.specs.Lists.{AreRepeated};
@@ -28,18 +28,19 @@ use treasury_reports::{samples_law, transfers_law};
 /// their transcript. Costs nothing.
 pub fn run_law()
     ensures turns { (start : Standing) (input output : List ℕ) (end : Standing)
-        → IsTranscript Answers start input output end → (turns : List Turn) × IsRun start input output end turns }
-    ensures transcript { (start : Standing) (input output : List ℕ) (end : Standing) (turns : List Turn)
-        → IsRun start input output end turns → IsTranscript Answers start input output end }
+        → IsTranscript Answers start input output end → (turns : List LineTurn)
+        × IsRunOfLines start input output end turns }
+    ensures transcript { (start : Standing) (input output : List ℕ) (end : Standing) (turns : List LineTurn)
+        → IsRunOfLines start input output end turns → IsTranscript Answers start input output end }
 {}
 
 /// A law of turns: their commands fit, and are a run of the machine of commands that leads where the turns do. So all
 /// laws of its runs hold of them; those that the program calls nowhere else are called here. Costs nothing.
 pub fn commands_law()
-    ensures run { (start : Standing) (turns : List Turn) → AreTurns start turns
+    ensures run { (start : Standing) (turns : List LineTurn) → AreTurns start turns
         → IsCommandRun start.now (commands_of turns) }
-    ensures end { (start : Standing) (turns : List Turn)
-        → (end_of start turns).now ≡ state_after start.now (commands_of turns) }
+    ensures end { (start : Standing) (turns : List LineTurn)
+        → (standing_after start turns).now ≡ state_after start.now (commands_of turns) }
 {
     joined_law();
     unchanged_law();
@@ -57,15 +58,16 @@ pub fn commands_law()
 /// answer is a refusal or `repeated`. Along a run so does each answer that stands in its output as such a line. A
 /// report or a dry run leaves the state whatever is replied. Costs nothing.
 pub fn refusal_law()
-    ensures turns { (start : Standing) (turns : List Turn) → AreTurns start turns → RefusalsLeave start turns }
+    ensures turns { (start : Standing) (turns : List LineTurn) → AreTurns start turns
+        → RefusalsLeaveStanding start turns }
     ensures answered { (s : Standing) (line text : List ℕ) (t : Standing)
         → Answers s line text t → IsRefusalOrRepeat text → t.now ≡ s.now }
-    ensures along { (start : Standing) (input output : List ℕ) (end : Standing) (turns : List Turn)
-        → IsRun start input output end turns → RefusedLinesLeave start turns }
+    ensures along { (start : Standing) (input output : List ℕ) (end : Standing) (turns : List LineTurn)
+        → IsRunOfLines start input output end turns → RefusedLinesLeave start turns }
     ensures report { (f : Federation) (report : Report) (r : Result Answer Refused)
-        → after f (Ok (Asked.Report report)) r ≡ f }
+        → after_asked f (Ok (Asked.Report report)) r ≡ f }
     ensures dry_run { (f : Federation) (command : Command) (r : Result Answer Refused)
-        → after f (Ok (Asked.DryRun command)) r ≡ f }
+        → after_asked f (Ok (Asked.DryRun command)) r ≡ f }
 {}
 
 /// Laws of what is listed of a state: what is open of the transfers adds up to what the transit report has, and each

@@ -16,14 +16,14 @@ use Rattle.treasury_state.specs.Transfer.{is_all}
 use Rattle.treasury_state.specs.Joined.{new_branch, with_records, with_lock, changed, inserted, put_part, parts_with}
 use Rattle.treasury_state.specs.Joined.{with_receipt, received, joined_one, joined}
 use Rattle.treasury_files.specs.declared.shrinking.Counts.{Counts}
-use Rattle.treasury_files.specs.Counts.{parts_of, records_in, counts_of, AreKept, Keeps}
+use Rattle.treasury_files.specs.Counts.{count_of_parts, count_of_records, counts_of, AreNoFewer, Keeps}
 
 -- ---- numbers
 
-kept_same : (ns : List ℕ) → AreKept ns ns
+kept_same : (ns : List ℕ) → AreNoFewer ns ns
 kept_same ns = record { all = omega arith; each = λ place below. omega arith }
 
-kept_twice : (a b c : List ℕ) → AreKept a b → AreKept b c → AreKept a c
+kept_twice : (a b c : List ℕ) → AreNoFewer a b → AreNoFewer b c → AreNoFewer a c
 kept_twice a b c h k = record {
   all = omega (arith, h.all, k.all);
   each = λ place below.
@@ -37,7 +37,7 @@ each_behind : (m n : ℕ) (ms ns : List ℕ) → m ≤ n
 each_behind m n ms ns first each zero below = first
 each_behind m n ms ns first each (suc place) below = each place (omega (arith, below))
 
-kept_behind : (m n : ℕ) (ms ns : List ℕ) → m ≤ n → AreKept ms ns → AreKept (m ∷ ms) (n ∷ ns)
+kept_behind : (m n : ℕ) (ms ns : List ℕ) → m ≤ n → AreNoFewer ms ns → AreNoFewer (m ∷ ms) (n ∷ ns)
 kept_behind m n ms ns first k = record {
   all = omega (arith, k.all);
   each = each_behind m n ms ns first k.each;
@@ -46,19 +46,19 @@ kept_behind m n ms ns first k = record {
 -- ---- branches
 
 kept_push : (bs : List Branch) (name : List ℕ)
-    → AreKept (map records_in bs) (map records_in (bs ++ new_branch name ∷ []))
+    → AreNoFewer (map count_of_records bs) (map count_of_records (bs ++ new_branch name ∷ []))
 kept_push [] name = record { all = omega arith; each = λ place below. absurd (omega (arith, below)) }
 kept_push (b ∷ bs) name = kept_behind _ _ _ _ (omega arith) (kept_push bs name)
 
-kept_at : (g : Branch → Branch) (b : Branch) (bs xs : List Branch) (t : Bool) → records_in b ≤ records_in (g b)
-    → AreKept (map records_in bs) (map records_in xs)
-    → AreKept (map records_in (b ∷ bs)) (map records_in (if t then g b ∷ bs else b ∷ xs))
-kept_at g b bs xs true more k = kept_behind _ _ _ _ more (kept_same (map records_in bs))
+kept_at : (g : Branch → Branch) (b : Branch) (bs xs : List Branch) (t : Bool)
+    → count_of_records b ≤ count_of_records (g b) → AreNoFewer (map count_of_records bs) (map count_of_records xs)
+    → AreNoFewer (map count_of_records (b ∷ bs)) (map count_of_records (if t then g b ∷ bs else b ∷ xs))
+kept_at g b bs xs true more k = kept_behind _ _ _ _ more (kept_same (map count_of_records bs))
 kept_at g b bs xs false more k = kept_behind _ _ _ _ (omega arith) k
 
 kept_changed : (g : Branch → Branch) (name : List ℕ) (bs : List Branch)
-    → ((b : Branch) → records_in b ≤ records_in (g b))
-    → AreKept (map records_in bs) (map records_in (changed g name bs))
+    → ((b : Branch) → count_of_records b ≤ count_of_records (g b))
+    → AreNoFewer (map count_of_records bs) (map count_of_records (changed g name bs))
 kept_changed g name [] more = kept_same []
 kept_changed g name (b ∷ bs) more =
     kept_at g b bs (changed g name bs) (bytes_eq b.name name) (more b) (kept_changed g name bs more)
@@ -68,20 +68,20 @@ kept_changed g name (b ∷ bs) more =
 -- how many parts transfers have, and how many they are: no fewer
 record AreMore (ts us : List Transfer) : Type 0 where
   count : length ts ≤ length us
-  parts : sum_by parts_of ts ≤ sum_by parts_of us
+  parts : sum_by count_of_parts ts ≤ sum_by count_of_parts us
 
-more_behind : (t u : Transfer) (ts us : List Transfer) → parts_of t ≤ parts_of u → AreMore ts us
+more_behind : (t u : Transfer) (ts us : List Transfer) → count_of_parts t ≤ count_of_parts u → AreMore ts us
     → AreMore (t ∷ ts) (u ∷ us)
 more_behind t u ts us first h = record {
   count = omega (arith, h.count);
-  parts = omega (arith, sum_by-cons parts_of t ts, sum_by-cons parts_of u us, first, h.parts);
+  parts = omega (arith, sum_by-cons count_of_parts t ts, sum_by-cons count_of_parts u us, first, h.parts);
 }
 
 more_same : (ts : List Transfer) → AreMore ts ts
 more_same ts = record { count = omega arith; parts = omega arith }
 
 more_front : (t : Transfer) (ts : List Transfer) → AreMore ts (t ∷ ts)
-more_front t ts = record { count = omega arith; parts = omega (arith, sum_by-cons parts_of t ts) }
+more_front t ts = record { count = omega arith; parts = omega (arith, sum_by-cons count_of_parts t ts) }
 
 inserted_at : (t x : Transfer) (xs ys : List Transfer) (before : Bool) → AreMore xs ys
     → AreMore (x ∷ xs) (if before then x ∷ ys else t ∷ x ∷ xs)
@@ -125,7 +125,8 @@ keeps_twice a b c h k = record {
   entries = kept_twice a.entries b.entries c.entries h.entries k.entries;
 }
 
-keeps_branches : (f : Federation) (bs : List Branch) → AreKept (map records_in f.branches) (map records_in bs)
+keeps_branches : (f : Federation) (bs : List Branch)
+    → AreNoFewer (map count_of_records f.branches) (map count_of_records bs)
     → Keeps (counts_of f) (counts_of (record f { branches = bs }))
 keeps_branches f bs kept = record {
   commodities = omega arith;
@@ -140,7 +141,7 @@ keeps_transfers f ts more = record {
   commodities = omega arith;
   transfers = more.count;
   receipts = more.parts;
-  entries = kept_same (map records_in f.branches);
+  entries = kept_same (map count_of_records f.branches);
 }
 
 keeps_one : (f : Federation) (x : Addition) → Keeps (counts_of f) (counts_of (joined_one f x))
@@ -148,7 +149,7 @@ keeps_one f (add.Commodity style) = record {
   commodities = simp length-append (omega arith);
   transfers = omega arith;
   receipts = omega arith;
-  entries = kept_same (map records_in f.branches);
+  entries = kept_same (map count_of_records f.branches);
 }
 keeps_one f (add.Branch name) = keeps_branches f _ (kept_push f.branches name)
 keeps_one f (add.Record name r) =
@@ -163,6 +164,6 @@ keeps_joined f [] = record {
   commodities = omega arith;
   transfers = omega arith;
   receipts = omega arith;
-  entries = kept_same (map records_in f.branches);
+  entries = kept_same (map count_of_records f.branches);
 }
 keeps_joined f (x ∷ xs) = keeps_twice _ _ _ (keeps_one f x) (keeps_joined (joined_one f x) xs)

@@ -33,7 +33,7 @@ use Rattle.treasury_files.specs.declared.left.Left.TheVariants.{Closed, Open, Sh
 use Rattle.treasury_files.specs.Left.{KeepsFile}
 use Rattle.treasury_files.specs.InFile.{LeavesState, MakesOver, ShowsGoodRows, HasTreasury}
 use Rattle.treasury_files.specs.declared.file.Unopened.{Unopened as Why}
-use Rattle.treasury_files.specs.Started.{IsUnserved, IsLeftAs, IsOpenedOn, StartsOn, IsStarted, IsClosedAs, IsUnclosed}
+use Rattle.treasury_files.specs.Started.{IsUnserved, IsLeftAs, IsOpenedOn, StartsOn, IsStarted, IsClosedAs, IsStillOpen}
 use Rattle.treasury_files.proofs.LeftLemmas.{alone_in, settles, stored_in, keeps_open, keeps_closed, keeps_shut}
 
 -- what holds of a state that is held is held of one
@@ -181,7 +181,7 @@ module _ {D : Type 0} (g : disk.Ghosts D) where
         holds k left_so in (inl held.0, held.1))
 
     pub keeps_unclosed : (image : Image) (t : Treasury (FileStore D g)) (it : FileStore D g) → IsStarted g image t
-        → IsUnclosed g t.store.conn it → KeepsFile g image (Shut it)
+        → IsStillOpen g t.store.conn it → KeepsFile g image (Shut it)
     keeps_unclosed image t it started quiet =
         keeps_shut g stays image started.opened t.store.conn (Shut it) started.on (it, refl, quiet) started.starts.clean
         (λ k rows holds trees may.

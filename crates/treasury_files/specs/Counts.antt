@@ -6,24 +6,24 @@ use Rattle.treasury_state.specs.Federation.{Branch, Federation}
 use Rattle.treasury_files.specs.declared.shrinking.Counts.{Counts}
 
 -- the receipts of parts of a transfer
-abbrev pub parts_of : Transfer → ℕ
-parts_of t = length t.parts
+abbrev pub count_of_parts : Transfer → ℕ
+count_of_parts t = length t.parts
 
 -- the entries of a branch
-abbrev pub records_in : Branch → ℕ
-records_in b = length b.records
+abbrev pub count_of_records : Branch → ℕ
+count_of_records b = length b.records
 
 -- how many commodities, transfers and receipts of parts a state has, and how many entries each branch
 abbrev pub counts_of : Federation → Counts
 counts_of f = record {
   commodities = length f.styles;
   transfers = length f.transfers;
-  receipts = sum_by parts_of f.transfers;
-  entries = map records_in f.branches;
+  receipts = sum_by count_of_parts f.transfers;
+  entries = map count_of_records f.branches;
 }
 
 -- no number is missing later, or smaller than the one at its place before
-pub record AreKept (before after : List ℕ) : Type 0 where
+pub record AreNoFewer (before after : List ℕ) : Type 0 where
   pub all : length before ≤ length after
   pub each : (place : ℕ) → place < length before → slice_index before place ≤ slice_index after place
 
@@ -32,4 +32,4 @@ pub record Keeps (before after : Counts) : Type 0 where
   pub commodities : before.commodities ≤ after.commodities
   pub transfers : before.transfers ≤ after.transfers
   pub receipts : before.receipts ≤ after.receipts
-  pub entries : AreKept before.entries after.entries
+  pub entries : AreNoFewer before.entries after.entries

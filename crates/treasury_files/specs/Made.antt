@@ -3,9 +3,9 @@ use Rattle.std.specs.Prelude.{ℕ, List, map}
 use Rattle.sqlite.specs.Table.{Table}
 
 -- the names of a table's columns
-abbrev pub names_in : Table → List (List ℕ)
-names_in t = map (λ c. c.name) t.columns
+abbrev pub column_names : Table → List (List ℕ)
+column_names t = map (λ c. c.name) t.columns
 
 -- a table's name, and those of its columns
 abbrev pub heading : Table → List ℕ × List (List ℕ)
-heading t = (t.name, names_in t)
+heading t = (t.name, column_names t)

@@ -38,18 +38,18 @@ pub record IsLeftAs {D : Type 0} {g : disk.Ghosts D} (c : Held (FileStore D g)) 
   pub by : IsLeftBy c it
 
 -- by which cause a file serves no word
-abbrev pub refusal_of : Why → Cause
-refusal_of why.NoMemory = OutOfMemory
-refusal_of (why.Unusable reason) = Failed
-refusal_of (why.NoTreasury reason) = Damaged
-refusal_of (why.OtherVersion version) = Damaged
-refusal_of (why.Strange told) = Damaged
+abbrev pub cause_of_why : Why → Cause
+cause_of_why why.NoMemory = OutOfMemory
+cause_of_why (why.Unusable reason) = Failed
+cause_of_why (why.NoTreasury reason) = Damaged
+cause_of_why (why.OtherVersion version) = Damaged
+cause_of_why (why.Strange told) = Damaged
 
 module _ {D : Type 0} (g : disk.Ghosts D) where
   -- A file that serves no word holds what it held; where that is 43, it has no treasury, if it was opened.
   pub record IsUnserved (image : Image) (why : Why) (left : Left D g) : Type 0 where
     pub keeps : KeepsFile g image left
-    pub reason : refusal_of why ≡ Damaged → HasNoTreasury g image left
+    pub reason : cause_of_why why ≡ Damaged → HasNoTreasury g image left
 
   -- a connection was opened on files that held this
   pub record IsOpenedOn (image : Image) (opened : Held (FileStore D g)) : Type 0 where
@@ -79,5 +79,5 @@ module _ {D : Type 0} (g : disk.Ghosts D) where
     pub copied : AreClean g closed.log closed.db → IsCopied c closed
 
   -- It could not be closed.
-  abbrev pub IsUnclosed : Held (FileStore D g) → FileStore D g → Type 0
-  IsUnclosed c it = IsQuiet view faults recovers is_shielded c.store it
+  abbrev pub IsStillOpen : Held (FileStore D g) → FileStore D g → Type 0
+  IsStillOpen c it = IsQuiet view faults recovers is_shielded c.store it

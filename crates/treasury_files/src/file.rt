@@ -18,8 +18,8 @@ ghost use Rattle.treasury_tables.specs.Rows.{HoldsFirst, HoldsEither};
 ghost use Rattle.treasury_files.specs.declared.left.Left.TheVariants.{Untouched, Closed};
 ghost use Rattle.treasury_files.specs.Left.{KeepsFile};
 ghost use Rattle.treasury_files.specs.InFile.{MakesOver, most_journal};
-ghost use Rattle.treasury_files.specs.Started.{refusal_of, IsUnserved, IsOpenedOn, StartsOn, IsStarted};
-ghost use Rattle.treasury_files.specs.Started.{IsClosedAs, IsUnclosed, IsLeftAs};
+ghost use Rattle.treasury_files.specs.Started.{cause_of_why, IsUnserved, IsOpenedOn, StartsOn, IsStarted};
+ghost use Rattle.treasury_files.specs.Started.{IsClosedAs, IsStillOpen, IsLeftAs};
 ghost use Rattle.treasury_files.specs.Leaving.{unopened_as};
 ghost use Rattle.treasury_files.specs.Leaving.{IsLeftOpen, IsLeftClosed, IsLeftRefused, IsAsked};
 
@@ -197,7 +197,7 @@ fn look_at_new(rt: &HostRuntime, path: &str) -> Result<(), Unopened> {
 
 /// Why a file was not opened: never by 43.
 fn why_unopened(error: Error) -> Unopened
-    ensures { refusal_of result ≡ Cause.Damaged → ⊥ }
+    ensures { cause_of_why result ≡ Cause.Damaged → ⊥ }
 {
     match error {
         Error::SqliteFailure(ErrorCode::OutOfMemory) => Unopened::NoMemory,
@@ -241,7 +241,7 @@ fn connect<S: Start>(
     ensures new { IfOk result IsNew }
     ensures opened { IfOk result (IsOpenedOn ⟦<FileFrom<S> as Disk>⟧ (image_at S.Start)) }
     ensures refused { IfErr result (λ r. KeepsFile ⟦<FileFrom<S> as Disk>⟧ (image_at S.Start) r.left) }
-    ensures never { IfErr result (λ r. refusal_of r.why ≡ Cause.Damaged → ⊥) }
+    ensures never { IfErr result (λ r. cause_of_why r.why ≡ Cause.Damaged → ⊥) }
 {
     match Connection::open_from(rt, path, false, start) {
         Ok(conn) => Ok(conn),
@@ -254,7 +254,7 @@ fn connect<S: Start>(
 
 /// Why there is no treasury on a database.
 pub(crate) fn unstarted(cause: Cause, damage: &'static str) -> Unopened
-    ensures { refusal_of result ≡ Cause.Damaged → cause ≡ Cause.Damaged }
+    ensures { cause_of_why result ≡ Cause.Damaged → cause ≡ Cause.Damaged }
 {
     match cause {
         Cause::OutOfMemory => Unopened::NoMemory,
@@ -265,7 +265,7 @@ pub(crate) fn unstarted(cause: Cause, damage: &'static str) -> Unopened
 
 /// Why a call on the tables of a database was refused: `damage` says it of tables that are there.
 fn why_uncalled(cause: Cause, damage: &'static str, schema: &Schema) -> Unopened
-    ensures { refusal_of result ≡ Cause.Damaged → cause ≡ Cause.Damaged }
+    ensures { cause_of_why result ≡ Cause.Damaged → cause ≡ Cause.Damaged }
 {
     match cause {
         Cause::Store if is_taken(schema) => Unopened::Unusable(TAKEN),
@@ -277,7 +277,7 @@ fn why_uncalled(cause: Cause, damage: &'static str, schema: &Schema) -> Unopened
 pub(crate) fn unopened_tables<S: Alter>(conn: &mut Connection<S>, cause: Cause) -> Unopened
     ensures same { (cause ≡ Cause.Damaged → ⊥) → conn.new ≡ conn.old }
     ensures clean { doubt (state S.Store conn.old).is_clean ≤ doubt (state S.Store conn.new).is_clean }
-    ensures damaged { refusal_of result ≡ Cause.Damaged → cause ≡ Cause.Damaged }
+    ensures damaged { cause_of_why result ≡ Cause.Damaged → cause ≡ Cause.Damaged }
 {
     let version = match cause {
         Cause::Damaged => found_version(conn),
@@ -341,7 +341,7 @@ fn left_unstarted<D: Disk + Drop>(conn: Connection<FileStore<D>>, is_upgraded: b
 
 /// Whether a file is refused by 43.
 fn is_damage(why: &Unopened) -> bool
-    ensures { result ≡ false → refusal_of why.now ≡ Cause.Damaged → ⊥ }
+    ensures { result ≡ false → cause_of_why why.now ≡ Cause.Damaged → ⊥ }
 {
     match why {
         Unopened::NoMemory | Unopened::Unusable(_) => false,
@@ -359,7 +359,7 @@ fn try_first<S: Alter>(
     requires { conn.old.in_transaction ≡ false }
     ensures same { OnOk result (conn.new ≡ conn.old) }
     ensures reads { ReadsFirst S.Store conn.old conn.new }
-    ensures damaged { IfErr result (λ why. refusal_of why ≡ Cause.Damaged → IsFaithful S.Store conn.new
+    ensures damaged { IfErr result (λ why. cause_of_why why ≡ Cause.Damaged → IsFaithful S.Store conn.new
         → (f : Federation) → IsGoodState f → HoldsFirst (state S.Store conn.old).now (rows f) → ⊥) }
 {
     let why = match rehearse_alone(rt, path) {
@@ -392,7 +392,7 @@ fn check_opened<S: Alter>(
     ensures reads { OnErr result ((conn.new ≡ conn.old) ⊎ ((has_receipt (state S.Store conn.old).now.schema ≡ false)
         × ReadsFirst S.Store conn.old conn.new)) }
     // Those that are the rows of a good state are not refused by 43.
-    ensures damaged { IfErr result (λ why. refusal_of why ≡ Cause.Damaged → IsFaithful S.Store conn.new
+    ensures damaged { IfErr result (λ why. cause_of_why why ≡ Cause.Damaged → IsFaithful S.Store conn.new
         → (f : Federation) → IsGoodState f → HoldsEither (state S.Store conn.old).now (rows f) → ⊥) }
 {
     match check_tables(rt.alloc(), conn.schema(), is_alone) {
@@ -448,7 +448,7 @@ fn start_on<D: Disk + Drop>(
 fn without_tables<D: Disk + Drop>(refused: Refused<FileStore<D>>, is_first: bool) -> Unserved<D>
     ensures left { (conn : Held (FileStore D D.Disk)) × IsAsked D.Disk refused.conn refused.cause conn
         × IsLeftRefused conn refused.cause is_first result.left }
-    ensures damaged { refusal_of result.why ≡ Cause.Damaged → refused.cause ≡ Cause.Damaged }
+    ensures damaged { cause_of_why result.why ≡ Cause.Damaged → refused.cause ≡ Cause.Damaged }
 {
     let Refused { mut conn, cause } = refused;
     let why = unopened_tables(&mut conn, cause);
@@ -565,7 +565,7 @@ pub fn make_tables<S: Start>(
 pub fn close_treasury<D: Disk + Drop>(
     treasury: Treasury<FileStore<D>>,
 ) -> Result<Files<D>, FileStore<D>>
-    ensures { MatchResult result (IsClosedAs D.Disk treasury.store.conn) (IsUnclosed D.Disk treasury.store.conn) }
+    ensures { MatchResult result (IsClosedAs D.Disk treasury.store.conn) (IsStillOpen D.Disk treasury.store.conn) }
 {
     close(treasury.into_store().into_connection())
 }

@@ -2,7 +2,7 @@
 //! these files, and they stay locked until `main` drops them.
 
 ghost use Rattle.std.specs.Prelude.{MatchResult};
-ghost use Rattle.treasury_files.specs.Started.{IsLeftBy, IsClosedAs, IsUnclosed};
+ghost use Rattle.treasury_files.specs.Started.{IsLeftBy, IsClosedAs, IsStillOpen};
 
 use sqlite::{Connection, FileStore, Leftover};
 use sqlite_disk::{Disk, Files};
@@ -34,7 +34,7 @@ pub(crate) fn leave<D: Disk + Drop>(conn: Connection<FileStore<D>>) -> FileStore
 pub(crate) fn close<D: Disk + Drop>(
     conn: Connection<FileStore<D>>,
 ) -> Result<Files<D>, FileStore<D>>
-    ensures { MatchResult result (IsClosedAs D.Disk conn) (IsUnclosed D.Disk conn) }
+    ensures { MatchResult result (IsClosedAs D.Disk conn) (IsStillOpen D.Disk conn) }
 {
     // What it shows is a database, by this call's contract; so an opening of the file finds its schema again.
     let _ = conn.schema();

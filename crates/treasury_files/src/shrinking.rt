@@ -3,7 +3,7 @@
 ghost use Rattle.std.specs.Prelude.{◌≡◌, ◌↔◌, map, IsTrue, IfSome};
 ghost use Rattle.std.specs.List.{sum_by};
 ghost use Rattle.treasury_state.specs.Seen.{branches_of};
-ghost use Rattle.treasury_files.specs.Counts.{Keeps, AreKept, counts_of, parts_of, records_in};
+ghost use Rattle.treasury_files.specs.Counts.{Keeps, AreNoFewer, counts_of, count_of_parts, count_of_records};
 
 use book_core::Ledger;
 use money_core::Items;
@@ -23,7 +23,7 @@ pub struct Counts {
 
 /// The receipts of parts of transfers; none where their number does not fit.
 fn receipts_in(transfers: &[Transfer]) -> Option<usize>
-    ensures { IfSome result (λ receipts. receipts ≡ sum_by parts_of transfers.now) }
+    ensures { IfSome result (λ receipts. receipts ≡ sum_by count_of_parts transfers.now) }
 {
     let mut receipts = 0usize;
     'transfer: for transfer in transfers {
@@ -38,7 +38,7 @@ fn receipts_in(transfers: &[Transfer]) -> Option<usize>
 
 /// The entries of each branch, by its number; none for want of memory.
 fn entries_in<L: Ledger>(alloc: Global, branches: &[Branch<L>]) -> Option<Items<usize>>
-    ensures { IfSome result (λ entries. entries ≡ map records_in (branches_of branches.now)) }
+    ensures { IfSome result (λ entries. entries ≡ map count_of_records (branches_of branches.now)) }
 {
     let mut entries = Items::empty(alloc);
     'branch: for branch in branches {
@@ -71,7 +71,7 @@ pub fn counts_of<L: Ledger>(alloc: Global, state: &State<L>) -> Option<Counts>
 
 /// Whether each branch still has its entries: none of the numbers is missing later, or smaller.
 fn are_kept(before: &[usize], after: &[usize]) -> bool
-    ensures { IsTrue result ↔ AreKept before.now after.now }
+    ensures { IsTrue result ↔ AreNoFewer before.now after.now }
 {
     if after.len() < before.len() {
         return false;

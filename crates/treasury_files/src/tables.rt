@@ -3,8 +3,8 @@
 ghost use Rattle.std.specs.Prelude.{◌≡◌, map, IfErr, IsTrue};
 ghost use Rattle.treasury_tables.specs.Creating.{has_receipt};
 ghost use Rattle.treasury_tables.specs.Opening.{IsEither};
-ghost use Rattle.treasury_files.specs.Made.{names_in, heading};
-ghost use Rattle.treasury_files.specs.Started.{refusal_of};
+ghost use Rattle.treasury_files.specs.Made.{column_names, heading};
+ghost use Rattle.treasury_files.specs.Started.{cause_of_why};
 
 use crate::file::Unopened;
 use money_core::Cause;
@@ -70,7 +70,7 @@ pub fn is_ours(name: &[u8]) -> bool {
 
 /// Whether the columns of a table have these names, in this order.
 fn has_columns(table: &Table, names: &[&str]) -> bool
-    ensures { names_in table.now ≡ map (λ name. name.now) names.now → IsTrue result }
+    ensures { column_names table.now ≡ map (λ name. name.now) names.now → IsTrue result }
 {
     let columns = table.columns.as_slice();
     if columns.len() != names.len() {
@@ -283,7 +283,7 @@ fn find_strange(alloc: Global, schema: &Schema, is_alone: bool) -> Result<Option
 /// adds them is only said where no log stands beside the file, which is alone then.
 pub fn check_tables(alloc: Global, schema: &Schema, is_alone: bool) -> Result<(), Unopened>
     // Those that `init` makes, in either version, are not refused by 43.
-    ensures { IfErr result (λ why. refusal_of why ≡ Cause.Damaged → IsEither schema.now → ⊥) }
+    ensures { IfErr result (λ why. cause_of_why why ≡ Cause.Damaged → IsEither schema.now → ⊥) }
 {
     if are_made(schema) {
         return Ok(());

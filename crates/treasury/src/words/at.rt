@@ -9,7 +9,7 @@ ghost use Rattle.treasury_requests.specs.Request.{HasDayNumbers};
 ghost use Rattle.treasury_requests.specs.declared.request.Request.TheVariants.{Import};
 ghost use Rattle.treasury_spelling.specs.Spelling.{given};
 ghost use Rattle.treasury_client.specs.Reply.{SaysToCommand, SaysToReport};
-ghost use Rattle.treasury.specs.At.{AsksFor, Asks, MayAsk, cause_of_silence};
+ghost use Rattle.treasury.specs.At.{AsksFor, AsksService, MayAsk, cause_of_silence};
 ghost use Rattle.treasury.specs.At.{SaysFrom, SaysToBytesAt, SaysToImportAt, SaysToFormAt, SaysAt};
 ghost use Rattle.treasury.specs.Spoken.{IsRefusedBy};
 ghost use Rattle.treasury.specs.OverFileParts.{spoken, IsRoom};
@@ -115,7 +115,7 @@ pub fn exchange<R: Read + Drop, W: Write>(
 ) -> Result<Vec<u8>, Unheard>
     requires { HasDayNumbers request.now.request }
     // All of the call is sent, and all that the reader had is what came, up to the limit.
-    ensures sent { OnOk result (Asks W.contents writer.old writer.new port form request.now) }
+    ensures sent { OnOk result (AsksService W.contents writer.old writer.new port form request.now) }
     ensures came { IfOk result (λ came. IfSome (R.remaining reader) (λ had. came.items ≡ take MOST_REPLY had)) }
     // Or it is sent, or a first part of it, or nothing.
     ensures broken { OnErr result (MayAsk W.contents writer.old writer.new port form request.now) }
@@ -155,7 +155,7 @@ pub fn hear_command_from<R: Read + Drop, W: Write>(
     writer: &mut W,
 ) -> Result<Heard, Unheard>
     requires { HasDayNumbers request.now.request }
-    ensures sent { OnOk result (Asks W.contents writer.old writer.new port Form.Json request.now) }
+    ensures sent { OnOk result (AsksService W.contents writer.old writer.new port Form.Json request.now) }
     ensures heard { IfOk result (λ heard. (came : List ℕ)
         × IfSome (R.remaining reader) (λ had. came ≡ take MOST_REPLY had)
         × SaysToCommand came heard.answer.items heard.is_refused) }
@@ -180,7 +180,7 @@ pub fn hear_report_from<R: Read + Drop, W: Write>(
     writer: &mut W,
 ) -> Result<Heard, Unheard>
     requires { HasDayNumbers request.now.request }
-    ensures sent { OnOk result (Asks W.contents writer.old writer.new port Form.Text request.now) }
+    ensures sent { OnOk result (AsksService W.contents writer.old writer.new port Form.Text request.now) }
     ensures heard { IfOk result (λ heard. (came : List ℕ)
         × IfSome (R.remaining reader) (λ had. came ≡ take MOST_REPLY had)
         × SaysToReport came heard.answer.items heard.is_refused) }

@@ -15,7 +15,7 @@ ghost use Rattle.treasury.specs.Word.{SaysTo};
 ghost use Rattle.treasury.specs.OverFile.{IsRefusedBy, SaysToInit, SaysOver, SaysToJournal};
 ghost use Rattle.treasury.specs.OverFile.{SaysToImport, SaysToForm, SaysToWord};
 ghost use Rattle.treasury.specs.OverFileParts.{spoken, IsRoom, IsClosedOrShut};
-ghost use Rattle.treasury_files.specs.Started.{IsStarted, refusal_of};
+ghost use Rattle.treasury_files.specs.Started.{IsStarted, cause_of_why};
 
 use crate::words::at::answer_at;
 use crate::words::said::{Said, done, refused};
@@ -56,7 +56,7 @@ fn before<D: Disk>(said: Said) -> Answered<D>
 /// Said where a file serves no word.
 pub fn refused_file(alloc: Global, room: Vec<u8>, path: &str, unopened: Unopened) -> Said
     requires { IsRoom room }
-    ensures { IsRefusedBy (refusal_of unopened) (spoken result) }
+    ensures { IsRefusedBy (cause_of_why unopened) (spoken result) }
 {
     match unopened {
         Unopened::NoMemory => {
@@ -200,7 +200,7 @@ fn refused_by<D: Disk>(
     unserved: Unserved<D>,
 ) -> Answered<D>
     requires { IsRoom room }
-    ensures refused { IsRefusedBy (refusal_of unserved.why) (spoken result.said) }
+    ensures refused { IsRefusedBy (cause_of_why unserved.why) (spoken result.said) }
     ensures left { result.left ≡ unserved.left }
 {
     let Unserved { why, left } = unserved;

@@ -12,7 +12,7 @@ ghost use Rattle.treasury.specs.declared.words.serving.Ending.TheVariants.{Chang
 ghost use Rattle.treasury.specs.OverFile.{IsRefusedBy};
 ghost use Rattle.treasury.specs.Serving.{listening, silent, LacksValue};
 ghost use Rattle.treasury.specs.OverFileParts.{spoken, IsRoom, IsClosedOrLeft};
-ghost use Rattle.treasury_files.specs.Started.{IsStarted, refusal_of};
+ghost use Rattle.treasury_files.specs.Started.{IsStarted, cause_of_why};
 ghost use Rattle.treasury.specs.ServingParts.{ends_unwritten, IsUnannounced, IsAnnounced, IsAnnouncedBy, ServesIfHeard};
 ghost use Rattle.treasury.specs.ServingParts.{SaysAtEnd, SaysServing};
 
@@ -378,7 +378,7 @@ fn unbegun<D: Disk>(said: Said) -> Serving<D>
 /// What it comes to where the file serves no word.
 fn refused_by<D: Disk>(alloc: Global, room: Vec<u8>, path: &str, refused: Unserved<D>) -> Serving<D>
     requires { IsRoom room }
-    ensures refused { IsRefusedBy (refusal_of refused.why) (spoken result.said) }
+    ensures refused { IsRefusedBy (cause_of_why refused.why) (spoken result.said) }
     ensures left { result.left ≡ refused.left }
     ensures ending { result.ending ≡ None }
 {

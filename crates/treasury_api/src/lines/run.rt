@@ -4,7 +4,7 @@ ghost use Rattle.std.specs.Prelude.{◌≡◌, ◌==◌, ◌∷◌, ◌++◌, []
 ghost use Rattle.std.specs.Str.Lines.{strip_carriage_return};
 ghost use Rattle.treasury_api.specs.Transcript.{is_blank_text, requests_among};
 ghost use Rattle.treasury_api.specs.RunEnd.{HasNoLineFeed, Ends};
-ghost use Rattle.treasury_api.specs.Served.{Serves, Feeds, EndsLine, feed_place};
+ghost use Rattle.treasury_api.specs.Served.{Serves, Feeds, EndsWithLine, feed_place};
 
 use crate::lines::machine::Machine;
 use crate::lines::write::write_whole;
@@ -84,7 +84,7 @@ fn end_line<W: Write, M: Machine, L: Listener>(
 ) -> Result<(), Cause>
     requires begun { HasNoLineFeed line.old.items }
     requires more { HasNoLineFeed bytes.now }
-    ensures { EndsLine result M.step (W.contents writer.old) (W.contents writer.new)
+    ensures { EndsWithLine result M.step (W.contents writer.old) (W.contents writer.new)
         machine.old (line.old.items ++ bytes.now) line.new.items machine.new }
 {
     match line.extend_from_slice(bytes) {

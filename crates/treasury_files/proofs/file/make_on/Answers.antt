@@ -1,7 +1,7 @@
 use Rattle.std.proofs.Common.{◌≡◌, ◌∙◌, Result, Ok, Err, sym, ap, subst, arith}
 use Rattle.sqlite.specs.Held.{Held}
 use Rattle.treasury_store.specs.declared.store.Refused.{Refused}
-use Rattle.treasury_files.specs.Started.{IsClosedAs, IsUnclosed}
+use Rattle.treasury_files.specs.Started.{IsClosedAs, IsStillOpen}
 use Rattle.treasury_files.proofs.LeftLemmas.{keeps_unmade, keeps_made}
 use Rattle.treasury_files.proofs.StartedLemmas.{makes}
 use Rattle.treasury_files.proofs.file.make_on.Goals as goal
@@ -32,4 +32,4 @@ pub returns-in-Err-close : goal.returns-in-Err-close
 returns-in-Err-close g c = λ image on.
     keeps_made _ g.met.D.Disk.seen_may_stay image c.args.conn c.in-Ok.store.conn c.in-Err-close.store on
     c.in-Ok.ensures.free (λ clean. omega (arith, c.in-Ok.ensures.clean, clean))
-    (subst (λ (h : Held _). IsUnclosed _ h c.in-Err-close.store) c.into_connection.ensures c.in-Err-close.ensures)
+    (subst (λ (h : Held _). IsStillOpen _ h c.in-Err-close.store) c.into_connection.ensures c.in-Err-close.ensures)

@@ -1,7 +1,7 @@
 use Rattle.std.proofs.Common.{refl, inl, inr, rules, subst}
 use Rattle.treasury_store.specs.Treasury.{Treasury}
 use Rattle.treasury.specs.OverFileParts.{spoken}
-use Rattle.treasury_files.specs.Started.{IsClosedAs, IsUnclosed, IsLeftAs}
+use Rattle.treasury_files.specs.Started.{IsClosedAs, IsStillOpen, IsLeftAs}
 use Rattle.treasury_files.proofs.StartedLemmas.{keeps_started, keeps_unclosed, keeps_left}
 use Rattle.treasury.proofs.ServingLemmas.{serves_over, serves_open, serves_shut, ends_open, ends_otherwise}
 use Rattle.treasury.proofs.ServingLemmas.{keeps_unheard}
@@ -43,7 +43,7 @@ returns-in-Err-clause-says g c = λ image values started.
     (keeps_unheard _ image c.serve_port-ending.result c.args.treasury c.serve_port-ending.new.treasury _
     c.serve_port-ending.ensures.heard
     (λ same. keeps_unclosed _ g.met.D.Disk.seen_may_stay image c.args.treasury c.in-Err.store started
-    (subst (λ (t : Treasury _). IsUnclosed _ t.store.conn c.in-Err.store) same c.in-Err.ensures)))
+    (subst (λ (t : Treasury _). IsStillOpen _ t.store.conn c.in-Err.store) same c.in-Err.ensures)))
 
 pub returns-then-is_changed-clause-touched : goal.returns-then-is_changed-clause-touched
 returns-then-is_changed-clause-touched g c = inr (c.leave_treasury.result, refl)
