@@ -222,30 +222,6 @@ fn choice_of(alloc: Global, accounts: &Option<Text>, into: &Option<Text>) -> Res
     }
 }
 
-/// The closing that is asked for.
-fn close_of(
-    alloc: Global,
-    branch: &Text,
-    day: Day,
-    accounts: &Option<Text>,
-    into: &Option<Text>,
-) -> Result<Close, Refusal>
-    ensures value { IfOk result (λ close. close ≡ record {
-      branch = branch.now;
-      day = day;
-      choice = record { accounts = option_map cut_list accounts.now; into = into.now };
-    }) }
-    ensures memory { IsOkUnless result (Refusal.Plain Cause.OutOfMemory) }
-{
-    let branch = own(branch)?;
-    let choice = choice_of(alloc, accounts, into)?;
-    Ok(Close {
-        branch,
-        day,
-        choice,
-    })
-}
-
 /// Asks for the report that the request is for.
 fn asked_by_report(request: &Request) -> Result<Asked, Refusal>
     requires { IsTrue (is_report request.now) }
@@ -322,7 +298,11 @@ fn asked_by_request(alloc: Global, styles: &Styles, request: &Request) -> Result
             accounts,
             into,
         } => {
-            let close = close_of(alloc, branch, *day, accounts, into)?;
+            let close = Close {
+                branch: own(branch)?,
+                day: *day,
+                choice: choice_of(alloc, accounts, into)?,
+            };
             Ok(Asked::Command(Command::Close(close)))
         }
         _ => asked_by_report(request),
