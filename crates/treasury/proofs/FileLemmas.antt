@@ -30,6 +30,7 @@ use Rattle.treasury_files.specs.declared.left.Left.TheVariants.{Closed}
 use Rattle.treasury_files.specs.Left.{HoldsRows, HoldsOf, IsLeft, IsCleanIn, MayBe}
 use Rattle.treasury_files.specs.InFile.{HoldsState, LeavesState, ShowsState}
 use Rattle.treasury.specs.OverFile.{AnswersOver, said_to, IsFileRefused, SaysOver}
+use Rattle.treasury.specs.OverFile.{has_no_memory, has_no_treasury, cannot_be_used, is_answered}
 use Rattle.treasury.specs.OverFile.{AreToldOver, AreAnsweredOver, AreToldBut}
 use Rattle.treasury_files.proofs.LeftLemmas.{shows_rows}
 
@@ -134,13 +135,13 @@ module _ {D : Type 0} (g : disk.Ghosts D) where
   keeps_one : (start : Image) (w : Told) (left : Left D g) (next : Image) (f : Federation) → HoldsOf start f
       → SaysOver g start w.request (said_to w) left → IsCleanIn g left → MayBe g start left next
       → ∥ ((mid : Federation) × LeadsTo f w mid × HoldsOf next mid) ∥₁
-  keeps_one start w left next f holds (inl (inl memory, keeps)) clean may =
+  keeps_one start w left next f holds (has_no_memory memory keeps) clean may =
       left_alone w next f holds.good (inl memory) (keeps.finds clean next may (rows f) holds.held)
-  keeps_one start w left next f holds (inl (inr damaged, keeps)) clean may =
-      left_alone w next f holds.good (inr (inr damaged.0)) (keeps.finds clean next may (rows f) holds.held)
-  keeps_one start w left next f holds (inr (inl (store, done))) clean may =
+  keeps_one start w left next f holds (has_no_treasury damaged reason keeps) clean may =
+      left_alone w next f holds.good (inr (inr damaged)) (keeps.finds clean next may (rows f) holds.held)
+  keeps_one start w left next f holds (cannot_be_used store done) clean may =
       left_alone w next f holds.good (inr (inl store)) (done.finds clean next may f holds)
-  keeps_one start w left next f holds (inr (inr word)) clean may =
+  keeps_one start w left next f holds (is_answered word) clean may =
       let one =
       answered_on start w left next f holds word (subst (λ (l : Left D g). IsCleanIn g l) word.is_left clean) may in
       let r : (mid : Federation) × LeadsTo f w mid × HoldsOf next mid =

@@ -1,5 +1,5 @@
 -- A word over a database file: its treasury is started, answers and is closed.
-use Rattle.std.proofs.Common.{◌≡◌, ◌<◌, ◌⊎◌, ℕ, Bool, true, false, List, [], length, Option, None, Err}
+use Rattle.std.proofs.Common.{◌≡◌, ◌≢◌, ◌<◌, ◌⊎◌, ℕ, Bool, true, false, List, [], length, Option, None, Err}
 use Rattle.std.proofs.Common.{codes, refl, sym, subst}
 use Rattle.std.proofs.Common.{inl, inr, arith}
 use Rattle.std.proofs.KnownBytes.{Appends-nil}
@@ -37,10 +37,14 @@ use Rattle.treasury_files.specs.Left.{HoldsOf, HaveRows, KeepsFile}
 use Rattle.treasury.specs.At.{SaysAt}
 use Rattle.treasury.specs.OverFile.{Spoken, IsRefusedBy, IsFileRefused, AnswersOver}
 use Rattle.treasury_files.specs.InFile.{ShowsState, LeavesState}
+use Rattle.treasury_spelling.specs.Spelling.{is_dry_run, given}
+use Rattle.treasury_requests.specs.declared.request.Request.TheVariants.{Import}
 use Rattle.treasury.specs.OverFile.{HaveRowsBehind, MayHaveDone, Tells, SaysOver, SaysToJournal, SaysToWord, IsTold}
+use Rattle.treasury.specs.OverFile.{has_no_memory, has_no_treasury, cannot_be_used}
+use Rattle.treasury.specs.OverFile.{names_no_file, asks_nothing, has_no_journal, has_request}
 use Rattle.treasury.specs.declared.words.said.Said.{Said}
 use Rattle.treasury.specs.declared.words.over_file.Answered.{Answered}
-use Rattle.treasury.specs.OverFileParts.{spoken}
+use Rattle.treasury.specs.OverFileParts.{spoken, SaysToImport, SaysToForm}
 use Rattle.treasury_files.specs.Started.{cause_of_why, IsUnserved, IsStarted, IsClosedAs, IsStillOpen}
 use Rattle.treasury_files.proofs.LeftLemmas.{shows_rows, keeps_untouched}
 use Rattle.treasury_files.proofs.StartedLemmas.{left_behind, committed_in}
@@ -173,15 +177,15 @@ module _ {D : Type 0} (g : disk.Ghosts D) where
   -- a file that serves no word keeps what it held, whatever the cause is, and 43 has its reason
   pub says_refused : (image : Image) (request : Spelled) (why : Why) (said : Spoken) (left : Left D g)
       → IsRefusedBy (cause_of_why why) said → IsUnserved g image why left → SaysOver g image request said left
-  says_refused image request why.NoMemory said left refused unserved = inl (inl refused, unserved.keeps)
+  says_refused image request why.NoMemory said left refused unserved = has_no_memory refused unserved.keeps
   says_refused image request (why.Unusable reason) said left refused unserved =
-      inr (inl (refused, keeps_undone image request left unserved.keeps))
+      cannot_be_used refused (keeps_undone image request left unserved.keeps)
   says_refused image request (why.NoTreasury reason) said left refused unserved =
-      inl (inr (refused, unserved.reason refl), unserved.keeps)
+      has_no_treasury refused (unserved.reason refl) unserved.keeps
   says_refused image request (why.OtherVersion version) said left refused unserved =
-      inl (inr (refused, unserved.reason refl), unserved.keeps)
+      has_no_treasury refused (unserved.reason refl) unserved.keeps
   says_refused image request (why.Strange told) said left refused unserved =
-      inl (inr (refused, unserved.reason refl), unserved.keeps)
+      has_no_treasury refused (unserved.reason refl) unserved.keeps
 
   -- what is said to one request is said to an equal one
   pub said_alike : (image : Image) (one other : Spelled) (said : Spoken) (left : Left D g) → one ≡ other
@@ -194,10 +198,8 @@ module _ {D : Type 0} (g : disk.Ghosts D) where
       → SaysOver g image request (spoken a.said) a.left
   says_before image request said cause a is memory refused =
       subst (λ (b : Answered D g). SaysOver g image request (spoken b.said) b.left) (sym is)
-      (inl (
-        inl (subst (λ (c : Cause). IsRefusedBy c (spoken said)) memory refused),
-        keeps_untouched g image Untouched refl,
-      ))
+      (has_no_memory (subst (λ (c : Cause). IsRefusedBy c (spoken said)) memory refused)
+      (keeps_untouched g image Untouched refl))
 
   -- a word names no file, and none was opened
   pub no_file_is_named : (image : Image) (word : List ℕ) (values : List Row) (said : Said) (a : Answered D g)
@@ -205,7 +207,24 @@ module _ {D : Type 0} (g : disk.Ghosts D) where
       → SaysAt word values (spoken said) → SaysToWord g image word values (spoken a.said) a.left
   no_file_is_named image word values said a is none says =
       subst (λ (b : Answered D g). SaysToWord g image word values (spoken b.said) b.left) (sym is)
-      (inl (none, says, refl))
+      (names_no_file none says refl)
+
+  -- what is said to `import`, and to a word whose values spell its request
+  pub import_ends : (image : Image) (word : List ℕ) (values : List Row) (said : Spoken) (left : Left D g)
+      → word ≡ codes "import" → SaysToImport g image values said left → SaysToWord g image word values said left
+  import_ends image word values said left is (inl (lacks, refused)) = asks_nothing (inl (is, lacks)) refused
+  import_ends image word values said left is (inr (branch, has, at, inl (refused, none))) =
+      has_no_journal is refused none
+  import_ends image word values said left is (inr (branch, has, at, inr (journal, read, says))) =
+      has_request (given (is_dry_run values) (Import branch journal)) (inl (is, (branch, journal, at, refl))) says
+
+  pub form_ends : (image : Image) (word : List ℕ) (values : List Row) (said : Spoken) (left : Left D g)
+      → word ≢ codes "init" → word ≢ codes "import" → SaysToForm g image word values said left
+      → SaysToWord g image word values said left
+  form_ends image word values said left first second (inl (none, refused)) =
+      asks_nothing (inr (first, second, none)) refused
+  form_ends image word values said left first second (inr (form, spells, says)) =
+      has_request (given (is_dry_run values) form) (inr (first, second, (form, spells, refl))) says
 
   -- a journal cannot be read, and no file was opened
   pub journal_before : (image : Image) (branch : List ℕ) (dry : Bool) (has : Option (List ℕ)) (said : Said)

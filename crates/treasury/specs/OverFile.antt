@@ -44,6 +44,24 @@ use Rattle.treasury_files.specs.InFile.{most_journal, HasTreasury, ShowsState, L
 abbrev pub said_to : Told → Spoken
 said_to w = record { text = w.text; refused = w.refused }
 
+-- ---- what a word asks for
+
+-- the request that the values of a word spell, or that of `import`, with a journal that was read
+abbrev pub WordAsks : List ℕ → List Row → Spelled → Type 0
+WordAsks word values request =
+    ((word ≡ codes "import") × ((branch : List ℕ) × (journal : List ℕ)
+    × (first_of (codes "branch") values ≡ Some branch)
+    × (request ≡ given (is_dry_run values) (Import branch journal))))
+    ⊎ ((word ≢ codes "init") × (word ≢ codes "import") × ((form : Request) × (request_in word values ≡ Some form)
+    × (request ≡ given (is_dry_run values) form)))
+
+-- they spell none: a branch or a journal is not given, or another value is missing or none
+abbrev pub WordAsksNothing : List ℕ → List Row → Type 0
+WordAsksNothing word values =
+    ((word ≡ codes "import")
+    × ((first_of (codes "branch") values ≡ None) ⊎ (first_of (codes "journal") values ≡ None)))
+    ⊎ ((word ≢ codes "init") × (word ≢ codes "import") × (request_in word values ≡ None))
+
 -- ---- what is said over a file
 
 module _ {D : Type 0} (g : disk.Ghosts D) where
@@ -82,13 +100,16 @@ module _ {D : Type 0} (g : disk.Ghosts D) where
       (IsFileRefused said × KeepsFile g image left)
       ⊎ (MakesOver g image left × (said ≡ record { text = answer_text [] (Ok Done); refused = false }))
 
-  -- The request is answered over a file. Or the file is refused: by 40 or 43, and it is left as it was, and 43 has its
-  -- reason; or by 41, and the request may have been done.
-  abbrev pub SaysOver : Image → Spelled → Spoken → Left D g → Type 0
-  SaysOver image request said left =
-      ((IsRefusedBy OutOfMemory said ⊎ (IsRefusedBy Damaged said × HasNoTreasury g image left))
-      × KeepsFile g image left)
-      ⊎ ((IsRefusedBy Store said × MayHaveDone image request left) ⊎ AnswersOver image request said left)
+  -- How the request of a word ends over a file.
+  pub data SaysOver (image : Image) (request : Spelled) (said : Spoken) (left : Left D g) : Type 0 where
+    -- 40: the file is left as it was
+    has_no_memory : IsRefusedBy OutOfMemory said → KeepsFile g image left → SaysOver image request said left
+    -- 43, which has its reason: so is it
+    has_no_treasury : IsRefusedBy Damaged said → HasNoTreasury g image left → KeepsFile g image left
+        → SaysOver image request said left
+    -- 41: the request may have been done
+    cannot_be_used : IsRefusedBy Store said → MayHaveDone image request left → SaysOver image request said left
+    is_answered : AnswersOver image request said left → SaysOver image request said left
 
   -- a cause alone is said, and no file was opened
   abbrev pub IsRefusedBefore : Cause → Spoken → Left D g → Type 0
@@ -102,27 +123,21 @@ module _ {D : Type 0} (g : disk.Ghosts D) where
       ⊎ ((journal : List ℕ) × IfSome has (λ bytes. journal ≡ take most_journal bytes)
       × SaysOver image (given dry (Import branch journal)) said left)
 
-  abbrev pub SaysToImport : Image → List Row → Spoken → Left D g → Type 0
-  SaysToImport image values said left =
-      (((first_of (codes "branch") values ≡ None) ⊎ (first_of (codes "journal") values ≡ None))
-      × IsRefusedBefore NoRequest said left)
-      ⊎ ((branch : List ℕ) × (has : Option (List ℕ)) × (first_of (codes "branch") values ≡ Some branch)
-      × SaysToJournal image branch (is_dry_run values) has said left)
-
-  -- and of a word whose values spell its request
-  abbrev pub SaysToForm : Image → List ℕ → List Row → Spoken → Left D g → Type 0
-  SaysToForm image word values said left =
-      ((request_in word values ≡ None) × IsRefusedBefore NoRequest said left)
-      ⊎ ((request : Request) × (request_in word values ≡ Some request)
-      × SaysOver image (given (is_dry_run values) request) said left)
-
-  -- any word but `run`, by its values; without a file it is answered by a service, and no file was opened
-  abbrev pub SaysToWord : Image → List ℕ → List Row → Spoken → Left D g → Type 0
-  SaysToWord image word values said left =
-      ((first_of (codes "db") values ≡ None) × SaysAt word values said × (left ≡ Untouched))
-      ⊎ (((word ≡ codes "init") × SaysToInit image said left)
-      ⊎ (((word ≡ codes "import") × SaysToImport image values said left)
-      ⊎ ((word ≢ codes "init") × (word ≢ codes "import") × SaysToForm image word values said left)))
+  -- How any word but `run` ends, by its values.
+  pub data SaysToWord (image : Image) (word : List ℕ) (values : List Row) (said : Spoken) (left : Left D g)
+      : Type 0 where
+    -- without a file it is answered by a service, and no file was opened
+    names_no_file : first_of (codes "db") values ≡ None → SaysAt word values said → left ≡ Untouched
+        → SaysToWord image word values said left
+    makes_tables : word ≡ codes "init" → SaysToInit image said left → SaysToWord image word values said left
+    -- its values spell no request: 44
+    asks_nothing : WordAsksNothing word values → IsRefusedBefore NoRequest said left
+        → SaysToWord image word values said left
+    -- the journal of `import` cannot be read: 45 or 40
+    has_no_journal : word ≡ codes "import" → IsJournalRefused said → left ≡ Untouched
+        → SaysToWord image word values said left
+    has_request : (request : Spelled) → WordAsks word values request → SaysOver image request said left
+        → SaysToWord image word values said left
 
   -- a word is told what is said to it; or 40, and no file was opened
   abbrev pub IsTold : {W : Type 0} → Image → (W → Option (List ℕ)) → W → W → ℕ → List ℕ → List Row → Left D g → Type 0

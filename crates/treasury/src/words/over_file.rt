@@ -12,9 +12,8 @@ ghost use Rattle.treasury_api.specs.Left.{LeavesRequest};
 ghost use Rattle.treasury_files.specs.declared.left.Left.TheVariants.{Untouched};
 ghost use Rattle.treasury_files.specs.Left.{KeepsFile};
 ghost use Rattle.treasury.specs.Word.{SaysTo};
-ghost use Rattle.treasury.specs.OverFile.{IsRefusedBy, SaysToInit, SaysOver, SaysToJournal};
-ghost use Rattle.treasury.specs.OverFile.{SaysToImport, SaysToForm, SaysToWord};
-ghost use Rattle.treasury.specs.OverFileParts.{spoken, IsRoom, IsClosedOrShut};
+ghost use Rattle.treasury.specs.OverFile.{IsRefusedBy, SaysToInit, SaysOver, SaysToJournal, SaysToWord};
+ghost use Rattle.treasury.specs.OverFileParts.{spoken, IsRoom, IsClosedOrShut, SaysToImport, SaysToForm};
 ghost use Rattle.treasury_files.specs.Started.{IsStarted, cause_of_why};
 
 use crate::words::at::answer_at;
