@@ -19,4 +19,5 @@ pub mod Added
 pub mod OddNotes
 pub mod Edited
 pub mod NewAccount
+pub mod FarDays
 pub mod RequestFaults

@@ -313,7 +313,12 @@ pub fn find_unknown<'a>(
 
 /// Appends a text between two others.
 #[tactic(auto, unfolding(crate::specs::NewAccount::between))]
-fn push_between(before: &[u8], text: &[u8], behind: &[u8], out: &mut Vec<u8>) -> Result<(), Cause>
+pub fn push_between(
+    before: &[u8],
+    text: &[u8],
+    behind: &[u8],
+    out: &mut Vec<u8>,
+) -> Result<(), Cause>
     ensures value { OnOk result (out.new.items ≡ out.old.items ++ between before.now text.now behind.now) }
     ensures memory { IsOkUnless result Cause.OutOfMemory }
 {
