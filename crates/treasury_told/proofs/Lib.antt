@@ -15,4 +15,5 @@ pub mod RefusedLemmas
 pub mod PassingLemmas
 pub mod AddedLemmas
 pub mod OddNoteLemmas
+pub mod OtherBranchLemmas
 pub mod ExplainLemmas

@@ -20,4 +20,6 @@ pub mod OddNotes
 pub mod Edited
 pub mod NewAccount
 pub mod FarDays
+pub mod Again
+pub mod OtherBranch
 pub mod RequestFaults

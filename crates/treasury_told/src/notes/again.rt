@@ -3,6 +3,7 @@
 
 ghost use Rattle.std.specs.Prelude.{◌≡◌, ◌++◌, OnOk};
 ghost use Rattle.std.specs.Result.{IsOkUnless};
+ghost use Rattle.treasury_told.specs.Again.{is_marked};
 ghost use Rattle.treasury_told.specs.Edited.{if_edited, again_note, again_text};
 ghost use Rattle.treasury_told.specs.Listed.{listed};
 
@@ -39,7 +40,9 @@ const WOULD_BE_TWO: &[u8] =
     b": if it was edited, both would be in the books; with a mark (a comment ; bookid:..) from its first import on, the change would be refused\n";
 
 /// Whether the transaction has a mark of its own.
-pub fn is_marked(record: &Record) -> bool {
+pub fn is_marked(record: &Record) -> bool
+    ensures { result ≡ is_marked record.now }
+{
     let mark = record.mark.as_str();
     !mark.starts_with("h-") || mark.len() < LEAST_HASH_MARK
 }

@@ -1,62 +1,109 @@
 //! Imports into the wrong branch: another one holds the same transactions already.
 
-use crate::explain::shown::{push_number, push_shown};
+ghost use Rattle.std.specs.Prelude.{◌≡◌, ◌++◌, IfOk, OnOk};
+ghost use Rattle.std.specs.List.{count_by};
+ghost use Rattle.std.specs.Option.{option_map};
+ghost use Rattle.std.specs.Result.{IsOkUnless};
+ghost use Rattle.journal_format.specs.Printable.{IsPrintable};
+ghost use Rattle.treasury_state.specs.Index.{IsIndexOf};
+ghost use Rattle.treasury_told.specs.OtherBranch.{AreAllPrintable, has_text_of, is_held_so, held_count, with_more};
+ghost use Rattle.treasury_told.specs.OtherBranch.{more_holding, most_holding, holding_view, holding_text};
+ghost use Rattle.treasury_told.specs.OtherBranch.{holding_note, other_note};
+
+use crate::explain::shown::push_number;
 use crate::explain::standing::is_same_text;
+use crate::notes::accounts::push_between;
 use crate::notes::again::is_marked;
 use book_core::Ledger;
 use money_core::{Cause, Styles};
 use std::alloc::Global;
 use std::collections::HashMap;
 use treasury_core::{Record, State};
+use treasury_state::{find_branch, find_mark};
 
 /// The fewest new transactions of which it is noted.
 const LEAST_NEW: usize = 10;
 
-/// The place of each record, by its mark.
-fn places_of(alloc: Global, records: &[Record]) -> Result<HashMap<String, usize>, Cause> {
-    let mut places = HashMap::new(alloc);
-    for (place, record) in records.iter().enumerate() {
-        let mark = String::from_str(alloc, record.mark.as_str())?;
-        let _ = places.insert(mark, place)?;
-    }
-    Ok(places)
-}
-
-/// Whether two records with one mark have the same text. A mark that was made of the text has it.
+/// Whether two records with one mark have the same text. A mark that was made of the text tells that.
 fn has_text_of(
     alloc: Global,
     styles: &Styles,
     record: &Record,
     other: &Record,
-) -> Result<bool, Cause> {
-    if !is_marked(record) {
-        return Ok(true);
+) -> Result<bool, Cause>
+    ensures value { IsPrintable styles.now record.now.txn → IsPrintable styles.now other.now.txn
+        → IfOk result (λ is. is ≡ has_text_of styles.now record.now other.now) }
+    ensures memory { IsOkUnless result Cause.OutOfMemory }
+{
+    if is_marked(record) {
+        is_same_text(alloc, styles, &record.txn, &other.txn)
+    } else {
+        Ok(true)
     }
-    if record.entry.day.0 != other.entry.day.0 {
-        return Ok(false);
-    }
-    is_same_text(alloc, styles, &record.txn, &other.txn)
 }
 
-/// How many of the new records have the mark and the text of one of the others.
+/// Whether one of the records, which are found by this index, has the mark and the text of a new one.
+fn is_held_so(
+    alloc: Global,
+    styles: &Styles,
+    index: &HashMap<String, usize>,
+    records: &[Record],
+    record: &Record,
+) -> Result<bool, Cause>
+    requires { IsIndexOf index.now records.now }
+    ensures value { AreAllPrintable styles.now records.now → IsPrintable styles.now record.now.txn
+        → IfOk result (λ is. is ≡ is_held_so styles.now records.now record.now) }
+    ensures memory { IsOkUnless result Cause.OutOfMemory }
+{
+    match find_mark(index, records, record.mark.as_str()) {
+        Some(other) => has_text_of(alloc, styles, record, other),
+        None => Ok(false),
+    }
+}
+
+/// How many of the new records have the mark and the text of one of the records, which are found by this index.
 fn count_held(
     alloc: Global,
     styles: &Styles,
+    index: &HashMap<String, usize>,
+    records: &[Record],
     new: &[Record],
-    places: &HashMap<String, usize>,
-    others: &[Record],
-) -> Result<usize, Cause> {
+) -> Result<usize, Cause>
+    requires { IsIndexOf index.now records.now }
+    ensures value { AreAllPrintable styles.now records.now → AreAllPrintable styles.now new.now
+        → IfOk result (λ count. count ≡ count_by (is_held_so styles.now records.now) new.now) }
+    ensures memory { IsOkUnless result Cause.OutOfMemory }
+{
     let mut count = 0usize;
-    for other in others {
-        if let Some(place) = places.get(other.mark.as_str()) {
-            if let Some(record) = new.get(*place) {
-                if has_text_of(alloc, styles, record, other)? {
-                    count = count.saturating_add(1);
-                }
-            }
+    for record in new {
+        match is_held_so(alloc, styles, index, records, record) {
+            Ok(true) => count += 1,
+            Ok(false) => {}
+            Err(cause) => return Err(cause),
         }
     }
     Ok(count)
+}
+
+/// How many of the new records the branch of that name holds: one look-up for each.
+fn held_count<L: Ledger>(
+    alloc: Global,
+    state: &State<L>,
+    name: &str,
+    new: &[Record],
+) -> Result<usize, Cause>
+    ensures value { AreAllPrintable state.now.styles new.now
+        → IfOk result (λ count. count ≡ held_count state.now name.now new.now) }
+    ensures memory { IsOkUnless result Cause.OutOfMemory }
+{
+    state.is_good();
+    match find_branch(state, name) {
+        Some(branch) => {
+            let records = branch.records.items();
+            count_held(alloc, state.styles(), &branch.index, records, new)
+        }
+        None => Ok(0),
+    }
 }
 
 /// A branch, and how many of the new records it holds.
@@ -66,60 +113,107 @@ struct Holding<'a> {
     count: usize,
 }
 
+/// The branch with more of the new records; of two with as many, the first.
+fn with_more<'a>(most: Option<Holding<'a>>, branch: &'a str, count: usize) -> Holding<'a>
+    ensures { with_more (option_map holding_view most.entry) (branch.now, count) ≡ Some (holding_view result) }
+{
+    match most {
+        Some(held) if count <= held.count => held,
+        _ => Holding { branch, count },
+    }
+}
+
+/// The branch with the most of the new records, once the branch of that name was looked at; the branch of the import is
+/// no other one.
+fn more_holding<'a, L: Ledger>(
+    alloc: Global,
+    state: &State<L>,
+    branch: &str,
+    new: &[Record],
+    most: Option<Holding<'a>>,
+    name: &'a str,
+) -> Result<Option<Holding<'a>>, Cause>
+    ensures value { AreAllPrintable state.now.styles new.now → IfOk result (λ next. option_map holding_view next
+        ≡ more_holding state.now branch.now new.now (option_map holding_view most.entry) name.now) }
+    ensures memory { IsOkUnless result Cause.OutOfMemory }
+{
+    if name == branch {
+        return Ok(most);
+    }
+    match held_count(alloc, state, name, new) {
+        Ok(count) => Ok(Some(with_more(most, name, count))),
+        Err(cause) => Err(cause),
+    }
+}
+
 /// The other branch that holds the most of the new records, the first of several.
 fn find_holding<'a, L: Ledger>(
     alloc: Global,
     state: &'a State<L>,
     branch: &str,
     new: &[Record],
-) -> Result<Option<Holding<'a>>, Cause> {
-    let places = places_of(alloc, new)?;
+) -> Result<Option<Holding<'a>>, Cause>
+    ensures value { AreAllPrintable state.now.styles new.now
+        → IfOk result (λ most. option_map holding_view most ≡ most_holding state.now branch.now new.now) }
+    ensures memory { IsOkUnless result Cause.OutOfMemory }
+{
     let mut most: Option<Holding<'a>> = None;
-    for other in state.branches() {
-        if other.name.as_str() != branch {
-            let records = other.records.items();
-            let count = count_held(alloc, state.styles(), new, &places, records)?;
-            match most {
-                Some(held) if held.count >= count => {}
-                _ => {
-                    most = Some(Holding {
-                        branch: other.name.as_str(),
-                        count,
-                    });
-                }
-            }
+    let branches = state.branches();
+    for other in branches {
+        match more_holding(alloc, state, branch, new, most, other.name.as_str()) {
+            Ok(next) => most = next,
+            Err(cause) => return Err(cause),
         }
     }
     Ok(most)
 }
 
+/// Appends the note, with the name of the other branch and how many of the new ones it holds.
+#[tactic(auto, unfolding(crate::specs::OtherBranch::holding_text))]
+fn push_holding(branch: &str, count: usize, new: usize, out: &mut Vec<u8>) -> Result<(), Cause>
+    ensures value { OnOk result (out.new.items ≡ out.old.items ++ holding_text branch.now count new) }
+    ensures memory { IsOkUnless result Cause.OutOfMemory }
+{
+    push_between(b"note: ", branch.as_bytes(), b" already holds ", out)?;
+    push_number(count, out)?;
+    out.extend_from_slice(b" of these ")?;
+    push_number(new, out)?;
+    out.extend_from_slice(b" transactions\n")?;
+    Ok(())
+}
+
+/// Appends the note of what another branch holds of so many new records, if it is half or more.
+fn push_if_half(most: Option<Holding<'_>>, new: usize, out: &mut Vec<u8>) -> Result<(), Cause>
+    ensures value { OnOk result (out.new.items
+        ≡ out.old.items ++ holding_note new (option_map holding_view most.entry)) }
+    ensures memory { IsOkUnless result Cause.OutOfMemory }
+{
+    match most {
+        Some(Holding { branch, count }) if new.saturating_sub(count) <= count => {
+            push_holding(branch, count, new, out)
+        }
+        _ => Ok(()),
+    }
+}
+
 /// Appends the note of an import of which another branch holds half or more.
+#[tactic(auto, unfolding(crate::specs::OtherBranch::other_note))]
 pub fn push_other_branch<L: Ledger>(
     alloc: Global,
     state: &State<L>,
     branch: &str,
     new: &[Record],
     out: &mut Vec<u8>,
-) -> Result<(), Cause> {
-    if new.len() < LEAST_NEW || state.branches().len() < 2 {
+) -> Result<(), Cause>
+    ensures value { AreAllPrintable state.now.styles new.now
+        → OnOk result (out.new.items ≡ out.old.items ++ other_note state.now branch.now new.now) }
+    ensures memory { IsOkUnless result Cause.OutOfMemory }
+{
+    if new.len() < LEAST_NEW {
         return Ok(());
     }
-    match find_holding(alloc, state, branch, new)? {
-        Some(Holding { branch, count }) if count >= new.len().saturating_sub(count) => {
-            push_note(branch, count, new.len(), out)
-        }
-        _ => Ok(()),
+    match find_holding(alloc, state, branch, new) {
+        Ok(most) => push_if_half(most, new.len(), out),
+        Err(cause) => Err(cause),
     }
-}
-
-/// Appends the note, with the name of the other branch and how many of the new ones it holds.
-fn push_note(other: &str, count: usize, new: usize, out: &mut Vec<u8>) -> Result<(), Cause> {
-    out.extend_from_slice(b"note: ")?;
-    push_shown(other.as_bytes(), out)?;
-    out.extend_from_slice(b" already holds ")?;
-    push_number(count, out)?;
-    out.extend_from_slice(b" of these ")?;
-    push_number(new, out)?;
-    out.extend_from_slice(b" transactions\n")?;
-    Ok(())
 }
