@@ -16,4 +16,5 @@ pub mod PassingLemmas
 pub mod AddedLemmas
 pub mod OddNoteLemmas
 pub mod OtherBranchLemmas
+pub mod FirstNoteLemmas
 pub mod ExplainLemmas

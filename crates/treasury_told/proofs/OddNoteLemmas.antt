@@ -1,6 +1,5 @@
--- notes of odd amounts between those of other kinds
-use Rattle.std.proofs.Common.{◌≡◌, ◌∙◌, ℕ, List, [], ◌∷◌, ◌++◌, length, refl, ap, sym, append_assoc}
-use Rattle.std.proofs.Common.{append-nil, Bool, true, false}
+-- texts in which nothing is odd, and lines that do not matter
+use Rattle.std.proofs.Common.{◌≡◌, ◌∙◌, ℕ, Bool, true, false, List, [], ◌∷◌, length, refl, ap, sym}
 use Rattle.std.specs.List.{flat_map}
 use Rattle.money_core.specs.declared.style.Style.{Style}
 use Rattle.journal_format.specs.declared.txn.Located.{Located}
@@ -9,7 +8,7 @@ use Rattle.treasury_told.specs.Listed.{listed, most_notes}
 use Rattle.treasury_told.specs.OddAmount.{OddText, odd_text, odd_line, lines_below, odd_amounts}
 use Rattle.treasury_state.specs.declared.record.Record.{Record}
 use Rattle.treasury_told.specs.Added.{added_lines, IsTaken}
-use Rattle.treasury_told.specs.OddNotes.{odd_notes, HasNotes}
+use Rattle.treasury_told.specs.OddNotes.{odd_notes}
 use Rattle.treasury_told.proofs.AddedLemmas.{none_added}
 
 -- ---- texts in which nothing is odd
@@ -42,30 +41,3 @@ pub same_notes : (styles : List Style) (source text heads lines : List ℕ) (may
 same_notes styles source text heads lines true are none = ap (odd_notes styles source text) (are refl)
 same_notes styles source text heads lines false are none =
     none_odd styles source text heads (none heads refl) ∙ sym (none_odd styles source text lines (none lines refl))
-
--- ---- notes that were appended
-pub none_there : (notes old new : List ℕ) → notes ≡ [] → new ≡ old → HasNotes notes old new
-none_there notes old new none e = record {
-  before = [];
-  after = [];
-  text = e ∙ sym (append-nil old) ∙ ap (λ (xs : List ℕ). old ++ (xs ++ [])) (sym none);
-}
-
-pub behind_first : (notes old first now new : List ℕ) → now ≡ old ++ first → HasNotes notes now new
-    → HasNotes notes old new
-behind_first notes old first now new e h = record {
-  before = first ++ h.before;
-  after = h.after;
-  text = h.text
-      ∙ ap (λ (xs : List ℕ). xs ++ (h.before ++ (notes ++ h.after))) e
-      ∙ append_assoc old first (h.before ++ (notes ++ h.after))
-      ∙ ap (λ (xs : List ℕ). old ++ xs) (sym (append_assoc first h.before (notes ++ h.after)));
-}
-
-pub before_further : (notes old further now new : List ℕ) → now ≡ old ++ notes → new ≡ now ++ further
-    → HasNotes notes old new
-before_further notes old further now new e k = record {
-  before = [];
-  after = further;
-  text = k ∙ ap (λ (xs : List ℕ). xs ++ further) e ∙ append_assoc old notes further;
-}

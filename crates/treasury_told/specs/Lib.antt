@@ -22,4 +22,5 @@ pub mod NewAccount
 pub mod FarDays
 pub mod Again
 pub mod OtherBranch
+pub mod FirstNotes
 pub mod RequestFaults

@@ -20,7 +20,8 @@ ghost use Rattle.journal_format.specs.declared.txn.Located.{Located};
 ghost use Rattle.treasury_state.specs.Federation.{records_of};
 ghost use Rattle.treasury_told.specs.declared.notes.BranchBefore.{BranchBefore as HeldOfBranch};
 ghost use Rattle.treasury_told.specs.Added.{added_lines, IsTaken, IsEntered};
-ghost use Rattle.treasury_told.specs.OddNotes.{odd_notes, HasNotes};
+ghost use Rattle.treasury_told.specs.OtherBranch.{AreAllPrintable};
+ghost use Rattle.treasury_told.specs.FirstNotes.{first_notes, notes_first, BeginsWith};
 
 use crate::explain::standing::{branch_named, records_of};
 use crate::explain::transfers::{part_of, transfer_of};
@@ -241,6 +242,7 @@ fn push_import<L: Ledger>(
     alloc: Global,
     state: &State<L>,
     branch: &Branch<L>,
+    name: &str,
     journal: &[u8],
     source: &str,
     before: BranchBefore,
@@ -248,14 +250,15 @@ fn push_import<L: Ledger>(
     new: &[Record],
     out: &mut Vec<u8>,
 ) -> Result<(), Cause>
-    ensures odd { (list : List Located) → IsTaken state.now.styles held.now journal.now new.now list → OnOk result
-        (HasNotes (odd_notes state.now.styles source.now journal.now (added_lines state.now.styles held.now list))
-        out.old.items out.new.items) }
+    ensures first { (list : List Located) → AreAllPrintable state.now.styles new.now
+        → IsTaken state.now.styles held.now journal.now new.now list → OnOk result
+        (BeginsWith (first_notes state.now name.now source.now journal.now held.now new.now
+        (added_lines state.now.styles held.now list)) out.old.items out.new.items) }
 {
     let import = Import {
         source,
         text: journal,
-        branch: branch.name.as_str(),
+        branch: name,
         held,
         new,
         is_dry_run: before.is_dry_run,
@@ -273,16 +276,18 @@ fn push_import_notes<L: Ledger>(
     before: BranchBefore,
     out: &mut Vec<u8>,
 ) -> Result<(), Cause>
-    ensures odd { (list : List Located) → IsTaken state.now.styles (take before.entries (records_of state.now name.now))
-        journal.now (drop before.entries (records_of state.now name.now)) list → OnOk result
-        (HasNotes (odd_notes state.now.styles source.now journal.now (added_lines state.now.styles
-        (take before.entries (records_of state.now name.now)) list)) out.old.items out.new.items) }
+    ensures first { (list : List Located)
+        → IsTaken state.now.styles (take before.entries (records_of state.now name.now)) journal.now
+        (drop before.entries (records_of state.now name.now)) list → OnOk result
+        (BeginsWith (notes_first state.now name.now source.now journal.now before.entries list)
+        out.old.items out.new.items) }
 {
+    state.is_good();
     match branch_named(state, name) {
         Some(branch) => {
             let (held, new) = parted(records_of(state, name), before.entries);
             push_import(
-                alloc, state, branch, journal, source, before, held, new, out,
+                alloc, state, branch, name, journal, source, before, held, new, out,
             )
         }
         None => Ok(()),
@@ -306,7 +311,7 @@ fn push_notes_of<L: Ledger>(
         Request::Import { journal, .. } => {
             let journal = journal.as_bytes();
             push_import(
-                alloc, state, branch, journal, source, before, held, new, out,
+                alloc, state, branch, name, journal, source, before, held, new, out,
             )
         }
         Request::Lock { day, .. } => note_lock(alloc, state, branch, *day, before, out),
@@ -348,10 +353,10 @@ fn push_answered<L: Ledger>(
     before: BranchBefore,
     out: &mut Vec<u8>,
 ) -> Result<(), Cause>
-    ensures odd { (name journal : List ℕ) (list : List Located)
+    ensures first { (name journal : List ℕ) (list : List Located)
         → IsEntered state.now request.now name journal before.entries list → OnOk result
-        (HasNotes (odd_notes state.now.styles source.now journal (added_lines state.now.styles
-        (take before.entries (records_of state.now name)) list)) out.old.items out.new.items) }
+        (BeginsWith (notes_first state.now name source.now journal before.entries list)
+        out.old.items out.new.items) }
 {
     if let Request::Import { branch, journal } = request {
         let (name, journal) = (branch.as_str(), journal.as_bytes());
@@ -372,11 +377,11 @@ fn push_notes<L: Ledger>(
     before: HeldBefore,
     out: &mut Vec<u8>,
 ) -> Result<(), Cause>
-    // Of an import the odd amounts of those transactions are noted that are new, and no others.
-    ensures odd { (held : HeldOfBranch) (name journal : List ℕ) (list : List Located) → before.branch ≡ Some held
+    // Those of an import begin with those of another branch, of far days, and of odd amounts.
+    ensures first { (held : HeldOfBranch) (name journal : List ℕ) (list : List Located) → before.branch ≡ Some held
         → IsEntered state.now request.now name journal held.entries list → OnOk result
-        (HasNotes (odd_notes state.now.styles source.now journal (added_lines state.now.styles
-        (take held.entries (records_of state.now name)) list)) out.old.items out.new.items) }
+        (BeginsWith (notes_first state.now name source.now journal held.entries list)
+        out.old.items out.new.items) }
 {
     if let Request::Commodity { sample } = request {
         if state.styles().len() > before.commodities {

@@ -1,10 +1,14 @@
 //! The notes of an import: of what it added to the book of a branch, or would add.
 
-ghost use Rattle.std.specs.Prelude.{◌≡◌, ◌++◌, ℕ, List, [], false, IfOk, OnOk, IsTrue};
+ghost use Rattle.std.specs.Prelude.{◌≡◌, ◌++◌, ◌||◌, ℕ, List, [], false, None, is_some, IfOk, OnOk, IsTrue};
+ghost use Rattle.std.specs.Result.{IsOkUnless};
 ghost use Rattle.journal_format.specs.declared.txn.Located.{Located};
 ghost use Rattle.treasury_told.specs.OddAmount.{odd_amounts};
 ghost use Rattle.treasury_told.specs.Added.{added_lines, IsTaken};
-ghost use Rattle.treasury_told.specs.OddNotes.{odd_notes, HasNotes};
+ghost use Rattle.treasury_told.specs.OddNotes.{odd_notes};
+ghost use Rattle.treasury_told.specs.FarDays.{far_in, far_if_any, far_notes};
+ghost use Rattle.treasury_told.specs.OtherBranch.{AreAllPrintable};
+ghost use Rattle.treasury_told.specs.FirstNotes.{first_notes, BeginsWith};
 
 use crate::notes::BranchBefore;
 use crate::notes::accounts::{has_new_account, push_accounts};
@@ -48,7 +52,8 @@ struct Noted {
 
 impl Noted {
     fn is_empty(&self) -> bool
-        ensures { IsTrue result → self.now.may_have_odd ≡ false }
+        ensures odd { IsTrue result → self.now.may_have_odd ≡ false }
+        ensures far { IsTrue result → self.now.far ≡ None }
     {
         self.far.is_none()
             && !self.may_have_odd
@@ -57,16 +62,27 @@ impl Noted {
             && !self.has_new_account
             && self.dated.is_none()
     }
+
+    /// Whether there is a far day, or there may be an odd amount: then the whole text tells the lines.
+    fn is_rare(&self) -> bool
+        ensures { result ≡ (self.now.may_have_odd || is_some self.now.far) }
+    {
+        self.may_have_odd || self.far.is_some()
+    }
 }
 
-/// Appends the note of a far day, if there is one.
-fn push_far_day(
+/// Appends the note of far days, if there are any.
+fn push_far_days(
     alloc: Global,
     import: &Import<'_>,
     lines: &[usize],
     far: Option<Far>,
     out: &mut Vec<u8>,
-) -> Result<(), Cause> {
+) -> Result<(), Cause>
+    ensures value { OnOk result (out.new.items ≡ out.old.items
+        ++ far_if_any import.now.source.now import.now.branch.now import.now.new.now lines.now far) }
+    ensures memory { IsOkUnless result Cause.OutOfMemory }
+{
     match far {
         Some(far) => push_far(alloc, import, lines, far, out),
         None => Ok(()),
@@ -125,15 +141,13 @@ fn push_at(
     noted: &Noted,
     out: &mut Vec<u8>,
 ) -> Result<(), Cause>
-    ensures { let heads = places.now.lines.items in let text = import.now.text.now in
-        (noted.now.may_have_odd ≡ false → odd_amounts styles.now heads text ≡ []) → OnOk result
-        (HasNotes (odd_notes styles.now import.now.source.now text heads) out.old.items out.new.items) }
+    ensures { let it = import.now in let heads = places.now.lines.items in
+        (noted.now.may_have_odd ≡ false → odd_amounts styles.now heads it.text.now ≡ []) → OnOk result
+        (BeginsWith (far_if_any it.source.now it.branch.now it.new.now heads noted.now.far
+        ++ odd_notes styles.now it.source.now it.text.now heads) out.old.items out.new.items) }
 {
     let lines: &[usize] = places.lines.as_slice();
-    let mut first = Vec::new(alloc);
-    let told = push_far_day(alloc, import, lines, noted.far, &mut first);
-    out.extend_from_slice(first.as_slice())?;
-    told?;
+    push_far_days(alloc, import, lines, noted.far, out)?;
     push_odd_amounts(alloc, styles, import, lines, noted.may_have_odd, out)?;
     let mut further = Vec::new(alloc);
     let told = push_further(alloc, import, places, noted, &mut further);
@@ -149,14 +163,14 @@ fn push_noted(
     noted: &Noted,
     out: &mut Vec<u8>,
 ) -> Result<(), Cause>
-    ensures { (list : List Located)
-        → IsTaken styles.now import.now.held.now import.now.text.now import.now.new.now list
-        → ((heads : List ℕ) → noted.now.may_have_odd ≡ false → odd_amounts styles.now heads import.now.text.now ≡ [])
-        → OnOk result (HasNotes (odd_notes styles.now import.now.source.now import.now.text.now
-        (added_lines styles.now import.now.held.now list)) out.old.items out.new.items) }
+    ensures { let it = import.now in (list : List Located) → IsTaken styles.now it.held.now it.text.now it.new.now list
+        → ((heads : List ℕ) → noted.now.may_have_odd ≡ false → odd_amounts styles.now heads it.text.now ≡ [])
+        → OnOk result (let lines = added_lines styles.now it.held.now list in
+        BeginsWith (far_if_any it.source.now it.branch.now it.new.now lines noted.now.far
+        ++ odd_notes styles.now it.source.now it.text.now lines) out.old.items out.new.items) }
 {
     let asked = noted.candidates.as_slice();
-    let places = new_places(alloc, styles, import, asked, noted.may_have_odd)?;
+    let places = new_places(alloc, styles, import, asked, noted.is_rare())?;
     push_at(alloc, styles, import, &places, noted, out)
 }
 
@@ -168,8 +182,9 @@ fn noted_of<L: Ledger>(
     import: &Import<'_>,
     before: BranchBefore,
 ) -> Result<Noted, Cause>
-    ensures { IfOk result (λ noted. (heads : List ℕ) → noted.may_have_odd ≡ false
+    ensures odd { IfOk result (λ noted. (heads : List ℕ) → noted.may_have_odd ≡ false
         → odd_amounts styles.now heads import.now.text.now ≡ []) }
+    ensures far { IfOk result (λ noted. noted.far ≡ far_in import.now.held.now import.now.new.now) }
 {
     let is_grown = before.is_dry_run || branch.ledger.accounts().len() > before.accounts;
     let may_have_odd = may_have_odd(styles, import.text);
@@ -195,10 +210,10 @@ fn push_if_noted<L: Ledger>(
     before: BranchBefore,
     out: &mut Vec<u8>,
 ) -> Result<(), Cause>
-    ensures { (list : List Located)
-        → IsTaken styles.now import.now.held.now import.now.text.now import.now.new.now list → OnOk result
-        (HasNotes (odd_notes styles.now import.now.source.now import.now.text.now
-        (added_lines styles.now import.now.held.now list)) out.old.items out.new.items) }
+    ensures { let it = import.now in (list : List Located) → IsTaken styles.now it.held.now it.text.now it.new.now list
+        → OnOk result (let lines = added_lines styles.now it.held.now list in
+        BeginsWith (far_notes it.source.now it.branch.now it.held.now it.new.now lines
+        ++ odd_notes styles.now it.source.now it.text.now lines) out.old.items out.new.items) }
 {
     let noted = noted_of(alloc, styles, branch, import, before)?;
     if noted.is_empty() {
@@ -216,18 +231,16 @@ pub fn note_import<L: Ledger>(
     before: BranchBefore,
     out: &mut Vec<u8>,
 ) -> Result<(), Cause>
-    // The odd amounts of those transactions of the journal that are new are noted, and no others.
-    ensures odd { (list : List Located)
-        → IsTaken state.now.styles import.now.held.now import.now.text.now import.now.new.now list → OnOk result
-        (HasNotes (odd_notes state.now.styles import.now.source.now import.now.text.now
-        (added_lines state.now.styles import.now.held.now list)) out.old.items out.new.items) }
+    // They begin with those of another branch, of far days, and of odd amounts, on the lines of those transactions of
+    // the journal that are new.
+    ensures first { let it = import.now in (list : List Located) → AreAllPrintable state.now.styles it.new.now
+        → IsTaken state.now.styles it.held.now it.text.now it.new.now list → OnOk result
+        (BeginsWith (first_notes state.now it.branch.now it.source.now it.text.now it.held.now it.new.now
+        (added_lines state.now.styles it.held.now list)) out.old.items out.new.items) }
 {
     if import.new.is_empty() {
         return Ok(());
     }
-    let mut first = Vec::new(alloc);
-    let told = push_other_branch(alloc, state, import.branch, import.new, &mut first);
-    out.extend_from_slice(first.as_slice())?;
-    told?;
+    push_other_branch(alloc, state, import.branch, import.new, out)?;
     push_if_noted(alloc, state.styles(), branch, import, before, out)
 }

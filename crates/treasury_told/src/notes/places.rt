@@ -3,7 +3,7 @@
 //! Mostly the headers tell: where each transaction with a header is new, or none is, none of them is read. The others
 //! are read once more, to tell the new ones from repeats; so are those that may be a held one that is asked for.
 //! Transactions of the same text have the same header, so that they are read together, and numbered as in the file.
-//! Of a text that may have an odd amount, which is rare, all are read.
+//! Of a text that may have an odd amount, or brings a far day, which is rare, all are read.
 
 ghost use Rattle.std.specs.Prelude.{◌≡◌, true, List, length, map, IfOk};
 ghost use Rattle.std.specs.Result.{IsOkUnless};
