@@ -177,7 +177,7 @@ leg_decides x y = Decides-like (same_leg x y) (leg_from x y)
     (Decides-and (nat_eq x.unit.0 y.unit.0) (int_eq x.qty y.qty) (Decides-eqb x.unit.0 y.unit.0)
     (Decides-int_eq x.qty y.qty)))
 
-legs_decides : (xs ys : List Leg) → Decides (same_legs xs ys) (xs ≡ ys)
+pub legs_decides : (xs ys : List Leg) → Decides (same_legs xs ys) (xs ≡ ys)
 legs_decides [] [] = (λ e. refl, λ e. refl)
 legs_decides [] (y ∷ ys) = (λ e. absurd cc, λ e. absurd cc)
 legs_decides (x ∷ xs) [] = (λ e. absurd cc, λ e. absurd cc)

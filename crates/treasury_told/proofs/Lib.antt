@@ -14,6 +14,7 @@ pub mod FailureLemmas
 pub mod RefusedLemmas
 pub mod PassingLemmas
 pub mod AddedLemmas
+pub mod AgainLemmas
 pub mod OddNoteLemmas
 pub mod OtherBranchLemmas
 pub mod FirstNoteLemmas

@@ -4,6 +4,7 @@ use Rattle.std.specs.Prelude.{List, [], ◌≡◌, ◌⊎◌, ◌∷◌, ◌++�
 use Rattle.std.specs.Prelude.{slice_get}
 use Rattle.std.specs.List.{list_any, flat_map, position_from}
 use Rattle.std.specs.Option.{option_map}
+use Rattle.std.specs.Cmp.Lexicographic.{pointwise}
 use Rattle.std.specs.Ordering.{int_eq}
 use Rattle.std.specs.Str.{bytes_eq}
 use Rattle.money_core.specs.declared.cause.Cause.TheVariants.{ClaimFailed}
@@ -128,10 +129,7 @@ abbrev pub same_leg : Leg → Leg → Bool
 same_leg x y = bytes_eq x.account y.account && (nat_eq x.unit.0 y.unit.0 && int_eq x.qty y.qty)
 
 abbrev pub same_legs : List Leg → List Leg → Bool
-same_legs [] [] = true
-same_legs [] (y ∷ ys) = false
-same_legs (x ∷ xs) [] = false
-same_legs (x ∷ xs) (y ∷ ys) = same_leg x y && same_legs xs ys
+same_legs = pointwise same_leg
 
 -- the record has the day and the legs of an entry
 abbrev pub has_legs_of : Entry → Record → Bool

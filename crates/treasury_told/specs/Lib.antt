@@ -17,10 +17,11 @@ pub mod Listed
 pub mod OddAmount
 pub mod Added
 pub mod OddNotes
+pub mod Again
+pub mod Index
 pub mod Edited
 pub mod NewAccount
 pub mod FarDays
-pub mod Again
 pub mod OtherBranch
 pub mod FirstNotes
 pub mod RequestFaults

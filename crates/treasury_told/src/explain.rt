@@ -9,7 +9,7 @@ mod hints;
 mod limits;
 pub(crate) mod lines;
 mod nearly;
-mod numbered;
+pub(crate) mod numbered;
 mod passing;
 pub(crate) mod pieces;
 mod request_fault;
@@ -17,7 +17,7 @@ mod sentences;
 pub(crate) mod shown;
 mod source;
 pub(crate) mod standing;
-mod touching;
+pub(crate) mod touching;
 pub(crate) mod transfers;
 
 ghost use Rattle.std.specs.Prelude.{◌≡◌, ℕ, List, [], ◌++◌, OnOk};

@@ -213,7 +213,7 @@ pub fn find_touching<'a>(
 }
 
 /// Whether the legs are the same.
-fn are_same_legs(legs: &Items<Leg>, other: &Items<Leg>) -> bool
+pub fn are_same_legs(legs: &Items<Leg>, other: &Items<Leg>) -> bool
     ensures { result ≡ same_legs legs.now other.now }
 {
     legs.is_same(other)
