@@ -18,6 +18,7 @@ pub mod OddAmount
 pub mod Added
 pub mod OddNotes
 pub mod Again
+pub mod Amounts
 pub mod Index
 pub mod Edited
 pub mod NewAccount

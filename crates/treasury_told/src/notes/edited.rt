@@ -2,7 +2,9 @@
 //! amounts, or its amounts and a day near it.
 
 ghost use Rattle.std.specs.Prelude.{◌≡◌, ◌++◌, OnOk};
+ghost use Rattle.std.specs.Cmp.Lexicographic.{pointwise};
 ghost use Rattle.std.specs.Result.{IsOkUnless};
+ghost use Rattle.treasury_told.specs.Amounts.{same_amount, same_amounts};
 ghost use Rattle.treasury_told.specs.Edited.{likeness_text, edited_note, edited_text};
 ghost use Rattle.treasury_told.specs.Listed.{listed};
 
@@ -14,6 +16,7 @@ use crate::notes::days::{Span, span_of};
 use crate::notes::listed::push_more;
 use crate::notes::places::NewPlaces;
 use crate::notes::{Import, MOST};
+use book_core::Leg;
 use journal_format::Txn;
 use journal_lines::Status;
 use money_core::{Cause, Day};
@@ -250,18 +253,33 @@ fn missing_of(
     Ok(missing)
 }
 
-/// Whether two records have the same amounts.
-fn has_amounts_of(record: &Record, other: &Record) -> bool {
-    let (legs, others) = (record.entry.legs.items(), other.entry.legs.items());
+/// Whether two legs have the same amount.
+fn is_same_amount(leg: &Leg, other: &Leg) -> bool
+    ensures { result ≡ same_amount leg.now other.now }
+{
+    leg.unit.0 == other.unit.0 && leg.qty == other.qty
+}
+
+/// Whether legs have the same amounts, one by one.
+fn are_same_amounts(legs: &[Leg], others: &[Leg]) -> bool
+    ensures { result ≡ pointwise same_amount legs.now others.now }
+{
     if legs.len() != others.len() {
         return false;
     }
-    for (leg, other) in legs.iter().zip(others) {
-        if leg.unit != other.unit || leg.qty != other.qty {
+    for (place, leg) in legs.iter().enumerate() {
+        if !is_same_amount(leg, &others[place]) {
             return false;
         }
     }
     true
+}
+
+/// Whether two records have the same amounts.
+fn has_amounts_of(record: &Record, other: &Record) -> bool
+    ensures { result ≡ same_amounts record.now other.now }
+{
+    are_same_amounts(record.entry.legs.items(), other.entry.legs.items())
 }
 
 /// The place of the held record that a new one with that key was before it was edited, if it may have been.
