@@ -19,6 +19,7 @@ pub mod Added
 pub mod OddNotes
 pub mod Again
 pub mod Amounts
+pub mod Near
 pub mod Index
 pub mod Edited
 pub mod NewAccount

@@ -3,10 +3,12 @@
 
 ghost use Rattle.std.specs.Prelude.{◌≡◌, ◌++◌, OnOk};
 ghost use Rattle.std.specs.Cmp.Lexicographic.{pointwise};
+ghost use Rattle.std.specs.List.{list_any};
 ghost use Rattle.std.specs.Result.{IsOkUnless};
 ghost use Rattle.treasury_told.specs.Amounts.{same_amount, same_amounts};
 ghost use Rattle.treasury_told.specs.Edited.{likeness_text, edited_note, edited_text};
 ghost use Rattle.treasury_told.specs.Listed.{listed};
+ghost use Rattle.treasury_told.specs.Near.{is_soon_after, is_near};
 
 use crate::explain::pieces::push_header;
 use crate::explain::push_origin;
@@ -186,22 +188,26 @@ fn places_by_key(alloc: Global, records: &[Record]) -> Result<Places, Cause> {
     Ok(places)
 }
 
+/// Whether a day is at most six days after another one.
+fn is_soon_after(day: Day, first: Day) -> bool
+    ensures { result ≡ is_soon_after day first }
+{
+    i64::from(day.0) <= i64::from(first.0) + i64::from(MOST_DAYS)
+}
+
 /// Whether a record is unmarked, and its day so near to those of the span that one of them may be the same.
-fn is_near(span: Span, record: &Record) -> bool {
-    let day = record.entry.day.0;
-    day >= span.oldest.0.saturating_sub(MOST_DAYS)
-        && day <= span.newest.0.saturating_add(MOST_DAYS)
-        && !is_marked(record)
+fn is_near(span: Span, record: &Record) -> bool
+    ensures { result ≡ is_near span record.now }
+{
+    let day = record.entry.day;
+    is_soon_after(day, span.newest) && is_soon_after(span.oldest, day) && !is_marked(record)
 }
 
 /// Whether one of the records is so.
-fn has_near(span: Span, records: &[Record]) -> bool {
-    for record in records {
-        if is_near(span, record) {
-            return true;
-        }
-    }
-    false
+fn has_near(span: Span, records: &[Record]) -> bool
+    ensures { result ≡ list_any (is_near span) records.now }
+{
+    records.iter().any(|record| is_near(span, record))
 }
 
 /// The places of held records that may be new ones, before they were edited. What the file has is not looked at.
